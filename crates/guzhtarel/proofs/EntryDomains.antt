@@ -1,20 +1,13 @@
 -- The facts of a domain with an entry for each dimension, its ranks, and that its rows mean it.
-use Rattle.std.proofs.Common.{◌≡◌, ℕ, suc, ◌+◌, ◌-◌, ◌<◌, ◌≤◌, ◌^◌, ℤ, pos, Bool, true, false, not, ◌&&◌, ◌||◌, List, [], ◌∷◌, length, replicate}
-use Rattle.std.proofs.Common.{refl, ap, subst, sym, arith, inl, inr, ◌↔◌, ◌⊎◌}
-use Rattle.std.specs.Cmp.Derive.{both_true}
-use Rattle.std.specs.Cmp.Lexicographic.{pointwise}
-use Rattle.std.proofs.Math.Bool.{or-not_self}
-use Rattle.std.proofs.lemmas.List.{length-replicate}
+use Rattle.std.proofs.Common.{◌≡◌, ℕ, suc, ◌+◌, ◌-◌, ◌<◌, ◌≤◌, ◌^◌, ℤ, pos, Bool, true, false, not, ◌&&◌, ◌||◌, List, [], ◌∷◌, length, replicate, refl, ap, subst, sym, arith, inl, inr, ◌↔◌, ◌⊎◌}
+use Rattle.std.proofs.{Math.Bool.or-not_self, lemmas.List.length-replicate}
+use Rattle.std.specs.{Cmp.Derive.both_true, Cmp.Lexicographic.pointwise}
 use Rattle.lra_linear_forms.specs.Form.{form_value}
-use Rattle.lra_linear_spec.specs.Vectors.{entry}
-use Rattle.lra_linear_spec.specs.declared.ConKind.TheVariants.{Ge}
+use Rattle.lra_linear_spec.specs.{Vectors.entry, declared.ConKind.TheVariants.Ge}
 use Rattle.lra_domain.specs.Actions.{Action, ActionFits, Leads, assign, forget, test, embed, remove_last}
-use Rattle.lra_domain.specs.Laws.{PartsAreExact}
-use Rattle.lra_domain.specs.Parts.{SomePartHolds}
-use Rattle.lra_domain.specs.Rank.{RankBelow, RankFits}
+use Rattle.lra_domain.specs.{ExactDomains.Facts, ExactDomains.abstraction_of, Laws.PartsAreExact, Parts.SomePartHolds, Rank.RankBelow, Rank.RankFits}
 use Rattle.guzhtarel.specs.Entries.{AllHave, AllHold, join_each, rows_from, total}
 use Rattle.guzhtarel.specs.EntryDomains.{EachEntry, EntryFacts, EntriesContent, entries_after, lies_in, parts_of, one_if, of_entries}
-use Rattle.lra_domain.specs.ExactDomains.{Facts, abstraction_of}
 use Rattle.guzhtarel.proofs.EntryChanges.{have_length, have_all, have_set, have_append, have_take, have_within, each_covers, join_left, join_right, sum_most, sum_less, sum_falls}
 use Rattle.guzhtarel.proofs.RowValues.{rows_hold, hold_append}
 

@@ -1,13 +1,8 @@
 -- Calls on the polyhedra of two sets, told of the sets. (That sets which are the same have the same polyhedron is
 -- `same_polyhedron`.)
 use Rattle.std.proofs.Common.{◌≡◌, ℕ, subst}
-use Rattle.lra_linear_spec.specs.Descriptions.{Con}
-use Rattle.lra_linear_spec.specs.Points.{PointSet, IsWithin}
-use Rattle.lra_linear_spec.specs.Polyhedra.{Polyhedron, IsPolyhedronOf}
-use Rattle.lra_linear_spec.specs.SetOperations.{Meet, Union, Hull}
-use Rattle.lra_poly.specs.Outcomes.{IfExact}
-use Rattle.lra_poly.specs.declared.outcome.Outcome.{Outcome}
-use Rattle.lra_poly.specs.declared.outcome.Outcome.TheVariants.{Exact, Flagged}
+use Rattle.lra_linear_spec.specs.{Descriptions.Con, Points.PointSet, Points.IsWithin, Polyhedra.Polyhedron, Polyhedra.IsPolyhedronOf, SetOperations.Meet, SetOperations.Union, SetOperations.Hull}
+use Rattle.lra_poly.specs.{Outcomes.IfExact, declared.outcome.Outcome.Outcome, declared.outcome.Outcome.TheVariants.Exact, declared.outcome.Outcome.TheVariants.Flagged}
 pub use Rattle.lra_poly.proofs.PolyLemmas.{same_polyhedron}
 use Rattle.guzhtarel.proofs.SameSets.{within_trans, meet_within, union_within, in_hull, meet_same, union_same, hull_same}
 

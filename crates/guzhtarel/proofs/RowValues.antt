@@ -1,8 +1,6 @@
 -- Lists of rows of one kind, at a point.
 use Rattle.std.proofs.Common.{List, [], ◌∷◌, ◌++◌, length, replicate, ◌↔◌, ℤ}
-use Rattle.lra_linear_spec.specs.declared.ConKind.{ConKind}
-use Rattle.lra_linear_spec.specs.Descriptions.{LinearRow, Con}
-use Rattle.lra_linear_spec.specs.Kinds.{is_equality}
+use Rattle.lra_linear_spec.specs.{Descriptions.LinearRow, Descriptions.Con, Kinds.is_equality, declared.ConKind.ConKind}
 use Rattle.lra_linear_spec.proofs.Descriptions.{con_none, con_cons, con_head, con_tail}
 use Rattle.lra_systems.specs.LinearSystems.{rows_by_kind}
 use Rattle.guzhtarel.specs.Entries.{AllHold}

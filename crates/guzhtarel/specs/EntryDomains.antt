@@ -1,18 +1,14 @@
 -- Domains with an entry for each dimension, and a mark of those values that have no store: what the author gives of an
 -- entry, and the domain that follows. A test tells nothing.
-use Rattle.std.specs.Prelude.{◌≡◌, ◌≤◌, ◌<◌, ◌^◌, ◌↔◌, ℕ, ◌+◌, ◌-◌, ℤ, pos, Bool, true, false, not, ◌&&◌, ◌||◌, List}
-use Rattle.std.specs.Prelude.{[], ◌∷◌}
-use Rattle.std.specs.Prelude.{◌++◌}
-use Rattle.std.specs.Prelude.{length, replicate, slice_set, take, IsTrue}
 use Rattle.std.specs.Cmp.Lexicographic.{pointwise}
+use Rattle.std.specs.Prelude.{◌≡◌, ◌≤◌, ◌<◌, ◌^◌, ◌↔◌, ℕ, ◌+◌, ◌-◌, ℤ, pos, Bool, true, false, not, ◌&&◌, ◌||◌, List}
+use Rattle.std.specs.Prelude.{[], ◌∷◌, ◌++◌, length, replicate, slice_set, take, IsTrue}
 use Rattle.lra_linear_forms.specs.Form.{Form, form_value}
-use Rattle.lra_linear_spec.specs.Vectors.{entry}
-use Rattle.lra_linear_spec.specs.declared.ConKind.{ConKind}
-use Rattle.lra_linear_spec.specs.declared.ConKind.TheVariants.{Ge}
+use Rattle.lra_linear_spec.specs.{Vectors.entry, declared.ConKind.ConKind, declared.ConKind.TheVariants.Ge}
 use Rattle.lra_systems.specs.LinearSystems.{LinearSystem}
 use Rattle.lra_domain.specs.Actions.{Action, assign, forget, test, embed, remove_last}
-use Rattle.guzhtarel.specs.Entries.{AllHave, AllHold, join_each, rows_from, total}
 use Rattle.lra_domain.specs.ExactDomains.{ExactDomain}
+use Rattle.guzhtarel.specs.Entries.{AllHave, AllHold, join_each, rows_from, total}
 
 -- of an entry: which numbers it has, which other covers it, the join of two, the one that has all numbers, the one that
 -- stands in a value without a store, a number that falls, and its rows of n + 1 columns, of inequalities on a column;

@@ -1,29 +1,20 @@
 -- Which accesses are inside, handed to whoever lists it: at each point at which the tree accesses arrays something is told of
 -- each access, at the place where its array is named.
-use Rattle.std.proofs.Common.{◌≡◌, ◌∙◌, ◌<◌, ◌++◌, ℕ, zero, suc, List, [], ◌∷◌, length, map, Option, Some, None, Bool, true, false, cond, refl, sym}
-use Rattle.std.proofs.Common.{ap, ap₂, subst, arith, eq-eqb}
-use Rattle.std.specs.Prelude.{IsTrue, nat_eq, nat_lt, slice_get}
-use Rattle.std.specs.List.{Contains, flat_map}
-use Rattle.std.proofs.lemmas.Bool.{eqb-true}
-use Rattle.std.proofs.lemmas.List.{append-nil, map-append}
-use Rattle.std.proofs.lemmas.Option.{none-some, same_Some}
+use Rattle.std.proofs.Common.{◌≡◌, ◌∙◌, ◌<◌, ◌++◌, ℕ, zero, suc, List, [], ◌∷◌, length, map, Option, Some, None, Bool, true, false, cond, refl, sym, ap, ap₂, subst, arith, eq-eqb}
+use Rattle.std.proofs.{lemmas.Bool.eqb-true, lemmas.List.append-nil, lemmas.List.map-append, lemmas.Option.none-some, lemmas.Option.same_Some}
+use Rattle.std.specs.{List.Contains, List.flat_map, Prelude.IsTrue, Prelude.nat_eq, Prelude.nat_lt, Prelude.slice_get}
 use Rattle.lra_linear_spec.proofs.Membership.{contains_tail}
 use Rattle.lra_base.specs.declared.refusals.Place.{Place}
-use Rattle.lra_domain.specs.Abstraction.{Abstraction}
-use Rattle.lra_domain.specs.declared.Exactness.{Exactness}
+use Rattle.lra_domain.specs.{Abstraction.Abstraction, declared.Exactness.Exactness}
 use Rattle.lra_program.specs.Accesses.{expr_accesses, cond_accesses, arguments_accesses, aim_accesses, op_accesses, op_accesses_any}
-use Rattle.lra_program.specs.Program.{Element, Cond, compare, nonzero, opposite, both_of, either_of}
-use Rattle.lra_program.specs.Sites.{Site}
 use Rattle.lra_program.specs.Step.{Op, append, fill, store_value, store_element, havoc, push, push_for, truncate_to, test}
-use Rattle.lra_operations.specs.Tree.{Node}
-use Rattle.lra_operations.specs.CheckedOperations.{OpAtPoint, accessing_ops, AreOncePerPoint}
-use Rattle.lra_analysis_spec.specs.Operations.{Operations}
-use Rattle.lra_analysis_spec.specs.Accesses.{EachJudged, CondInside, OpInside, InsideAtPoint, JudgesAccesses}
+use Rattle.lra_program.specs.{Program.Element, Program.Cond, Program.compare, Program.nonzero, Program.opposite, Program.both_of, Program.either_of, Sites.Site}
+use Rattle.lra_operations.specs.{CheckedOperations.OpAtPoint, CheckedOperations.accessing_ops, CheckedOperations.AreOncePerPoint, Tree.Node}
+use Rattle.lra_analysis_spec.specs.{Accesses.EachJudged, Accesses.CondInside, Accesses.OpInside, Accesses.InsideAtPoint, Accesses.JudgesAccesses, Operations.Operations}
 use Rattle.lra_fixpoint.specs.Numbers.{AreBelow}
 use Rattle.lra_report.specs.Listing.{accesses_at}
 use Rattle.lra_report_build.specs.AnalysisResults.{AreAccessVerdicts, IsAccessing}
-use Rattle.lra_analyse_source.proofs.Found.{place_of, site_there, found_of, asked_one, found_on}
-use Rattle.lra_analyse_source.proofs.Handing.{contained}
+use Rattle.lra_analyse_source.proofs.{Found.place_of, Found.site_there, Found.found_of, Found.asked_one, Found.found_on, Handing.contained}
 
 -- places -----------------------------------------------------------------------------------------------------------------
 

@@ -1,26 +1,14 @@
 -- Where an access is judged to be inside its array, no run evaluates it outside.
 use Rattle.std.proofs.Common.{◌≡◌, ◌∙◌, ℕ, List, Option, Some, Bool, true, refl, sym, ap, subst}
-use Rattle.std.specs.Prelude.{slice_get}
-use Rattle.std.specs.List.{Contains}
+use Rattle.std.specs.{List.Contains, Prelude.slice_get}
 use Rattle.lra_base.specs.declared.refusals.Place.{Place}
-use Rattle.lra_domain.specs.Abstraction.{Abstraction}
-use Rattle.lra_domain.specs.Laws.{Laws}
-use Rattle.lra_program.specs.Program.{Program}
-use Rattle.lra_program.specs.WellFormed.{AreGoodGlobals}
-use Rattle.lra_program.specs.Accesses.{op_accesses_any, OpOutOfBounds, AccessesOutOfBounds}
-use Rattle.lra_program.specs.Sites.{Site, sites_of}
-use Rattle.lra_operations.specs.Tree.{Node}
-use Rattle.lra_operations.specs.Agree.{point_of, Agrees}
-use Rattle.lra_operations.specs.CheckedOperations.{OpAtPoint, AgreesOnAccesses}
-use Rattle.lra_analysis_spec.specs.Plan.{Plan}
-use Rattle.lra_analysis_spec.specs.Pass.{PassResult}
-use Rattle.lra_analysis_spec.specs.Operations.{lossy_operations}
-use Rattle.lra_analysis_spec.specs.Analysis.{LossyIteration, IsSolution}
-use Rattle.lra_analysis_spec.specs.Accesses.{InsideAtPoint, JudgesAccesses}
+use Rattle.lra_domain.specs.{Abstraction.Abstraction, Laws.Laws}
+use Rattle.lra_program.specs.{Accesses.op_accesses_any, Accesses.OpOutOfBounds, Accesses.AccessesOutOfBounds, Program.Program, Sites.Site, Sites.sites_of, WellFormed.AreGoodGlobals}
+use Rattle.lra_operations.specs.{Agree.point_of, Agree.Agrees, CheckedOperations.OpAtPoint, CheckedOperations.AgreesOnAccesses, Tree.Node}
+use Rattle.lra_analysis_spec.specs.{Accesses.InsideAtPoint, Accesses.JudgesAccesses, Analysis.LossyIteration, Analysis.IsSolution, Operations.lossy_operations, Pass.PassResult, Plan.Plan}
 use Rattle.lra_analysis_spec.proofs.AccessesSound.{inside_never_stray}
 use Rattle.lra_analyse_source.specs.Soundness.{AccessesAreSound}
-use Rattle.lra_analyse_source.proofs.Found.{found_of, one_asked_there}
-use Rattle.lra_analyse_source.proofs.Sound.{held_there}
+use Rattle.lra_analyse_source.proofs.{Found.found_of, Found.one_asked_there, Sound.held_there}
 
 module _ (V H : Type 0) (m : Abstraction V H) (laws : Laws m) (set : Plan) (P : Program) (good : AreGoodGlobals P.globals) (g : Node) (r : PassResult V)
     (derived : LossyIteration m set P g r) (agrees : Agrees P g) (values : List V) (verdicts : List (ℕ × Bool)) (flagged : Option ℕ)

@@ -1,15 +1,11 @@
 -- What fits, handed to whoever lists it: a verdict for each point at which the tree computes something.
 use Rattle.std.proofs.Common.{◌≡◌, ◌∙◌, ◌<◌, ℕ, List, length, Option, None, Bool, true, false, sym, ap, subst, eq-eqb}
-use Rattle.std.specs.Prelude.{IsTrue, nat_eq}
-use Rattle.std.proofs.lemmas.Bool.{eqb-true}
-use Rattle.std.specs.List.{Contains, list_any}
-use Rattle.std.proofs.lemmas.List.Folds.{Any-from_list_any, list_any_at}
+use Rattle.std.proofs.{lemmas.Bool.eqb-true, lemmas.List.Folds.Any-from_list_any, lemmas.List.Folds.list_any_at}
+use Rattle.std.specs.{List.Contains, List.list_any, Prelude.IsTrue, Prelude.nat_eq}
 use Rattle.lra_domain.specs.Abstraction.{Abstraction}
 use Rattle.lra_program.specs.Sites.{Site}
-use Rattle.lra_operations.specs.Tree.{Node}
-use Rattle.lra_operations.specs.CheckedOperations.{OpAtPoint, computing_ops}
-use Rattle.lra_analysis_spec.specs.Operations.{Operations}
-use Rattle.lra_analysis_spec.specs.Fits.{OpFits, Judges, JudgesIf}
+use Rattle.lra_operations.specs.{CheckedOperations.OpAtPoint, CheckedOperations.computing_ops, Tree.Node}
+use Rattle.lra_analysis_spec.specs.{Fits.OpFits, Fits.Judges, Fits.JudgesIf, Operations.Operations}
 use Rattle.lra_report_build.specs.AnalysisResults.{AreVerdictsOn, IsComputing}
 use Rattle.lra_analyse_source.proofs.Found.{found_on, none_before, site_there}
 

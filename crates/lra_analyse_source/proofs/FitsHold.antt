@@ -1,25 +1,13 @@
 -- Where all that is computed at a point is judged to fit, no run stops there by a number.
 use Rattle.std.proofs.Common.{◌≡◌, ◌∙◌, ℕ, List, Option, Some, Bool, true, refl, sym, ap, subst}
-use Rattle.std.specs.Prelude.{slice_get}
-use Rattle.std.specs.List.{Contains}
-use Rattle.lra_domain.specs.Abstraction.{Abstraction}
-use Rattle.lra_domain.specs.Laws.{Laws}
-use Rattle.lra_program.specs.Program.{Program}
-use Rattle.lra_program.specs.WellFormed.{AreGoodGlobals}
-use Rattle.lra_program.specs.Overflow.{op_computes, OpOverflows, Overflows}
-use Rattle.lra_program.specs.Sites.{Site, sites_of}
-use Rattle.lra_operations.specs.Tree.{Node}
-use Rattle.lra_operations.specs.Agree.{point_of, Agrees}
-use Rattle.lra_operations.specs.CheckedOperations.{OpAtPoint, AgreesOnOverflows}
-use Rattle.lra_analysis_spec.specs.Plan.{Plan}
-use Rattle.lra_analysis_spec.specs.Pass.{PassResult}
-use Rattle.lra_analysis_spec.specs.Operations.{lossy_operations}
-use Rattle.lra_analysis_spec.specs.Analysis.{LossyIteration, IsSolution}
-use Rattle.lra_analysis_spec.specs.Fits.{JudgedAtPoint, Judges}
+use Rattle.std.specs.{List.Contains, Prelude.slice_get}
+use Rattle.lra_domain.specs.{Abstraction.Abstraction, Laws.Laws}
+use Rattle.lra_program.specs.{Overflow.op_computes, Overflow.OpOverflows, Overflow.Overflows, Program.Program, Sites.Site, Sites.sites_of, WellFormed.AreGoodGlobals}
+use Rattle.lra_operations.specs.{Agree.point_of, Agree.Agrees, CheckedOperations.OpAtPoint, CheckedOperations.AgreesOnOverflows, Tree.Node}
+use Rattle.lra_analysis_spec.specs.{Analysis.LossyIteration, Analysis.IsSolution, Fits.JudgedAtPoint, Fits.Judges, Operations.lossy_operations, Pass.PassResult, Plan.Plan}
 use Rattle.lra_analysis_spec.proofs.FitsSound.{fitting_never_overflows}
 use Rattle.lra_analyse_source.specs.Soundness.{FittingIsSound}
-use Rattle.lra_analyse_source.proofs.Found.{found_of, one_asked_there}
-use Rattle.lra_analyse_source.proofs.Sound.{held_there}
+use Rattle.lra_analyse_source.proofs.{Found.found_of, Found.one_asked_there, Sound.held_there}
 
 module _ (V H : Type 0) (m : Abstraction V H) (laws : Laws m) (set : Plan) (P : Program) (good : AreGoodGlobals P.globals) (g : Node) (r : PassResult V)
     (derived : LossyIteration m set P g r) (agrees : Agrees P g) (values : List V) (verdicts : List (ℕ × Bool)) (flagged : Option ℕ)

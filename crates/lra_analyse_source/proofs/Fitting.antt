@@ -1,38 +1,26 @@
 -- The tree of a well-formed program whose points have few variables fits the iteration.
-use Rattle.std.proofs.Common.{◌≡◌, ◌≢◌, ℕ, zero, suc, ◌+◌, ◌-◌, ◌≤◌, ◌<◌, List, [], ◌∷◌, length, Option, Some, None, Bool, true, inl, inr, refl, sym, ap}
-use Rattle.std.proofs.Common.{◌∙◌, subst, arith}
-use Rattle.std.specs.Prelude.{slice_get}
-use Rattle.std.specs.List.{AllByRecursion, Contains}
+use Rattle.std.proofs.Common.{◌≡◌, ◌≢◌, ℕ, zero, suc, ◌+◌, ◌-◌, ◌≤◌, ◌<◌, List, [], ◌∷◌, length, Option, Some, None, Bool, true, inl, inr, refl, sym, ap, ◌∙◌, subst, arith}
 use Rattle.std.proofs.lemmas.Option.{none-some, same_Some}
+use Rattle.std.specs.{List.AllByRecursion, List.Contains, Prelude.slice_get}
 use Rattle.lra_linear_spec.proofs.Membership.{contains_none, contains_cases}
 use Rattle.lra_program.specs.Program.{Slot, global, local, Expr, Cond, Call, Rvalue, Stmt, Cases, BlockItems, Program}
-use Rattle.lra_base.specs.declared.case_labels.CaseLabel.{CaseLabel}
-use Rattle.lra_base.specs.Limits.{greatest_live}
-use Rattle.lra_base.specs.declared.number_types.NumberType.{NumberType}
-use Rattle.lra_program.specs.declared.receivers.Cell.{Cell}
-use Rattle.lra_program.specs.declared.receivers.Cell.TheVariants.{Variable, Waiting}
-use Rattle.lra_program.specs.declared.receivers.Target.{Target}
-use Rattle.lra_program.specs.declared.receivers.Receiver.{Receiver}
-use Rattle.lra_program.specs.Receivers.{variable_at, result_receiver}
-use Rattle.lra_program.specs.Value.{index_of, Argument}
 use Rattle.lra_program.specs.Step.{Op, append, store_value, fill, store_element, havoc, truncate_to, test, ReturnFrame, arguments_for}
-use Rattle.lra_operations.specs.Tree.{Exit, broken, continued, returned, Node, empty, point, act, check, seq, choose, catch, leave}
-use Rattle.lra_operations.specs.Tree.{Arms, no_arms, entry, arm}
-use Rattle.lra_program.specs.Sites.{Site, sites_of}
-use Rattle.lra_program.specs.Sites as sites
-use Rattle.lra_operations.specs.Inlined.{Frame, InlineState, callee, InlineStmt, InlineItems, InlineDeclarator, InlineLoop, InlineRvalue, InlineCall, as_nothing, as_block, as_absent, as_assign, as_call, as_if, as_loop, as_for, as_break, as_continue}
-use Rattle.lra_operations.specs.Inlined.{as_array, as_write, as_write_call, as_return, as_return_value, as_return_call, as_end, as_end_value, as_end_call, as_assert, as_assume, as_none, as_declaration, as_statement, as_fresh, as_given}
-use Rattle.lra_operations.specs.Inlined.{is_loop, as_value, as_result, is_call, callee_node, loop_node, return_node, main_frame}
-use Rattle.lra_operations.specs.Inlined.{InlineCases, as_switch, as_no_cases, as_labelled, as_stated, switch_node}
+use Rattle.lra_program.specs.WellFormed.{IsLive, IsGoodRvalue, IsGoodGiven, IsGoodStmt, AreGoodCases, AreGoodItems, IsGoodFunction, IsWellFormed, Jumps, no_jumps, in_loop as in_loop_jumps, in_switch}
+use Rattle.lra_program.specs.{Receivers.variable_at, Receivers.result_receiver, Sites.Site, Sites.sites_of, Value.index_of, Value.Argument, declared.receivers.Cell.Cell}
+use Rattle.lra_program.specs.{declared.receivers.Cell.TheVariants.Variable, declared.receivers.Cell.TheVariants.Waiting, declared.receivers.Receiver.Receiver, declared.receivers.Target.Target}
+use Rattle.lra_base.specs.{Limits.greatest_live, declared.case_labels.CaseLabel.CaseLabel, declared.number_types.NumberType.NumberType}
 use Rattle.lra_operations.specs.Agree.{IsInlinedTree}
-use Rattle.lra_program.specs.WellFormed.{IsLive, IsGoodRvalue, IsGoodGiven, IsGoodStmt, AreGoodCases, AreGoodItems, IsGoodFunction, IsWellFormed}
-use Rattle.lra_program.specs.WellFormed.{Jumps, no_jumps, in_loop as in_loop_jumps, in_switch}
+use Rattle.lra_operations.specs.Inlined.{Frame, InlineState, callee, InlineStmt, InlineItems, InlineDeclarator, InlineLoop, InlineRvalue, InlineCall, as_nothing, as_block, as_absent, as_assign}
+use Rattle.lra_operations.specs.Inlined.{as_call, as_if, as_loop, as_for, as_break, as_continue, as_array, as_write, as_write_call, as_return, as_return_value, as_return_call, as_end, as_end_value}
+use Rattle.lra_operations.specs.Inlined.{as_end_call, as_assert, as_assume, as_none, as_declaration, as_statement, as_fresh, as_given, is_loop, as_value, as_result, is_call, callee_node, loop_node}
+use Rattle.lra_operations.specs.Inlined.{return_node, main_frame, InlineCases, as_switch, as_no_cases, as_labelled, as_stated, switch_node}
+use Rattle.lra_operations.specs.Tree.{Exit, broken, continued, returned, Node, empty, point, act, check, seq, choose, catch, leave, Arms, no_arms, entry, arm}
+use Rattle.lra_program.specs.Sites as sites
 use Rattle.lra_inline_sound.proofs.Lengths.{grows_all}
-use Rattle.lra_analysis_spec.specs.Live.{live_after_op, live_after}
+use Rattle.lra_analysis_spec.specs.{Live.live_after_op, Live.live_after, LiveLimit.most_live}
 use Rattle.lra_transfer.specs.Changes.{CellFits, PlaceFits, OpFitsDims}
 use Rattle.lra_program.proofs.GivenArguments.{given_width}
 use Rattle.lra_pass_results.specs.Dimensions.{ArmsFit, ArmsJumpWith, JumpsWith, TreeFits}
-use Rattle.lra_analysis_spec.specs.LiveLimit.{most_live}
 
 -- how many live where a jump leads
 abbrev JumpFits : Frame → Exit → ℕ → Type 0

@@ -1,29 +1,19 @@
 -- The first flagged point of a program's iteration is a point of the program.
 use Rattle.std.proofs.Common.{◌≡◌, ℕ, zero, suc, ◌-◌, ◌<◌, List, [], ◌∷◌, length, Option, Some, None, Bool, refl, sym, subst}
-use Rattle.std.specs.Prelude.{⊤}
 use Rattle.std.proofs.lemmas.Option.{slice_get_within}
-use Rattle.lra_domain.specs.declared.Exactness.{Exactness}
-use Rattle.lra_domain.specs.declared.Exactness.TheVariants.{Exact, Flagged}
+use Rattle.std.specs.Prelude.{⊤}
+use Rattle.lra_domain.specs.{declared.Exactness.Exactness, declared.Exactness.TheVariants.Exact, declared.Exactness.TheVariants.Flagged}
 use Rattle.lra_program.specs.Program.{Expr, Cond, Call, Rvalue, Stmt, Cases, BlockItems, Program}
+use Rattle.lra_program.specs.{Sites.Site, Sites.sites_of, Step.Op, Value.Argument, declared.receivers.Receiver.Receiver}
 use Rattle.lra_base.specs.declared.number_types.NumberType.{NumberType}
-use Rattle.lra_program.specs.declared.receivers.Receiver.{Receiver}
-use Rattle.lra_program.specs.Step.{Op}
-use Rattle.lra_program.specs.Value.{Argument}
-use Rattle.lra_operations.specs.declared.probes.Probe.TheVariants.{InterferencePoint, RecordWrite}
-use Rattle.lra_operations.specs.Tree.{Exit, broken, continued, returned, Node, empty, probe, point, act, check, seq, choose, iterate, catch, leave}
-use Rattle.lra_operations.specs.Tree.{select, Arms, no_arms, entry, arm}
-use Rattle.lra_program.specs.Sites.{Site, sites_of}
 use Rattle.lra_operations.specs.Inlined.{InlineState, move, IsSiteWith, InlineStmt, InlineItems, InlineDeclarator, InlineLoop, InlineRvalue, as_nothing, as_block, as_absent, as_assign, as_call, as_if}
-use Rattle.lra_operations.specs.Inlined.{as_loop, as_for, as_break, as_continue}
-use Rattle.lra_operations.specs.Inlined.{as_return, as_return_value, as_return_call, as_end, as_end_value, as_end_call, as_assert, as_assume, as_none, as_declaration, as_statement, as_fresh, as_given}
-use Rattle.lra_operations.specs.Inlined.{is_loop, as_value, as_result, is_call, InlineCall, as_array, as_write, as_write_call, InlineCases, as_switch, as_no_cases, as_labelled, as_stated}
-use Rattle.lra_operations.specs.Agree.{IsInlinedTree}
-use Rattle.lra_analysis_spec.specs.Plan.{Plan, Widening}
-use Rattle.lra_analysis_spec.specs.Operations.{Operations}
-use Rattle.lra_analysis_spec.specs.Pass.{Absorption, nothing_absorbed, PassResult, noted, jumps, jumps_caught, Transformer, LoopRoundFrom, AscendingIteration}
-use Rattle.lra_analysis_spec.specs.Pass.{DescendingIteration, PassUnder, ArmsPassUnder}
-use Rattle.lra_analysis_spec.specs.UnderInterference.{IterationUnder}
-use Rattle.lra_analysis_spec.specs.Analysis.{Iteration}
+use Rattle.lra_operations.specs.Inlined.{as_loop, as_for, as_break, as_continue, as_return, as_return_value, as_return_call, as_end, as_end_value, as_end_call, as_assert, as_assume, as_none}
+use Rattle.lra_operations.specs.Inlined.{as_declaration, as_statement, as_fresh, as_given, is_loop, as_value, as_result, is_call, InlineCall, as_array, as_write, as_write_call, InlineCases, as_switch}
+use Rattle.lra_operations.specs.Inlined.{as_no_cases, as_labelled, as_stated}
+use Rattle.lra_operations.specs.Tree.{Exit, broken, continued, returned, Node, empty, probe, point, act, check, seq, choose, iterate, catch, leave, select, Arms, no_arms, entry, arm}
+use Rattle.lra_operations.specs.{Agree.IsInlinedTree, declared.probes.Probe.TheVariants.InterferencePoint, declared.probes.Probe.TheVariants.RecordWrite}
+use Rattle.lra_analysis_spec.specs.Pass.{Absorption, nothing_absorbed, PassResult, noted, jumps, jumps_caught, Transformer, LoopRoundFrom, AscendingIteration, DescendingIteration, PassUnder}
+use Rattle.lra_analysis_spec.specs.{Analysis.Iteration, Operations.Operations, Pass.ArmsPassUnder, Plan.Plan, Plan.Widening, UnderInterference.IterationUnder}
 use Rattle.lra_fixpoint.specs.Numbers.{ArmsAreBelow, AreBelow}
 
 -- the first flagged point, where there is one, is below n

@@ -1,25 +1,15 @@
 -- What is found of those operations of a tree of which something is asked, whatever it is: it stands at the points of these,
 -- in order, and so do its flags.
-use Rattle.std.proofs.Common.{◌≡◌, ◌∙◌, ◌<◌, ◌++◌, ℕ, zero, suc, List, [], ◌∷◌, length, map, Option, Some, None, Bool, true, false, refl, sym}
-use Rattle.std.proofs.Common.{ap, subst, arith, inl, inr}
-use Rattle.std.specs.Prelude.{IsTrue, slice_get, if◌then◌else◌}
-use Rattle.std.specs.List.{Contains}
-use Rattle.std.proofs.lemmas.List.Elements.{Contains-append_cases}
-use Rattle.std.proofs.lemmas.Option.{slice_get_within, slice_get_read, same_Some}
+use Rattle.std.proofs.Common.{◌≡◌, ◌∙◌, ◌<◌, ◌++◌, ℕ, zero, suc, List, [], ◌∷◌, length, map, Option, Some, None, Bool, true, false, refl, sym, ap, subst, arith, inl, inr}
+use Rattle.std.proofs.{lemmas.List.Elements.Contains-append_cases, lemmas.Option.slice_get_within, lemmas.Option.slice_get_read, lemmas.Option.same_Some}
+use Rattle.std.specs.{List.Contains, Prelude.IsTrue, Prelude.slice_get, Prelude.if◌then◌else◌}
 use Rattle.lra_linear_spec.proofs.Membership.{contains_cases, contains_none, contains_head, contains_tail, map_from, map_has}
-use Rattle.lra_domain.specs.declared.Exactness.{Exactness}
-use Rattle.lra_domain.specs.declared.Exactness.TheVariants.{Exact, Flagged}
+use Rattle.lra_domain.specs.{declared.Exactness.Exactness, declared.Exactness.TheVariants.Exact, declared.Exactness.TheVariants.Flagged}
 use Rattle.lra_base.specs.declared.number_types.NumberType.{NumberType}
-use Rattle.lra_program.specs.Program.{Program}
-use Rattle.lra_program.specs.Receivers.{nobody}
-use Rattle.lra_program.specs.Sites.{Site}
-use Rattle.lra_program.specs.Step.{State, Op, store_value, test}
-use Rattle.lra_operations.specs.Tree.{Node, empty, probe, point, act, check, seq, choose, iterate, catch, leave}
-use Rattle.lra_operations.specs.Tree.{select, Arms, no_arms, entry, arm}
+use Rattle.lra_program.specs.{Program.Program, Receivers.nobody, Sites.Site, Step.State, Step.Op, Step.store_value, Step.test}
 use Rattle.lra_operations.specs.CheckedOperations.{OpAtPoint, AgreesOnOps, op_where, ops_where, ops_where_in_arms, fresh_after}
-use Rattle.lra_analysis_spec.specs.Operations.{Operations}
-use Rattle.lra_analysis_spec.specs.Pass.{noted}
-use Rattle.lra_analysis_spec.specs.Judging.{Finding, answer_of, first_flagged, Finds}
+use Rattle.lra_operations.specs.Tree.{Node, empty, probe, point, act, check, seq, choose, iterate, catch, leave, select, Arms, no_arms, entry, arm}
+use Rattle.lra_analysis_spec.specs.{Judging.Finding, Judging.answer_of, Judging.first_flagged, Judging.Finds, Operations.Operations, Pass.noted}
 use Rattle.lra_fixpoint.specs.Numbers.{ArmsAreBelow, AreBelow}
 use Rattle.lra_report_build.specs.AnalysisResults.{AreVerdictsOn}
 use Rattle.lra_analyse_source.proofs.Handing.{image_of}

@@ -1,38 +1,21 @@
 -- What an iteration over a program's tree hands to whoever lists it: as many values as points, each as wide as its point, and one verdict for
 -- each assertion.
-use Rattle.std.proofs.Common.{◌≡◌, ℕ, zero, suc, ◌≤◌, ◌<◌, List, [], ◌∷◌, length, map, Option, Some, None, Bool, true, false, cond, refl, sym, ap, ◌∙◌}
-use Rattle.std.proofs.Common.{◌+◌, subst, arith, inl, inr}
-use Rattle.std.specs.Prelude.{slice_get, IsTrue}
-use Rattle.std.specs.List.{AllByRecursion, Contains, flat_map}
-use Rattle.std.proofs.lemmas.List.{length-map}
-use Rattle.std.proofs.lemmas.List.Elements.{Contains-append_cases}
-use Rattle.std.proofs.lemmas.Option.{none-some, same_Some}
+use Rattle.std.proofs.Common.{◌≡◌, ℕ, zero, suc, ◌≤◌, ◌<◌, List, [], ◌∷◌, length, map, Option, Some, None, Bool, true, false, cond, refl, sym, ap, ◌∙◌, ◌+◌, subst, arith, inl, inr}
+use Rattle.std.proofs.{lemmas.List.length-map, lemmas.List.Elements.Contains-append_cases, lemmas.Option.none-some, lemmas.Option.same_Some}
+use Rattle.std.specs.{List.AllByRecursion, List.Contains, List.flat_map, Prelude.slice_get, Prelude.IsTrue}
 use Rattle.lra_linear_spec.proofs.Membership.{contains_cases, contains_head, contains_none, contains_tail, map_from}
 use Rattle.lra_base.specs.declared.refusals.Place.{Place}
-use Rattle.lra_domain.specs.Abstraction.{Abstraction}
-use Rattle.lra_domain.specs.Laws.{Laws}
-use Rattle.lra_program.specs.Program.{Program}
-use Rattle.lra_operations.specs.Tree.{Node}
-use Rattle.lra_program.specs.Sites.{Site, sites_of}
-use Rattle.lra_operations.specs.Agree.{IsInlinedTree}
+use Rattle.lra_domain.specs.{Abstraction.Abstraction, Laws.Laws}
+use Rattle.lra_program.specs.{Program.Program, Sites.Site, Sites.sites_of}
+use Rattle.lra_operations.specs.{Agree.IsInlinedTree, Tree.Node}
 use Rattle.lra_options.specs.declared.options.Domain.{Domain}
-use Rattle.lra_report.specs.Report.{Invariant}
-use Rattle.lra_report.specs.Listing.{HasWidth}
-use Rattle.lra_report.specs.declared.verdict_kinds.VerdictKind.{VerdictKind}
-use Rattle.lra_report.specs.declared.verdict_kinds.VerdictKind.TheVariants.{Access}
-use Rattle.lra_analysis_spec.specs.Plan.{Plan}
-use Rattle.lra_analysis_spec.specs.Operations.{lossy_operations}
-use Rattle.lra_analysis_spec.specs.Pass.{PassResult}
-use Rattle.lra_analysis_spec.specs.Analysis.{LossyIteration, IsSolution}
+use Rattle.lra_report.specs.{Listing.HasWidth, Report.Invariant, declared.verdict_kinds.VerdictKind.VerdictKind, declared.verdict_kinds.VerdictKind.TheVariants.Access}
+use Rattle.lra_analysis_spec.specs.{Analysis.LossyIteration, Analysis.IsSolution, Operations.lossy_operations, Pass.PassResult, Plan.Plan}
 use Rattle.lra_fixpoint.specs.Numbers.{values_in, checks_in, asserts_of, IsNumbered}
-use Rattle.lra_fixpoint.proofs.Counting.{Found, iteration_found, value_counted, failing_counted, counted_value, counted_failing}
+use Rattle.lra_fixpoint.proofs.{Counting.Found, Counting.iteration_found, Counting.value_counted, Counting.failing_counted, Counting.counted_value, Counting.counted_failing, Widths.values_wide}
 use Rattle.lra_report_build.specs.AnalysisResults.{IsAssertion, ReportedVerdict, reported_verdict, reported_from, reported_accesses}
-use Rattle.lra_report_build.specs.Canonical.{AreCanonicallyShown, IsCanonicalState}
-use Rattle.lra_report_build.specs.Shown.{AreShown}
-use Rattle.lra_analyse_source.proofs.Numbering.{numbered}
-use Rattle.lra_analyse_source.proofs.Flags.{IsBelow, graph_below, iteration_below}
-use Rattle.lra_fixpoint.proofs.Widths.{values_wide}
-use Rattle.lra_analyse_source.proofs.Widths.{graph_lives}
+use Rattle.lra_report_build.specs.{Canonical.AreCanonicallyShown, Canonical.IsCanonicalState, Shown.AreShown}
+use Rattle.lra_analyse_source.proofs.{Flags.IsBelow, Flags.graph_below, Flags.iteration_below, Numbering.numbered, Widths.graph_lives}
 
 -- lists --------------------------------------------------------------------------------------------------------------
 

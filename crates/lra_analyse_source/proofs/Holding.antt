@@ -1,12 +1,10 @@
 -- What an iteration finds holds in all runs.
 use Rattle.std.proofs.Common.{true, refl}
-use Rattle.lra_domain.specs.Abstraction.{Abstraction}
-use Rattle.lra_domain.specs.Laws.{Laws}
+use Rattle.lra_domain.specs.{Abstraction.Abstraction, Laws.Laws}
 use Rattle.lra_analysis_spec.specs.Operations.{lossy_operations}
 use Rattle.lra_fixpoint.proofs.Counting.{iteration_fails_once}
 use Rattle.lra_analyse_source.specs.Soundness.{SolvedAreSound}
-use Rattle.lra_analyse_source.proofs.Numbering.{numbered}
-use Rattle.lra_analyse_source.proofs.Sound.{value_there, proved_holds, none_comes}
+use Rattle.lra_analyse_source.proofs.{Numbering.numbered, Sound.value_there, Sound.proved_holds, Sound.none_comes}
 
 pub solved_holds : (V H : Type 0) (m : Abstraction V H) → Laws m → SolvedAreSound m
 solved_holds V H m laws plan P tree values verdicts flagged solved good graph agrees = record {

@@ -1,23 +1,15 @@
 -- The tree of a program has each number of a point once.
 use Rattle.std.proofs.Common.{◌≡◌, ℕ, zero, suc, ◌+◌, ◌≤◌, ◌<◌, List, [], ◌∷◌, length, Option, Some, None, Bool, true, false, inl, inr, refl, sym, ap, ◌∙◌, subst, arith}
+use Rattle.std.proofs.{lemmas.Bool.cases_lt, lemmas.Option.none-some, lemmas.Option.slice_get_within}
 use Rattle.std.specs.Prelude.{slice_get, cond}
-use Rattle.std.proofs.lemmas.Bool.{cases_lt}
-use Rattle.std.proofs.lemmas.Option.{none-some, slice_get_within}
 use Rattle.lra_program.specs.Program.{Call, Rvalue, Stmt, Cases, BlockItems, Program}
+use Rattle.lra_program.specs.{Receivers.result_receiver, Sites.Site, Sites.sites_of, Step.Op, Value.Argument, declared.receivers.Receiver.Receiver}
 use Rattle.lra_base.specs.declared.number_types.NumberType.{NumberType}
-use Rattle.lra_program.specs.declared.receivers.Receiver.{Receiver}
-use Rattle.lra_program.specs.Receivers.{result_receiver}
-use Rattle.lra_program.specs.Step.{Op}
-use Rattle.lra_program.specs.Value.{Argument}
-use Rattle.lra_operations.specs.Tree.{Node, Arms, seq, point}
-use Rattle.lra_program.specs.Sites.{Site, sites_of}
 use Rattle.lra_operations.specs.Inlined.{InlineState, spot_of, move, callee, IsSiteAt, IsSiteWith, InlineStmt, InlineItems, InlineDeclarator, InlineLoop, InlineRvalue, as_nothing, as_block, as_absent}
-use Rattle.lra_operations.specs.Inlined.{as_assign, as_call, as_if, as_loop, as_for}
-use Rattle.lra_operations.specs.Inlined.{as_break, InlineCases, as_switch, as_no_cases, as_labelled, as_stated}
-use Rattle.lra_operations.specs.Inlined.{as_continue, as_return, as_return_value, as_return_call, as_end, as_end_value, as_end_call, as_assert, as_assume, as_none, as_declaration, as_statement}
-use Rattle.lra_operations.specs.Inlined.{as_fresh, as_given, is_loop, as_value, as_result, is_call, InlineCall, as_array, as_write, as_write_call}
-use Rattle.lra_operations.specs.Inlined.{main_inline_state}
-use Rattle.lra_operations.specs.Agree.{IsInlinedTree}
+use Rattle.lra_operations.specs.Inlined.{as_assign, as_call, as_if, as_loop, as_for, as_break, InlineCases, as_switch, as_no_cases, as_labelled, as_stated, as_continue, as_return, as_return_value}
+use Rattle.lra_operations.specs.Inlined.{as_return_call, as_end, as_end_value, as_end_call, as_assert, as_assume, as_none, as_declaration, as_statement, as_fresh, as_given, is_loop, as_value}
+use Rattle.lra_operations.specs.Inlined.{as_result, is_call, InlineCall, as_array, as_write, as_write_call, main_inline_state}
+use Rattle.lra_operations.specs.{Agree.IsInlinedTree, Tree.Node, Tree.Arms, Tree.seq, Tree.point}
 use Rattle.lra_fixpoint.specs.Numbers.{one_if, values_in, values_in_arms, checks_in, checks_in_arms, asserts_of, IsNumbered}
 use Rattle.lra_fixpoint.proofs.Counting.{one_same, one_other}
 

@@ -1,62 +1,34 @@
 -- Two answers to one source without a flag are the same report.
 use Rattle.std.proofs.Common.{◌≡◌, ◌∙◌, ◌++◌, ℕ, zero, suc, ℤ, List, [], ◌∷◌, map, Option, None, Some, Bool, true, false, arith, refl, sym, ap, subst, inl, inr}
-use Rattle.std.specs.Prelude.{◌⊎◌, option_map, slice_get}
-use Rattle.std.specs.List.{Contains, flat_map}
-use Rattle.std.proofs.lemmas.Option.{none-some, same_Some}
+use Rattle.std.proofs.{lemmas.List.Elements.Contains-append_cases, lemmas.Option.none-some, lemmas.Option.same_Some}
+use Rattle.std.specs.{List.Contains, List.flat_map, Prelude.◌⊎◌, Prelude.option_map, Prelude.slice_get}
 use Rattle.lra_linear_spec.proofs.Membership.{contains_head, contains_tail, contains_none}
-use Rattle.lra_domain.specs.Laws.{SingleLaws, BaseLaws}
+use Rattle.lra_domain.specs.{Abstraction.Abstraction, Laws.SingleLaws, Laws.BaseLaws, declared.Exactness.Exactness}
 use Rattle.lra_box.specs.Laws.{box_single, box_base}
-use Rattle.lra_octagon.specs.Single.{octagon_single}
-use Rattle.lra_octagon.specs.Laws.{octagon_base}
+use Rattle.lra_octagon.specs.{Laws.octagon_base, Single.octagon_single}
 use Rattle.lra_poly_domain.specs.Laws.{polyhedron_single, polyhedron_base}
-use Rattle.lra_powerset.specs.Content.{SetContent, SetHead}
-use Rattle.lra_powerset.specs.Abstraction.{set_abstraction}
-use Rattle.lra_powerset.specs.Single.{set_single}
-use Rattle.lra_report_build.specs.Sets.{shown_set}
-use Rattle.lra_resolution_spec.specs.LiveNames.{globals_named}
-use Rattle.lra_options.specs.declared.options.Domain.{Domain}
-use Rattle.lra_options.specs.declared.options.Domain.TheVariants.{Poly, Box, Oct}
-use Rattle.lra_base.specs.declared.refusals.Place.{Place}
-use Rattle.lra_domain.specs.Abstraction.{Abstraction}
-use Rattle.lra_domain.specs.declared.Exactness.{Exactness}
-use Rattle.lra_syntax.specs.Trees.{FileTree}
-use Rattle.lra_syntax.specs.Labels.{Labelled, labels_of}
-use Rattle.lra_syntax.specs.Grammar.{Spells}
-use Rattle.lra_resolution_spec.specs.Refuse.{OneAnswer}
-use Rattle.lra_resolution_spec.specs.Resolve.{resolve}
-use Rattle.lra_program.specs.Accesses.{op_accesses_any, OpOutOfBounds}
-use Rattle.lra_program.specs.Overflow.{op_computes, OpOverflows}
-use Rattle.lra_program.specs.Program.{Program}
-use Rattle.lra_program.specs.Step.{Op, State}
-use Rattle.lra_program.specs.Sites.{Site, sites_of}
-use Rattle.lra_options.specs.declared.options.Options.{Options}
-use Rattle.lra_report.specs.Report.{Invariant, PointReport, Report, Verdict}
-use Rattle.lra_report.specs.declared.verdict_kinds.VerdictKind.{VerdictKind}
-use Rattle.lra_report.specs.declared.verdict_kinds.VerdictKind.TheVariants.{Assertion, Fit, Access}
-use Rattle.lra_report.specs.Listing.{AreListed, Subject, subjects, AreJudged, Lists, listed_point, listed_verdict}
+use Rattle.lra_powerset.specs.{Abstraction.set_abstraction, Content.SetContent, Content.SetHead, Single.set_single}
 use Rattle.lra_report_build.specs.AnalysisResults.{ReportedVerdict, reported_verdict, reported_accesses, reported_all, reported_of, state_of}
-use Rattle.lra_operations.specs.Tree.{Node}
+use Rattle.lra_report_build.specs.Sets.{shown_set}
+use Rattle.lra_resolution_spec.specs.{LiveNames.globals_named, Refuse.OneAnswer, Resolve.resolve}
+use Rattle.lra_options.specs.declared.options.Domain.TheVariants.{Poly, Box, Oct}
+use Rattle.lra_options.specs.{declared.options.Domain.Domain, declared.options.Options.Options}
+use Rattle.lra_base.specs.declared.refusals.Place.{Place}
+use Rattle.lra_syntax.specs.{Grammar.Spells, Labels.Labelled, Labels.labels_of, Trees.FileTree}
+use Rattle.lra_program.specs.{Accesses.op_accesses_any, Accesses.OpOutOfBounds, Overflow.op_computes, Overflow.OpOverflows, Program.Program, Sites.Site, Sites.sites_of, Step.Op, Step.State}
+use Rattle.lra_report.specs.Listing.{AreListed, Subject, subjects, AreJudged, Lists, listed_point, listed_verdict}
+use Rattle.lra_report.specs.declared.verdict_kinds.VerdictKind.TheVariants.{Assertion, Fit, Access}
+use Rattle.lra_report.specs.{Report.Invariant, Report.PointReport, Report.Report, Report.Verdict, declared.verdict_kinds.VerdictKind.VerdictKind}
 use Rattle.lra_operations.specs.CheckedOperations.{OpAtPoint, AgreesOnOps, AgreesOnOverflows, AgreesOnAccesses, accessing_ops, ops_where}
+use Rattle.lra_operations.specs.Tree.{Node}
 use Rattle.lra_analysis_spec.specs.Operations.{exact_operations, lossy_operations}
-use Rattle.lra_analysis_spec.specs.Judging.{AnswerAtPoint, Finds}
-use Rattle.lra_analysis_spec.specs.Fits.{OpFits, JudgesIf}
-use Rattle.lra_analysis_spec.specs.Accesses.{OpInside, JudgesAccesses}
-use Rattle.lra_analysis_spec.proofs.OneIteration.{defined_single}
-use Rattle.lra_analysis_spec.proofs.OneJudgement.{one_asked}
-use Rattle.lra_analysis_spec.proofs.OneAccess.{one_asked_inside}
-use Rattle.std.proofs.lemmas.List.Elements.{Contains-append_cases}
-use Rattle.lra_analyse_source.proofs.Found.{found_of, none_before, one_asked_there}
-use Rattle.lra_analyse_source.proofs.Handing.{one_access, one_told}
-use Rattle.lra_analyse_source.proofs.FitsHanded.{unflagged_before}
+use Rattle.lra_analysis_spec.specs.{Accesses.OpInside, Accesses.JudgesAccesses, Analysis.ExactIteration, Fits.OpFits, Fits.JudgesIf, Judging.AnswerAtPoint, Judging.Finds, Plan.plan_of}
+use Rattle.lra_analysis_spec.proofs.{OneAccess.one_asked_inside, OneIteration.defined_single, OneJudgement.one_asked, OneTree.one_tree}
+use Rattle.lra_analyse_source.proofs.{FitsHanded.unflagged_before, Found.found_of, Found.none_before, Found.one_asked_there, Handing.one_access, Handing.one_told, Numbering.numbered}
 use Rattle.lra_front_end.specs.Stages.{OneConstants}
-use Rattle.lra_analysis_spec.specs.Plan.{plan_of}
-use Rattle.lra_analysis_spec.specs.Analysis.{ExactIteration}
-use Rattle.lra_analysis_spec.proofs.OneTree.{one_tree}
 use Rattle.lra_fixpoint.proofs.OneSolution.{one_solution}
-use Rattle.lra_analyse_source.specs.AnalysisReport.{ReportsIteration}
 use Rattle.lra_analyse_source.specs.SourceReports.{DomainProperty, WithParts, ForDomain, ReportsAnalysis}
-use Rattle.lra_analyse_source.specs.Claims.{OneUnflaggedReport}
-use Rattle.lra_analyse_source.proofs.Numbering.{numbered}
+use Rattle.lra_analyse_source.specs.{AnalysisReport.ReportsIteration, Claims.OneUnflaggedReport}
 
 -- the points that are listed of the same sites with the same states
 same_points : (outside : List (List ℕ)) (ls : List Labelled) (n : ℕ) (T : List Site) (ps qs : List PointReport) → AreListed outside ls n T ps → AreListed outside ls n T qs

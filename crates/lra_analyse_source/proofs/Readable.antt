@@ -1,19 +1,13 @@
 -- A report that lists a program's points, whose states are of canonical lists with numbers of the range, is told by its text.
 use Rattle.std.proofs.Common.{◌≡◌, ℕ, suc, ◌<◌, List, [], ◌∷◌, length, map, Option, Some, None, refl, sym, ap, ◌∙◌, subst, arith}
-use Rattle.std.specs.Prelude.{slice_get, option_map}
-use Rattle.std.specs.List.{AllByRecursion}
-use Rattle.lra_syntax.specs.Trees.{FileTree}
-use Rattle.lra_syntax.specs.Labels.{Labelled, labels_of}
-use Rattle.lra_resolution_spec.specs.Resolve.{resolve}
+use Rattle.std.specs.{List.AllByRecursion, Prelude.slice_get, Prelude.option_map}
+use Rattle.lra_syntax.specs.{Labels.Labelled, Labels.labels_of, Trees.FileTree}
+use Rattle.lra_resolution_spec.specs.{LiveNames.live_names, LiveNames.globals_named, Resolve.resolve, ShownNames.shown_names}
 use Rattle.lra_program.specs.Sites.{Site, sites_of}
-use Rattle.lra_report.specs.Report.{Invariant, PointReport, Report}
-use Rattle.lra_resolution_spec.specs.ShownNames.{shown_names}
-use Rattle.lra_report.specs.Listing.{HasWidth, AreListed, Lists}
-use Rattle.lra_resolution_spec.specs.LiveNames.{live_names, globals_named}
 use Rattle.lra_report.specs.Spelled.{IsSpelledPart, IsReadablePart, IsReadablePoint, IsSmallFlag, IsReadable}
+use Rattle.lra_report.specs.{Listing.HasWidth, Listing.AreListed, Listing.Lists, Report.Invariant, Report.PointReport, Report.Report}
 use Rattle.lra_front_end.proofs.Named.{shown_as_many}
-use Rattle.lra_options.specs.declared.options.Domain.{Domain}
-use Rattle.lra_options.specs.declared.options.Options.{Options}
+use Rattle.lra_options.specs.{declared.options.Domain.Domain, declared.options.Options.Options}
 use Rattle.lra_report_build.specs.Canonical.{IsCanonicalState}
 use Rattle.lra_analyse_source.specs.SourceReports.{AreCanonical}
 

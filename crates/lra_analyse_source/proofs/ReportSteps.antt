@@ -1,65 +1,32 @@
 -- From the tree of operations of a source to its report: what the iteration and the listing ask, and what they give.
-use Rattle.lra_program.specs.declared.program.GlobalVariable.{GlobalVariable}
-use Rattle.lra_program.specs.WellFormed.{AreGoodGlobals}
-use Rattle.std.proofs.Common.{◌≡◌, ◌≤◌, ◌<◌, ◌+◌, ℕ, suc, ℤ, List, [], ◌∷◌, length, map, Bool, true, false, Option, Some, None, refl, sym, ap, ap₂, ◌∙◌, subst}
-use Rattle.std.proofs.Common.{arith}
-use Rattle.std.specs.Prelude.{option_map, nat_lt, if◌then◌else◌, slice_get}
-use Rattle.std.specs.List.{AllByRecursion}
-use Rattle.std.proofs.lemmas.Bool.Decides.{nat_tests}
-use Rattle.lra_base.specs.declared.refusals.Place.{Place}
-use Rattle.lra_base.specs.declared.refusals.Refusal.{Refusal}
-use Rattle.lra_program.specs.Accesses.{op_accesses_any}
-use Rattle.lra_program.specs.Overflow.{op_computes}
-use Rattle.lra_program.specs.Program.{Program}
-use Rattle.lra_program.specs.Step.{Op}
+use Rattle.lra_program.specs.{Accesses.op_accesses_any, Overflow.op_computes, Program.Program, ProgramViews.program_view, Sites.Site, Sites.Event, Sites.comes, Sites.one_call_more, Sites.events_of}
+use Rattle.lra_program.specs.{Sites.event_sites, Sites.sites_of, Step.Op, WellFormed.AreGoodGlobals, declared.program.GlobalVariable.GlobalVariable}
+use Rattle.std.proofs.Common.{◌≡◌, ◌≤◌, ◌<◌, ◌+◌, ℕ, suc, ℤ, List, [], ◌∷◌, length, map, Bool, true, false, Option, Some, None, refl, sym, ap, ap₂, ◌∙◌, subst, arith}
+use Rattle.std.proofs.{lemmas.Bool.Decides.nat_tests, lemmas.Option.slice_get-get_or}
+use Rattle.std.specs.{List.AllByRecursion, Prelude.option_map, Prelude.nat_lt, Prelude.if◌then◌else◌, Prelude.slice_get, Prelude.All, Prelude.get_or}
+use Rattle.lra_base.specs.{declared.refusals.Place.Place, declared.refusals.Refusal.Refusal}
 use Rattle.lra_program.specs.declared.program.Program as declared
-use Rattle.lra_program.specs.ProgramViews.{program_view}
-use Rattle.lra_syntax.specs.Trees.{FileTree}
-use Rattle.lra_operations.specs.Tree.{Node}
-use Rattle.lra_syntax.specs.Labels.{Labelled, labels_of}
-use Rattle.lra_program.specs.Sites.{Site, Event, comes, one_call_more, events_of, event_sites, sites_of}
-use Rattle.lra_resolution_spec.specs.Resolve.{resolve}
-use Rattle.lra_options.specs.declared.options.Domain.{Domain}
-use Rattle.lra_options.specs.declared.options.Options.{Options}
-use Rattle.lra_report.specs.Report.{Invariant, Report}
-use Rattle.lra_report.specs.Listing.{Lists}
-use Rattle.lra_resolution_spec.specs.Refuse.{greatest_live, greatest_points, limit_fault}
-use Rattle.lra_domain.specs.Abstraction.{Abstraction}
-use Rattle.lra_domain.specs.Laws.{Laws}
-use Rattle.lra_analysis_spec.specs.LiveLimit.{most_live}
-use Rattle.lra_analysis_spec.specs.Plan.{Plan, plan_of}
+use Rattle.lra_syntax.specs.{Labels.Labelled, Labels.labels_of, Trees.FileTree}
+use Rattle.lra_operations.specs.{Agree.IsInlinedTree, CheckedOperations.AgreesOnAccesses, CheckedOperations.accessing_ops, CheckedOperations.computing_ops, CheckedOperations.ops_where, Tree.Node}
+use Rattle.lra_resolution_spec.specs.{Refuse.greatest_live, Refuse.greatest_points, Refuse.limit_fault, Resolve.resolve}
+use Rattle.lra_options.specs.{declared.options.Domain.Domain, declared.options.Options.Options}
+use Rattle.lra_report.specs.{Listing.Lists, Report.Invariant, Report.Report, Spelled.IsSpelledPart}
+use Rattle.lra_domain.specs.{Abstraction.Abstraction, Laws.Laws}
+use Rattle.lra_analysis_spec.specs.Operations.{exact_operations, lossy_operations, straining_operations}
+use Rattle.lra_analysis_spec.specs.{Accesses.OpInside, Accesses.JudgesAccesses, Fits.OpFits, Fits.JudgesIf, LiveLimit.most_live, Plan.Plan, Plan.plan_of}
 use Rattle.lra_pass_results.specs.Dimensions.{TreeFits}
-use Rattle.lra_fixpoint.specs.Numbers.{IsNumbered}
+use Rattle.lra_fixpoint.specs.{Numbers.IsNumbered, Solved.IsSolved}
 use Rattle.lra_fixpoint.specs.Numbers as numbers
-use Rattle.lra_fixpoint.specs.Solved.{IsSolved}
-use Rattle.lra_report_build.specs.AnalysisResults.{AreInvariants, AreVerdicts, AreFitting, AreAccessVerdicts, ReportedVerdict, state_of, reported_of}
-use Rattle.lra_report_build.specs.AnalysisResults.{reported_all}
-use Rattle.lra_report.specs.Spelled.{IsSpelledPart}
-use Rattle.lra_report_build.specs.Canonical.{AreCanonicallyShown}
-use Rattle.lra_report_build.specs.Shown.{AreShown}
+use Rattle.lra_report_build.specs.AnalysisResults.{AreInvariants, AreVerdicts, AreFitting, AreAccessVerdicts, ReportedVerdict, state_of, reported_of, reported_all}
+use Rattle.lra_report_build.specs.{Canonical.AreCanonicallyShown, Shown.AreShown}
 use Rattle.lra_front_end.specs.Stages.{HasInlinedTree}
 use Rattle.lra_analyse_source.specs.Stages.{IsReportOfTree, ReportsSolution}
-use Rattle.lra_analyse_source.proofs.Fitting.{tree_fits, few_globals}
-use Rattle.lra_analyse_source.proofs.Numbering.{numbered}
-use Rattle.std.specs.Prelude.{All, get_or}
-use Rattle.std.proofs.lemmas.Option.{slice_get-get_or}
-use Rattle.lra_operations.specs.Agree.{IsInlinedTree}
-use Rattle.lra_operations.specs.CheckedOperations.{AgreesOnAccesses, accessing_ops, computing_ops, ops_where}
-use Rattle.lra_analysis_spec.specs.Operations.{exact_operations, lossy_operations, straining_operations}
-use Rattle.lra_analysis_spec.specs.Fits.{OpFits, JudgesIf}
-use Rattle.lra_analysis_spec.specs.Accesses.{OpInside, JudgesAccesses}
-use Rattle.lra_analysis_spec.proofs.OneJudgement.{judged_written, judged_strained}
-use Rattle.lra_analysis_spec.proofs.OneAccess.{accesses_written, accesses_strained}
-use Rattle.lra_analysis_spec.proofs.OneTree.{one_tree}
-use Rattle.lra_overflow_checks.specs.Judged.{AreBelow}
-use Rattle.lra_inline_sound.proofs.CheckedOperations.{trees_agree_on_accesses, trees_agree_on_overflows}
-use Rattle.lra_inline_sound.proofs.DistinctSites.{distinct_sites}
-use Rattle.lra_analyse_source.proofs.Flags.{graph_below}
-use Rattle.lra_analyse_source.proofs.Found.{asked_one, flagged_below, none_before, site_there}
-use Rattle.lra_analyse_source.proofs.FitsHanded.{fitting_on, unflagged_before}
-use Rattle.lra_analyse_source.proofs.AccessesHanded.{inside_on}
 use Rattle.lra_analyse_source.proofs.Handing.{as_many, value_dims, states_as_many, of_assertions, of_all, states_canonical, states_wide, flag_there}
-use Rattle.lra_analyse_source.proofs.Readable.{canonical, readable}
+use Rattle.lra_analyse_source.proofs.{AccessesHanded.inside_on, FitsHanded.fitting_on, FitsHanded.unflagged_before, Fitting.tree_fits, Fitting.few_globals, Flags.graph_below, Found.asked_one}
+use Rattle.lra_analyse_source.proofs.{Found.flagged_below, Found.none_before, Found.site_there, Numbering.numbered, Readable.canonical, Readable.readable}
+use Rattle.lra_analysis_spec.proofs.{OneAccess.accesses_written, OneAccess.accesses_strained, OneJudgement.judged_written, OneJudgement.judged_strained, OneTree.one_tree}
+use Rattle.lra_overflow_checks.specs.Judged.{AreBelow}
+use Rattle.lra_inline_sound.proofs.{CheckedOperations.trees_agree_on_accesses, CheckedOperations.trees_agree_on_overflows, DistinctSites.distinct_sites}
 
 -- what the iteration asks --------------------------------------------------------------------------------------------
 

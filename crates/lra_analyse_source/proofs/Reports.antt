@@ -1,53 +1,28 @@
 -- A report that lists a program's points, tells what the iteration found, and shows values as they are, is right, and is a report of its source.
-use Rattle.std.proofs.Common.{◌≡◌, ℕ, zero, suc, ℤ, ◌≤◌, ◌<◌, List, [], ◌∷◌, length, Option, Some, None, Bool, true, false, ◌++◌, map, inl, inr, refl, sym}
-use Rattle.std.proofs.Common.{ap, ◌∙◌, subst, arith}
-use Rattle.std.specs.Prelude.{slice_get, option_map, IsTrue}
-use Rattle.std.specs.List.{AllByRecursion, Contains, flat_map}
-use Rattle.std.proofs.lemmas.Option.{none-some, same_Some, slice_get-map}
-use Rattle.std.proofs.lemmas.List.Elements.{Contains-append_cases}
+use Rattle.std.proofs.Common.{◌≡◌, ℕ, zero, suc, ℤ, ◌≤◌, ◌<◌, List, [], ◌∷◌, length, Option, Some, None, Bool, true, false, ◌++◌, map, inl, inr, refl, sym, ap, ◌∙◌, subst, arith}
+use Rattle.std.proofs.{lemmas.List.Elements.Contains-append_cases, lemmas.Option.none-some, lemmas.Option.same_Some, lemmas.Option.slice_get-map}
+use Rattle.std.specs.{List.AllByRecursion, List.Contains, List.flat_map, Prelude.slice_get, Prelude.option_map, Prelude.IsTrue}
 use Rattle.lra_linear_spec.proofs.Membership.{contains_none}
-use Rattle.lra_syntax.specs.Trees.{FileTree}
-use Rattle.lra_syntax.specs.Grammar.{Spells}
+use Rattle.lra_syntax.specs.{Grammar.Spells, Labels.Labelled, Labels.labels_of, Trees.FileTree}
 use Rattle.lra_base.specs.declared.refusals.Place.{Place}
-use Rattle.lra_program.specs.Accesses.{AccessesOutOfBounds}
-use Rattle.lra_program.specs.Overflow.{Overflows}
-use Rattle.lra_program.specs.Run.{At, Fails}
-use Rattle.lra_resolution_spec.specs.Resolve.{resolve}
-use Rattle.lra_program.specs.Sites.{Site, sites_of}
-use Rattle.lra_operations.specs.Agree.{point_of, Agrees}
-use Rattle.lra_operations.specs.CheckedOperations.{computing_ops, accessing_ops}
-use Rattle.lra_syntax.specs.Labels.{Labelled, labels_of}
-use Rattle.lra_options.specs.declared.options.Domain.{Domain}
-use Rattle.lra_options.specs.declared.options.Options.{Options}
+use Rattle.lra_program.specs.{Accesses.AccessesOutOfBounds, Assertions.assertions_from, Overflow.Overflows, Run.At, Run.Fails, Sites.Site, Sites.sites_of}
+use Rattle.lra_resolution_spec.specs.{LiveNames.globals_named, Refuse.Accepts, Resolve.resolve}
+use Rattle.lra_operations.specs.{Agree.point_of, Agree.Agrees, CheckedOperations.computing_ops, CheckedOperations.accessing_ops}
+use Rattle.lra_options.specs.{declared.options.Domain.Domain, declared.options.Options.Options}
+use Rattle.lra_report.specs.Listing.{AreListed, Subject, subject, subjects_of, fits_asked, computes_at, computing_from, accesses_at, accesses_from, subjects, Lists, IsFlag, AreParts, IsReportOf}
 use Rattle.lra_report.specs.Report.{Invariant, InvariantHolds, PointReport, Verdict, Report, IsInvariant, IsRight, IsSound}
-use Rattle.lra_report.specs.Parts.{ShowsPart}
-use Rattle.lra_resolution_spec.specs.Refuse.{Accepts}
-use Rattle.lra_report.specs.declared.verdict_kinds.VerdictKind.{VerdictKind}
 use Rattle.lra_report.specs.declared.verdict_kinds.VerdictKind.TheVariants.{Assertion, Fit}
-use Rattle.lra_report.specs.VerdictKinds.{Breaks}
-use Rattle.lra_report.specs.Listing.{AreListed, Subject, subject, subjects_of, fits_asked, computes_at, computing_from, accesses_at, accesses_from, subjects}
-use Rattle.lra_report.specs.Listing.{Lists, IsFlag, AreParts, IsReportOf}
-use Rattle.lra_program.specs.Assertions.{assertions_from}
-use Rattle.lra_resolution_spec.specs.LiveNames.{globals_named}
-use Rattle.lra_analysis_spec.specs.Plan.{plan_of}
-use Rattle.lra_analysis_spec.specs.Operations.{lossy_operations}
-use Rattle.lra_analysis_spec.specs.Fits.{OpFits, JudgesIf}
-use Rattle.lra_analysis_spec.specs.Accesses.{OpInside}
-use Rattle.lra_domain.specs.Abstraction.{Abstraction}
-use Rattle.lra_domain.specs.Laws.{Laws}
+use Rattle.lra_report.specs.{Parts.ShowsPart, VerdictKinds.Breaks, declared.verdict_kinds.VerdictKind.VerdictKind}
+use Rattle.lra_analysis_spec.specs.{Accesses.OpInside, Fits.OpFits, Fits.JudgesIf, Operations.lossy_operations, Plan.plan_of}
+use Rattle.lra_domain.specs.{Abstraction.Abstraction, Laws.Laws}
 use Rattle.lra_analysis_spec.proofs.Caps.{solved_capped}
 use Rattle.lra_report_build.specs.AnalysisResults.{ReportedVerdict, reported_verdict, reported_accesses, reported_all, reported_of}
 use Rattle.lra_analyse_source.specs.AnalysisReport.{ReportsIteration}
-use Rattle.lra_analyse_source.proofs.Numbering.{numbered}
-use Rattle.lra_fixpoint.proofs.Counting.{iteration_fails_once}
-use Rattle.lra_analyse_source.proofs.Flags.{IsBelow, graph_below, iteration_below}
-use Rattle.lra_front_end.proofs.Named.{shown_as_many}
 use Rattle.lra_analyse_source.proofs.Handing.{as_many, contained, one_access, one_told, value_dims}
-use Rattle.lra_analyse_source.proofs.Found.{flagged_below}
-use Rattle.lra_analyse_source.proofs.Sound.{value_there, proved_holds, IsListed, listed_all, IsOn, judged_all}
-use Rattle.lra_analyse_source.proofs.Sound.{SiteAt, assertion_site, computing_site, access_site, get_either}
-use Rattle.lra_analyse_source.proofs.FitsHold.{fitting_holds}
-use Rattle.lra_analyse_source.proofs.AccessesHold.{inside_holds}
+use Rattle.lra_analyse_source.proofs.Sound.{value_there, proved_holds, IsListed, listed_all, IsOn, judged_all, SiteAt, assertion_site, computing_site, access_site, get_either}
+use Rattle.lra_analyse_source.proofs.{AccessesHold.inside_holds, FitsHold.fitting_holds, Flags.IsBelow, Flags.graph_below, Flags.iteration_below, Found.flagged_below, Numbering.numbered}
+use Rattle.lra_fixpoint.proofs.Counting.{iteration_fails_once}
+use Rattle.lra_front_end.proofs.Named.{shown_as_many}
 
 -- lists --------------------------------------------------------------------------------------------------------------
 

@@ -1,8 +1,7 @@
 -- What is said of a domain or of its sets, as the options name them.
 use Rattle.std.proofs.Common.{◌≡◌, ℕ, zero, suc, ℤ, ◌≤◌, ◌<◌, List, sym, subst, arith}
-use Rattle.lra_options.specs.declared.options.Domain.{Domain}
 use Rattle.lra_options.specs.declared.options.Domain.TheVariants.{Poly, Box, Oct}
-use Rattle.lra_options.specs.declared.options.Options.{Options}
+use Rattle.lra_options.specs.{declared.options.Domain.Domain, declared.options.Options.Options}
 use Rattle.lra_domain.specs.Abstraction.{Abstraction}
 use Rattle.lra_report.specs.Report.{Invariant, Report}
 use Rattle.lra_resolution_spec.specs.Resolve.{resolve}
@@ -10,11 +9,8 @@ use Rattle.lra_program.specs.Program.{Program}
 use Rattle.lra_box.specs.Abstraction.{box_abstraction}
 use Rattle.lra_octagon.specs.Abstraction.{octagon_abstraction}
 use Rattle.lra_poly_domain.specs.Abstraction.{polyhedron_abstraction}
-use Rattle.lra_report_build.specs.Polyhedra.{shown_polyhedron}
-use Rattle.lra_report_build.specs.Shown.{shown_state}
-use Rattle.lra_powerset.specs.Content.{SetContent, SetHead}
-use Rattle.lra_powerset.specs.Abstraction.{set_abstraction}
-use Rattle.lra_report_build.specs.Sets.{shown_set}
+use Rattle.lra_report_build.specs.{Polyhedra.shown_polyhedron, Sets.shown_set, Shown.shown_state}
+use Rattle.lra_powerset.specs.{Abstraction.set_abstraction, Content.SetContent, Content.SetHead}
 use Rattle.lra_analyse_source.specs.AnalysisReport.{ReportsIteration}
 use Rattle.lra_analyse_source.specs.SourceReports.{DomainProperty, WithParts, ForDomain, ForOptions, IsAnalysisReportOver, ReportsAnalysis, IsAnalysisReport}
 

@@ -1,25 +1,14 @@
 -- What an iteration over a program's tree says of the program's runs.
 use Rattle.std.proofs.Common.{◌≡◌, ℕ, zero, suc, ◌+◌, ◌++◌, ◌∷◌, [], List, inl, inr, length, Option, Some, Bool, true, false, refl, sym, ap, ◌∙◌, subst, arith}
-use Rattle.std.specs.Prelude.{ℤ, ◌⊎◌, slice_get, IsTrue, cond}
-use Rattle.std.specs.List.{AllByRecursion, Contains}
 use Rattle.std.proofs.lemmas.Option.{none-some, same_Some}
-use Rattle.lra_domain.specs.Abstraction.{Abstraction}
-use Rattle.lra_domain.specs.Laws.{Laws}
-use Rattle.lra_program.specs.Program.{Element, Program}
-use Rattle.lra_program.specs.WellFormed.{AreGoodGlobals}
-use Rattle.lra_program.specs.Run.{begun, At, Fails}
-use Rattle.lra_operations.specs.Tree.{Node}
-use Rattle.lra_report.specs.Report.{PointReport, Verdict}
+use Rattle.std.specs.{List.AllByRecursion, List.Contains, Prelude.ℤ, Prelude.◌⊎◌, Prelude.slice_get, Prelude.IsTrue, Prelude.cond}
+use Rattle.lra_domain.specs.{Abstraction.Abstraction, Laws.Laws}
+use Rattle.lra_program.specs.{Assertions.assertions_from, Program.Element, Program.Program, Run.begun, Run.At, Run.Fails, Sites.Site, Sites.sites_of, WellFormed.AreGoodGlobals}
+use Rattle.lra_operations.specs.{Agree.point_of, Agree.Agrees, Tree.Node}
+use Rattle.lra_report.specs.{Listing.Subject, Listing.access_subjects, Listing.accesses_from, Listing.computing_from, Listing.AreListed, Listing.AreJudged, Report.PointReport, Report.Verdict}
 use Rattle.lra_syntax.specs.Labels.{Labelled}
-use Rattle.lra_program.specs.Sites.{Site, sites_of}
-use Rattle.lra_operations.specs.Agree.{point_of, Agrees}
-use Rattle.lra_resolution_spec.specs.ShownNames.{shown_names}
-use Rattle.lra_resolution_spec.specs.LiveNames.{live_names}
-use Rattle.lra_report.specs.Listing.{Subject, access_subjects, accesses_from, computing_from, AreListed, AreJudged}
-use Rattle.lra_program.specs.Assertions.{assertions_from}
-use Rattle.lra_analysis_spec.specs.Plan.{Plan}
-use Rattle.lra_analysis_spec.specs.Pass.{failing, PassResult}
-use Rattle.lra_analysis_spec.specs.Analysis.{LossyIteration, IsSolution, IsUnreachable}
+use Rattle.lra_resolution_spec.specs.{LiveNames.live_names, ShownNames.shown_names}
+use Rattle.lra_analysis_spec.specs.{Analysis.LossyIteration, Analysis.IsSolution, Analysis.IsUnreachable, Pass.failing, Pass.PassResult, Plan.Plan}
 use Rattle.lra_analysis_spec.proofs.Covers.{Covers, Has}
 use Rattle.lra_fixpoint.proofs.Covering.{begun_covers}
 

@@ -1,16 +1,13 @@
 -- What a tree's report is told to be, as the answer of its source.
 use Rattle.std.proofs.Common.{ℕ, ℤ, ◌≤◌, List, refl, arith}
-use Rattle.lra_syntax.specs.Trees.{FileTree}
-use Rattle.lra_syntax.specs.Grammar.{Spells}
+use Rattle.lra_syntax.specs.{Grammar.Spells, Trees.FileTree}
 use Rattle.lra_options.specs.declared.options.Options.{Options}
 use Rattle.lra_report.specs.Report.{Invariant, Report}
 use Rattle.lra_resolution_spec.specs.Refuse.{Accepts}
-use Rattle.lra_domain.specs.Abstraction.{Abstraction}
-use Rattle.lra_domain.specs.Laws.{Laws}
+use Rattle.lra_domain.specs.{Abstraction.Abstraction, Laws.Laws}
 use Rattle.lra_front_end.specs.Stages.{HasConstants, HasTree}
 use Rattle.lra_front_end.proofs.StageSteps.{accepted}
-use Rattle.lra_analyse_source.specs.SourceReports.{IsAnalysisReportOver}
-use Rattle.lra_analyse_source.specs.Stages.{IsReportOfTree}
+use Rattle.lra_analyse_source.specs.{SourceReports.IsAnalysisReportOver, Stages.IsReportOfTree}
 use Rattle.lra_analyse_source.proofs.Reports.{sound, is_report}
 
 module _ {V H : Type 0} (m : Abstraction V H) (laws : Laws m) (shown : V → Invariant) (o : Options) (constants : List ℤ) (source : List ℕ) (t : FileTree)

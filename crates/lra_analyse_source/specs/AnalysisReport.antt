@@ -3,21 +3,15 @@
 use Rattle.std.specs.Prelude.{◌≡◌, ℕ, suc, ℤ, List, map, Bool, Option, None, Some, option_map}
 use Rattle.lra_base.specs.declared.refusals.Place.{Place}
 use Rattle.lra_domain.specs.Abstraction.{Abstraction}
-use Rattle.lra_program.specs.Program.{Program}
-use Rattle.lra_program.specs.WellFormed.{AreGoodGlobals}
-use Rattle.lra_operations.specs.Tree.{Node}
-use Rattle.lra_operations.specs.Agree.{IsInlinedTree}
+use Rattle.lra_program.specs.{Program.Program, WellFormed.AreGoodGlobals}
 use Rattle.lra_operations.specs.CheckedOperations.{AgreesOnOverflows, AgreesOnAccesses}
+use Rattle.lra_operations.specs.{Agree.IsInlinedTree, Tree.Node}
 use Rattle.lra_report.specs.Report.{Invariant, PointReport, Report}
 use Rattle.lra_options.specs.declared.options.Options.{Options}
-use Rattle.lra_analysis_spec.specs.Plan.{plan_of}
-use Rattle.lra_analysis_spec.specs.Pass.{PassResult}
 use Rattle.lra_analysis_spec.specs.Analysis.{ExactIteration, LossyIteration, StrainsAtPoint, IsSolution}
 use Rattle.lra_analysis_spec.specs.Operations.{exact_operations, lossy_operations, straining_operations}
-use Rattle.lra_analysis_spec.specs.Fits.{JudgesIf}
-use Rattle.lra_analysis_spec.specs.Accesses.{JudgesAccesses}
-use Rattle.lra_report_build.specs.AnalysisResults.{reported_all, reported_of}
-use Rattle.lra_report_build.specs.Shown.{AreShown}
+use Rattle.lra_analysis_spec.specs.{Accesses.JudgesAccesses, Fits.JudgesIf, Pass.PassResult, Plan.plan_of}
+use Rattle.lra_report_build.specs.{AnalysisResults.reported_all, AnalysisResults.reported_of, Shown.AreShown}
 
 -- `shown` is what the domain shows of a value; the program has these constants
 pub record ReportsIteration {V H : Type 0} (m : Abstraction V H) (shown : V → Invariant) (settings : Options)

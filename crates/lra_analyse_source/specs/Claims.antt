@@ -1,24 +1,17 @@
 -- What follows of the tree of a well-formed program, and of a report that tells an analysis.
 use Rattle.std.specs.Prelude.{◌≡◌, ◌≤◌, ℕ, ℤ, List, length, None}
-use Rattle.lra_syntax.specs.Trees.{FileTree}
-use Rattle.lra_program.specs.Program.{Program}
-use Rattle.lra_operations.specs.Tree.{Node}
+use Rattle.lra_syntax.specs.{Grammar.Spells, Trees.FileTree}
+use Rattle.lra_program.specs.{Program.Program, Sites.sites_of, WellFormed.IsWellFormed}
+use Rattle.lra_operations.specs.{Agree.IsInlinedTree, Agree.Agrees, Tree.Node}
 use Rattle.lra_options.specs.declared.options.Options.{Options}
 use Rattle.lra_report.specs.Report.{Invariant, Report, IsSound}
-use Rattle.lra_report.specs.ReportText.{report_text}
-use Rattle.lra_resolution_spec.specs.Resolve.{resolve}
-use Rattle.lra_program.specs.Sites.{sites_of}
-use Rattle.lra_operations.specs.Agree.{IsInlinedTree, Agrees}
-use Rattle.lra_program.specs.WellFormed.{IsWellFormed}
-use Rattle.lra_syntax.specs.Grammar.{Spells}
-use Rattle.lra_resolution_spec.specs.Refuse.{Accepts}
-use Rattle.lra_report.specs.Listing.{Lists, IsReportOf}
+use Rattle.lra_report.specs.{Listing.Lists, Listing.IsReportOf, ReportText.report_text}
+use Rattle.lra_resolution_spec.specs.{Refuse.Accepts, Resolve.resolve}
 use Rattle.lra_pass_results.specs.Dimensions.{TreeFits}
 use Rattle.lra_fixpoint.specs.Numbers.{AreBelow, IsNumbered}
 use Rattle.lra_domain.specs.Abstraction.{Abstraction}
 use Rattle.lra_front_end.specs.Claims.{AreFew}
-use Rattle.lra_analyse_source.specs.AnalysisReport.{ReportsIteration}
-use Rattle.lra_analyse_source.specs.SourceReports.{IsAnalysisReport}
+use Rattle.lra_analyse_source.specs.{AnalysisReport.ReportsIteration, SourceReports.IsAnalysisReport}
 
 -- an iteration can be made over the tree of a well-formed program
 abbrev pub TreesFit : Type 0

@@ -1,22 +1,14 @@
 -- Soundness, over any domain: what an iteration finds holds in all runs.
-use Rattle.std.specs.Prelude.{◌≡◌, ℕ, ℤ, List, length, Bool, true, Option, Some, slice_get}
 use Rattle.std.specs.List.{Contains}
+use Rattle.std.specs.Prelude.{◌≡◌, ℕ, ℤ, List, length, Bool, true, Option, Some, slice_get}
 use Rattle.lra_base.specs.declared.refusals.Place.{Place}
 use Rattle.lra_domain.specs.Abstraction.{Abstraction}
-use Rattle.lra_program.specs.Program.{Program}
-use Rattle.lra_program.specs.WellFormed.{AreGoodGlobals}
-use Rattle.lra_operations.specs.Tree.{Node}
-use Rattle.lra_program.specs.Run.{At, Fails}
-use Rattle.lra_program.specs.Sites.{Site, sites_of}
-use Rattle.lra_operations.specs.Agree.{IsInlinedTree, point_of, Agrees}
-use Rattle.lra_analysis_spec.specs.Plan.{Plan}
-use Rattle.lra_analysis_spec.specs.Analysis.{IsUnreachable}
-use Rattle.lra_analysis_spec.specs.Operations.{lossy_operations}
-use Rattle.lra_analysis_spec.specs.Fits.{Judges}
-use Rattle.lra_analysis_spec.specs.Accesses.{JudgesAccesses}
+use Rattle.lra_program.specs.{Accesses.AccessesOutOfBounds, Overflow.Overflows, Program.Program, Run.At, Run.Fails}
+use Rattle.lra_program.specs.{Sites.Site, Sites.sites_of, WellFormed.AreGoodGlobals}
 use Rattle.lra_operations.specs.CheckedOperations.{AgreesOnOverflows, AgreesOnAccesses}
-use Rattle.lra_program.specs.Accesses.{AccessesOutOfBounds}
-use Rattle.lra_program.specs.Overflow.{Overflows}
+use Rattle.lra_operations.specs.{Agree.IsInlinedTree, Agree.point_of, Agree.Agrees, Tree.Node}
+use Rattle.lra_analysis_spec.specs.Operations.{lossy_operations}
+use Rattle.lra_analysis_spec.specs.{Accesses.JudgesAccesses, Analysis.IsUnreachable, Fits.Judges, Plan.Plan}
 use Rattle.lra_fixpoint.specs.Solved.{IsSolved}
 
 -- the value at a point has each store that a run brings there, no assertion that is proved fails, and no run comes

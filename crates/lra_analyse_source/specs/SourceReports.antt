@@ -1,25 +1,19 @@
 -- What a source deserves: its one refusal (`Refuse`), or a report of it that tells the analysis.
-use Rattle.std.specs.Prelude.{ℕ, suc, ℤ, List, length}
-use Rattle.std.specs.List.{AllByRecursion}
-use Rattle.lra_options.specs.declared.options.Domain.{Domain}
+use Rattle.std.specs.{List.AllByRecursion, Prelude.ℕ, Prelude.suc, Prelude.ℤ, Prelude.List, Prelude.length}
 use Rattle.lra_options.specs.declared.options.Domain.TheVariants.{Poly, Box, Oct}
-use Rattle.lra_options.specs.declared.options.Options.{Options}
+use Rattle.lra_options.specs.{declared.options.Domain.Domain, declared.options.Options.Options}
 use Rattle.lra_report.specs.Report.{Invariant, PointReport, Report}
+use Rattle.lra_report.specs.{Listing.IsReportOf, Spelled.IsReadable}
 use Rattle.lra_resolution_spec.specs.Resolve.{resolve}
 use Rattle.lra_program.specs.Program.{Program}
 use Rattle.lra_syntax.specs.Grammar.{Spells}
-use Rattle.lra_report.specs.Listing.{IsReportOf}
-use Rattle.lra_report.specs.Spelled.{IsReadable}
 use Rattle.lra_domain.specs.Abstraction.{Abstraction}
 use Rattle.lra_box.specs.Abstraction.{box_abstraction}
 use Rattle.lra_octagon.specs.Abstraction.{octagon_abstraction}
 use Rattle.lra_poly_domain.specs.Abstraction.{polyhedron_abstraction}
-use Rattle.lra_powerset.specs.Content.{SetContent, SetHead}
-use Rattle.lra_powerset.specs.Abstraction.{set_abstraction}
+use Rattle.lra_powerset.specs.{Abstraction.set_abstraction, Content.SetContent, Content.SetHead}
 use Rattle.lra_report_build.specs.Polyhedra.{shown_polyhedron}
-use Rattle.lra_report_build.specs.Sets.{shown_set}
-use Rattle.lra_report_build.specs.Canonical.{IsCanonicalState}
-use Rattle.lra_report_build.specs.Shown.{shown_state}
+use Rattle.lra_report_build.specs.{Canonical.IsCanonicalState, Sets.shown_set, Shown.shown_state}
 use Rattle.lra_front_end.specs.Stages.{HasConstants}
 use Rattle.lra_analyse_source.specs.AnalysisReport.{ReportsIteration}
 

@@ -1,22 +1,15 @@
 -- What is known of a report before it is one of its source.
 use Rattle.std.specs.Prelude.{◌≡◌, ℕ, ℤ, List, [], map, Bool, false, None}
 use Rattle.lra_base.specs.declared.refusals.Place.{Place}
-use Rattle.lra_syntax.specs.Trees.{FileTree}
-use Rattle.lra_resolution_spec.specs.NameFaults.{name_faults}
-use Rattle.lra_syntax.specs.Labels.{labels_of}
-use Rattle.lra_resolution_spec.specs.Resolve.{resolve}
+use Rattle.lra_syntax.specs.{Labels.labels_of, Reach.NotRecursive, Trees.FileTree}
+use Rattle.lra_resolution_spec.specs.{NameFaults.name_faults, Refuse.limit_fault, Resolve.resolve}
 use Rattle.lra_program.specs.Sites.{events_of}
 use Rattle.lra_operations.specs.Agree.{Agrees}
 use Rattle.lra_options.specs.declared.options.Options.{Options}
-use Rattle.lra_report.specs.Report.{Invariant, PointReport, Report}
-use Rattle.lra_report.specs.Listing.{Lists}
+use Rattle.lra_report.specs.{Listing.Lists, Report.Invariant, Report.PointReport, Report.Report, Spelled.IsReadable}
 use Rattle.lra_report_build.specs.AnalysisResults.{reported_all, reported_of}
-use Rattle.lra_resolution_spec.specs.Refuse.{limit_fault}
-use Rattle.lra_syntax.specs.Reach.{NotRecursive}
-use Rattle.lra_report.specs.Spelled.{IsReadable}
 use Rattle.lra_domain.specs.Abstraction.{Abstraction}
-use Rattle.lra_analyse_source.specs.AnalysisReport.{ReportsIteration}
-use Rattle.lra_analyse_source.specs.SourceReports.{AreCanonical}
+use Rattle.lra_analyse_source.specs.{AnalysisReport.ReportsIteration, SourceReports.AreCanonical}
 
 -- a report that lists the points of an accepted source's tree, tells what an analysis of its program found, by
 -- canonical lists over polyhedra, and is told by its text

@@ -2,9 +2,9 @@
 
 ghost use Rattle.lra_analysis_spec.specs.Linear.{FormsAreRight, TestsAreRight, DiffersIsRight};
 ghost use Rattle.lra_analysis_spec.specs.Linearization.{LinearizationIsRight};
-ghost use Rattle.lra_analyse_source.specs.Soundness.{SolvedAreSound, FittingIsSound, AccessesAreSound};
 ghost use Rattle.lra_analyse_source.specs.Claims.{OneAnsweredText, TreesFit, TreesAreNumbered, AnalysedAreSound};
 ghost use Rattle.lra_analyse_source.specs.Claims.{AnalysedAreReports, OneUnflaggedReport};
+ghost use Rattle.lra_analyse_source.specs.Soundness.{SolvedAreSound, FittingIsSound, AccessesAreSound};
 
 use lra_domain::Domain;
 use lra_front_end::{one_answer, one_constants};

@@ -1,17 +1,13 @@
 //! What an iteration finds of what is read of a source, and its report.
 
 ghost use Rattle.std.specs.Prelude.{◌≡◌, ◌≤◌, ◌<◌, None, length, map, All, IfOk};
-ghost use Rattle.lra_syntax.specs.Views.{tree_view};
-ghost use Rattle.lra_syntax.specs.Labels.{labels_of};
+ghost use Rattle.lra_syntax.specs.{Labels.labels_of, Views.tree_view};
 ghost use Rattle.lra_resolution_spec.specs.Resolve.{resolve};
 ghost use Rattle.lra_program.specs.ProgramViews.{program_view};
-ghost use Rattle.lra_operations.specs.TreeViews.{node_view, site_view};
 ghost use Rattle.lra_operations.specs.CheckedOperations.{accessing_ops, computing_ops};
-ghost use Rattle.lra_analysis_spec.specs.LiveLimit.{most_live};
-ghost use Rattle.lra_analysis_spec.specs.Plan.{plan_of};
+ghost use Rattle.lra_operations.specs.TreeViews.{node_view, site_view};
 ghost use Rattle.lra_analysis_spec.specs.Operations.{lossy_operations};
-ghost use Rattle.lra_analysis_spec.specs.Fits.{JudgesIf};
-ghost use Rattle.lra_analysis_spec.specs.Accesses.{JudgesAccesses};
+ghost use Rattle.lra_analysis_spec.specs.{Accesses.JudgesAccesses, Fits.JudgesIf, LiveLimit.most_live, Plan.plan_of};
 ghost use Rattle.lra_overflow_checks.specs.Judged.{AreBelow};
 ghost use Rattle.lra_fixpoint.specs.Solved.{IsSolved};
 ghost use Rattle.lra_report_build.specs.Views.{reported_view};

@@ -2,18 +2,15 @@
 
 ghost use Rattle.std.specs.Prelude.{◌≡◌, ◌≤◌, ◌<◌, ◌+◌, ◌^◌, length, map, IfOk};
 ghost use Rattle.lra_base.specs.Refused.{IfRefused};
-ghost use Rattle.lra_syntax.specs.Views.{tree_view};
+ghost use Rattle.lra_syntax.specs.{Grammar.Spells, Labels.labels_of, Views.tree_view};
 ghost use Rattle.lra_program.specs.ProgramViews.{program_view};
 ghost use Rattle.lra_operations.specs.TreeViews.{node_view, site_view};
 ghost use Rattle.lra_analysis_spec.specs.Plan.{plan_of};
-ghost use Rattle.lra_syntax.specs.Labels.{labels_of};
-ghost use Rattle.lra_resolution_spec.specs.Resolve.{resolve};
-ghost use Rattle.lra_syntax.specs.Grammar.{Spells};
-ghost use Rattle.lra_resolution_spec.specs.Refuse.{Refuse};
+ghost use Rattle.lra_resolution_spec.specs.{Refuse.Refuse, Resolve.resolve};
 ghost use Rattle.lra_report.specs.View.{report_of};
 ghost use Rattle.lra_analyse_source.specs.SourceReports.{IsAnalysisReportOver, WithParts, IsAnalysisReport};
-ghost use Rattle.lra_front_end.specs.Stages.{HasInlinedTree};
 ghost use Rattle.lra_analyse_source.specs.Stages.{IsReportOfTree};
+ghost use Rattle.lra_front_end.specs.Stages.{HasInlinedTree};
 
 use crate::reporting::{report_solution, solve_front};
 use lra_base::SourceError;

@@ -2,22 +2,13 @@
 -- would catch stands beside it.
 use Rattle.std.proofs.Common.{◌≡◌, ℕ, ℤ, pos, negsuc, List, [], ◌∷◌, Some, None, Bool, true, false, refl, inl, inr}
 use Rattle.lra_linear_spec.specs.declared.ConKind.TheVariants.{Ge}
-use Rattle.lra_linear_forms.specs.Form.{Form}
-use Rattle.lra_linear_forms.specs.declared.test.Test.{Test}
-use Rattle.lra_domain.specs.Abstraction.{Abstraction, worse}
-use Rattle.lra_domain.specs.declared.Exactness.{Exactness}
-use Rattle.lra_domain.specs.declared.Exactness.TheVariants.{Exact, Flagged}
-use Rattle.lra_base.specs.declared.refusals.Place.{Place}
-use Rattle.lra_base.specs.declared.number_types.NumberType.TheVariants.{Int, Long}
-use Rattle.lra_program.specs.declared.arrays.Array.{Array}
+use Rattle.lra_linear_forms.specs.{Form.Form, declared.test.Test.Test}
+use Rattle.lra_domain.specs.{Abstraction.Abstraction, Abstraction.worse, declared.Exactness.Exactness, declared.Exactness.TheVariants.Exact, declared.Exactness.TheVariants.Flagged}
+use Rattle.lra_base.specs.{declared.number_types.NumberType.TheVariants.Int, declared.number_types.NumberType.TheVariants.Long, declared.refusals.Place.Place}
 use Rattle.lra_program.specs.Program.{Expr, literal, input, element, Element, nonzero, both_of, either_of}
-use Rattle.lra_program.specs.Accesses.{expr_accesses}
-use Rattle.lra_program.specs.Step.{Op, store_element}
-use Rattle.lra_analysis_spec.specs.Operations.{Operations}
-use Rattle.lra_analysis_spec.specs.MovesOf.{test_action}
-use Rattle.lra_analysis_spec.specs.Pass.{Filters}
-use Rattle.lra_analysis_spec.specs.Judging.{Finding, first_flagged}
+use Rattle.lra_program.specs.{Accesses.expr_accesses, Step.Op, Step.store_element, declared.arrays.Array.Array}
 use Rattle.lra_analysis_spec.specs.Accesses.{outside, outside_of, IndexJudged, AccessJudged, EachJudged, CondInside, OpInside}
+use Rattle.lra_analysis_spec.specs.{Judging.Finding, Judging.first_flagged, MovesOf.test_action, Operations.Operations, Pass.Filters}
 
 abbrev form : ℤ → List ℤ → Form
 form c cs = record { constant = c; coefficients = cs }

@@ -1,39 +1,21 @@
 -- An access that is judged to be inside by a value with a run's store isn't one by which that run strays.
-use Rattle.std.proofs.Common.{◌≡◌, ℕ, zero, suc, ◌+◌, ◌<◌, ◌++◌, ℤ, pos, negsuc, List, [], ◌∷◌, Option, Some, None, Bool, true, false, length, refl, sym}
-use Rattle.std.proofs.Common.{ap, subst, ◌∙◌, arith, inl, inr, length-append}
+use Rattle.std.proofs.Common.{◌≡◌, ℕ, zero, suc, ◌+◌, ◌<◌, ◌++◌, ℤ, pos, negsuc, List, [], ◌∷◌, Option, Some, None, Bool, true, false, length, refl, sym, ap, subst, ◌∙◌, arith, inl, inr}
+use Rattle.std.proofs.{Common.length-append, lemmas.Bool.ltb-false, lemmas.Int.ints, lemmas.Option.same_Some, lemmas.Option.slice_get_within, lemmas.Option.slice_get-get_or}
 use Rattle.std.specs.Prelude.{◌-ℤ◌, ◌≤ℤ◌, ◌⊎◌, nat_lt, if◌then◌else◌, slice_get, get_or}
-use Rattle.std.proofs.lemmas.Bool.{ltb-false}
-use Rattle.std.proofs.lemmas.Int.{ints}
-use Rattle.std.proofs.lemmas.Option.{same_Some, slice_get_within, slice_get-get_or}
-use Rattle.lra_linear_forms.specs.Form.{Form, form_value}
-use Rattle.lra_linear_forms.specs.declared.test.Test.{Test}
-use Rattle.lra_domain.specs.Abstraction.{Abstraction}
-use Rattle.lra_domain.specs.Laws.{Laws}
-use Rattle.lra_domain.specs.Moves.{make}
-use Rattle.lra_domain.specs.declared.Exactness.{Exactness}
-use Rattle.lra_base.specs.declared.refusals.Place.{Place}
-use Rattle.lra_base.specs.Operators.{below}
-use Rattle.lra_base.specs.declared.number_types.NumberType.{NumberType}
-use Rattle.lra_program.specs.Program.{Element, Cond, compare, nonzero, opposite, both_of, either_of}
-use Rattle.lra_program.specs.Arrays.{place_among}
-use Rattle.lra_program.specs.Value.{◌>>=◌, Environment}
+use Rattle.lra_linear_forms.specs.{Form.Form, Form.form_value, Form.opposite_form, declared.test.Test.Test}
+use Rattle.lra_domain.specs.{Abstraction.Abstraction, Laws.Laws, Moves.make, declared.Exactness.Exactness}
+use Rattle.lra_base.specs.{Operators.below, declared.number_types.NumberType.NumberType, declared.refusals.Place.Place}
+use Rattle.lra_program.specs.Accesses.{expr_accesses, cond_accesses, arguments_accesses, aim_accesses, ExprOutOfBounds, ArgumentsOutOfBounds, CondOutOfBounds, OpOutOfBounds, IsOutside}
 use Rattle.lra_program.specs.Step.{State, environment_at, Op, append, fill, store_value, store_element, havoc, push, push_for, truncate_to, test}
-use Rattle.lra_program.specs.Accesses.{expr_accesses, cond_accesses, arguments_accesses, aim_accesses}
-use Rattle.lra_program.specs.Accesses.{ExprOutOfBounds, ArgumentsOutOfBounds, CondOutOfBounds, OpOutOfBounds, IsOutside}
+use Rattle.lra_program.specs.{Arrays.place_among, Program.Element, Program.Cond, Program.compare, Program.nonzero, Program.opposite, Program.both_of, Program.either_of, Value.◌>>=◌, Value.Environment}
 use Rattle.lra_program.proofs.AccessLaws.{HasOutside, get_left, get_right, expr_outside, cond_outside, arguments_outside, aimed_outside}
 use Rattle.lra_program.proofs.TypeLaws.{bind_some}
 use Rattle.lra_operations.specs.CheckedOperations.{HoldsWithFresh}
-use Rattle.lra_analysis_spec.specs.Linear.{form_of, fitting, at_least_zero, less_by, comparison_test, TestHolds}
-use Rattle.lra_linear_forms.specs.Form.{opposite_form}
-use Rattle.lra_analysis_spec.specs.MovesOf.{test_action}
-use Rattle.lra_analysis_spec.specs.Operations.{lossy_operations}
-use Rattle.lra_analysis_spec.specs.Analysis.{IsUnreachable}
-use Rattle.lra_analysis_spec.specs.Judging.{Declares}
 use Rattle.lra_analysis_spec.specs.Accesses.{outside, outside_of, IndexJudged, AccessJudged, EachJudged, CondInside, OpInside, InsideIsSound}
+use Rattle.lra_analysis_spec.specs.Linear.{form_of, fitting, at_least_zero, less_by, comparison_test, TestHolds}
+use Rattle.lra_analysis_spec.specs.{Analysis.IsUnreachable, Judging.Declares, MovesOf.test_action, Operations.lossy_operations}
 use Rattle.lra_analysis_spec.proofs.FormLemmas.{forms_are_right, from_form, passes_same, opposite_value, less_by_value}
-use Rattle.lra_analysis_spec.proofs.Covers.{Has}
-use Rattle.lra_analysis_spec.proofs.FitsSound.{left_behind}
-use Rattle.lra_analysis_spec.proofs.Keeps.{moves_keep, changes_keep}
+use Rattle.lra_analysis_spec.proofs.{Covers.Has, FitsSound.left_behind, Keeps.moves_keep, Keeps.changes_keep}
 
 -- numbers ----------------------------------------------------------------------------------------------------------------
 

@@ -1,32 +1,21 @@
 -- What each operation of an iteration keeps, all its values have; so none has more parts than the options say.
 use Rattle.std.proofs.Common.{◌≡◌, ℕ, zero, suc, ℤ, ◌-◌, ◌≤◌, ◌++◌, List, [], ◌∷◌, length, Option, None, Some, Bool, true, false, inl, inr, refl, sym, subst}
-use Rattle.std.specs.List.{AllByRecursion, Contains}
 use Rattle.std.proofs.lemmas.Option.{slice_get_read}
+use Rattle.std.specs.List.{AllByRecursion, Contains}
 use Rattle.lra_linear_spec.proofs.Membership.{contains_none, contains_cases}
 use Rattle.lra_systems.specs.LinearSystems.{LinearSystem}
 use Rattle.lra_linear_spec.specs.declared.ConKind.{ConKind}
-use Rattle.lra_domain.specs.Actions.{Action}
-use Rattle.lra_domain.specs.declared.Mode.{Mode}
-use Rattle.lra_domain.specs.declared.Exactness.{Exactness}
-use Rattle.lra_domain.specs.Interference.{Interference}
-use Rattle.lra_domain.specs.Abstraction.{Abstraction}
-use Rattle.lra_domain.specs.Laws.{Laws}
-use Rattle.lra_base.specs.declared.case_labels.CaseLabel.{CaseLabel}
-use Rattle.lra_base.specs.declared.case_labels.CaseLabel.TheVariants.{Case, Default}
-use Rattle.lra_program.specs.Program.{Expr, Cond, Program}
-use Rattle.lra_operations.specs.declared.probes.Probe.TheVariants.{InterferencePoint, RecordWrite}
-use Rattle.lra_operations.specs.Tree.{Exit, broken, continued, returned, Node, empty, point, probe, act, check, seq, choose, iterate, catch, leave, select, Arms}
-use Rattle.lra_operations.specs.Tree.{no_arms, entry, arm, entries_of}
-use Rattle.lra_analysis_spec.specs.Plan.{Plan, Widening}
-use Rattle.lra_analysis_spec.specs.Operations.{Operations, lossy_operations}
 use Rattle.lra_domain.specs.Moves.{Moves, stay, make, first_then, join_of}
-use Rattle.lra_analysis_spec.specs.Moves.{AreMade}
-use Rattle.lra_analysis_spec.specs.MovesOf.{guard, value_moves, moves_of, first_values}
+use Rattle.lra_domain.specs.{Abstraction.Abstraction, Actions.Action, Interference.Interference, Laws.Laws, declared.Exactness.Exactness, declared.Mode.Mode}
+use Rattle.lra_base.specs.{declared.case_labels.CaseLabel.CaseLabel, declared.case_labels.CaseLabel.TheVariants.Case, declared.case_labels.CaseLabel.TheVariants.Default}
+use Rattle.lra_program.specs.Program.{Expr, Cond, Program}
+use Rattle.lra_operations.specs.Tree.{Exit, broken, continued, returned, Node, empty, point, probe, act, check, seq, choose, iterate, catch, leave, select, Arms, no_arms, entry, arm, entries_of}
+use Rattle.lra_operations.specs.declared.probes.Probe.TheVariants.{InterferencePoint, RecordWrite}
 use Rattle.lra_analysis_spec.specs.Pass.{PassEntry, value, failing, recorded, PassResult, noted, goes_on, jumps, in_turn, first_of_call, values_behind, jumps_caught, AreJoined, Filters, Transformer}
 use Rattle.lra_analysis_spec.specs.Pass.{LoopRoundFrom, AscendingIteration, DescendingIteration, Absorption, nothing_absorbed, PassUnder, ArmsPassUnder, Pass, ValueIs, MatchesNone, Enters}
 use Rattle.lra_analysis_spec.specs.Pass.{JoinsRunning, ComesOut, RunsFrom}
-use Rattle.lra_analysis_spec.specs.Analysis.{LossyIteration, IsSolution}
-use Rattle.lra_analysis_spec.specs.UnderInterference.{absorbed, IterationUnder, LossyIterationUnder}
+use Rattle.lra_analysis_spec.specs.{Analysis.LossyIteration, Analysis.IsSolution, Moves.AreMade, MovesOf.guard, MovesOf.value_moves, MovesOf.moves_of, MovesOf.first_values, Operations.Operations}
+use Rattle.lra_analysis_spec.specs.{Operations.lossy_operations, Plan.Plan, Plan.Widening, UnderInterference.absorbed, UnderInterference.IterationUnder, UnderInterference.LossyIterationUnder}
 
 -- what has no operand has the property, and each operation keeps it, where this many parts are asked for
 pub record Preserves {V H : Type 0} (ops : Operations V H) (parts : ℕ) (Good : V → Type 0) (Fine : H → Type 0) : Type 0 where

@@ -1,19 +1,10 @@
 -- What a pass with drops owes: its values have all stores of the tree's runs.
-use Rattle.std.specs.Prelude.{◌≡◌, ℕ, ℤ, List, Some, Bool}
-use Rattle.lra_base.specs.declared.case_labels.CaseLabel.{CaseLabel}
-use Rattle.lra_base.specs.Operators.{equal}
-use Rattle.lra_program.specs.Program.{Expr}
-use Rattle.lra_program.specs.Value.{value_of, compares}
-use Rattle.std.specs.List.{Contains}
-use Rattle.lra_domain.specs.Actions.{Within}
-use Rattle.lra_domain.specs.Laws.{Laws}
-use Rattle.lra_domain.specs.Abstraction.{Abstraction}
-use Rattle.lra_domain.specs.declared.Mode.{Mode}
-use Rattle.lra_domain.specs.declared.Exactness.{Exactness}
-use Rattle.lra_program.specs.Step.{State, environment_at, Op, run_op}
+use Rattle.std.specs.{List.Contains, Prelude.◌≡◌, Prelude.ℕ, Prelude.ℤ, Prelude.List, Prelude.Some, Prelude.Bool}
+use Rattle.lra_base.specs.{Operators.equal, declared.case_labels.CaseLabel.CaseLabel}
+use Rattle.lra_program.specs.{Program.Expr, Step.State, Step.environment_at, Step.Op, Step.run_op, Value.value_of, Value.compares}
+use Rattle.lra_domain.specs.{Abstraction.Abstraction, Actions.Within, Laws.Laws, declared.Exactness.Exactness, declared.Mode.Mode}
 use Rattle.lra_operations.specs.Tree.{Exit, normal, jump, Node, Completes, ReachesPoint, FailsAt, Arms, ArmsComplete, ArmsReachPoint, ArmsFail}
-use Rattle.lra_analysis_spec.specs.Operations.{lossy_operations}
-use Rattle.lra_analysis_spec.specs.Pass.{value, failing, PassResult, OpTransfer, ValueIs, jumps_of}
+use Rattle.lra_analysis_spec.specs.{Operations.lossy_operations, Pass.value, Pass.failing, Pass.PassResult, Pass.OpTransfer, Pass.ValueIs, Pass.jumps_of}
 
 -- the list is a store of a value that is held, or of a head that is
 abbrev pub Has : {V H : Type 0} → Abstraction V H → V → List ℤ → Type 0

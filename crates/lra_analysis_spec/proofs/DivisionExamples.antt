@@ -1,20 +1,16 @@
 -- Divisions as an analysis sees them, and their moves. Which slip an example would catch stands beside it.
 use Rattle.std.proofs.Common.{◌≡◌, ℤ, pos, negsuc, List, [], ◌∷◌, Some, None, true, false, refl, inr}
 use Rattle.std.specs.Int.Signed.{le_z_yes}
+use Rattle.lra_base.specs.Operators.{plus, minus, times, over, modulo, equal, differs}
 use Rattle.lra_base.specs.declared.number_types.NumberType.TheVariants.{Int, Long}
 use Rattle.lra_program.proofs.RunExamples.{long_variable}
-use Rattle.lra_program.specs.Receivers.{variable_at}
-use Rattle.lra_program.specs.Program.{local, Expr, literal, read, negate, binary, compare, nonzero}
-use Rattle.lra_program.specs.Step.{store_value}
-use Rattle.lra_base.specs.Operators.{plus, minus, times, over, modulo, equal, differs}
+use Rattle.lra_program.specs.{Program.local, Program.Expr, Program.literal, Program.read, Program.negate, Program.binary, Program.compare, Program.nonzero, Receivers.variable_at, Step.store_value}
 use Rattle.lra_linear_spec.specs.declared.ConKind.TheVariants.{Ge, Eq}
 use Rattle.lra_linear_forms.specs.Form.{Form}
 use Rattle.lra_domain.specs.Actions.{Action, assign, test, embed, remove_last}
 use Rattle.lra_domain.specs.Moves.{stay, make, first_then, join_of, dims_moved, cases, MayLead}
-use Rattle.lra_analysis_spec.specs.declared.linearization.Division.{Division}
 use Rattle.lra_analysis_spec.specs.declared.linearization.Linearized.TheVariants.{Divided, Unseen}
-use Rattle.lra_analysis_spec.specs.Linearization.{division, linearized}
-use Rattle.lra_analysis_spec.specs.MovesOf.{in_cases, guard, moves_of}
+use Rattle.lra_analysis_spec.specs.{Linearization.division, Linearization.linearized, MovesOf.in_cases, MovesOf.guard, MovesOf.moves_of, declared.linearization.Division.Division}
 
 -- one live variable
 abbrev x : Expr

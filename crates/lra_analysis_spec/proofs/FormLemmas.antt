@@ -1,24 +1,21 @@
 -- The linear form of an expression has the expression's value wherever there is one, and the test of a comparison passes exactly where
 -- the comparison is true.
 use Rattle.std.proofs.Common.{◌≡◌, ℕ, zero, suc, ℤ, pos, negsuc, ◌+ℤ◌, ◌*ℤ◌, List, [], ◌∷◌, Option, Some, None, Bool, true, false, length, refl, sym, ap, subst, ◌∙◌, arith, inl, inr}
-use Rattle.std.specs.Prelude.{◌-ℤ◌, ◌≤ℤ◌, map, replicate, slice_set, slice_get, if◌then◌else◌, ◌&&◌, IsTrue, ◌↔◌, ◌⊎◌, int_lt, int_le, nat_lt, not, neg_ℤ}
-use Rattle.std.specs.List.{list_all}
 use Rattle.std.proofs.lemmas.Int.{ints}
-use Rattle.lra_linear_spec.specs.declared.ConKind.TheVariants.{Ge, Eq}
-use Rattle.lra_linear_spec.specs.Vectors.{product}
-use Rattle.lra_linear_spec.proofs.Products.{product_none}
-use Rattle.lra_linear_forms.specs.Form.{Form, form_value, opposite_form}
-use Rattle.lra_linear_forms.specs.declared.test.Test.{Test}
+use Rattle.std.specs.List.{list_all}
+use Rattle.std.specs.Prelude.{◌-ℤ◌, ◌≤ℤ◌, map, replicate, slice_set, slice_get, if◌then◌else◌, ◌&&◌, IsTrue, ◌↔◌, ◌⊎◌, int_lt, int_le, nat_lt, not, neg_ℤ}
+use Rattle.lra_linear_spec.specs.{Vectors.product, declared.ConKind.TheVariants.Ge, declared.ConKind.TheVariants.Eq}
+use Rattle.lra_linear_spec.proofs.{Products.product_none, Ring.ring, Ring.v, Ring.⊖, Ring.◌⊕◌, Ring.◌⊗◌}
+use Rattle.lra_linear_forms.specs.{Form.Form, Form.form_value, Form.opposite_form, declared.test.Test.Test}
 use Rattle.lra_linear_forms.proofs.FormLemmas.{product_negated}
-use Rattle.lra_linear_spec.proofs.Ring.{ring, v, ⊖, ◌⊕◌, ◌⊗◌}
 use Rattle.lra_base.specs.Operators.{Operator, plus, minus, times, over, modulo, Comparison, below, at_most, above, at_least, equal, differs}
-use Rattle.lra_base.specs.declared.number_types.NumberType.{NumberType}
-use Rattle.lra_base.specs.NumberTypes.{fits, wider}
+use Rattle.lra_base.specs.{NumberTypes.fits, NumberTypes.wider, declared.number_types.NumberType.NumberType}
 use Rattle.lra_program.specs.Program.{Expr, literal, read, input, negate, binary, element, type_of, compare}
-use Rattle.lra_program.proofs.TypeLaws.{bind_some}
 use Rattle.lra_program.specs.Value.{◌>>=◌, number, is_word, is_zero, index_of, Environment, apply, compares, value_of, truth_of}
-use Rattle.lra_analysis_spec.specs.Linear.{fitting, entrywise, combined_forms, scaled, is_constant, operator_form, constant_form, live_form, variable_form, form_of, form_in, exactly, OperatorFormsAreExact, FormsAreRight, TestHolds, negated_form, less_by, less_one}
-use Rattle.lra_analysis_spec.specs.Linear.{at_least_zero, comparison_test, difference_in, TestsAreRight, DiffersIsRight}
+use Rattle.lra_program.proofs.TypeLaws.{bind_some}
+use Rattle.lra_analysis_spec.specs.Linear.{fitting, entrywise, combined_forms, scaled, is_constant, operator_form, constant_form, live_form, variable_form, form_of, form_in, exactly}
+use Rattle.lra_analysis_spec.specs.Linear.{OperatorFormsAreExact, FormsAreRight, TestHolds, negated_form, less_by, less_one, at_least_zero, comparison_test, difference_in, TestsAreRight}
+use Rattle.lra_analysis_spec.specs.Linear.{DiffersIsRight}
 
 -- of two pairs that are there
 pub some_first : {A B : Type 0} (x y : A) (u w : B) → (let p : A × B = (x, u) in Some p) ≡ (let q : A × B = (y, w) in Some q) → x ≡ y

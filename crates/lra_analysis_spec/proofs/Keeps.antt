@@ -1,20 +1,10 @@
 -- A pass with drops covers the runs of its tree: moves with drops keep each store to which they may lead.
 use Rattle.std.proofs.Common.{ℕ, ℤ, List, Option, sym, subst, inl, inr}
-use Rattle.lra_domain.specs.declared.Exactness.{Exactness}
-use Rattle.lra_domain.specs.Abstraction.{Abstraction}
-use Rattle.lra_domain.specs.Laws.{Laws}
+use Rattle.lra_domain.specs.{Abstraction.Abstraction, Laws.Laws, Moves.Moves, Moves.stay, Moves.make, Moves.first_then, Moves.join_of, Moves.MayLead, declared.Exactness.Exactness}
 use Rattle.lra_program.specs.Step.{State, environment_at}
 use Rattle.lra_operations.specs.Tree.{Node}
-use Rattle.lra_analysis_spec.specs.Plan.{Plan}
-use Rattle.lra_analysis_spec.specs.Operations.{lossy_operations}
-use Rattle.lra_domain.specs.Moves.{Moves, stay, make, first_then, join_of, MayLead}
-use Rattle.lra_analysis_spec.specs.Moves.{AreMade}
-use Rattle.lra_analysis_spec.specs.MovesOf.{moves_of, value_moves}
-use Rattle.lra_analysis_spec.specs.Pass.{PassResult, Pass}
-use Rattle.lra_analysis_spec.proofs.Covers.{ChangesKeep, ValuesKeep, Covers, Has, covered_has}
-use Rattle.lra_analysis_spec.proofs.Keeping.{op_leads}
-use Rattle.lra_analysis_spec.proofs.CondKeeping.{value_leads}
-use Rattle.lra_analysis_spec.proofs.Sound.{covers}
+use Rattle.lra_analysis_spec.specs.{Moves.AreMade, MovesOf.moves_of, MovesOf.value_moves, Operations.lossy_operations, Pass.PassResult, Pass.Pass, Plan.Plan}
+use Rattle.lra_analysis_spec.proofs.{CondKeeping.value_leads, Covers.ChangesKeep, Covers.ValuesKeep, Covers.Covers, Covers.Has, Covers.covered_has, Keeping.op_leads, Sound.covers}
 
 module _ (V H : Type 0) (m : Abstraction V H) (laws : Laws m) where
   pub moves_keep : (p : Moves) (v : V) (e : Exactness) (w : V) → AreMade (lossy_operations m) p v e w → (s t : List ℤ) → Has m v s → MayLead p s t → Has m w t

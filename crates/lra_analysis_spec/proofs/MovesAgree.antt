@@ -4,40 +4,23 @@
 use Rattle.std.proofs.Common.{◌≡◌, ℕ, zero, suc, ◌-◌, ℤ, List, [], ◌∷◌, ◌++◌, Option, None, Some, Bool, true, false, refl, sym, ap, subst, ◌∙◌}
 use Rattle.std.specs.Prelude.{◌↔◌, not}
 use Rattle.lra_base.specs.Operators.{Comparison, below, at_most, above, at_least, equal, differs}
+use Rattle.lra_base.specs.{declared.number_types.NumberType.NumberType, declared.number_types.NumberType.TheVariants.Int, declared.number_types.NumberType.TheVariants.Long}
 use Rattle.lra_domain.specs.Actions as action
 use Rattle.lra_domain.specs.Actions.{Action, assign, forget, embed, remove_last}
-use Rattle.lra_domain.specs.Abstraction.{worse}
-use Rattle.lra_domain.specs.declared.Exactness.{Exactness}
-use Rattle.lra_domain.specs.declared.Exactness.TheVariants.{Exact}
+use Rattle.lra_domain.specs.{Abstraction.worse, Moves.Moves, Moves.stay, Moves.make, Moves.first_then, Moves.join_of, declared.Exactness.Exactness, declared.Exactness.TheVariants.Exact}
 use Rattle.lra_linear_forms.specs.declared.test.Test.{Test}
-use Rattle.lra_base.specs.declared.number_types.NumberType.TheVariants.{Int, Long}
-use Rattle.lra_base.specs.declared.number_types.NumberType.{NumberType}
 use Rattle.lra_linear_spec.specs.declared.ConKind.TheVariants.{Ge}
-use Rattle.lra_program.specs.declared.program.GlobalVariable.{GlobalVariable}
-use Rattle.lra_program.specs.declared.receivers.Cell.{Cell}
-use Rattle.lra_program.specs.declared.receivers.Cell.TheVariants.{Variable, Waiting}
-use Rattle.lra_program.specs.declared.receivers.Target.{Target}
-use Rattle.lra_program.specs.Value.{Argument}
-use Rattle.lra_program.specs.Program.{Expr, literal, Cond, compare, nonzero, opposite, both_of, either_of}
-use Rattle.lra_program.specs.Step.{Op, append, fill, store_value, store_element, havoc, push, push_for, truncate_to, test}
+use Rattle.lra_program.specs.{Program.Expr, Program.literal, Program.Cond, Program.compare, Program.nonzero, Program.opposite, Program.both_of, Program.either_of, Step.Op, Step.append, Step.fill}
+use Rattle.lra_program.specs.{Step.store_value, Step.store_element, Step.havoc, Step.push, Step.push_for, Step.truncate_to, Step.test, Value.Argument, declared.program.GlobalVariable.GlobalVariable}
+use Rattle.lra_program.specs.{declared.receivers.Cell.Cell, declared.receivers.Cell.TheVariants.Variable, declared.receivers.Cell.TheVariants.Waiting, declared.receivers.Target.Target}
 use Rattle.lra_analysis_spec.specs.Linear as linear
-use Rattle.lra_analysis_spec.specs.Linear.{comparison_test, difference_form}
-use Rattle.lra_analysis_spec.specs.declared.linearization.Division.{Division}
-use Rattle.lra_analysis_spec.specs.declared.linearization.Linearized.{Linearized}
-use Rattle.lra_analysis_spec.specs.declared.linearization.Linearized.TheVariants.{Linear, Divided, Unseen}
-use Rattle.lra_analysis_spec.specs.Linearization.{linearized, linearized_difference}
-use Rattle.lra_analysis_spec.specs.Operations.{Operations}
 use Rattle.lra_analysis_spec.specs.GuardThresholds.{comparison_rows, inequalities, guard_thresholds, guard_rows}
+use Rattle.lra_analysis_spec.specs.MovesOf.{opposite_comparison, comparison_as, test_action, first_case, second_case, in_case, in_cases, test_moves, case_moves, linearized_moves, split_moves}
+use Rattle.lra_analysis_spec.specs.MovesOf.{comparison_moves, guard, above_least, below_greatest, within_type, set_to, append_set, push_all, set_cell, set_target, drop_last, first_values}
+use Rattle.lra_analysis_spec.specs.declared.linearization.Linearized.TheVariants.{Linear, Divided, Unseen}
+use Rattle.lra_analysis_spec.specs.{Linear.comparison_test, Linear.difference_form, Linearization.linearized, Linearization.linearized_difference, Moves.AreMade, Moves.Takes, Operations.Operations}
+use Rattle.lra_analysis_spec.specs.{Pass.Filters, Pass.OpTransfer, declared.linearization.Division.Division, declared.linearization.Linearized.Linearized}
 use Rattle.lra_analysis_spec.proofs.Takes.{worse_exact, worse_worse, stay_takes, then_takes, join_takes, takes_made}
-use Rattle.lra_domain.specs.Moves.{Moves, stay, make, first_then, join_of}
-use Rattle.lra_analysis_spec.specs.Moves.{AreMade, Takes}
-use Rattle.lra_analysis_spec.specs.MovesOf.{opposite_comparison, comparison_as, test_action, first_case, second_case, in_case, in_cases, test_moves, case_moves}
-use Rattle.lra_analysis_spec.specs.MovesOf.{linearized_moves}
-use Rattle.lra_analysis_spec.specs.MovesOf.{split_moves, comparison_moves, guard, above_least, below_greatest, within_type, set_to, append_set, push_all}
-use Rattle.lra_analysis_spec.specs.MovesOf.{set_cell}
-use Rattle.lra_analysis_spec.specs.MovesOf.{set_target}
-use Rattle.lra_analysis_spec.specs.MovesOf.{drop_last, first_values}
-use Rattle.lra_analysis_spec.specs.Pass.{Filters, OpTransfer}
 
 -- as it was said -------------------------------------------------------------------------------------------------------
 

@@ -2,27 +2,16 @@
 -- what is defined, as far as nothing is flagged.
 use Rattle.std.proofs.Common.{◌≡◌, ◌∙◌, ℕ, List, [], ◌∷◌, ◌++◌, Option, Some, None, Bool, refl, sym, subst}
 use Rattle.lra_linear_forms.specs.declared.test.Test.{Test}
-use Rattle.lra_domain.specs.Laws.{Laws}
-use Rattle.lra_domain.specs.Abstraction.{Abstraction}
-use Rattle.lra_domain.specs.declared.Exactness.{Exactness}
-use Rattle.lra_domain.specs.declared.Exactness.TheVariants.{Exact}
+use Rattle.lra_domain.specs.{Abstraction.Abstraction, Laws.Laws, declared.Exactness.Exactness, declared.Exactness.TheVariants.Exact}
 use Rattle.lra_base.specs.declared.refusals.Place.{Place}
-use Rattle.lra_program.specs.Program.{Expr, Element}
-use Rattle.lra_program.specs.Accesses.{expr_accesses, arguments_accesses, aim_accesses}
 use Rattle.lra_program.specs.Step.{Op, append, fill, store_value, store_element, havoc, push, push_for, truncate_to, test}
-use Rattle.lra_operations.specs.CheckedOperations.{OpAtPoint, accessing_ops}
-use Rattle.lra_operations.specs.Tree.{Node}
-use Rattle.lra_analysis_spec.specs.Linear.{form_of}
-use Rattle.lra_analysis_spec.specs.MovesOf.{test_action}
-use Rattle.lra_analysis_spec.specs.Operations.{Operations, exact_operations, lossy_operations, straining_operations}
-use Rattle.lra_analysis_spec.specs.Analysis.{IsUnreachable}
-use Rattle.lra_analysis_spec.specs.Judging.{AnswersUnlessUnreachable}
+use Rattle.lra_program.specs.{Accesses.expr_accesses, Accesses.arguments_accesses, Accesses.aim_accesses, Program.Expr, Program.Element}
+use Rattle.lra_operations.specs.{CheckedOperations.OpAtPoint, CheckedOperations.accessing_ops, Tree.Node}
 use Rattle.lra_analysis_spec.specs.Accesses.{outside_of, IndexJudged, EachJudged, BothInside, OneInside, OpInside, InsideAtPoint, JudgesAccesses}
-use Rattle.lra_analysis_spec.proofs.OneIteration.{Single}
-use Rattle.lra_analysis_spec.proofs.OneJudgement.{one_answer}
-use Rattle.lra_analysis_spec.proofs.OneJudging.{one_cond, one_asked_told, cond_moved, finds_moved}
-use Rattle.lra_analysis_spec.proofs.Transfer.{Matters, Transfers}
-use Rattle.lra_analysis_spec.proofs.Unflagged.{none_flagged, any_matters, exact_ones, strained_ones}
+use Rattle.lra_analysis_spec.specs.Operations.{Operations, exact_operations, lossy_operations, straining_operations}
+use Rattle.lra_analysis_spec.specs.{Analysis.IsUnreachable, Judging.AnswersUnlessUnreachable, Linear.form_of, MovesOf.test_action}
+use Rattle.lra_analysis_spec.proofs.{OneIteration.Single, OneJudgement.one_answer, OneJudging.one_cond, OneJudging.one_asked_told, OneJudging.cond_moved, OneJudging.finds_moved, Transfer.Matters}
+use Rattle.lra_analysis_spec.proofs.{Transfer.Transfers, Unflagged.none_flagged, Unflagged.any_matters, Unflagged.exact_ones, Unflagged.strained_ones}
 
 abbrev Told : Type 0
 Told = List (Place × Bool)

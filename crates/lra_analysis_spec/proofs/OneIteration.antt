@@ -2,26 +2,16 @@
 use Rattle.std.proofs.Common.{◌≡◌, ◌∙◌, ℕ, zero, suc, ℤ, ◌-◌, List, [], ◌∷◌, Option, None, Some, Bool, true, false, refl, sym, subst}
 use Rattle.lra_systems.specs.LinearSystems.{LinearSystem}
 use Rattle.lra_linear_spec.specs.declared.ConKind.{ConKind}
-use Rattle.lra_domain.specs.Actions.{Action}
-use Rattle.lra_domain.specs.Laws.{SingleLaws}
-use Rattle.lra_domain.specs.Abstraction.{Abstraction}
-use Rattle.lra_domain.specs.declared.Mode.{Mode}
-use Rattle.lra_domain.specs.declared.Exactness.{Exactness}
-use Rattle.lra_base.specs.declared.case_labels.CaseLabel.{CaseLabel}
-use Rattle.lra_base.specs.declared.case_labels.CaseLabel.TheVariants.{Case, Default}
-use Rattle.lra_program.specs.Program.{Expr, Cond, Program}
-use Rattle.lra_operations.specs.declared.probes.Probe.TheVariants.{InterferencePoint, RecordWrite}
-use Rattle.lra_operations.specs.Tree.{Node, empty, point, probe, act, check, seq, choose, iterate, catch, leave, select, Arms, no_arms, entry, arm, entries_of}
-use Rattle.lra_analysis_spec.specs.Plan.{Plan, Widening, mode_at}
-use Rattle.lra_analysis_spec.specs.Operations.{Operations, exact_operations}
 use Rattle.lra_domain.specs.Moves.{Moves, stay, make, first_then, join_of}
-use Rattle.lra_analysis_spec.specs.Moves.{AreMade}
-use Rattle.lra_analysis_spec.specs.MovesOf.{guard, value_moves, moves_of, first_values}
-use Rattle.lra_analysis_spec.specs.Thresholds.{loop_thresholds}
-use Rattle.lra_analysis_spec.specs.Pass.{PassResult, noted, values_behind, AreJoined, Filters, Transformer, LoopRoundFrom, LoopRoundFromHead}
-use Rattle.lra_analysis_spec.specs.Pass.{AscendingIteration, DescendingIteration, Pass, ArmsPass, ValueIs}
-use Rattle.lra_analysis_spec.specs.Pass.{MatchesNone, Enters, JoinsRunning, ComesOut, RunsFrom}
-use Rattle.lra_analysis_spec.specs.Analysis.{ExactIteration, Iteration}
+use Rattle.lra_domain.specs.{Abstraction.Abstraction, Actions.Action, Laws.SingleLaws, declared.Exactness.Exactness, declared.Mode.Mode}
+use Rattle.lra_base.specs.{declared.case_labels.CaseLabel.CaseLabel, declared.case_labels.CaseLabel.TheVariants.Case, declared.case_labels.CaseLabel.TheVariants.Default}
+use Rattle.lra_program.specs.Program.{Expr, Cond, Program}
+use Rattle.lra_operations.specs.Tree.{Node, empty, point, probe, act, check, seq, choose, iterate, catch, leave, select, Arms, no_arms, entry, arm, entries_of}
+use Rattle.lra_operations.specs.declared.probes.Probe.TheVariants.{InterferencePoint, RecordWrite}
+use Rattle.lra_analysis_spec.specs.Pass.{PassResult, noted, values_behind, AreJoined, Filters, Transformer, LoopRoundFrom, LoopRoundFromHead, AscendingIteration, DescendingIteration, Pass, ArmsPass}
+use Rattle.lra_analysis_spec.specs.Pass.{ValueIs, MatchesNone, Enters, JoinsRunning, ComesOut, RunsFrom}
+use Rattle.lra_analysis_spec.specs.{Analysis.ExactIteration, Analysis.Iteration, Moves.AreMade, MovesOf.guard, MovesOf.value_moves, MovesOf.moves_of, MovesOf.first_values, Operations.Operations}
+use Rattle.lra_analysis_spec.specs.{Operations.exact_operations, Plan.Plan, Plan.Widening, Plan.mode_at, Thresholds.loop_thresholds}
 
 -- each operation has one exactness and one result; a head doesn't grow where it is stable
 pub record Single {V H : Type 0} (ops : Operations V H) : Type 0 where

@@ -1,27 +1,16 @@
 -- Where each operation has one result, the same values tell one thing of what fits; and what is judged with drops is what
 -- is defined, as far as nothing is flagged.
 use Rattle.std.proofs.Common.{◌≡◌, ◌∙◌, ℕ, List, [], ◌∷◌, Option, None, Bool, true, false, refl, sym, ap}
-use Rattle.std.specs.Prelude.{◌↔◌, IsTrue}
-use Rattle.std.specs.List.{list_all}
-use Rattle.lra_domain.specs.Laws.{Laws}
-use Rattle.lra_domain.specs.Abstraction.{Abstraction}
-use Rattle.lra_domain.specs.declared.Exactness.{Exactness}
-use Rattle.lra_domain.specs.declared.Exactness.TheVariants.{Exact}
-use Rattle.lra_program.specs.declared.receivers.Receiver.{Receiver}
-use Rattle.lra_program.specs.Receivers.{waiting_in, parameter_of, converts_to}
+use Rattle.std.specs.{List.list_all, Prelude.◌↔◌, Prelude.IsTrue}
+use Rattle.lra_domain.specs.{Abstraction.Abstraction, Laws.Laws, declared.Exactness.Exactness, declared.Exactness.TheVariants.Exact}
 use Rattle.lra_program.specs.Program.{Expr, literal, read, input, negate, binary, element, type_of}
-use Rattle.lra_program.specs.Value.{Argument}
 use Rattle.lra_program.specs.Step.{Op, append, fill, store_value, store_element, havoc, push, push_for, truncate_to, test}
-use Rattle.lra_operations.specs.CheckedOperations.{OpAtPoint, computing_ops}
-use Rattle.lra_operations.specs.Tree.{Node}
-use Rattle.lra_analysis_spec.specs.Operations.{Operations, exact_operations, lossy_operations, straining_operations}
-use Rattle.lra_analysis_spec.specs.Judging.{AnswersUnlessUnreachable}
-use Rattle.lra_analysis_spec.specs.Fits.{ExprJudged, ConversionJudged, GivenJudged, ArgumentsJudged, BothJudged, OneJudged, OpJudged, OpFits}
-use Rattle.lra_analysis_spec.specs.Fits.{JudgedAtPoint, Judges, JudgesIf}
-use Rattle.lra_analysis_spec.proofs.OneIteration.{Single}
-use Rattle.lra_analysis_spec.proofs.OneJudging.{one_cond, one_asked_told, cond_moved, finds_moved}
-use Rattle.lra_analysis_spec.proofs.Transfer.{Matters, Transfers}
+use Rattle.lra_program.specs.{Receivers.waiting_in, Receivers.parameter_of, Receivers.converts_to, Value.Argument, declared.receivers.Receiver.Receiver}
+use Rattle.lra_operations.specs.{CheckedOperations.OpAtPoint, CheckedOperations.computing_ops, Tree.Node}
+use Rattle.lra_analysis_spec.specs.Fits.{ExprJudged, ConversionJudged, GivenJudged, ArgumentsJudged, BothJudged, OneJudged, OpJudged, OpFits, JudgedAtPoint, Judges, JudgesIf}
+use Rattle.lra_analysis_spec.specs.{Judging.AnswersUnlessUnreachable, Operations.Operations, Operations.exact_operations, Operations.lossy_operations, Operations.straining_operations}
 use Rattle.lra_analysis_spec.proofs.Unflagged.{none_flagged, any_matters, exact_ones, strained_ones}
+use Rattle.lra_analysis_spec.proofs.{OneIteration.Single, OneJudging.one_cond, OneJudging.one_asked_told, OneJudging.cond_moved, OneJudging.finds_moved, Transfer.Matters, Transfer.Transfers}
 
 -- one answer -------------------------------------------------------------------------------------------------------------
 

@@ -1,21 +1,16 @@
 -- Whatever is told of operations: where each operation has one result and one thing is told of it, the same values tell one
 -- thing; and what is judged with drops is judged so by other operations, as far as what is flagged matters.
 use Rattle.std.proofs.Common.{◌≡◌, ◌∙◌, ℕ, List, [], ◌∷◌, Option, Some, None, Bool, true, false, refl, sym, subst, inl, inr}
-use Rattle.std.specs.Prelude.{Contains}
 use Rattle.std.proofs.lemmas.Option.{same_Some}
+use Rattle.std.specs.Prelude.{Contains}
 use Rattle.lra_linear_spec.proofs.Membership.{contains_cases, contains_none}
-use Rattle.lra_domain.specs.Abstraction.{Abstraction, worse}
-use Rattle.lra_domain.specs.declared.Exactness.{Exactness}
+use Rattle.lra_domain.specs.{Abstraction.Abstraction, Abstraction.worse, declared.Exactness.Exactness}
 use Rattle.lra_base.specs.declared.number_types.NumberType.{NumberType}
-use Rattle.lra_program.specs.Program.{Expr, Cond, compare, nonzero, opposite, both_of, either_of}
-use Rattle.lra_program.specs.Step.{Op, append}
+use Rattle.lra_program.specs.{Program.Expr, Program.Cond, Program.compare, Program.nonzero, Program.opposite, Program.both_of, Program.either_of, Step.Op, Step.append}
 use Rattle.lra_operations.specs.CheckedOperations.{OpAtPoint}
-use Rattle.lra_analysis_spec.specs.Operations.{Operations, lossy_operations}
-use Rattle.lra_analysis_spec.specs.MovesOf.{moves_of}
-use Rattle.lra_analysis_spec.specs.Pass.{noted, Filters}
 use Rattle.lra_analysis_spec.specs.Judging.{Finding, first_flagged, CondAnswers, Declares, AnswerAtPoint, Finds}
-use Rattle.lra_analysis_spec.proofs.OneIteration.{Single, one_made, one_left}
-use Rattle.lra_analysis_spec.proofs.Transfer.{Matters, Transfers, made, leaves}
+use Rattle.lra_analysis_spec.specs.{MovesOf.moves_of, Operations.Operations, Operations.lossy_operations, Pass.noted, Pass.Filters}
+use Rattle.lra_analysis_spec.proofs.{OneIteration.Single, OneIteration.one_made, OneIteration.one_left, Transfer.Matters, Transfer.Transfers, Transfer.made, Transfer.leaves}
 
 -- what is told of both sides of a comparison, and of what is compared with 0
 abbrev pub OfBoth : Type 0 → Type 0 → Type 1

@@ -2,21 +2,13 @@
 use Rattle.std.proofs.Common.{◌≡◌, ◌∙◌, ℕ, suc, List, length, Option, Some, None, refl, sym, ap, subst}
 use Rattle.std.proofs.lemmas.Option.{same_Some, none-some}
 use Rattle.lra_base.specs.declared.number_types.NumberType.{NumberType}
-use Rattle.lra_program.specs.declared.receivers.Receiver.{Receiver}
-use Rattle.lra_program.specs.Receivers.{variable_at, result_receiver}
-use Rattle.lra_program.specs.Program.{Call, Rvalue, Stmt, Cases, BlockItems, Function, Program}
-use Rattle.lra_program.specs.Step.{ReturnFrame, Op, push, push_for}
-use Rattle.lra_program.specs.Value.{Argument, index_of}
-use Rattle.lra_program.specs.Sites.{Site, sites_of}
-use Rattle.lra_operations.specs.Tree.{Node, Arms}
-use Rattle.lra_operations.specs.Inlined.{InlineState, move, at_point, within, among_cases, into_callee, InlineStmt, InlineCases}
-use Rattle.lra_operations.specs.Inlined.{InlineItems, InlineDeclarator, InlineLoop, InlineRvalue, InlineCall, as_nothing, as_block, as_absent, as_assign}
-use Rattle.lra_operations.specs.Inlined.{as_write, as_write_call, as_call}
-use Rattle.lra_operations.specs.Inlined.{as_if, as_loop, as_for, as_break}
-use Rattle.lra_operations.specs.Inlined.{as_continue, as_return, as_return_value, as_return_call, as_end, as_end_value, as_end_call, as_assert, as_assume}
-use Rattle.lra_operations.specs.Inlined.{as_switch, as_no_cases, as_labelled, as_stated, as_none, as_declaration, as_array, as_statement}
-use Rattle.lra_operations.specs.Inlined.{as_fresh, as_given, is_loop, as_value, as_result, is_call}
-use Rattle.lra_operations.specs.Agree.{IsInlinedTree}
+use Rattle.lra_program.specs.{Program.Call, Program.Rvalue, Program.Stmt, Program.Cases, Program.BlockItems, Program.Function, Program.Program, Receivers.variable_at, Receivers.result_receiver}
+use Rattle.lra_program.specs.{Sites.Site, Sites.sites_of, Step.ReturnFrame, Step.Op, Step.push, Step.push_for, Value.Argument, Value.index_of, declared.receivers.Receiver.Receiver}
+use Rattle.lra_operations.specs.Inlined.{InlineState, move, at_point, within, among_cases, into_callee, InlineStmt, InlineCases, InlineItems, InlineDeclarator, InlineLoop, InlineRvalue, InlineCall}
+use Rattle.lra_operations.specs.Inlined.{as_nothing, as_block, as_absent, as_assign, as_write, as_write_call, as_call, as_if, as_loop, as_for, as_break, as_continue, as_return, as_return_value}
+use Rattle.lra_operations.specs.Inlined.{as_return_call, as_end, as_end_value, as_end_call, as_assert, as_assume, as_switch, as_no_cases, as_labelled, as_stated, as_none, as_declaration, as_array}
+use Rattle.lra_operations.specs.Inlined.{as_statement, as_fresh, as_given, is_loop, as_value, as_result, is_call}
+use Rattle.lra_operations.specs.{Agree.IsInlinedTree, Tree.Node, Tree.Arms}
 
 -- the same tree, and the same number behind it
 abbrev Same : Node → Node → ℕ → ℕ → Type 0

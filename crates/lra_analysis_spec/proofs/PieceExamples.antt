@@ -2,25 +2,17 @@
 use Rattle.std.proofs.Common.{◌≡◌, ℕ, ℤ, pos, negsuc, List, [], ◌∷◌, None, Some, refl}
 use Rattle.lra_linear_forms.specs.Form.{Form}
 use Rattle.lra_domain.specs.Actions.{assign, forget, embed, remove_last, test}
-use Rattle.lra_domain.specs.declared.Exactness.TheVariants.{Flagged}
 use Rattle.lra_domain.specs.declared.Mode.TheVariants.{Join, Widen, Limited, Tightest}
-use Rattle.lra_base.specs.declared.number_types.NumberType.TheVariants.{Int, Long}
-use Rattle.lra_program.proofs.RunExamples.{long_variable}
-use Rattle.lra_base.specs.declared.number_types.NumberType.{NumberType}
-use Rattle.lra_program.specs.declared.program.GlobalVariable.{GlobalVariable}
-use Rattle.lra_program.specs.Value.{Argument}
-use Rattle.lra_program.specs.Receivers.{variable_at, nobody}
-use Rattle.lra_linear_spec.specs.declared.ConKind.TheVariants.{Ge}
-use Rattle.lra_domain.specs.Moves.{Moves}
-use Rattle.lra_program.specs.Program.{local, Expr, literal, read, input, binary, compare, opposite, either_of}
+use Rattle.lra_domain.specs.{Moves.Moves, Moves.stay, Moves.make, Moves.first_then, declared.Exactness.TheVariants.Flagged}
 use Rattle.lra_base.specs.Operators.{plus, below, equal}
-use Rattle.lra_program.specs.Step.{append, store_value, push, truncate_to}
+use Rattle.lra_base.specs.{declared.number_types.NumberType.NumberType, declared.number_types.NumberType.TheVariants.Int, declared.number_types.NumberType.TheVariants.Long}
+use Rattle.lra_program.proofs.RunExamples.{long_variable}
+use Rattle.lra_program.specs.Program.{local, Expr, literal, read, input, binary, compare, opposite, either_of}
+use Rattle.lra_program.specs.{Receivers.variable_at, Receivers.nobody, Step.append, Step.store_value, Step.push, Step.truncate_to, Value.Argument, declared.program.GlobalVariable.GlobalVariable}
+use Rattle.lra_linear_spec.specs.declared.ConKind.TheVariants.{Ge}
 use Rattle.lra_operations.specs.Tree.{broken, returned}
-use Rattle.lra_domain.specs.Moves.{stay, make, first_then}
 use Rattle.lra_analysis_spec.specs.Plan.{standard, limited, by_thresholds, mode_at}
-use Rattle.lra_analysis_spec.specs.MovesOf.{moves_of, first_values}
-use Rattle.lra_analysis_spec.specs.GuardThresholds.{guard_thresholds}
-use Rattle.lra_analysis_spec.specs.Pass.{PassResult, noted, values_behind}
+use Rattle.lra_analysis_spec.specs.{GuardThresholds.guard_thresholds, MovesOf.moves_of, MovesOf.first_values, Pass.PassResult, Pass.noted, Pass.values_behind}
 
 abbrev form : ℤ → List ℤ → Form
 form c cs = record { constant = c; coefficients = cs }

@@ -1,33 +1,17 @@
 -- A pass with drops covers the runs of its tree, where each least change keeps its stores.
-use Rattle.std.proofs.Common.{◌≡◌, ◌≢◌, inl, inr, ℕ, zero, suc, ◌-◌, ◌++◌, ℤ, List, [], ◌∷◌, Option, None, Some, Bool, true, false, refl, subst, sym, ◌∙◌}
-use Rattle.std.proofs.Common.{ap, arith}
-use Rattle.std.specs.List.{Contains}
-use Rattle.std.proofs.lemmas.List.Elements.{Contains-append_left, Contains-append_right}
+use Rattle.std.proofs.Common.{◌≡◌, ◌≢◌, inl, inr, ℕ, zero, suc, ◌-◌, ◌++◌, ℤ, List, [], ◌∷◌, Option, None, Some, Bool, true, false, refl, subst, sym, ◌∙◌, ap, arith}
+use Rattle.std.proofs.{lemmas.Bool.Decides.Decides-int_eq, lemmas.Int.ints, lemmas.List.Elements.Contains-append_left, lemmas.List.Elements.Contains-append_right}
+use Rattle.std.specs.{List.Contains, List.list_any, Ordering.int_eq, Prelude.◌||◌, Prelude.if◌then◌else◌}
 use Rattle.lra_linear_spec.proofs.Membership.{contains_cases, contains_head, contains_tail}
-use Rattle.lra_domain.specs.Actions.{Within}
-use Rattle.lra_domain.specs.Abstraction.{Abstraction}
-use Rattle.lra_domain.specs.Laws.{Laws}
-use Rattle.lra_domain.specs.declared.Exactness.{Exactness}
-use Rattle.lra_program.specs.Program.{Expr, Cond}
-use Rattle.lra_program.specs.Step.{State, environment_at, run_op, test}
-use Rattle.lra_program.specs.Value.{value_of, compares}
-use Rattle.lra_base.specs.Operators.{equal}
-use Rattle.lra_base.specs.declared.case_labels.CaseLabel.{CaseLabel}
-use Rattle.lra_base.specs.declared.case_labels.CaseLabel.TheVariants.{Case, Default}
+use Rattle.lra_domain.specs.{Abstraction.Abstraction, Actions.Within, Laws.Laws, declared.Exactness.Exactness}
+use Rattle.lra_program.specs.{Program.Expr, Program.Cond, Step.State, Step.environment_at, Step.run_op, Step.test, Value.value_of, Value.compares}
 use Rattle.lra_base.specs.CaseLabels.{is_same_case, goal_of}
-use Rattle.std.specs.Ordering.{int_eq}
-use Rattle.std.proofs.lemmas.Bool.Decides.{Decides-int_eq}
-use Rattle.std.proofs.lemmas.Int.{ints}
-use Rattle.std.specs.List.{list_any}
-use Rattle.std.specs.Prelude.{◌||◌, if◌then◌else◌}
-use Rattle.lra_operations.specs.declared.probes.Probe.TheVariants.{InterferencePoint, RecordWrite}
-use Rattle.lra_operations.specs.Tree.{Exit, broken, continued, returned, normal, Node, empty, point, probe, act, check, seq, choose, iterate, catch, leave, LoopRounds, Completes}
-use Rattle.lra_operations.specs.Tree.{select, Arms, no_arms, entry, arm, entries_of, Selects}
-use Rattle.lra_analysis_spec.specs.Plan.{Plan, Widening, mode_at}
-use Rattle.lra_analysis_spec.specs.Operations.{lossy_operations}
+use Rattle.lra_base.specs.{Operators.equal, declared.case_labels.CaseLabel.CaseLabel, declared.case_labels.CaseLabel.TheVariants.Case, declared.case_labels.CaseLabel.TheVariants.Default}
+use Rattle.lra_operations.specs.Tree.{Exit, broken, continued, returned, normal, Node, empty, point, probe, act, check, seq, choose, iterate, catch, leave, LoopRounds, Completes, select, Arms}
+use Rattle.lra_operations.specs.{Tree.no_arms, Tree.entry, Tree.arm, Tree.entries_of, Tree.Selects, declared.probes.Probe.TheVariants.InterferencePoint, declared.probes.Probe.TheVariants.RecordWrite}
 use Rattle.lra_analysis_spec.specs.Pass.{PassEntry, value, failing, PassResult, noted, jumps_of, first_of_call, values_behind, in_turn, jumps_caught, jumps, AreJoined, LoopRoundFrom}
-use Rattle.lra_analysis_spec.specs.Pass.{AscendingIteration, DescendingIteration, Pass}
-use Rattle.lra_analysis_spec.specs.Pass.{ArmsPass, MatchesNone, Enters, JoinsRunning, ComesOut}
+use Rattle.lra_analysis_spec.specs.Pass.{AscendingIteration, DescendingIteration, Pass, ArmsPass, MatchesNone, Enters, JoinsRunning, ComesOut}
+use Rattle.lra_analysis_spec.specs.{Operations.lossy_operations, Plan.Plan, Plan.Widening, Plan.mode_at}
 use Rattle.lra_analysis_spec.proofs.Covers.{ChangesKeep, ValuesKeep, Covers, ArmsCover, Has, HeadHas, covered_has, stays_has}
 
 pub left_jump : {V : Type 0} (k : Exit) (r s : PassResult V) (v : V) (f : Option ℕ) (u : V) → Contains (jumps_of k r) u →

@@ -1,12 +1,9 @@
 -- Moves behind what came before, with the exactness of all of it.
 use Rattle.std.proofs.Common.{◌≡◌, refl, sym, ap, subst, ◌∙◌}
 use Rattle.std.specs.Prelude.{◌↔◌}
-use Rattle.lra_domain.specs.Abstraction.{worse}
-use Rattle.lra_domain.specs.declared.Exactness.{Exactness}
-use Rattle.lra_domain.specs.declared.Exactness.TheVariants.{Exact, Flagged}
-use Rattle.lra_analysis_spec.specs.Operations.{Operations}
 use Rattle.lra_domain.specs.Moves.{Moves, stay, first_then, join_of}
-use Rattle.lra_analysis_spec.specs.Moves.{AreMade, Takes}
+use Rattle.lra_domain.specs.{Abstraction.worse, declared.Exactness.Exactness, declared.Exactness.TheVariants.Exact, declared.Exactness.TheVariants.Flagged}
+use Rattle.lra_analysis_spec.specs.{Moves.AreMade, Moves.Takes, Operations.Operations}
 
 pub worse_exact : (d : Exactness) → worse d Exact ≡ d
 worse_exact Exact = refl

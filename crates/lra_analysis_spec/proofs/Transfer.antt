@@ -2,24 +2,14 @@
 use Rattle.std.proofs.Common.{◌≡◌, ℕ, zero, suc, ℤ, ◌-◌, List, [], ◌∷◌, Option, None, Some, Bool, true, false, refl, subst}
 use Rattle.lra_systems.specs.LinearSystems.{LinearSystem}
 use Rattle.lra_linear_spec.specs.declared.ConKind.{ConKind}
-use Rattle.lra_domain.specs.Actions.{Action}
-use Rattle.lra_domain.specs.declared.Mode.{Mode}
-use Rattle.lra_domain.specs.declared.Exactness.{Exactness}
-use Rattle.lra_base.specs.declared.case_labels.CaseLabel.{CaseLabel}
-use Rattle.lra_base.specs.declared.case_labels.CaseLabel.TheVariants.{Case, Default}
+use Rattle.lra_domain.specs.{Abstraction.worse, Actions.Action, Moves.Moves, Moves.stay, Moves.make, Moves.first_then, Moves.join_of, declared.Exactness.Exactness, declared.Mode.Mode}
+use Rattle.lra_base.specs.{declared.case_labels.CaseLabel.CaseLabel, declared.case_labels.CaseLabel.TheVariants.Case, declared.case_labels.CaseLabel.TheVariants.Default}
 use Rattle.lra_program.specs.Program.{Expr, Cond}
+use Rattle.lra_operations.specs.Tree.{Exit, broken, continued, returned, Node, empty, point, probe, act, check, seq, choose, iterate, catch, leave, select, Arms, no_arms, entry, arm, entries_of}
 use Rattle.lra_operations.specs.declared.probes.Probe.TheVariants.{InterferencePoint, RecordWrite}
-use Rattle.lra_operations.specs.Tree.{Exit, broken, continued, returned, Node, empty, point, probe, act, check, seq, choose, iterate, catch, leave, select, Arms}
-use Rattle.lra_operations.specs.Tree.{no_arms, entry, arm, entries_of}
-use Rattle.lra_analysis_spec.specs.Plan.{Plan, Widening, mode_at}
-use Rattle.lra_domain.specs.Abstraction.{worse}
-use Rattle.lra_analysis_spec.specs.Operations.{Operations}
-use Rattle.lra_domain.specs.Moves.{Moves, stay, make, first_then, join_of}
-use Rattle.lra_analysis_spec.specs.Moves.{AreMade}
-use Rattle.lra_analysis_spec.specs.MovesOf.{guard, value_moves, moves_of}
-use Rattle.lra_analysis_spec.specs.Thresholds.{loop_thresholds}
-use Rattle.lra_analysis_spec.specs.Pass.{PassResult, noted, jumps, values_behind, jumps_caught, AreJoined, Filters, Transformer, LoopRoundFrom, LoopRoundFromHead, AscendingIteration, DescendingIteration, Absorption, nothing_absorbed, PassUnder, ArmsPassUnder, Pass}
-use Rattle.lra_analysis_spec.specs.Pass.{ValueIs, MatchesNone, Enters, JoinsRunning, ComesOut, RunsFrom}
+use Rattle.lra_analysis_spec.specs.Pass.{PassResult, noted, jumps, values_behind, jumps_caught, AreJoined, Filters, Transformer, LoopRoundFrom, LoopRoundFromHead, AscendingIteration}
+use Rattle.lra_analysis_spec.specs.Pass.{DescendingIteration, Absorption, nothing_absorbed, PassUnder, ArmsPassUnder, Pass, ValueIs, MatchesNone, Enters, JoinsRunning, ComesOut, RunsFrom}
+use Rattle.lra_analysis_spec.specs.{Moves.AreMade, MovesOf.guard, MovesOf.value_moves, MovesOf.moves_of, Operations.Operations, Plan.Plan, Plan.Widening, Plan.mode_at, Thresholds.loop_thresholds}
 
 -- the answers that matter: with this exactness, with this flag
 pub record Matters (Keeps : Exactness → Type 0) (Fine : Option ℕ → Type 0) : Type 0 where

@@ -1,19 +1,12 @@
 -- What a derivation with drops says of the written iteration.
 use Rattle.std.proofs.Common.{◌≡◌, ℕ, Option, None, Some, refl, inl, inr}
 use Rattle.lra_domain.specs.Interference.{Interference, no_interference}
-use Rattle.lra_domain.specs.Abstraction.{Abstraction}
-use Rattle.lra_domain.specs.Laws.{Laws}
-use Rattle.lra_domain.specs.declared.Exactness.{Exactness}
-use Rattle.lra_domain.specs.declared.Exactness.TheVariants.{Exact, Flagged}
+use Rattle.lra_domain.specs.{Abstraction.Abstraction, Abstraction.worse, Laws.Laws, declared.Exactness.Exactness, declared.Exactness.TheVariants.Exact, declared.Exactness.TheVariants.Flagged}
 use Rattle.lra_program.specs.Program.{Program}
 use Rattle.lra_operations.specs.Tree.{Node}
-use Rattle.lra_analysis_spec.specs.Plan.{Plan}
-use Rattle.lra_domain.specs.Abstraction.{worse}
-use Rattle.lra_analysis_spec.specs.Operations.{Operations, exact_operations, lossy_operations, straining_operations}
-use Rattle.lra_analysis_spec.specs.MovesOf.{first_values}
-use Rattle.lra_analysis_spec.specs.Pass.{PassResult, noted, nothing_absorbed, PassUnder, Pass}
 use Rattle.lra_analysis_spec.specs.UnderInterference.{absorbed, absorbed_exactly, absorbed_straining, ExactIterationUnder, LossyIterationUnder, StrainsUnder}
-use Rattle.lra_analysis_spec.specs.Analysis.{ExactIteration, LossyIteration, StrainsAtPoint}
+use Rattle.lra_analysis_spec.specs.{Analysis.ExactIteration, Analysis.LossyIteration, Analysis.StrainsAtPoint, MovesOf.first_values, Operations.Operations, Operations.exact_operations}
+use Rattle.lra_analysis_spec.specs.{Operations.lossy_operations, Operations.straining_operations, Pass.PassResult, Pass.noted, Pass.nothing_absorbed, Pass.PassUnder, Pass.Pass, Plan.Plan}
 use Rattle.lra_analysis_spec.proofs.Transfer.{Matters, Transfers, made, passes, passes_among}
 
 -- all exact, no flag

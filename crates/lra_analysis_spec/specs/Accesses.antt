@@ -4,25 +4,19 @@
 -- two tests have 64 bits, that it is below 0 and that it is at least the array's length, each of which alone leaves
 -- nothing of the value. What is told of an access is the place where its array is named, and whether it is inside.
 use Rattle.std.specs.Prelude.{◌≡◌, ◌++◌, ℕ, List, [], ◌∷◌, Option, None, Some, Bool, true, slice_get}
-use Rattle.lra_linear_forms.specs.Form.{Form}
-use Rattle.lra_linear_forms.specs.declared.test.Test.{Test}
+use Rattle.lra_linear_forms.specs.{Form.Form, declared.test.Test.Test}
 use Rattle.lra_domain.specs.Abstraction.{Abstraction, worse}
-use Rattle.lra_domain.specs.declared.Exactness.{Exactness}
-use Rattle.lra_domain.specs.declared.Exactness.TheVariants.{Exact}
-use Rattle.lra_base.specs.declared.refusals.Place.{Place}
-use Rattle.lra_base.specs.Operators.{below}
-use Rattle.lra_program.specs.Program.{Expr, Cond, Element}
-use Rattle.lra_program.specs.Value.{◌>>=◌}
-use Rattle.lra_program.specs.Step.{State, Op, append, fill, store_value, store_element, havoc, push, push_for}
-use Rattle.lra_program.specs.Step.{truncate_to, test}
+use Rattle.lra_domain.specs.{declared.Exactness.Exactness, declared.Exactness.TheVariants.Exact}
+use Rattle.lra_base.specs.{Operators.below, declared.refusals.Place.Place}
 use Rattle.lra_program.specs.Accesses.{expr_accesses, arguments_accesses, aim_accesses, OpOutOfBounds}
-use Rattle.lra_operations.specs.Tree.{Node}
+use Rattle.lra_program.specs.Step.{State, Op, append, fill, store_value, store_element, havoc, push, push_for}
+use Rattle.lra_program.specs.{Program.Expr, Program.Cond, Program.Element, Step.truncate_to, Step.test, Value.◌>>=◌}
 use Rattle.lra_operations.specs.CheckedOperations.{OpAtPoint, accessing_ops, HoldsAtPoint}
-use Rattle.lra_analysis_spec.specs.Linear.{form_of, at_least_zero, less_by, comparison_test}
-use Rattle.lra_analysis_spec.specs.MovesOf.{test_action}
-use Rattle.lra_analysis_spec.specs.Operations.{Operations, lossy_operations}
-use Rattle.lra_analysis_spec.specs.Analysis.{IsUnreachable}
+use Rattle.lra_operations.specs.Tree.{Node}
 use Rattle.lra_analysis_spec.specs.Judging.{AnswersUnlessUnreachable, CondAnswers, AnswerAtPoint, Finds}
+use Rattle.lra_analysis_spec.specs.Linear.{form_of, at_least_zero, less_by, comparison_test}
+use Rattle.lra_analysis_spec.specs.Operations.{Operations, lossy_operations}
+use Rattle.lra_analysis_spec.specs.{Analysis.IsUnreachable, MovesOf.test_action}
 
 -- that an index of this form is below 0, -e - 1 >= 0, and that it is at least the length, e - n >= 0: both, where all
 -- their numbers have 64 bits

@@ -1,15 +1,12 @@
 -- The iteration over a whole program, and what is reported of it. Points are numbered from 0 here; a report's numbers
 -- are one more.
 use Rattle.std.specs.Prelude.{◌≡◌, ◌↔◌, ◌<◌, ℕ, List, [], Option, None, Some, Bool, IsTrue, Contains, slice_get}
-use Rattle.lra_domain.specs.Abstraction.{Abstraction}
-use Rattle.lra_domain.specs.declared.Exactness.{Exactness}
+use Rattle.lra_domain.specs.{Abstraction.Abstraction, declared.Exactness.Exactness}
 use Rattle.lra_program.specs.Program.{Program}
 use Rattle.lra_operations.specs.Tree.{Node}
-use Rattle.lra_analysis_spec.specs.Plan.{Plan}
 use Rattle.lra_analysis_spec.specs.Operations.{Operations, exact_operations, lossy_operations, straining_operations}
-use Rattle.lra_analysis_spec.specs.Moves.{AreMade}
-use Rattle.lra_analysis_spec.specs.MovesOf.{first_values}
 use Rattle.lra_analysis_spec.specs.Pass.{value, failing, PassResult, noted, Pass}
+use Rattle.lra_analysis_spec.specs.{Moves.AreMade, MovesOf.first_values, Plan.Plan}
 
 -- from the globals at their first values, which are set at the first point, through the program's tree
 abbrev pub Iteration : {V H : Type 0} → Operations V H → Plan → Program → Node → PassResult V → Type 0

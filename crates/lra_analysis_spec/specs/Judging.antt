@@ -4,15 +4,13 @@
 use Rattle.std.specs.Prelude.{◌≡◌, ◌↔◌, ◌⊎◌, ◌<◌, ◌++◌, ℕ, List, [], ◌∷◌, map, Option, None, Some, Bool, true, false}
 use Rattle.std.specs.Prelude.{IsTrue, Contains, slice_get}
 use Rattle.lra_domain.specs.Abstraction.{Abstraction, worse}
-use Rattle.lra_domain.specs.declared.Exactness.{Exactness}
-use Rattle.lra_domain.specs.declared.Exactness.TheVariants.{Exact}
+use Rattle.lra_domain.specs.{declared.Exactness.Exactness, declared.Exactness.TheVariants.Exact}
 use Rattle.lra_base.specs.declared.number_types.NumberType.{NumberType}
 use Rattle.lra_program.specs.Program.{Expr, Cond, compare, nonzero, opposite, both_of, either_of}
 use Rattle.lra_program.specs.Step.{Op, append}
 use Rattle.lra_operations.specs.CheckedOperations.{OpAtPoint}
-use Rattle.lra_analysis_spec.specs.Operations.{Operations}
 use Rattle.lra_analysis_spec.specs.Pass.{noted, Filters, OpTransfer}
-use Rattle.lra_analysis_spec.specs.Analysis.{IsUnreachable}
+use Rattle.lra_analysis_spec.specs.{Analysis.IsUnreachable, Operations.Operations}
 
 -- what is found of an operation that is asked: its point, the answer, and whether what had to be made for it is exact
 pub record Finding (A : Type 0) : Type 0 where

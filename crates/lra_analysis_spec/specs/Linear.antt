@@ -1,8 +1,8 @@
 -- Linear forms of expressions (Cousot and Halbwachs 1978): a constant and a coefficient for each live variable, all of
 -- 64 bits.
+use Rattle.std.specs.List.{list_all}
 use Rattle.std.specs.Prelude.{◌≡◌, ℕ, ℤ, pos, ◌+ℤ◌, ◌-ℤ◌, ◌*ℤ◌, Bool, ◌&&◌, if◌then◌else◌, List, [], ◌∷◌, map}
 use Rattle.std.specs.Prelude.{replicate, slice_set, Option, Some, None, nat_lt, negsuc, length, IsTrue, ◌↔◌, ◌⊎◌}
-use Rattle.std.specs.List.{list_all}
 use Rattle.lra_linear_spec.specs.declared.ConKind.TheVariants.{Ge, Eq}
 use Rattle.lra_linear_forms.specs.Form.{Form, form_value, opposite_form, HoldsAt}
 use Rattle.lra_linear_forms.specs.declared.test.Test.{Test}

@@ -2,16 +2,16 @@
 -- form A divided by a constant k above 0 has none, but whole numbers tell of it more than that it is any: A is
 -- k*t + r for the quotient t and what is left, r, and r has the sign of A and lies nearer to 0 than k. So t and r are
 -- taken as two variables behind the live ones, first t, then r, and what is seen is a linear form over all of them.
-use Rattle.std.specs.Prelude.{◌≡◌, ◌≤ℤ◌, ⊤, ℕ, ◌+◌, ℤ, pos, negsuc, neg_ℤ, ◌-ℤ◌, ◌&&◌, if◌then◌else◌}
-use Rattle.std.specs.Prelude.{List, [], ◌∷◌, ◌++◌, length, Option, Some, None, int_le, int_div, int_rem}
+use Rattle.std.specs.Prelude.{◌≡◌, ◌≤ℤ◌, ⊤, ℕ, ◌+◌, ℤ, pos, negsuc, neg_ℤ, ◌-ℤ◌, ◌&&◌, if◌then◌else◌, List, [], ◌∷◌}
+use Rattle.std.specs.Prelude.{◌++◌, length, Option, Some, None, int_le, int_div, int_rem}
 use Rattle.lra_linear_forms.specs.Form.{Form, form_value, opposite_form}
 use Rattle.lra_base.specs.Operators.{Operator, plus, minus, times, over, modulo}
 use Rattle.lra_program.specs.Program.{Expr, literal, read, input, negate, binary, element}
 use Rattle.lra_program.specs.Value.{◌>>=◌, Environment, value_of}
+use Rattle.lra_analysis_spec.specs.Linear.{fitting, combined_forms, is_constant, constant_form, form_of}
 use Rattle.lra_analysis_spec.specs.declared.linearization.Division.{Division}
 use Rattle.lra_analysis_spec.specs.declared.linearization.Linearized.{Linearized}
 use Rattle.lra_analysis_spec.specs.declared.linearization.Linearized.TheVariants.{Linear, Divided, Unseen}
-use Rattle.lra_analysis_spec.specs.Linear.{fitting, combined_forms, is_constant, constant_form, form_of}
 
 -- forms over two variables more ------------------------------------------------------------------------------------
 

@@ -2,9 +2,7 @@
 -- with what another leaves.
 use Rattle.std.specs.Prelude.{◌≡◌}
 use Rattle.lra_domain.specs.Moves.{Moves, stay, make, first_then, join_of}
-use Rattle.lra_domain.specs.Abstraction.{worse}
-use Rattle.lra_domain.specs.declared.Exactness.{Exactness}
-use Rattle.lra_domain.specs.declared.Exactness.TheVariants.{Exact}
+use Rattle.lra_domain.specs.{Abstraction.worse, declared.Exactness.Exactness, declared.Exactness.TheVariants.Exact}
 use Rattle.lra_analysis_spec.specs.Operations.{Operations}
 
 -- from the first value to the second one, with this exactness: flagged where any of it is

@@ -4,13 +4,10 @@
 use Rattle.std.specs.Prelude.{◌≡◌, ℕ}
 use Rattle.lra_systems.specs.LinearSystems.{LinearSystem}
 use Rattle.lra_linear_spec.specs.declared.ConKind.{ConKind}
-use Rattle.lra_domain.specs.Actions.{Action, dims_after}
-use Rattle.lra_domain.specs.declared.Mode.{Mode}
-use Rattle.lra_domain.specs.declared.Exactness.{Exactness}
-use Rattle.lra_domain.specs.declared.Exactness.TheVariants.{Exact, Flagged}
-use Rattle.lra_domain.specs.declared.Included.TheVariants.{Yes}
-use Rattle.lra_domain.specs.Parts.{CapsWithin}
 use Rattle.lra_domain.specs.Abstraction.{Abstraction, TransfersTo, Joins, Starts, GrowthStrains, Grew, Values}
+use Rattle.lra_domain.specs.declared.Exactness.TheVariants.{Exact, Flagged}
+use Rattle.lra_domain.specs.{Actions.Action, Actions.dims_after, Parts.CapsWithin, declared.Exactness.Exactness}
+use Rattle.lra_domain.specs.{declared.Included.TheVariants.Yes, declared.Mode.Mode}
 
 pub record Operations (V H : Type 0) : Type 1 where
   pub dims : V → ℕ

@@ -1,25 +1,19 @@
 -- The iteration over a program whose calls are written out: one case for each form of its tree.
 -- What is counted here are values at points, values with which the tree is left, and the first point with a flagged
 -- operation.
-use Rattle.std.specs.Prelude.{◌≡◌, ℕ, zero, suc, ◌-◌, ℤ, List, [], ◌∷◌, ◌++◌, Option, None, Some, Bool, true, false}
 use Rattle.std.specs.List.{list_any}
-use Rattle.lra_base.specs.declared.case_labels.CaseLabel.{CaseLabel}
+use Rattle.std.specs.Prelude.{◌≡◌, ℕ, zero, suc, ◌-◌, ℤ, List, [], ◌∷◌, ◌++◌, Option, None, Some, Bool, true, false}
 use Rattle.lra_base.specs.declared.case_labels.CaseLabel.TheVariants.{Case, Default}
-use Rattle.lra_base.specs.CaseLabels.{is_same_case}
-use Rattle.lra_domain.specs.declared.Exactness.{Exactness}
+use Rattle.lra_base.specs.{CaseLabels.is_same_case, declared.case_labels.CaseLabel.CaseLabel}
 use Rattle.lra_domain.specs.declared.Exactness.TheVariants.{Exact, Flagged}
-use Rattle.lra_program.specs.Program.{Expr, Cond}
-use Rattle.lra_program.specs.Step.{Op}
-use Rattle.lra_operations.specs.declared.probes.Probe.TheVariants.{InterferencePoint, RecordWrite}
+use Rattle.lra_domain.specs.{Abstraction.worse, declared.Exactness.Exactness}
+use Rattle.lra_program.specs.{Program.Expr, Program.Cond, Step.Op}
 use Rattle.lra_operations.specs.Tree.{Exit, broken, continued, returned, Node, empty, point, probe, act, check, seq}
-use Rattle.lra_operations.specs.Tree.{choose}
-use Rattle.lra_operations.specs.Tree.{iterate, catch, leave, select, Arms, no_arms, entry, arm, entries_of}
-use Rattle.lra_analysis_spec.specs.Plan.{Plan, Widening, mode_at}
-use Rattle.lra_analysis_spec.specs.Operations.{Operations}
-use Rattle.lra_domain.specs.Abstraction.{worse}
-use Rattle.lra_analysis_spec.specs.Moves.{AreMade}
+use Rattle.lra_operations.specs.Tree.{choose, iterate, catch, leave, select, Arms, no_arms, entry, arm, entries_of}
+use Rattle.lra_operations.specs.declared.probes.Probe.TheVariants.{InterferencePoint, RecordWrite}
 use Rattle.lra_analysis_spec.specs.MovesOf.{guard, value_moves, moves_of}
-use Rattle.lra_analysis_spec.specs.Thresholds.{loop_thresholds}
+use Rattle.lra_analysis_spec.specs.Plan.{Plan, Widening, mode_at}
+use Rattle.lra_analysis_spec.specs.{Moves.AreMade, Operations.Operations, Thresholds.loop_thresholds}
 
 -- what is found on the way
 pub data PassEntry (V : Type 0) : Type 0 where

@@ -1,11 +1,9 @@
 -- The rows that thresholds give to a loop: around the comparisons of its own condition and of each condition in its
 -- step and its body, and at the program's constants for each variable that lives at the loop.
-use Rattle.std.specs.Prelude.{ℕ, zero, suc, ℤ, pos, negsuc, neg_ℤ, ◌+ℤ◌, ◌^◌, ◌&&◌, Bool, not}
-use Rattle.std.specs.Prelude.{List, [], ◌∷◌, ◌++◌, map, fold}
-use Rattle.std.specs.Prelude.{Option, None, Some, nat_le, unsigned_abs, if◌then◌else◌}
-use Rattle.std.specs.Cmp.Lexicographic.{pointwise}
 use Rattle.std.specs.List.{filter, flat_map, list_all, list_any}
-use Rattle.std.specs.Ordering.{int_eq}
+use Rattle.std.specs.Prelude.{ℕ, zero, suc, ℤ, pos, negsuc, neg_ℤ, ◌+ℤ◌, ◌^◌, ◌&&◌, Bool, not, List, [], ◌∷◌, ◌++◌, map}
+use Rattle.std.specs.Prelude.{fold, Option, None, Some, nat_le, unsigned_abs, if◌then◌else◌}
+use Rattle.std.specs.{Cmp.Lexicographic.pointwise, Ordering.int_eq}
 use Rattle.lra_systems.specs.LinearSystems.{LinearSystem}
 use Rattle.lra_linear_spec.specs.declared.ConKind.{ConKind}
 use Rattle.lra_base.specs.declared.number_types.NumberType.TheVariants.{Int}
@@ -15,8 +13,8 @@ use Rattle.lra_program.specs.Step.{test}
 use Rattle.lra_operations.specs.Tree.{Node, empty, probe, point, act, check, seq, choose, iterate, catch, leave, select}
 use Rattle.lra_operations.specs.Tree.{Arms, no_arms, entry, arm}
 use Rattle.lra_linear_forms.specs.Form.{Form}
-use Rattle.lra_analysis_spec.specs.Linear.{difference_form, variable_form}
 use Rattle.lra_analysis_spec.specs.GuardThresholds.{guard_thresholds, inequalities, row_of}
+use Rattle.lra_analysis_spec.specs.Linear.{difference_form, variable_form}
 use Rattle.lra_analysis_spec.specs.Plan.{Widening, standard, limited, by_thresholds}
 
 -- conditions -------------------------------------------------------------------------------------------------------

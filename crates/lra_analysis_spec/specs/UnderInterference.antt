@@ -1,17 +1,13 @@
 -- The iteration among others: whenever they may act, what they may do to stores is taken in.
 use Rattle.std.specs.Prelude.{◌≡◌, ℕ, None, Some}
-use Rattle.lra_domain.specs.Abstraction.{Abstraction}
-use Rattle.lra_domain.specs.Parts.{CapsWithin}
-use Rattle.lra_domain.specs.declared.Exactness.{Exactness}
-use Rattle.lra_domain.specs.declared.Exactness.TheVariants.{Exact, Flagged}
 use Rattle.lra_domain.specs.Interference.{Interference, Absorbs}
+use Rattle.lra_domain.specs.declared.Exactness.TheVariants.{Exact, Flagged}
+use Rattle.lra_domain.specs.{Abstraction.Abstraction, Parts.CapsWithin, declared.Exactness.Exactness}
 use Rattle.lra_program.specs.Program.{Program}
 use Rattle.lra_operations.specs.Tree.{Node}
-use Rattle.lra_analysis_spec.specs.Plan.{Plan}
 use Rattle.lra_analysis_spec.specs.Operations.{Operations, exact_operations, lossy_operations, straining_operations}
-use Rattle.lra_analysis_spec.specs.Moves.{AreMade}
-use Rattle.lra_analysis_spec.specs.MovesOf.{first_values}
 use Rattle.lra_analysis_spec.specs.Pass.{Absorption, PassResult, noted, PassUnder, Transformer}
+use Rattle.lra_analysis_spec.specs.{Moves.AreMade, MovesOf.first_values, Plan.Plan}
 
 -- exactly, as it is defined
 abbrev pub absorbed_exactly : {V : Type 0} → Interference V → Absorption V

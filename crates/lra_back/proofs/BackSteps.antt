@@ -1,38 +1,19 @@
 -- From the parts of going back to what it gives.
-use Rattle.std.proofs.Common.{◌≡◌, ◌≢◌, ◌≤◌, ◌<◌, ◌^◌, ◌↔◌, ℕ, zero, suc, List, [], ◌∷◌}
-use Rattle.std.proofs.Common.{length, Option, None, Some, Bool, true, Contains, Result, Ok, Err, IsErrAnd}
-use Rattle.std.proofs.Common.{refl, sym, ap, subst, ◌∙◌, arith, slice_get}
-use Rattle.std.proofs.lemmas.Option.{none-some}
-use Rattle.lra_domain.specs.Actions.{Action}
-use Rattle.lra_domain.specs.Changes.{AllCanBeMade, dims_after_actions}
-use Rattle.lra_domain.specs.Abstraction.{Abstraction}
-use Rattle.lra_domain.specs.Backward.{BackwardAbstraction}
-use Rattle.lra_domain.specs.declared.Exactness.{Exactness}
-use Rattle.lra_program.specs.Program.{Cond}
-use Rattle.lra_program.specs.declared.program.GlobalVariable.{GlobalVariable}
-use Rattle.lra_program.specs.Sites.{Site}
+use Rattle.std.proofs.Common.{◌≡◌, ◌≢◌, ◌≤◌, ◌<◌, ◌^◌, ◌↔◌, ℕ, zero, suc, List, [], ◌∷◌, length, Option, None, Some, Bool, true, Contains, Result, Ok, Err, IsErrAnd, refl, sym, ap, subst, ◌∙◌, arith}
+use Rattle.std.proofs.{Common.slice_get, lemmas.Option.none-some}
+use Rattle.lra_domain.specs.{Abstraction.Abstraction, Actions.Action, Backward.BackwardAbstraction, Changes.AllCanBeMade, Changes.dims_after_actions, declared.Exactness.Exactness}
+use Rattle.lra_program.specs.{Program.Cond, Sites.Site, declared.program.GlobalVariable.GlobalVariable}
 use Rattle.lra_operations.specs.Tree.{Node}
-use Rattle.lra_analysis_spec.specs.Analysis.{IsUnreachable}
+use Rattle.lra_analysis_spec.specs.{Analysis.IsUnreachable, LiveLimit.most_live, Pass.noted}
 use Rattle.lra_analysis_spec.proofs.Keeping.{some_is}
-use Rattle.lra_analysis_spec.specs.LiveLimit.{most_live}
-use Rattle.lra_analysis_spec.specs.Pass.{noted}
-use Rattle.lra_path_segments.specs.Segments.{Goal, comes_to}
-use Rattle.lra_path_segments.specs.TreeSegments.{TreeSegment}
-use Rattle.lra_path_disjuncts.specs.Disjuncts.{greatest_paths}
-use Rattle.lra_path_disjuncts.specs.Tables.{IsTable}
-use Rattle.lra_paths.specs.Paths.{AreFewIn, actions_between_in}
-use Rattle.lra_paths.specs.Sources.{to_goal}
-use Rattle.lra_paths.specs.declared.sources.Source.{Source}
-use Rattle.lra_back.specs.Operations.{lossy_back_operations}
-use Rattle.lra_back.specs.Rounds.{Rounds}
+use Rattle.lra_path_segments.specs.{Segments.Goal, Segments.comes_to, TreeSegments.TreeSegment}
+use Rattle.lra_path_disjuncts.specs.{Disjuncts.greatest_paths, Tables.IsTable}
+use Rattle.lra_paths.specs.{Paths.AreFewIn, Paths.actions_between_in, Sources.to_goal, declared.paths.PathsFailure.PathsFailure, declared.sources.Source.Source}
 use Rattle.lra_back.specs.BackwardAnalysis.{AreAsserted, BackwardAnalysis, IsAsserted, IsAssertion, NothingLeftAtStart, task_of}
-use Rattle.lra_back.specs.BackwardCalls.{AreHeads, AreSources, BackNeeds, FitHeads, IsBackwardSolution, IsPrepared, IsSourceOf}
-use Rattle.lra_back.specs.BackwardCalls.{IsTask, asserts_at, asserts_of, failed_by, paths_at, paths_from, task_view}
-use Rattle.lra_paths.specs.declared.paths.PathsFailure.{PathsFailure}
-use Rattle.lra_paths.specs.declared.paths.PathsFailure.TheVariants as paths_failure
-use Rattle.lra_back.specs.declared.analysis.BackFailure.{BackFailure}
+use Rattle.lra_back.specs.BackwardCalls.{AreHeads, AreSources, BackNeeds, FitHeads, IsBackwardSolution, IsPrepared, IsSourceOf, IsTask, asserts_at, asserts_of, failed_by, paths_at, paths_from}
 use Rattle.lra_back.specs.declared.analysis.BackFailure.TheVariants.{Memory, TooMany}
-use Rattle.lra_back.specs.declared.tasks.Task.{Task}
+use Rattle.lra_back.specs.{BackwardCalls.task_view, Operations.lossy_back_operations, Rounds.Rounds, declared.analysis.BackFailure.BackFailure, declared.tasks.Task.Task}
+use Rattle.lra_paths.specs.declared.paths.PathsFailure.TheVariants as paths_failure
 use Rattle.lra_back.proofs.RoundSteps.{same_rounds}
 
 -- of a list as long something stands there too

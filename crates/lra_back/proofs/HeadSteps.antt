@@ -1,14 +1,8 @@
 -- Heads of points: how they start, and one that is set.
-use Rattle.std.proofs.Common.{◌≡◌, ◌≢◌, ◌≤◌, ◌<◌, ℕ, zero, suc, List, [], ◌∷◌, ◌++◌, length, take, Some}
-use Rattle.std.proofs.Common.{refl, sym, ap, subst, ◌∙◌, arith, slice_get, slice_set}
-use Rattle.std.proofs.Math.Seq.{take-suc}
-use Rattle.std.proofs.lemmas.List.{take_all}
-use Rattle.std.proofs.lemmas.Option.{slice_get_within, get_or_from_slice_get, none-some}
-use Rattle.lra_domain.specs.Abstraction.{Abstraction}
-use Rattle.lra_domain.specs.Rank.{RankFits}
-use Rattle.lra_back.specs.Operations.{BackwardOperations}
-use Rattle.lra_back.specs.Rounds.{AreStarted, no_rows}
-use Rattle.lra_back.specs.BackwardCalls.{AreHeads}
+use Rattle.std.proofs.Common.{◌≡◌, ◌≢◌, ◌≤◌, ◌<◌, ℕ, zero, suc, List, [], ◌∷◌, ◌++◌, length, take, Some, refl, sym, ap, subst, ◌∙◌, arith, slice_get, slice_set}
+use Rattle.std.proofs.{Math.Seq.take-suc, lemmas.List.take_all, lemmas.Option.slice_get_within, lemmas.Option.get_or_from_slice_get, lemmas.Option.none-some}
+use Rattle.lra_domain.specs.{Abstraction.Abstraction, Rank.RankFits}
+use Rattle.lra_back.specs.{BackwardCalls.AreHeads, Operations.BackwardOperations, Rounds.AreStarted, Rounds.no_rows}
 
 pub take_at : {A : Type 0} (xs : List A) (j : ℕ) (x : A) → slice_get xs j ≡ Some x → take (suc j) xs ≡ take j xs ++ x ∷ []
 take_at xs j x at = take-suc xs j x (slice_get_within xs j x at) ∙ ap (λ y. take j xs ++ y ∷ []) (get_or_from_slice_get xs j x x at)

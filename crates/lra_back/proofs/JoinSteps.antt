@@ -1,14 +1,10 @@
 -- What paths bring back, joined one by one: what is still to come comes to what is joined so far.
 use Rattle.std.proofs.Common.{◌≡◌, ◌≤◌, ℕ, suc, List, [], ◌∷◌, length, drop, Option, None, Some, refl, sym, ap, subst, ◌∙◌, slice_get}
 use Rattle.std.proofs.lemmas.List.{drop_all}
-use Rattle.lra_domain.specs.Actions.{Action}
-use Rattle.lra_domain.specs.Abstraction.{worse}
-use Rattle.lra_domain.specs.declared.Exactness.{Exactness}
-use Rattle.lra_domain.specs.declared.Exactness.TheVariants.{Exact}
+use Rattle.lra_domain.specs.{Abstraction.worse, Actions.Action, declared.Exactness.Exactness, declared.Exactness.TheVariants.Exact}
 use Rattle.lra_analysis_spec.specs.Pass.{JoinsRunning, RunsFrom}
 use Rattle.lra_analysis_spec.proofs.Takes.{worse_exact, worse_worse}
-use Rattle.lra_back.specs.Operations.{BackwardOperations}
-use Rattle.lra_back.specs.Preconditions.{PreOfPaths, PreOfPath, PreOfAllPoints, IsNext, JoinsSeed}
+use Rattle.lra_back.specs.{Operations.BackwardOperations, Preconditions.PreOfPaths, Preconditions.PreOfPath, Preconditions.PreOfAllPoints, Preconditions.IsNext, Preconditions.JoinsSeed}
 use Rattle.lra_back.proofs.PathSteps.{drop_at}
 
 module _ {V H : Type 0} (ops : BackwardOperations V H) (forward : V) where

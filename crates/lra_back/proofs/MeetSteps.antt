@@ -1,13 +1,9 @@
 -- The last heads' values, met with the forward values; and lists that grow by one at their ends.
-use Rattle.std.proofs.Common.{◌≡◌, ◌≤◌, ◌+◌, ℕ, zero, suc, List, [], ◌∷◌, ◌++◌, length, drop, Option, Some, refl, sym, ap, subst, ◌∙◌, arith}
-use Rattle.std.proofs.Common.{append_assoc, slice_get, length-append}
-use Rattle.std.proofs.lemmas.List.{append-nil, drop_all}
-use Rattle.std.proofs.lemmas.Option.{none-some}
-use Rattle.lra_domain.specs.Abstraction.{worse}
-use Rattle.lra_domain.specs.declared.Exactness.{Exactness}
+use Rattle.std.proofs.Common.{◌≡◌, ◌≤◌, ◌+◌, ℕ, zero, suc, List, [], ◌∷◌, ◌++◌, length, drop, Option, Some, refl, sym, ap, subst, ◌∙◌, arith, append_assoc, slice_get, length-append}
+use Rattle.std.proofs.{lemmas.List.append-nil, lemmas.List.drop_all, lemmas.Option.none-some}
+use Rattle.lra_domain.specs.{Abstraction.worse, declared.Exactness.Exactness}
 use Rattle.lra_analysis_spec.specs.Pass.{noted}
-use Rattle.lra_back.specs.Operations.{BackwardOperations}
-use Rattle.lra_back.specs.Rounds.{AreBackwardValues}
+use Rattle.lra_back.specs.{Operations.BackwardOperations, Rounds.AreBackwardValues}
 use Rattle.lra_back.proofs.PathSteps.{drop_at}
 
 -- what stands in a list with one more at its end is that one, or stood there

@@ -3,19 +3,14 @@
 use Rattle.std.proofs.Common.{ℕ, zero, suc, List, [], ◌∷◌, length, Option, None, Some, Bool, true, false, subst, inl, inr}
 use Rattle.std.specs.Prelude.{slice_set}
 use Rattle.lra_domain.specs.Actions.{Action, assign, forget, test, embed, remove_last}
-use Rattle.lra_domain.specs.Abstraction.{worse}
-use Rattle.lra_domain.specs.declared.Exactness.{Exactness}
-use Rattle.lra_domain.specs.declared.Mode.{Mode}
-use Rattle.lra_domain.specs.declared.Mode.TheVariants.{Join, Widen}
-use Rattle.lra_program.specs.declared.program.GlobalVariable.{GlobalVariable}
-use Rattle.lra_program.specs.Sites.{Site}
+use Rattle.lra_domain.specs.{Abstraction.worse, declared.Exactness.Exactness, declared.Mode.Mode, declared.Mode.TheVariants.Join, declared.Mode.TheVariants.Widen}
+use Rattle.lra_program.specs.{Sites.Site, declared.program.GlobalVariable.GlobalVariable}
 use Rattle.lra_operations.specs.Tree.{Node}
 use Rattle.lra_analysis_spec.specs.Pass.{JoinsRunning, RunsFrom, noted}
 use Rattle.lra_analysis_spec.proofs.Transfer.{Matters, Transfers, aligned, leaves}
-use Rattle.lra_back.specs.Operations.{BackwardOperations, PreOfAction}
 use Rattle.lra_back.specs.Preconditions.{PreAlong, PreOfPath, PreOfPaths, PreOfAllPoints, JoinsSeed, IsNext}
 use Rattle.lra_back.specs.Rounds.{Task, seed_at, no_rows, AreStarted, StaysOrGrows, IsUpdated, Round, Widens, Rounds, AreBackwardValues}
-use Rattle.lra_back.specs.BackwardAnalysis.{BackwardAnalysis, task_of}
+use Rattle.lra_back.specs.{BackwardAnalysis.BackwardAnalysis, BackwardAnalysis.task_of, Operations.BackwardOperations, Operations.PreOfAction}
 
 pub record TransfersBack {V H : Type 0} (Keeps : Exactness → Type 0) (a b : BackwardOperations V H) : Type 0 where
   pub forward : Transfers Keeps a.forward b.forward

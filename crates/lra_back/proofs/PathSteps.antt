@@ -1,18 +1,12 @@
 -- Going back over the changes of a path, from the last one.
-use Rattle.std.proofs.Common.{◌≡◌, ◌≤◌, ◌<◌, ◌^◌, ℕ, zero, suc, List, [], ◌∷◌, length, map, get_or, drop, take, Some}
-use Rattle.std.proofs.Common.{refl, sym, ap, subst, ◌∙◌, arith, slice_get, option_map, Contains}
-use Rattle.std.proofs.Math.Seq.{drop-cons}
-use Rattle.std.proofs.lemmas.List.{length-map}
+use Rattle.std.proofs.Common.{◌≡◌, ◌≤◌, ◌<◌, ◌^◌, ℕ, zero, suc, List, [], ◌∷◌, length, map, get_or, drop, take, Some, refl, sym, ap, subst, ◌∙◌, arith, slice_get, option_map, Contains}
 use Rattle.std.proofs.lemmas.Option.{slice_get_within, slice_get_read, slice_get-map, get_or_from_slice_get, none-some}
+use Rattle.std.proofs.{Math.Seq.drop-cons, lemmas.List.length-map}
 use Rattle.lra_domain.specs.Actions.{Action, assign, forget, test, embed, remove_last, dims_after}
-use Rattle.lra_domain.specs.Changes.{AllCanBeMade, CanBeMade, dims_after_actions}
-use Rattle.lra_domain.specs.Abstraction.{worse}
-use Rattle.lra_domain.specs.declared.Exactness.{Exactness}
-use Rattle.lra_analysis_spec.proofs.Keeping.{some_is}
-use Rattle.lra_analysis_spec.proofs.Takes.{worse_worse}
+use Rattle.lra_domain.specs.{Abstraction.worse, Changes.AllCanBeMade, Changes.CanBeMade, Changes.dims_after_actions, declared.Exactness.Exactness}
+use Rattle.lra_analysis_spec.proofs.{Keeping.some_is, Takes.worse_worse}
 use Rattle.lra_back.specs.Operations.{BackwardOperations, PreOfAction}
-use Rattle.lra_back.specs.Preconditions.{PreOfPath, PreAlong}
-use Rattle.lra_back.specs.BackwardCalls.{PreAlongMet, Fits, reversed}
+use Rattle.lra_back.specs.{BackwardCalls.PreAlongMet, BackwardCalls.Fits, BackwardCalls.reversed, Preconditions.PreOfPath, Preconditions.PreAlong}
 
 pub drop_at : {A : Type 0} (xs : List A) (j : ℕ) (x : A) → slice_get xs j ≡ Some x → drop j xs ≡ x ∷ drop (suc j) xs
 drop_at xs j x at = drop-cons xs j x (slice_get_within xs j x at) ∙ ap (λ y. y ∷ drop (suc j) xs) (get_or_from_slice_get xs j x x at)

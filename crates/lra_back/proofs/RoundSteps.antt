@@ -1,13 +1,7 @@
 -- Rounds: what is still to be turned ends as the whole does; ranks fall.
-use Rattle.std.proofs.Common.{◌≡◌, ◌≢◌, ◌≤◌, ◌<◌, ℕ, zero, suc, List, Option, Bool, true, false, ◌&&◌, inl, inr}
-use Rattle.std.proofs.Common.{refl, sym, ap, subst, ◌∙◌, arith, slice_set}
-use Rattle.lra_domain.specs.Actions.{Action}
-use Rattle.lra_domain.specs.Abstraction.{Abstraction}
-use Rattle.lra_domain.specs.declared.Mode.{Mode}
-use Rattle.lra_domain.specs.declared.Mode.TheVariants.{Join, Widen}
-use Rattle.lra_back.specs.Operations.{BackwardOperations}
-use Rattle.lra_back.specs.Rounds.{Task, IsUpdated, Round, Rounds, Widens, seed_at}
-use Rattle.lra_back.specs.BackwardCalls.{ranks_of}
+use Rattle.std.proofs.Common.{◌≡◌, ◌≢◌, ◌≤◌, ◌<◌, ℕ, zero, suc, List, Option, Bool, true, false, ◌&&◌, inl, inr, refl, sym, ap, subst, ◌∙◌, arith, slice_set}
+use Rattle.lra_domain.specs.{Abstraction.Abstraction, Actions.Action, declared.Mode.Mode, declared.Mode.TheVariants.Join, declared.Mode.TheVariants.Widen}
+use Rattle.lra_back.specs.{BackwardCalls.ranks_of, Operations.BackwardOperations, Rounds.Task, Rounds.IsUpdated, Rounds.Round, Rounds.Rounds, Rounds.Widens, Rounds.seed_at}
 use Rattle.lra_back.proofs.JoinSteps.{same_next}
 
 and_assoc : (a b c : Bool) → (a && (b && c)) ≡ ((a && b) && c)

@@ -1,19 +1,13 @@
 -- Where going back begins: the one stretch from a point to where its assertion is false.
-use Rattle.std.proofs.Common.{◌≡◌, ℕ, suc, List, [], ◌∷◌, ◌++◌, map, take, drop, Option, None, Some, Bool, true, false, ◌&&◌, cond, nat_eq}
-use Rattle.std.proofs.Common.{refl, sym, ap, ◌∙◌, slice_get, flat_map, filter}
-use Rattle.std.proofs.lemmas.Grind.{flat_map-append}
-use Rattle.std.proofs.lemmas.List.{append-nil, map-append, take-append-drop}
-use Rattle.std.proofs.lemmas.List.Elements.{filter-append}
-use Rattle.lra_program.specs.Program.{Cond}
-use Rattle.lra_program.specs.Step.{test}
+use Rattle.std.proofs.Common.{◌≡◌, ℕ, suc, List, [], ◌∷◌, ◌++◌, map, take, drop, Option, None, Some, Bool, true, false, ◌&&◌, cond, nat_eq, refl, sym, ap, ◌∙◌, slice_get, flat_map, filter}
+use Rattle.std.proofs.{lemmas.Grind.flat_map-append, lemmas.List.append-nil, lemmas.List.map-append, lemmas.List.take-append-drop, lemmas.List.Elements.filter-append}
+use Rattle.lra_program.specs.{Program.Cond, Step.test}
 use Rattle.lra_operations.specs.Tree.{Node}
 use Rattle.lra_path_segments.specs.Segments.{SegmentStep, does, Segment, violates}
 use Rattle.lra_path_segments.specs.TreeSegments.{AreSegmentsOf, End, exits, reaches, TreeSegment, met, segments_at}
-use Rattle.lra_path_segments.specs.TreeSegmentViews.{move_view, seen, tree_segment_view}
-use Rattle.lra_path_segments.specs.declared.segments.TreeSegment.{TreeSegment as DeclaredStretch}
+use Rattle.lra_path_segments.specs.{TreeSegmentViews.move_view, TreeSegmentViews.seen, TreeSegmentViews.tree_segment_view, declared.segments.TreeSegment.TreeSegment as DeclaredStretch}
 use Rattle.lra_paths.specs.Paths.{same_goal}
-use Rattle.lra_back.specs.BackwardAnalysis.{IsAsserted, violation_segment}
-use Rattle.lra_back.specs.BackwardCalls.{violates_at, is_violation, is_source}
+use Rattle.lra_back.specs.{BackwardAnalysis.IsAsserted, BackwardAnalysis.violation_segment, BackwardCalls.violates_at, BackwardCalls.is_violation, BackwardCalls.is_source}
 use Rattle.lra_back.proofs.PathSteps.{drop_at}
 
 -- of all segments those to where the assertion at the point is false

@@ -1,18 +1,11 @@
 -- Settled points: a turn keeps what the marks say.
-use Rattle.std.proofs.Common.{◌≡◌, ◌≢◌, ◌+◌, ℕ, zero, suc, List, [], ◌∷◌, Option, None, Some, Bool, true, false, inl, inr}
-use Rattle.std.proofs.Common.{refl, sym, ap, subst, ◌∙◌, arith, slice_get, slice_set}
-use Rattle.std.proofs.lemmas.List.{set-get_or}
-use Rattle.std.proofs.lemmas.Option.{get_or_from_slice_get}
-use Rattle.lra_domain.specs.Actions.{Action}
-use Rattle.lra_domain.specs.declared.Exactness.{Exactness}
+use Rattle.std.proofs.Common.{◌≡◌, ◌≢◌, ◌+◌, ℕ, zero, suc, List, [], ◌∷◌, Option, None, Some, Bool, true, false, inl, inr, refl, sym, ap, subst, ◌∙◌, arith, slice_get, slice_set}
+use Rattle.std.proofs.{lemmas.List.set-get_or, lemmas.Option.get_or_from_slice_get}
 use Rattle.lra_domain.specs.declared.Exactness.TheVariants.{Exact, Flagged}
-use Rattle.lra_domain.specs.declared.Mode.{Mode}
-use Rattle.lra_domain.specs.declared.Mode.TheVariants.{Widen}
+use Rattle.lra_domain.specs.{Actions.Action, declared.Exactness.Exactness, declared.Mode.Mode, declared.Mode.TheVariants.Widen}
 use Rattle.lra_analysis_spec.specs.Pass.{noted}
-use Rattle.lra_back.specs.Operations.{BackwardOperations}
 use Rattle.lra_back.specs.Preconditions.{PreOfPaths, PreOfAllPoints, IsNext}
-use Rattle.lra_back.specs.Rounds.{IsUpdated, Task, seed_at}
-use Rattle.lra_back.specs.Settled.{AreSettled, IsSettled, Settles}
+use Rattle.lra_back.specs.{Operations.BackwardOperations, Rounds.IsUpdated, Rounds.Task, Rounds.seed_at, Settled.AreSettled, Settled.IsSettled, Settled.Settles}
 use Rattle.lra_back.proofs.HeadSteps.{get_set_other}
 
 -- flags ----------------------------------------------------------------------------------------------------------------

@@ -1,15 +1,11 @@
 -- What is found with drops says of what is defined: without a flag it is that, and what is flagged first strains there.
 use Rattle.std.proofs.Common.{◌≡◌, ℕ, List, Option, None}
-use Rattle.lra_domain.specs.Backward.{BackwardAbstraction}
-use Rattle.lra_domain.specs.Laws.{Laws}
-use Rattle.lra_domain.specs.Abstraction.{Abstraction}
-use Rattle.lra_domain.specs.declared.Exactness.TheVariants.{Exact}
-use Rattle.lra_program.specs.declared.program.GlobalVariable.{GlobalVariable}
-use Rattle.lra_program.specs.Sites.{Site}
+use Rattle.lra_domain.specs.{Abstraction.Abstraction, Backward.BackwardAbstraction, Laws.Laws, declared.Exactness.TheVariants.Exact}
+use Rattle.lra_program.specs.{Sites.Site, declared.program.GlobalVariable.GlobalVariable}
 use Rattle.lra_operations.specs.Tree.{Node}
 use Rattle.lra_analysis_spec.proofs.Unflagged.{none_flagged, any_matters, exact_ones, strained_ones}
-use Rattle.lra_back.specs.Operations.{exact_back_operations, lossy_back_operations, straining_back_operations}
 use Rattle.lra_back.specs.BackwardAnalysis.{BackwardAnalysis, IsBackwardAnalysis}
+use Rattle.lra_back.specs.Operations.{exact_back_operations, lossy_back_operations, straining_back_operations}
 use Rattle.lra_back.proofs.Moved.{TransfersBack, backs}
 
 exact_back : {V H : Type 0} (m : Abstraction V H) (b : BackwardAbstraction V) → Laws m →

@@ -4,10 +4,8 @@
 use Rattle.std.specs.Prelude.{◌≡◌}
 use Rattle.lra_domain.specs.Actions.{Action, assign, forget, test, embed, remove_last}
 use Rattle.lra_domain.specs.Backward.{BackwardAbstraction, TransfersBackTo, MeetsBoth}
-use Rattle.lra_domain.specs.Abstraction.{Abstraction}
-use Rattle.lra_domain.specs.Parts.{CapsWithin}
-use Rattle.lra_domain.specs.declared.Exactness.{Exactness}
 use Rattle.lra_domain.specs.declared.Exactness.TheVariants.{Exact, Flagged}
+use Rattle.lra_domain.specs.{Abstraction.Abstraction, Parts.CapsWithin, declared.Exactness.Exactness}
 use Rattle.lra_analysis_spec.specs.Operations as forward
 use Rattle.lra_analysis_spec.specs.Operations.{Operations}
 

@@ -1,9 +1,7 @@
 -- Going back from the head of a path's target: over its changes from the last one, to what was so at its source.
 use Rattle.std.specs.Prelude.{◌≡◌, ℕ, suc, List, [], ◌∷◌, Option, None, Some}
-use Rattle.lra_domain.specs.Actions.{Action}
-use Rattle.lra_domain.specs.Abstraction.{worse}
 use Rattle.lra_domain.specs.declared.Exactness.{Exactness}
-use Rattle.lra_domain.specs.declared.Exactness.TheVariants.{Exact}
+use Rattle.lra_domain.specs.{Abstraction.worse, Actions.Action, declared.Exactness.TheVariants.Exact}
 use Rattle.lra_analysis_spec.specs.Pass.{JoinsRunning, RunsFrom}
 use Rattle.lra_back.specs.Operations.{BackwardOperations, PreOfAction}
 

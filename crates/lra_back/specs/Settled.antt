@@ -1,16 +1,12 @@
 -- Points that need no turn: what they would take is in their heads already.
 use Rattle.std.specs.Prelude.{◌≡◌, ◌≢◌, ◌⊎◌, ℕ, List, [], length, Option, Some, Bool, true, false, slice_get}
-use Rattle.lra_domain.specs.Backward.{BackwardAbstraction}
-use Rattle.lra_domain.specs.Abstraction.{Abstraction}
-use Rattle.lra_domain.specs.declared.Exactness.{Exactness}
-use Rattle.lra_domain.specs.declared.Mode.{Mode}
-use Rattle.lra_domain.specs.declared.Mode.TheVariants.{Widen}
+use Rattle.lra_domain.specs.{Abstraction.Abstraction, Backward.BackwardAbstraction, declared.Exactness.Exactness}
+use Rattle.lra_domain.specs.{declared.Mode.Mode, declared.Mode.TheVariants.Widen}
 use Rattle.lra_analysis_spec.specs.Pass.{noted}
-use Rattle.lra_back.specs.Operations.{BackwardOperations, lossy_back_operations}
-use Rattle.lra_back.specs.Rounds as rounds
 use Rattle.lra_back.specs.BackwardCalls.{AreHeads, IsNextAt, task_view}
-use Rattle.lra_back.specs.declared.rounds.BackwardState.{BackwardState}
-use Rattle.lra_back.specs.declared.tasks.Task.{Task}
+use Rattle.lra_back.specs.Operations.{BackwardOperations, lossy_back_operations}
+use Rattle.lra_back.specs.{declared.rounds.BackwardState.BackwardState, declared.tasks.Task.Task}
+use Rattle.lra_back.specs.Rounds as rounds
 
 -- the point's next value over these heads lies in its own where that widens, and adds no flag
 pub record IsSettled {V H : Type 0} (ops : BackwardOperations V H) (task : rounds.Task V) (heads : List H)

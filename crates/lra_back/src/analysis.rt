@@ -1,15 +1,11 @@
 //! Going back from an assertion of a program.
 
 ghost use Rattle.std.specs.Prelude.{◌≡◌, ◌≢◌, ◌↔◌, ℕ, [], true, map, Err, IfOk};
-ghost use Rattle.lra_operations.specs.Tree.{Node};
-ghost use Rattle.lra_operations.specs.TreeViews.{node_view, site_view};
+ghost use Rattle.lra_operations.specs.{Tree.Node, TreeViews.node_view, TreeViews.site_view};
 ghost use Rattle.lra_analysis_spec.specs.Analysis.{IsUnreachable};
 ghost use Rattle.lra_path_disjuncts.specs.Tables.{IsTable};
-ghost use Rattle.lra_paths.specs.Paths.{AreFewIn, HasTooManyIn};
-ghost use Rattle.lra_paths.specs.Sources.{to_goal};
-ghost use Rattle.lra_path_segments.specs.TreeSegments.{AreSegmentsOf};
-ghost use Rattle.lra_path_segments.specs.TreeSegmentViews.{seen};
-ghost use Rattle.lra_path_segments.specs.Segments.{comes_to};
+ghost use Rattle.lra_paths.specs.{Paths.AreFewIn, Paths.HasTooManyIn, Sources.to_goal};
+ghost use Rattle.lra_path_segments.specs.{Segments.comes_to, TreeSegmentViews.seen, TreeSegments.AreSegmentsOf};
 ghost use Rattle.lra_back.specs.Operations as operations;
 ghost use Rattle.lra_back.specs.BackwardAnalysis as traced;
 ghost use Rattle.lra_back.specs.BackwardAnalysis.{AreAsserted, AreWide, IsAssertion, IsBackwardAnalysis};

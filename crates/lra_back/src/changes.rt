@@ -1,10 +1,8 @@
 //! Going back over one change.
 
 ghost use Rattle.std.specs.Prelude.{◌≡◌, IfOk, OnOk};
-ghost use Rattle.lra_domain.specs.Actions.{dims_after};
-ghost use Rattle.lra_domain.specs.Changes.{CanBeMade, action_of};
-ghost use Rattle.lra_back.specs.Operations.{PreOfAction, lossy_back_operations};
-ghost use Rattle.lra_back.specs.BackwardCalls.{reversed};
+ghost use Rattle.lra_domain.specs.{Actions.dims_after, Changes.CanBeMade, Changes.action_of};
+ghost use Rattle.lra_back.specs.{BackwardCalls.reversed, Operations.PreOfAction, Operations.lossy_back_operations};
 
 use lra_domain::{Backward, Change, Exactness};
 use std::alloc::AllocError;

@@ -1,11 +1,9 @@
 //! Heads: one for each point, which starts with nothing and grows by the point's next values.
 
 ghost use Rattle.std.specs.Prelude.{◌≡◌, ◌≢◌, ◌≤◌, ◌<◌, ◌^◌, ℕ, true, false, Some, slice_get, IfOk, OnOk};
-ghost use Rattle.lra_domain.specs.declared.Mode.TheVariants.{Join};
-ghost use Rattle.lra_domain.specs.Rank.{RankFits};
-ghost use Rattle.lra_back.specs.Operations.{lossy_back_operations};
+ghost use Rattle.lra_domain.specs.{Rank.RankFits, declared.Mode.TheVariants.Join};
 ghost use Rattle.lra_back.specs.Rounds.{AreStarted, StaysOrGrows, no_rows};
-ghost use Rattle.lra_back.specs.BackwardCalls.{AreHeads, rank_of};
+ghost use Rattle.lra_back.specs.{BackwardCalls.AreHeads, BackwardCalls.rank_of, Operations.lossy_back_operations};
 
 use lra_domain::{Backward, Exactness, Grown, Mode};
 use lra_systems::ConSys;

@@ -1,11 +1,9 @@
 //! The last heads' values, met with the forward values.
 
 ghost use Rattle.std.specs.Prelude.{◌≡◌, ◌≢◌, ℕ, true, length, Some, slice_get, IfOk};
-ghost use Rattle.lra_domain.specs.declared.Exactness.{Exactness};
-ghost use Rattle.lra_domain.specs.Abstraction.{worse};
-ghost use Rattle.lra_back.specs.Operations.{lossy_back_operations};
-ghost use Rattle.lra_back.specs.Rounds.{AreBackwardValues};
+ghost use Rattle.lra_domain.specs.{Abstraction.worse, declared.Exactness.Exactness};
 ghost use Rattle.lra_back.specs.BackwardCalls.{AreHeads, IsBackwardSolution, IsTask, task_view};
+ghost use Rattle.lra_back.specs.{Operations.lossy_back_operations, Rounds.AreBackwardValues};
 
 use crate::heads::start_all;
 use crate::paths::PreValue;

@@ -1,13 +1,12 @@
 //! Going back over paths: from the head of their target to their source, from the last change of each to its first.
 
 ghost use Rattle.std.specs.Prelude.{◌≡◌, Some, IfOk, OnOk};
-ghost use Rattle.lra_domain.specs.declared.Exactness.{Exactness};
-ghost use Rattle.lra_domain.specs.Abstraction.{worse};
+ghost use Rattle.lra_domain.specs.{Abstraction.worse, declared.Exactness.Exactness};
 ghost use Rattle.lra_analysis_spec.specs.Pass.{JoinsRunning};
 ghost use Rattle.lra_path_disjuncts.specs.TableDisjuncts.{all_done, lists_done};
+ghost use Rattle.lra_back.specs.BackwardCalls.{AllFit, PreAlongMet, FitHeads, Fits, IfThereHas, IsWritable, paths_from};
 ghost use Rattle.lra_back.specs.Operations.{lossy_back_operations};
 ghost use Rattle.lra_back.specs.Preconditions.{PreOfPaths, PreOfPath, PreOfAllPoints};
-ghost use Rattle.lra_back.specs.BackwardCalls.{AllFit, PreAlongMet, FitHeads, Fits, IfThereHas, IsWritable, paths_from};
 
 use crate::changes::pre_of_action;
 use lra_domain::{Backward, Change, Exactness, worse};

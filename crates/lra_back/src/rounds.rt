@@ -1,12 +1,11 @@
 //! Rounds of going back: in each, from the last point to the first, the point's head grows by its next value.
 
-ghost use Rattle.std.specs.Prelude.{◌≡◌, ◌≢◌, ◌≤◌, ◌<◌, ℕ, [], true, false, length, Some, slice_get, slice_set};
-ghost use Rattle.std.specs.Prelude.{IfOk, OnOk};
+ghost use Rattle.std.specs.Prelude.{◌≡◌, ◌≢◌, ◌≤◌, ◌<◌, ℕ, [], true, false, length, Some, slice_get, slice_set, IfOk};
+ghost use Rattle.std.specs.Prelude.{OnOk};
 ghost use Rattle.lra_domain.specs.declared.Mode.TheVariants.{Join, Widen};
-ghost use Rattle.lra_back.specs.Operations.{lossy_back_operations};
-ghost use Rattle.lra_back.specs.Rounds.{IsUpdated, Round, Rounds, Widens};
 ghost use Rattle.lra_back.specs.BackwardCalls.{AreHeads, IsTask, paths_from, ranks_of, task_view};
-ghost use Rattle.lra_back.specs.Settled.{IsBackwardState, Settles};
+ghost use Rattle.lra_back.specs.Rounds.{IsUpdated, Round, Rounds, Widens};
+ghost use Rattle.lra_back.specs.{Operations.lossy_back_operations, Settled.IsBackwardState, Settled.Settles};
 ghost use Rattle.lra_path_disjuncts.specs.Tables.{IsTable};
 
 use crate::heads::grow;

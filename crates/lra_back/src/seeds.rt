@@ -2,17 +2,13 @@
 
 ghost use Rattle.std.specs.Prelude.{◌≡◌, ◌≤◌, ℕ, [], ◌∷◌, map, false, Some, IfOk};
 ghost use Rattle.lra_program.specs.Program as program;
-ghost use Rattle.lra_program.specs.ProgramViews.{cond_view};
-ghost use Rattle.lra_program.specs.Step.{test};
+ghost use Rattle.lra_program.specs.{ProgramViews.cond_view, Step.test};
 ghost use Rattle.lra_operations.specs.Tree.{Node};
-ghost use Rattle.lra_path_segments.specs.Segments.{does};
-ghost use Rattle.lra_path_segments.specs.TreeSegments.{AreSegmentsOf};
 ghost use Rattle.lra_path_segments.specs.TreeSegmentViews.{move_view, seen, tree_segment_view};
-ghost use Rattle.lra_analysis_spec.specs.Pass.{Filters};
-ghost use Rattle.lra_analysis_spec.specs.LiveLimit.{most_live};
-ghost use Rattle.lra_back.specs.Operations.{lossy_back_operations};
-ghost use Rattle.lra_back.specs.BackwardAnalysis.{IsAsserted};
+ghost use Rattle.lra_path_segments.specs.{Segments.does, TreeSegments.AreSegmentsOf};
+ghost use Rattle.lra_analysis_spec.specs.{LiveLimit.most_live, Pass.Filters};
 ghost use Rattle.lra_back.specs.BackwardCalls.{is_violation, condition_seen};
+ghost use Rattle.lra_back.specs.{BackwardAnalysis.IsAsserted, Operations.lossy_back_operations};
 
 use crate::paths::PreValue;
 use lra_domain::{Backward, Exactness};

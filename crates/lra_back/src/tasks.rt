@@ -1,13 +1,10 @@
 //! What is gone back over, and the next value of a point.
 
 ghost use Rattle.std.specs.Prelude.{◌≡◌, ◌≤◌, ◌<◌, ◌^◌, ℕ, length, Some, None, slice_get, IfOk};
-ghost use Rattle.lra_domain.specs.declared.Exactness.{Exactness};
-ghost use Rattle.lra_domain.specs.Abstraction.{worse};
+ghost use Rattle.lra_domain.specs.{Abstraction.worse, declared.Exactness.Exactness};
 ghost use Rattle.lra_analysis_spec.specs.Pass.{RunsFrom};
-ghost use Rattle.lra_back.specs.Operations.{lossy_back_operations};
-ghost use Rattle.lra_back.specs.Preconditions.{JoinsSeed};
-ghost use Rattle.lra_back.specs.Rounds.{seed_at};
 ghost use Rattle.lra_back.specs.BackwardCalls.{AreHeads, IfThereHas, IsNextAt, IsTask, task_view};
+ghost use Rattle.lra_back.specs.{Operations.lossy_back_operations, Preconditions.JoinsSeed, Rounds.seed_at};
 
 use crate::paths::{Joined, PreValue, join_to, pre_of_all_points};
 use lra_domain::{Backward, worse};

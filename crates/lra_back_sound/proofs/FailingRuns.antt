@@ -1,29 +1,18 @@
 -- What is found by going back has each store with which a run is at a point from which it goes on to fail: from the
 -- failing assertion back, from each point to the one before it.
 use Rattle.std.proofs.Common.{◌≡◌, ◌≢◌, ℕ, zero, suc, ℤ, List, [], ◌∷◌, Option, None, Some, refl, sym, ◌∙◌, subst}
-use Rattle.std.specs.Prelude.{slice_get}
 use Rattle.std.proofs.lemmas.Option.{same_Some, none-some}
-use Rattle.lra_domain.specs.Backward.{BackwardAbstraction}
-use Rattle.lra_domain.specs.Laws.{Laws}
-use Rattle.lra_domain.specs.Abstraction.{Abstraction}
-use Rattle.lra_domain.specs.Moves.{SomeLeads}
-use Rattle.lra_domain.specs.Gammas.{InGamma}
-use Rattle.lra_program.specs.Program.{Program}
-use Rattle.lra_program.specs.Step.{Config, next}
-use Rattle.lra_program.specs.Run.{Fails, IsFailing, IsOn, Point, Reaches, Steps, label_on, start}
-use Rattle.lra_program.specs.Sites.{Site, sites_of}
-use Rattle.lra_program.specs.Traces.{NoChange, Becomes, TraceEvent, RunSegment, TracedSteps, with_visit, visit}
-use Rattle.lra_program.specs.WellFormed.{IsWellFormed}
-use Rattle.lra_operations.specs.Agree.{IsInlinedTree, point_of}
-use Rattle.lra_operations.specs.Tree.{Node}
-use Rattle.lra_inline_sound.proofs.Agreement.{trees_agree}
-use Rattle.lra_inline_sound.proofs.DistinctSites.{distinct_sites}
+use Rattle.std.specs.Prelude.{slice_get}
+use Rattle.lra_domain.specs.{Abstraction.Abstraction, Backward.BackwardAbstraction, Gammas.InGamma, Laws.Laws, Moves.SomeLeads}
+use Rattle.lra_program.specs.{Program.Program, Run.Fails, Run.IsFailing, Run.IsOn, Run.Point, Run.Reaches, Run.Steps, Run.label_on, Run.start, Sites.Site, Sites.sites_of, Step.Config, Step.next}
+use Rattle.lra_program.specs.{Traces.NoChange, Traces.Becomes, Traces.TraceEvent, Traces.RunSegment, Traces.TracedSteps, Traces.with_visit, Traces.visit, WellFormed.IsWellFormed}
+use Rattle.lra_operations.specs.{Agree.IsInlinedTree, Agree.point_of, Tree.Node}
+use Rattle.lra_inline_sound.proofs.{Agreement.trees_agree, DistinctSites.distinct_sites}
 use Rattle.lra_path_segments.specs.Segments.{comes_to}
-use Rattle.lra_paths.specs.Covers.{PathsCover}
-use Rattle.lra_paths.specs.Paths.{actions_between}
+use Rattle.lra_paths.specs.{Covers.PathsCover, Paths.actions_between}
 use Rattle.lra_paths.proofs.LawsOfPaths.{all_paths_cover}
-use Rattle.lra_back.specs.Operations.{lossy_back_operations}
 use Rattle.lra_back.specs.BackwardAnalysis.{AreWide, BackwardAnalysis, FailsFrom, NothingLeftAtStart, PathsFit}
+use Rattle.lra_back.specs.Operations.{lossy_back_operations}
 use Rattle.lra_back_sound.specs.FailingRuns.{CoverFailingRuns, HoldsAtPoints, BackwardIsSound}
 use Rattle.lra_back_sound.proofs.FoundStores.{IsHeld, found_has, held_before, held_denied}
 

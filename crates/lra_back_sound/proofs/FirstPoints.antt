@@ -1,20 +1,13 @@
 -- The tree of a program begins with a point: the one way from its start leads there, and none leads past it.
-use Rattle.std.proofs.Common.{◌≡◌, ℕ, ◌≤◌, List, [], ◌∷◌, ◌++◌, map, filter, flat_map, length, Some, Bool, true, false, cond}
-use Rattle.std.proofs.Common.{◌⊎◌, inl, inr, refl, sym, ap, ◌∙◌, subst, arith, append-nil}
+use Rattle.std.proofs.Common.{◌≡◌, ℕ, ◌≤◌, List, [], ◌∷◌, ◌++◌, map, filter, flat_map, length, Some, Bool, true, false, cond, ◌⊎◌, inl, inr, refl, sym, ap, ◌∙◌, subst, arith, append-nil}
+use Rattle.std.proofs.{lemmas.Bool.eqb-true, lemmas.Bool.eq-eqb, lemmas.Option.same_Some}
 use Rattle.std.specs.Prelude.{◌≢◌, nat_eq, slice_get}
-use Rattle.std.proofs.lemmas.Bool.{eqb-true, eq-eqb}
-use Rattle.std.proofs.lemmas.Option.{same_Some}
 use Rattle.lra_domain.specs.Abstraction.{Abstraction}
-use Rattle.lra_program.specs.Program.{Stmt, BlockItems, Program}
-use Rattle.lra_program.specs.Sites.{Site, sites_of}
-use Rattle.lra_operations.specs.Tree.{normal, Node, point, seq}
-use Rattle.lra_operations.specs.Agree.{IsInlinedTree}
-use Rattle.lra_operations.specs.Inlined.{InlineState, InlineStmt, InlineItems, InlineLoop}
-use Rattle.lra_operations.specs.Inlined.{as_nothing, as_block, as_absent, as_assign, as_write, as_write_call, as_call, as_if, as_loop, as_for}
-use Rattle.lra_operations.specs.Inlined.{as_break, as_continue, as_return, as_return_value, as_return_call, as_end, as_end_value, as_end_call, as_assert}
-use Rattle.lra_operations.specs.Inlined.{as_assume, as_switch, as_none, as_declaration, as_array, as_statement, is_loop}
-use Rattle.lra_analysis_spec.specs.Analysis.{IsUnreachable}
-use Rattle.lra_analysis_spec.specs.MovesOf.{first_values}
+use Rattle.lra_program.specs.{Program.Stmt, Program.BlockItems, Program.Program, Sites.Site, Sites.sites_of}
+use Rattle.lra_operations.specs.Inlined.{InlineState, InlineStmt, InlineItems, InlineLoop, as_nothing, as_block, as_absent, as_assign, as_write, as_write_call, as_call, as_if, as_loop, as_for}
+use Rattle.lra_operations.specs.Inlined.{as_break, as_continue, as_return, as_return_value, as_return_call, as_end, as_end_value, as_end_call, as_assert, as_assume, as_switch, as_none, as_declaration}
+use Rattle.lra_operations.specs.{Agree.IsInlinedTree, Inlined.as_array, Inlined.as_statement, Inlined.is_loop, Tree.normal, Tree.Node, Tree.point, Tree.seq}
+use Rattle.lra_analysis_spec.specs.{Analysis.IsUnreachable, MovesOf.first_values}
 use Rattle.lra_path_segments.specs.Segments.{SegmentStep, comes_to, GoalSegment, each_then, then_way, then_ways, through, enter}
 use Rattle.lra_path_segments.proofs.FlatSteps.{flat_none}
 use Rattle.lra_path_disjuncts.specs.Disjuncts.{disjuncts}

@@ -1,37 +1,22 @@
 -- What is found by going back: the last heads are closed under paths backwards, have the seed's stores, and the values
 -- that are found have what both heads and forward values have.
 use Rattle.std.proofs.Common.{◌≡◌, ℕ, suc, ℤ, List, [], ◌∷◌, ◌++◌, Option, None, Some, zero, false, length, inl, inr, sym, ap, ◌∙◌, subst, refl}
-use Rattle.std.specs.Prelude.{slice_get, cond, Contains}
-use Rattle.std.specs.List.{flat_map}
-use Rattle.std.proofs.lemmas.Bool.{eq-eqb}
-use Rattle.std.proofs.lemmas.List.{append-nil}
-use Rattle.std.proofs.lemmas.Option.{same_Some, none-some, slice_get_within}
+use Rattle.std.proofs.{lemmas.Bool.eq-eqb, lemmas.List.append-nil, lemmas.Option.same_Some, lemmas.Option.none-some, lemmas.Option.slice_get_within}
+use Rattle.std.specs.{List.flat_map, Prelude.slice_get, Prelude.cond, Prelude.Contains}
 use Rattle.lra_linear_spec.proofs.Membership.{contains_head, contains_tail}
-use Rattle.lra_domain.specs.Actions.{Action}
-use Rattle.lra_domain.specs.Backward.{BackwardAbstraction}
-use Rattle.lra_domain.specs.Changes.{AllCanBeMade}
-use Rattle.lra_domain.specs.Laws.{Laws}
-use Rattle.lra_domain.specs.Abstraction.{Abstraction, worse}
-use Rattle.lra_domain.specs.Moves.{LeadsAll, SomeLeads}
 use Rattle.lra_domain.specs.Gammas.{InGamma, InHeadGamma}
-use Rattle.lra_program.specs.Program.{Cond}
-use Rattle.lra_program.specs.Step.{test}
-use Rattle.lra_program.specs.Sites.{Site}
-use Rattle.lra_program.specs.declared.program.GlobalVariable.{GlobalVariable}
+use Rattle.lra_domain.specs.{Abstraction.Abstraction, Abstraction.worse, Actions.Action, Backward.BackwardAbstraction, Changes.AllCanBeMade, Laws.Laws, Moves.LeadsAll, Moves.SomeLeads}
+use Rattle.lra_program.specs.{Program.Cond, Sites.Site, Step.test, declared.program.GlobalVariable.GlobalVariable}
 use Rattle.lra_operations.specs.Tree.{Node}
-use Rattle.lra_analysis_spec.specs.MovesOf.{guard}
-use Rattle.lra_analysis_spec.specs.Pass.{noted}
-use Rattle.lra_analysis_spec.proofs.Covers.{stays_has}
-use Rattle.lra_analysis_spec.proofs.Keeps.{moves_keep}
+use Rattle.lra_analysis_spec.specs.{MovesOf.guard, Pass.noted}
+use Rattle.lra_analysis_spec.proofs.{Covers.stays_has, Keeps.moves_keep}
 use Rattle.lra_path_segments.specs.Segments.{Segment, comes_to, violates, does}
 use Rattle.lra_path_disjuncts.specs.Disjuncts.{disjuncts, written}
 use Rattle.lra_path_disjuncts.proofs.SideSteps.{leads_then, disjuncts_lead}
 use Rattle.lra_paths.specs.Paths.{actions_between_in, live_of}
-use Rattle.lra_back.specs.Operations.{lossy_back_operations}
-use Rattle.lra_back.specs.Rounds.{AreBackwardValues, Task, seed_at}
 use Rattle.lra_back.specs.BackwardAnalysis.{AreWide, BackwardAnalysis, PathsFit, task_of}
-use Rattle.lra_back_sound.proofs.NextValues.{NextHas, SomeHas, next_has}
-use Rattle.lra_back_sound.proofs.LastRound.{AreLast, IsStable, heads_are_last}
+use Rattle.lra_back.specs.{Operations.lossy_back_operations, Rounds.AreBackwardValues, Rounds.Task, Rounds.seed_at}
+use Rattle.lra_back_sound.proofs.{LastRound.AreLast, LastRound.IsStable, LastRound.heads_are_last, NextValues.NextHas, NextValues.SomeHas, NextValues.next_has}
 
 -- one of the paths
 path_that_leads : (paths : List (List Action)) (s t : List ℤ) → SomeLeads paths s t → (path : List Action) × Contains paths path × LeadsAll path s t

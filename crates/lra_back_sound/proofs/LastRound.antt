@@ -1,17 +1,11 @@
 -- The last round of going back leaves all heads as they are: so the next value of each point, over these heads, lies in
 -- its head. And all heads are formed.
 use Rattle.std.proofs.Common.{◌≡◌, ◌<◌, ℕ, zero, suc, List, [], ◌∷◌, Option, Some, Bool, true, false, ◌⊎◌, inl, inr, refl, sym, ap, ◌∙◌, subst, arith}
+use Rattle.std.proofs.{lemmas.List.set-get_or, lemmas.Option.same_Some, lemmas.Option.none-some, lemmas.Option.get_or_from_slice_get}
 use Rattle.std.specs.Prelude.{slice_get, slice_set, ◌&&◌}
-use Rattle.std.proofs.lemmas.List.{set-get_or}
-use Rattle.std.proofs.lemmas.Option.{same_Some, none-some, get_or_from_slice_get}
-use Rattle.lra_domain.specs.Backward.{BackwardAbstraction}
-use Rattle.lra_domain.specs.Abstraction.{Abstraction}
-use Rattle.lra_domain.specs.declared.Exactness.{Exactness}
-use Rattle.lra_domain.specs.declared.Mode.{Mode}
-use Rattle.lra_domain.specs.declared.Mode.TheVariants.{Join, Widen}
-use Rattle.lra_back.specs.Operations.{lossy_back_operations}
-use Rattle.lra_back.specs.Preconditions.{IsNext}
+use Rattle.lra_domain.specs.{Abstraction.Abstraction, Backward.BackwardAbstraction, declared.Exactness.Exactness, declared.Mode.Mode, declared.Mode.TheVariants.Join, declared.Mode.TheVariants.Widen}
 use Rattle.lra_back.specs.Rounds.{Task, seed_at, AreStarted, IsUpdated, Round, Rounds, StaysOrGrows, Widens}
+use Rattle.lra_back.specs.{Operations.lossy_back_operations, Preconditions.IsNext}
 
 -- lists of heads ---------------------------------------------------------------------------------------------------------
 

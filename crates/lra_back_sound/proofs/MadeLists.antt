@@ -1,8 +1,7 @@
 -- What is so of all elements of lists that are made of others.
 use Rattle.std.proofs.Common.{◌≡◌, List, [], ◌∷◌, map, flat_map, Bool, true, false, refl}
-use Rattle.std.specs.Prelude.{if◌then◌else◌}
-use Rattle.std.specs.List.{All}
 use Rattle.std.proofs.lemmas.List.Elements.{All-nil, All-cons, All-head, All-tail, All-append, All-map, All-weaker}
+use Rattle.std.specs.{List.All, Prelude.if◌then◌else◌}
 
 module _ {A B : Type 0} (Q : A → Type 0) (P : B → Type 0) where
   pub all_made : (f : A → B) → ((x : A) → Q x → P (f x)) → (xs : List A) → All Q xs → All P (map f xs)

@@ -1,51 +1,34 @@
 -- Moves of which each side can be made of a value with so many dimensions, and leaves so many: those of what is done on
 -- a way, where it fits.
-use Rattle.std.proofs.Common.{◌≡◌, ℕ, ℤ, pos, negsuc, zero, suc, ◌+◌, ◌-◌, ◌≤◌, ◌<◌, List, [], ◌∷◌, ◌++◌, length, Option, Some, None, Bool, true}
-use Rattle.std.proofs.Common.{false, refl, sym, ◌∙◌, subst, arith}
-use Rattle.std.specs.Prelude.{⊤, not, replicate, slice_set}
-use Rattle.std.specs.List.{All}
-use Rattle.std.proofs.lemmas.List.{length-replicate}
-use Rattle.std.proofs.lemmas.List.Elements.{All-append}
-use Rattle.lra_base.specs.declared.case_labels.CaseLabel.{CaseLabel}
-use Rattle.lra_base.specs.declared.case_labels.CaseLabel.TheVariants.{Case, Default}
-use Rattle.lra_base.specs.declared.number_types.NumberType.{NumberType}
-use Rattle.lra_base.specs.declared.number_types.NumberType.TheVariants.{Int, Long}
-use Rattle.lra_base.specs.declared.operators.Comparison.TheVariants.{Below, AtMost, Above, AtLeast, Equal, Differs}
+use Rattle.std.proofs.Common.{◌≡◌, ℕ, ℤ, pos, negsuc, zero, suc, ◌+◌, ◌-◌, ◌≤◌, ◌<◌, List, [], ◌∷◌, ◌++◌, length, Option, Some, None, Bool, true, false, refl, sym, ◌∙◌, subst, arith}
+use Rattle.std.proofs.{lemmas.List.length-replicate, lemmas.List.Elements.All-append}
+use Rattle.std.specs.{List.All, Prelude.⊤, Prelude.not, Prelude.replicate, Prelude.slice_set}
 use Rattle.lra_base.specs.Operators.{Comparison, below, at_most, above, at_least, equal, differs}
-use Rattle.lra_program.specs.declared.receivers.Cell.{Cell}
-use Rattle.lra_program.specs.declared.receivers.Cell.TheVariants.{Variable, Waiting}
-use Rattle.lra_program.specs.declared.receivers.Target.{Target}
-use Rattle.lra_program.specs.Value.{Argument}
+use Rattle.lra_base.specs.declared.operators.Comparison.TheVariants.{Below, AtMost, Above, AtLeast, Equal, Differs}
+use Rattle.lra_base.specs.{declared.case_labels.CaseLabel.CaseLabel, declared.case_labels.CaseLabel.TheVariants.Case, declared.case_labels.CaseLabel.TheVariants.Default}
+use Rattle.lra_base.specs.{declared.number_types.NumberType.NumberType, declared.number_types.NumberType.TheVariants.Int, declared.number_types.NumberType.TheVariants.Long}
 use Rattle.lra_program.specs.Program.{Cond, literal, compare, nonzero, opposite, both_of, either_of}
 use Rattle.lra_program.specs.Step.{Op, append, fill, store_value, store_element, havoc, push_for, truncate_to}
+use Rattle.lra_program.specs.{Value.Argument, declared.receivers.Cell.Cell, declared.receivers.Cell.TheVariants.Variable, declared.receivers.Cell.TheVariants.Waiting, declared.receivers.Target.Target}
 use Rattle.lra_program.specs.Step as step
 use Rattle.lra_linear_spec.specs.declared.ConKind.TheVariants.{Ge}
-use Rattle.lra_linear_forms.specs.Form.{Form}
-use Rattle.lra_linear_forms.specs.declared.test.Test.{Test}
+use Rattle.lra_linear_forms.specs.{Form.Form, declared.test.Test.Test}
 use Rattle.lra_domain.specs.Actions.{Action, assign, forget, embed, remove_last, dims_after}
+use Rattle.lra_domain.specs.{Changes.CanBeMade, Changes.AllCanBeMade, Moves.Moves, Moves.stay, Moves.make, Moves.first_then, Moves.join_of}
 use Rattle.lra_domain.specs.Actions as action
-use Rattle.lra_domain.specs.Changes.{CanBeMade, AllCanBeMade}
 use Rattle.lra_domain.specs.Changes as changes
-use Rattle.lra_domain.specs.Moves.{Moves, stay, make, first_then, join_of}
-use Rattle.lra_analysis_spec.specs.Live.{live_after_op}
 use Rattle.lra_analysis_spec.specs.Linear.{constant_form, comparison_test}
-use Rattle.lra_analysis_spec.specs.MovesOf.{in_turn, first_case, second_case, in_case, in_cases, test_action, test_moves, case_moves, linearized_moves}
-use Rattle.lra_analysis_spec.specs.MovesOf.{split_moves}
-use Rattle.lra_analysis_spec.specs.MovesOf.{comparison_as, comparison_moves, guard, number_moves, within_type, set_to, append_set, push_all, set_cell}
-use Rattle.lra_analysis_spec.specs.MovesOf.{above_least, below_greatest, set_target, drop_last, moves_of}
-use Rattle.lra_analysis_spec.specs.LiveLimit.{most_live}
 use Rattle.lra_analysis_spec.specs.Linearization.{Divides, LinearizedFits, linearized, subtracted, linearized_difference}
-use Rattle.lra_analysis_spec.specs.declared.linearization.Division.{Division}
-use Rattle.lra_analysis_spec.specs.declared.linearization.Linearized.{Linearized}
+use Rattle.lra_analysis_spec.specs.MovesOf.{in_turn, first_case, second_case, in_case, in_cases, test_action, test_moves, case_moves, linearized_moves, split_moves, comparison_as, comparison_moves}
+use Rattle.lra_analysis_spec.specs.MovesOf.{guard, number_moves, within_type, set_to, append_set, push_all, set_cell, above_least, below_greatest, set_target, drop_last, moves_of}
 use Rattle.lra_analysis_spec.specs.declared.linearization.Linearized.TheVariants.{Linear, Divided, Unseen}
-use Rattle.lra_analysis_spec.proofs.DivisionLemmas.{constant_length, room, seen_fits, subtracted_fits}
-use Rattle.lra_analysis_spec.proofs.FormLemmas.{set_length}
+use Rattle.lra_analysis_spec.specs.{Live.live_after_op, LiveLimit.most_live, declared.linearization.Division.Division, declared.linearization.Linearized.Linearized}
+use Rattle.lra_analysis_spec.proofs.{DivisionLemmas.constant_length, DivisionLemmas.room, DivisionLemmas.seen_fits, DivisionLemmas.subtracted_fits, FormLemmas.set_length}
 use Rattle.lra_linearize.proofs.GuardThresholdSteps.{test_wide}
 use Rattle.lra_transfer.specs.Changes.{Stays, CellFits, PlaceFits, OpFitsDims}
 use Rattle.lra_transfer.proofs.ChangeSteps.{assign_stays, first_made, second_made}
 use Rattle.lra_path_segments.specs.Segments.{SegmentStep, does, goes}
-use Rattle.lra_path_disjuncts.specs.Disjuncts.{disjuncts, written}
-use Rattle.lra_path_disjuncts.specs.StepMoves.{unmatched_moves, label_moves, step_moves, dims_after_step}
+use Rattle.lra_path_disjuncts.specs.{Disjuncts.disjuncts, Disjuncts.written, StepMoves.unmatched_moves, StepMoves.label_moves, StepMoves.step_moves, StepMoves.dims_after_step}
 use Rattle.lra_back_sound.proofs.MadeLists.{all_one, all_pairs}
 
 -- lists of actions -----------------------------------------------------------------------------------------------------

@@ -1,33 +1,22 @@
 -- Ways of trees whose operations fit: what is done on each can be done where as many variables live as at its source,
 -- and leaves as many as live at its goal.
 use Rattle.std.proofs.Common.{◌≡◌, ◌≢◌, ℕ, ◌≤◌, List, [], ◌∷◌, ◌++◌, map, Some, Bool, true, false, inl, inr, refl, sym, ◌∙◌, subst}
-use Rattle.std.specs.Prelude.{slice_get}
-use Rattle.std.specs.List.{All, list_any}
 use Rattle.std.proofs.lemmas.List.Elements.{All-nil, All-append, All-weaker}
-use Rattle.lra_base.specs.declared.case_labels.CaseLabel.{CaseLabel}
-use Rattle.lra_base.specs.declared.case_labels.CaseLabel.TheVariants.{Default}
-use Rattle.lra_base.specs.CaseLabels.{is_same_case}
-use Rattle.lra_program.specs.Program.{Expr, Cond}
-use Rattle.lra_program.specs.Sites.{Site}
-use Rattle.lra_program.specs.Step.{Op, test}
-use Rattle.lra_operations.specs.declared.probes.Probe.{Probe}
-use Rattle.lra_operations.specs.Tree.{Exit, broken, continued, returned, Completion, normal, jump, Node, empty, probe, point, act, check, seq, choose, iterate}
-use Rattle.lra_operations.specs.Tree.{catch}
-use Rattle.lra_operations.specs.Tree.{leave, select, Arms, no_arms, entry, arm, entries_of}
+use Rattle.std.specs.{List.All, List.list_any, Prelude.slice_get}
+use Rattle.lra_base.specs.{CaseLabels.is_same_case, declared.case_labels.CaseLabel.CaseLabel, declared.case_labels.CaseLabel.TheVariants.Default}
+use Rattle.lra_program.specs.{Program.Expr, Program.Cond, Sites.Site, Step.Op, Step.test}
+use Rattle.lra_operations.specs.Tree.{Exit, broken, continued, returned, Completion, normal, jump, Node, empty, probe, point, act, check, seq, choose, iterate, catch, leave, select, Arms, no_arms}
+use Rattle.lra_operations.specs.{Tree.entry, Tree.arm, Tree.entries_of, declared.probes.Probe.Probe}
 use Rattle.lra_operations.proofs.ArmRows.{arms_row}
-use Rattle.lra_analysis_spec.specs.Live.{live_after_op, live_after}
-use Rattle.lra_analysis_spec.specs.LiveLimit.{most_live}
+use Rattle.lra_analysis_spec.specs.{Live.live_after_op, Live.live_after, LiveLimit.most_live}
 use Rattle.lra_transfer.specs.Changes.{OpFitsDims}
 use Rattle.lra_pass_results.specs.Dimensions.{JumpsWith, ArmsJumpWith, TreeFits, ArmsFit}
 use Rattle.lra_fixpoint.specs.Lives.{LiveAt, PointsHave, ArmsHave}
-use Rattle.lra_path_segments.specs.Segments.{SegmentStep, does, goes, Goal, comes_to, violates, GoalSegment, Segment, Suffix, same_exit, each_then, then_way}
-use Rattle.lra_path_segments.specs.Segments.{then_ways, then_out, then_outs}
-use Rattle.lra_path_segments.specs.Segments.{segment_by, segments_by, prepend_step, prepend_step_to_goal, with_test, tested_way, into_body, out_of_body}
-use Rattle.lra_path_segments.specs.Segments.{segment_to, past_labels}
-use Rattle.lra_path_segments.specs.Segments.{through, through_arms, through_labels, enter, enter_arms, enter_labels, exit_suffixes, inside}
+use Rattle.lra_path_segments.specs.Segments.{SegmentStep, does, goes, Goal, comes_to, violates, GoalSegment, Segment, Suffix, same_exit, each_then, then_way, then_ways, then_out, then_outs}
+use Rattle.lra_path_segments.specs.Segments.{segment_by, segments_by, prepend_step, prepend_step_to_goal, with_test, tested_way, into_body, out_of_body, segment_to, past_labels, through, through_arms}
+use Rattle.lra_path_segments.specs.Segments.{through_labels, enter, enter_arms, enter_labels, exit_suffixes, inside}
 use Rattle.lra_path_segments.proofs.LabelLaws.{through_row, enter_row, outs_row, inside_row}
-use Rattle.lra_back_sound.proofs.MadeLists.{all_made, all_one, all_pairs, all_if}
-use Rattle.lra_back_sound.proofs.MadeMoves.{StepsFit, steps_then}
+use Rattle.lra_back_sound.proofs.{MadeLists.all_made, MadeLists.all_one, MadeLists.all_pairs, MadeLists.all_if, MadeMoves.StepsFit, MadeMoves.steps_then}
 
 -- kinds of jumps -------------------------------------------------------------------------------------------------------
 

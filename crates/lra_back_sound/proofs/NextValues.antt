@@ -1,22 +1,15 @@
 -- The next value of a point has each store of its forward value from which a path leads to a store of a head, and each
 -- store of the seed.
 use Rattle.std.proofs.Common.{◌≡◌, ℕ, zero, suc, ◌+◌, ℤ, List, [], ◌∷◌, Option, None, Some, length, inl, inr, sym, subst, arith}
-use Rattle.std.specs.Prelude.{slice_get, Contains}
 use Rattle.std.proofs.lemmas.Option.{same_Some, none-some}
+use Rattle.std.specs.Prelude.{slice_get, Contains}
 use Rattle.lra_linear_spec.proofs.Membership.{contains_none, contains_cases}
-use Rattle.lra_domain.specs.Actions.{Action}
-use Rattle.lra_domain.specs.Backward.{BackwardAbstraction}
-use Rattle.lra_domain.specs.Changes.{AllCanBeMade}
-use Rattle.lra_domain.specs.Laws.{Laws}
-use Rattle.lra_domain.specs.Abstraction.{Abstraction}
-use Rattle.lra_domain.specs.Moves.{LeadsAll}
 use Rattle.lra_domain.specs.Gammas.{InGamma, InHeadGamma}
-use Rattle.lra_domain.specs.declared.Exactness.{Exactness}
+use Rattle.lra_domain.specs.{Abstraction.Abstraction, Actions.Action, Backward.BackwardAbstraction, Changes.AllCanBeMade, Laws.Laws, Moves.LeadsAll, declared.Exactness.Exactness}
 use Rattle.lra_analysis_spec.specs.Operations as forward
 use Rattle.lra_analysis_spec.specs.Pass.{JoinsRunning, RunsFrom}
 use Rattle.lra_analysis_spec.proofs.Covers.{covered_has}
-use Rattle.lra_back.specs.Operations.{lossy_back_operations}
-use Rattle.lra_back.specs.Preconditions.{PreOfPaths, PreOfPath, PreOfAllPoints, IsNext, JoinsSeed}
+use Rattle.lra_back.specs.{Operations.lossy_back_operations, Preconditions.PreOfPaths, Preconditions.PreOfPath, Preconditions.PreOfAllPoints, Preconditions.IsNext, Preconditions.JoinsSeed}
 use Rattle.lra_back_sound.proofs.Retraced.{gone_over}
 
 -- the list is a store of the value that is there

@@ -1,12 +1,9 @@
 -- Paths of trees whose operations fit can be made of what lives at their sources, and leave what lives at their targets.
 use Rattle.std.proofs.Common.{◌≡◌, ◌≤◌, ℕ, suc, List, length, Some, true, false, sym, ap, ◌∙◌, subst}
-use Rattle.std.specs.Prelude.{nat_eq, ◌&&◌, slice_get}
-use Rattle.std.specs.List.{All}
-use Rattle.std.proofs.lemmas.Bool.{and_parts, eqb-true}
-use Rattle.std.proofs.lemmas.List.Elements.{All-contains}
+use Rattle.std.proofs.{lemmas.Bool.and_parts, lemmas.Bool.eqb-true, lemmas.List.Elements.All-contains}
+use Rattle.std.specs.{List.All, Prelude.nat_eq, Prelude.◌&&◌, Prelude.slice_get}
 use Rattle.lra_linear_spec.proofs.Membership.{all_from, filter_from}
-use Rattle.lra_program.specs.declared.program.GlobalVariable.{GlobalVariable}
-use Rattle.lra_program.specs.Sites.{Site}
+use Rattle.lra_program.specs.{Sites.Site, declared.program.GlobalVariable.GlobalVariable}
 use Rattle.lra_operations.specs.Tree.{Node}
 use Rattle.lra_analysis_spec.specs.LiveLimit.{most_live}
 use Rattle.lra_pass_results.specs.Dimensions.{TreeFits}
@@ -15,9 +12,7 @@ use Rattle.lra_path_segments.specs.Segments.{Goal, comes_to, violates, Segment, 
 use Rattle.lra_path_disjuncts.specs.Disjuncts.{written}
 use Rattle.lra_paths.specs.Paths.{same_goal, live_of, actions_between_in, next_segments}
 use Rattle.lra_back.specs.BackwardAnalysis.{PathsFit}
-use Rattle.lra_back_sound.proofs.MadeLists.{all_flat}
-use Rattle.lra_back_sound.proofs.MadeMoves.{LeadOn, StepsFit, written_lead}
-use Rattle.lra_back_sound.proofs.MadeWays.{GoalFits, SegmentFits, WaysFit, tree_ways}
+use Rattle.lra_back_sound.proofs.{MadeLists.all_flat, MadeMoves.LeadOn, MadeMoves.StepsFit, MadeMoves.written_lead, MadeWays.GoalFits, MadeWays.SegmentFits, MadeWays.WaysFit, MadeWays.tree_ways}
 
 goal_is : (goal : Goal) (q : ℕ) → same_goal goal (comes_to q) ≡ true → goal ≡ comes_to q
 goal_is (comes_to p) q e = ap comes_to (eqb-true p q e)

@@ -1,18 +1,11 @@
 -- Going back over a path keeps each store from which the path may lead into the value behind it.
 use Rattle.std.proofs.Common.{◌≡◌, ℕ, ◌+◌, ◌-◌, ◌≤◌, ℤ, List, [], ◌∷◌, ◌++◌, length, take, drop, set, get_or, sym, ap, ◌∙◌, subst, arith}
-use Rattle.std.proofs.lemmas.List.{length-append, length-set, set-get_or, set-set, take-append-drop, length-take-le}
 use Rattle.std.proofs.Math.Seq.{take-append_seam}
+use Rattle.std.proofs.lemmas.List.{length-append, length-set, set-get_or, set-set, take-append-drop, length-take-le}
 use Rattle.lra_linear_forms.specs.Form.{form_value}
-use Rattle.lra_domain.specs.Actions.{Action, assign, forget, test, embed, remove_last, dims_after, Leads}
-use Rattle.lra_domain.specs.Backward.{BackwardAbstraction}
-use Rattle.lra_domain.specs.Changes.{AllCanBeMade, CanBeMade}
-use Rattle.lra_domain.specs.Laws.{Laws}
-use Rattle.lra_domain.specs.Abstraction.{Abstraction, TransfersTo}
-use Rattle.lra_domain.specs.Moves.{LeadsAll}
-use Rattle.lra_domain.specs.Gammas.{InGamma}
-use Rattle.lra_domain.specs.declared.Exactness.{Exactness}
-use Rattle.lra_back.specs.Operations.{PreOfAction, lossy_back_operations}
-use Rattle.lra_back.specs.Preconditions.{PreAlong}
+use Rattle.lra_domain.specs.{Abstraction.Abstraction, Abstraction.TransfersTo, Actions.Action, Actions.assign, Actions.forget, Actions.test, Actions.embed, Actions.remove_last, Actions.dims_after}
+use Rattle.lra_domain.specs.{Actions.Leads, Backward.BackwardAbstraction, Changes.AllCanBeMade, Changes.CanBeMade, Gammas.InGamma, Laws.Laws, Moves.LeadsAll, declared.Exactness.Exactness}
+use Rattle.lra_back.specs.{Operations.PreOfAction, Operations.lossy_back_operations, Preconditions.PreAlong}
 
 -- what leads the other way --------------------------------------------------------------------------------------------
 

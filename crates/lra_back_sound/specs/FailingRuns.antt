@@ -1,16 +1,10 @@
 -- What going back from an assertion owes to the runs that fail there.
 use Rattle.std.specs.Prelude.{◌≡◌, ℕ, ℤ, List, Some, Option, slice_get}
-use Rattle.lra_domain.specs.Backward.{BackwardAbstraction}
-use Rattle.lra_domain.specs.Abstraction.{Abstraction}
-use Rattle.lra_domain.specs.Gammas.{InGamma}
-use Rattle.lra_program.specs.Program.{Program}
-use Rattle.lra_program.specs.Run.{At, Fails}
-use Rattle.lra_program.specs.Sites.{Site, sites_of}
-use Rattle.lra_program.specs.WellFormed.{IsWellFormed}
-use Rattle.lra_operations.specs.Agree.{IsInlinedTree, point_of}
-use Rattle.lra_operations.specs.Tree.{Node}
-use Rattle.lra_back.specs.Operations.{lossy_back_operations}
+use Rattle.lra_domain.specs.{Abstraction.Abstraction, Backward.BackwardAbstraction, Gammas.InGamma}
+use Rattle.lra_program.specs.{Program.Program, Run.At, Run.Fails, Sites.Site, Sites.sites_of, WellFormed.IsWellFormed}
+use Rattle.lra_operations.specs.{Agree.IsInlinedTree, Agree.point_of, Tree.Node}
 use Rattle.lra_back.specs.BackwardAnalysis.{AreWide, BackwardAnalysis, FailsFrom, NothingLeftAtStart, PathsFit}
+use Rattle.lra_back.specs.Operations.{lossy_back_operations}
 
 -- whenever a run is at a point, its store is one of the value there
 abbrev pub HoldsAtPoints : {V H : Type 0} → Abstraction V H → Program → List V → Type 0

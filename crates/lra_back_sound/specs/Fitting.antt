@@ -1,13 +1,10 @@
 -- What the trees of programs owe to going back.
 use Rattle.std.specs.Prelude.{◌≡◌, ◌≢◌, ◌≤◌, ◌↔◌, ℕ, List, [], length, Some, slice_get}
 use Rattle.lra_domain.specs.Abstraction.{Abstraction}
-use Rattle.lra_program.specs.Program.{Program}
 use Rattle.lra_program.specs.declared.program.GlobalVariable.{GlobalVariable}
-use Rattle.lra_program.specs.Sites.{Site, sites_of}
-use Rattle.lra_operations.specs.Agree.{IsInlinedTree}
-use Rattle.lra_operations.specs.Tree.{Node}
-use Rattle.lra_analysis_spec.specs.Analysis.{IsUnreachable}
-use Rattle.lra_analysis_spec.specs.LiveLimit.{most_live}
+use Rattle.lra_program.specs.{Program.Program, Sites.Site, Sites.sites_of}
+use Rattle.lra_operations.specs.{Agree.IsInlinedTree, Tree.Node}
+use Rattle.lra_analysis_spec.specs.{Analysis.IsUnreachable, LiveLimit.most_live}
 use Rattle.lra_pass_results.specs.Dimensions.{TreeFits}
 use Rattle.lra_fixpoint.specs.Lives.{PointsHave}
 use Rattle.lra_path_segments.specs.Segments.{comes_to}

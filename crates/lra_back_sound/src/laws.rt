@@ -1,8 +1,7 @@
 //! Laws: each of these does nothing, and its contract is the theorem.
 
-ghost use Rattle.lra_back_sound.specs.FailingRuns.{BackwardIsSound};
 ghost use Rattle.lra_back_sound.specs.Fitting.{AssertionsHaveViolations, NothingLeftAtFirst, OnePointIsFirst};
-ghost use Rattle.lra_back_sound.specs.Fitting.{TreesHavePathsThatFit};
+ghost use Rattle.lra_back_sound.specs.{FailingRuns.BackwardIsSound, Fitting.TreesHavePathsThatFit};
 
 use lra_domain::{Backward, Domain};
 

@@ -1,19 +1,14 @@
 -- What going back does to the first flagged point: a fact of flags that each noted one keeps, at points of the program, is so at the end
 -- where it was so before.
 use Rattle.std.proofs.Common.{◌≡◌, ◌∙◌, ◌≤◌, ◌<◌, ◌+◌, ℕ, zero, suc, Bool, true, List, [], ◌∷◌, length, refl, sym, subst, arith, inl, inr}
-use Rattle.std.specs.Prelude.{Option, None, Some}
 use Rattle.std.proofs.lemmas.Option.{none-some, slice_get_within}
-use Rattle.lra_program.specs.declared.program.GlobalVariable.{GlobalVariable}
-use Rattle.lra_program.specs.Sites.{Site}
+use Rattle.std.specs.Prelude.{Option, None, Some}
+use Rattle.lra_program.specs.{Sites.Site, declared.program.GlobalVariable.GlobalVariable}
 use Rattle.lra_operations.specs.Tree.{Node}
-use Rattle.lra_domain.specs.declared.Exactness.{Exactness}
 use Rattle.lra_domain.specs.declared.Exactness.TheVariants.{Exact, Flagged}
-use Rattle.lra_domain.specs.declared.Mode.{Mode}
-use Rattle.lra_domain.specs.declared.Mode.TheVariants.{Join, Widen}
+use Rattle.lra_domain.specs.{declared.Exactness.Exactness, declared.Mode.Mode, declared.Mode.TheVariants.Join, declared.Mode.TheVariants.Widen}
 use Rattle.lra_analysis_spec.specs.Pass.{noted}
-use Rattle.lra_back.specs.Operations.{BackwardOperations}
-use Rattle.lra_back.specs.Rounds.{AreBackwardValues, Round, Rounds, Task, Widens}
-use Rattle.lra_back.specs.BackwardAnalysis.{BackwardAnalysis}
+use Rattle.lra_back.specs.{BackwardAnalysis.BackwardAnalysis, Operations.BackwardOperations, Rounds.AreBackwardValues, Rounds.Round, Rounds.Rounds, Rounds.Task, Rounds.Widens}
 use Rattle.lra_analyse_source.proofs.Flags.{IsBelow}
 
 -- noted at a point below n it stays so

@@ -5,26 +5,16 @@ use Rattle.lra_base.specs.declared.refusals.Place.{Place}
 use Rattle.lra_linear_spec.specs.Polyhedra.{Polyhedron}
 use Rattle.lra_syntax.specs.Trees.{FileTree}
 use Rattle.lra_resolution_spec.specs.Resolve.{resolve}
-use Rattle.lra_program.specs.declared.program.GlobalVariable.{GlobalVariable}
-use Rattle.lra_program.specs.Sites.{Site, sites_of}
-use Rattle.lra_operations.specs.CheckedOperations.{accessing_ops}
-use Rattle.lra_operations.specs.Tree.{Node}
-use Rattle.lra_analysis_spec.specs.Accesses.{OpInside, JudgesAccesses}
-use Rattle.lra_analysis_spec.specs.Operations.{exact_operations, lossy_operations, straining_operations}
-use Rattle.lra_analysis_spec.specs.LiveLimit.{most_live}
+use Rattle.lra_program.specs.{Sites.Site, Sites.sites_of, declared.program.GlobalVariable.GlobalVariable}
+use Rattle.lra_operations.specs.{CheckedOperations.accessing_ops, Tree.Node}
+use Rattle.lra_analysis_spec.specs.{Accesses.OpInside, Accesses.JudgesAccesses, LiveLimit.most_live, Operations.exact_operations, Operations.lossy_operations, Operations.straining_operations}
 use Rattle.lra_analysis_spec.proofs.OneAccess.{accesses_written, accesses_strained}
 use Rattle.lra_fixpoint.specs.Solved.{IsSolved}
 use Rattle.lra_front_end.specs.Stages.{HasInlinedTree}
-use Rattle.lra_poly_domain.specs.Laws.{polyhedron_laws}
-use Rattle.lra_poly_domain.specs.Abstraction.{polyhedron_abstraction}
-use Rattle.lra_analyse_source.proofs.Fitting.{few_globals, tree_fits}
-use Rattle.lra_analyse_source.proofs.Found.{none_before}
-use Rattle.lra_analyse_source.proofs.Handing.{as_many, value_dims}
-use Rattle.lra_analyse_source.proofs.ReportSteps.{last_handed}
-use Rattle.lra_analyse_source.proofs.Widths.{graph_lives}
+use Rattle.lra_poly_domain.specs.{Abstraction.polyhedron_abstraction, Laws.polyhedron_laws}
+use Rattle.lra_analyse_source.proofs.{Fitting.few_globals, Fitting.tree_fits, Found.none_before, Handing.as_many, Handing.value_dims, ReportSteps.last_handed, Widths.graph_lives}
 use Rattle.lra_back.specs.BackwardAnalysis.{AreAsserted, AreWide, PathsFit}
-use Rattle.lra_back_sound.proofs.Assertions.{assertions_denied}
-use Rattle.lra_back_sound.proofs.PathsMade.{paths_made}
+use Rattle.lra_back_sound.proofs.{Assertions.assertions_denied, PathsMade.paths_made}
 use Rattle.lra_back_source.specs.Forward.{IsForward, forward_plan}
 
 -- ---- what is found

@@ -1,28 +1,19 @@
 -- What is shown of values that are as wide as their points.
 use Rattle.std.proofs.Common.{◌≡◌, ◌∙◌, ℕ, List, [], ◌∷◌, length, map, ap, sym, subst}
-use Rattle.std.specs.Prelude.{Some, option_map, slice_get}
-use Rattle.std.specs.List.{AllByRecursion}
-use Rattle.std.proofs.lemmas.List.{length-map}
-use Rattle.std.proofs.lemmas.Option.{slice_get-map}
+use Rattle.std.proofs.{lemmas.List.length-map, lemmas.Option.slice_get-map}
+use Rattle.std.specs.{List.AllByRecursion, Prelude.Some, Prelude.option_map, Prelude.slice_get}
 use Rattle.lra_linear_spec.specs.Polyhedra.{Polyhedron}
-use Rattle.lra_syntax.specs.Labels.{Labelled, labels_of}
-use Rattle.lra_syntax.specs.Trees.{FileTree}
-use Rattle.lra_resolution_spec.specs.LiveNames.{globals_named}
-use Rattle.lra_resolution_spec.specs.Resolve.{resolve}
+use Rattle.lra_syntax.specs.{Labels.Labelled, Labels.labels_of, Trees.FileTree}
+use Rattle.lra_resolution_spec.specs.{LiveNames.globals_named, Resolve.resolve}
 use Rattle.lra_program.specs.Sites.{Site, sites_of}
 use Rattle.lra_operations.specs.Tree.{Node}
 use Rattle.lra_options.specs.declared.options.Domain.TheVariants.{Poly}
 use Rattle.lra_front_end.specs.Stages.{HasInlinedTree}
-use Rattle.lra_report.specs.Listing.{AreListed, HasWidth}
-use Rattle.lra_report.specs.Parts.{HasSamePoints, ShowsPart}
-use Rattle.lra_report.specs.Report.{Invariant, PointReport}
+use Rattle.lra_report.specs.{Listing.AreListed, Listing.HasWidth, Parts.HasSamePoints, Parts.ShowsPart, Report.Invariant, Report.PointReport}
 use Rattle.lra_front_end.proofs.Named.{shown_as_many}
-use Rattle.lra_report_build.specs.AnalysisResults.{AreInvariants, state_of}
+use Rattle.lra_report_build.specs.{AnalysisResults.AreInvariants, AnalysisResults.state_of, Polyhedra.shown_polyhedron, Shown.AreShown}
 use Rattle.lra_poly_domain.specs.Abstraction.{polyhedron_abstraction}
-use Rattle.lra_report_build.specs.Polyhedra.{shown_polyhedron}
-use Rattle.lra_report_build.specs.Shown.{AreShown}
-use Rattle.lra_analyse_source.proofs.Handing.{contained, image_of}
-use Rattle.lra_analyse_source.proofs.Sound.{listed_all}
+use Rattle.lra_analyse_source.proofs.{Handing.contained, Handing.image_of, Sound.listed_all}
 use Rattle.lra_back.specs.BackwardAnalysis.{AreWide}
 use Rattle.lra_back_source.specs.BackReports.{BacksHaveSamePoints, HasSamePointsAt, ShowsAtPoints}
 

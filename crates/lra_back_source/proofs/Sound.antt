@@ -1,29 +1,20 @@
 -- What is shown has the stores from which runs fail.
-use Rattle.std.proofs.Common.{◌≡◌, ◌∙◌, ℕ, List, [], ◌∷◌, length, refl, sym, subst, arith}
-use Rattle.std.proofs.lemmas.Option.{same_Some}
+use Rattle.std.proofs.{Common.◌≡◌, Common.◌∙◌, Common.ℕ, Common.List, Common.[], Common.◌∷◌, Common.length, Common.refl, Common.sym, Common.subst, Common.arith, lemmas.Option.same_Some}
 use Rattle.lra_linear_spec.specs.Polyhedra.{Polyhedron}
 use Rattle.lra_syntax.specs.Labels.{labels_of}
 use Rattle.lra_resolution_spec.specs.LiveNames.{globals_named}
-use Rattle.lra_program.specs.Run.{Point}
-use Rattle.lra_program.specs.Sites.{sites_of}
+use Rattle.lra_program.specs.{Run.Point, Sites.sites_of}
 use Rattle.lra_operations.specs.Agree.{point_of}
-use Rattle.lra_report.specs.BackText.{BackReport}
-use Rattle.lra_report.specs.Report.{InvariantHolds, Invariant}
+use Rattle.lra_report.specs.{BackText.BackReport, Report.InvariantHolds, Report.Invariant}
 use Rattle.lra_certificate_spec.specs.Claims.{program_of}
-use Rattle.lra_poly_domain.specs.Laws.{polyhedron_laws}
-use Rattle.lra_poly_domain.specs.Abstraction.{polyhedron_abstraction}
-use Rattle.lra_poly_domain.specs.Backward.{polyhedron_backward}
+use Rattle.lra_poly_domain.specs.{Abstraction.polyhedron_abstraction, Backward.polyhedron_backward, Laws.polyhedron_laws}
 use Rattle.lra_report_build.specs.Polyhedra.{shown_polyhedron}
-use Rattle.lra_analyse_source.proofs.Handing.{contained}
-use Rattle.lra_analyse_source.proofs.Sound.{held_there, listed_all}
+use Rattle.lra_analyse_source.proofs.{Handing.contained, Sound.held_there, Sound.listed_all}
 use Rattle.lra_back.specs.BackwardAnalysis.{FailsFrom}
 use Rattle.lra_back_sound.specs.FailingRuns.{HoldsAtPoints, CoverFailingRuns}
-use Rattle.lra_back_sound.proofs.FailingRuns.{traced_sound}
-use Rattle.lra_back_sound.proofs.FirstPoints.{nothing_left, one_first}
-use Rattle.lra_back_source.specs.Forward.{forward_plan}
-use Rattle.lra_back_source.specs.BackReports.{BacksAreProvedAtFirst, BacksAreSound, HoldsBeforeFailing, IsBackReportOf}
-use Rattle.lra_back_source.proofs.Forward.{paths_at, wide_at}
-use Rattle.lra_back_source.proofs.Showing.{value_shown}
+use Rattle.lra_back_sound.proofs.{FailingRuns.traced_sound, FirstPoints.nothing_left, FirstPoints.one_first}
+use Rattle.lra_back_source.specs.{BackReports.BacksAreProvedAtFirst, BackReports.BacksAreSound, BackReports.HoldsBeforeFailing, BackReports.IsBackReportOf, Forward.forward_plan}
+use Rattle.lra_back_source.proofs.{Forward.paths_at, Forward.wide_at, Showing.value_shown}
 
 module _ (source : List ℕ) (p : ℕ) (r : BackReport) (x : IsBackReportOf source p r) where
   -- whenever a run is at a point, its store is one of the forward value there

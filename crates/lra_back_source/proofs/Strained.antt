@@ -1,20 +1,16 @@
 -- Where nothing is flagged what is shown is what is defined; a flag stands where that strains.
 use Rattle.std.proofs.Common.{◌≡◌, ◌∙◌, ℕ, suc, List, [], ◌∷◌, refl, ap, sym, subst, inl, inr}
-use Rattle.std.specs.Prelude.{Option, None, Some, option_map}
 use Rattle.std.proofs.lemmas.Option.{none-some, same_Some}
+use Rattle.std.specs.Prelude.{Option, None, Some, option_map}
 use Rattle.lra_program.specs.Sites.{sites_of}
 use Rattle.lra_operations.specs.CheckedOperations.{accessing_ops}
 use Rattle.lra_report.specs.BackText.{BackReport}
-use Rattle.lra_analysis_spec.specs.Accesses.{OpInside}
-use Rattle.lra_analysis_spec.specs.Analysis.{IsSolution}
-use Rattle.lra_analysis_spec.specs.Judging.{Finding, first_flagged}
+use Rattle.lra_analysis_spec.specs.{Accesses.OpInside, Analysis.IsSolution, Judging.Finding, Judging.first_flagged}
 use Rattle.lra_analysis_spec.specs.Operations as iteration
 use Rattle.lra_certificate_spec.specs.Claims.{program_of}
-use Rattle.lra_poly_domain.specs.Abstraction.{polyhedron_abstraction}
-use Rattle.lra_poly_domain.specs.Backward.{polyhedron_backward}
+use Rattle.lra_poly_domain.specs.{Abstraction.polyhedron_abstraction, Backward.polyhedron_backward}
 use Rattle.lra_analyse_source.proofs.Found.{none_before}
-use Rattle.lra_back.specs.Operations.{exact_back_operations, lossy_back_operations, straining_back_operations}
-use Rattle.lra_back.specs.BackwardAnalysis.{BackwardAnalysis}
+use Rattle.lra_back.specs.{BackwardAnalysis.BackwardAnalysis, Operations.exact_back_operations, Operations.lossy_back_operations, Operations.straining_back_operations}
 use Rattle.lra_back_source.specs.BackReports.{FlaggedBacksStrain, IsBackReportOf, IsDefinedBack, IsWrittenForward, StrainsAt, UnflaggedBacksAreDefined}
 use Rattle.lra_back_source.proofs.Flags.{first_stays, none_first}
 

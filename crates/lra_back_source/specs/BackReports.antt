@@ -2,44 +2,30 @@
 -- from which it may fail, and whether it is proved; or why there is no such answer. Points are counted from 0 here; a
 -- report's numbers are one more.
 use Rattle.std.specs.Prelude.{◌≡◌, ◌↔◌, ◌⊎◌, ℕ, suc, ℤ, List, [], length, map, Bool, true, Option, None, Some}
-use Rattle.std.specs.Prelude.{option_map, slice_get}
-use Rattle.std.specs.List.{AllByRecursion}
+use Rattle.std.specs.{List.AllByRecursion, Prelude.option_map, Prelude.slice_get}
 use Rattle.lra_base.specs.declared.refusals.Place.{Place}
 use Rattle.lra_linear_spec.specs.Polyhedra.{Polyhedron}
-use Rattle.lra_syntax.specs.Grammar.{Spells}
-use Rattle.lra_syntax.specs.Labels.{labels_of}
-use Rattle.lra_syntax.specs.Trees.{FileTree}
-use Rattle.lra_resolution_spec.specs.LiveNames.{globals_named}
-use Rattle.lra_resolution_spec.specs.Refuse.{Refuse}
-use Rattle.lra_resolution_spec.specs.Resolve.{resolve}
-use Rattle.lra_program.specs.Program.{Program}
-use Rattle.lra_program.specs.Run.{Point, Fails}
-use Rattle.lra_program.specs.Sites.{Site, sites_of}
-use Rattle.lra_operations.specs.Agree.{point_of}
-use Rattle.lra_operations.specs.Tree.{Node}
+use Rattle.lra_syntax.specs.{Grammar.Spells, Labels.labels_of, Trees.FileTree}
+use Rattle.lra_resolution_spec.specs.{LiveNames.globals_named, Refuse.Refuse, Resolve.resolve}
+use Rattle.lra_program.specs.{Program.Program, Run.Point, Run.Fails, Sites.Site, Sites.sites_of}
+use Rattle.lra_operations.specs.{Agree.point_of, Tree.Node}
 use Rattle.lra_options.specs.declared.options.Domain.TheVariants.{Poly}
-use Rattle.lra_report.specs.BackText.{BackReport}
-use Rattle.lra_report.specs.Listing.{AreListed}
-use Rattle.lra_report.specs.Parts.{HasSamePoints}
 use Rattle.lra_report.specs.Report.{PointReport, InvariantHolds}
-use Rattle.lra_report_build.specs.Polyhedra.{shown_polyhedron}
-use Rattle.lra_report_build.specs.Shown.{AreShown}
+use Rattle.lra_report.specs.{BackText.BackReport, Listing.AreListed, Parts.HasSamePoints}
+use Rattle.lra_report_build.specs.{Polyhedra.shown_polyhedron, Shown.AreShown}
 use Rattle.lra_front_end.specs.Stages.{HasConstants}
-use Rattle.lra_analysis_spec.specs.Accesses.{JudgesAccesses}
 use Rattle.lra_analysis_spec.specs.Analysis.{ExactIteration, IsSolution, StrainsAtPoint}
+use Rattle.lra_analysis_spec.specs.{Accesses.JudgesAccesses, Pass.PassResult}
 use Rattle.lra_analysis_spec.specs.Operations as iteration
-use Rattle.lra_analysis_spec.specs.Pass.{PassResult}
 use Rattle.lra_paths.specs.Paths.{AreFewPaths, HasTooManyPaths}
 use Rattle.lra_certificate_spec.specs.Claims.{IsProgram, program_of}
-use Rattle.lra_poly_domain.specs.Abstraction.{polyhedron_abstraction}
-use Rattle.lra_poly_domain.specs.Backward.{polyhedron_backward}
-use Rattle.lra_back.specs.Operations.{exact_back_operations, straining_back_operations}
+use Rattle.lra_poly_domain.specs.{Abstraction.polyhedron_abstraction, Backward.polyhedron_backward}
 use Rattle.lra_back.specs.BackwardAnalysis.{AreWide, BackwardAnalysis, FailsFrom, IsAssertion, IsBackwardAnalysis}
 use Rattle.lra_back.specs.BackwardAnalysis.{NothingLeftAtStart}
+use Rattle.lra_back.specs.Operations.{exact_back_operations, straining_back_operations}
 use Rattle.lra_back_sound.specs.Fitting.{IsFirst}
-use Rattle.lra_back_source.specs.declared.refusals.BackRefusal.{BackRefusal}
 use Rattle.lra_back_source.specs.declared.refusals.BackRefusal.TheVariants.{Source, NoAssertion, Paths}
-use Rattle.lra_back_source.specs.Forward.{IsForward, forward_plan}
+use Rattle.lra_back_source.specs.{Forward.IsForward, Forward.forward_plan, declared.refusals.BackRefusal.BackRefusal}
 
 -- reports ----------------------------------------------------------------------------------------------------------
 

@@ -6,9 +6,8 @@ use Rattle.lra_linear_spec.specs.Polyhedra.{Polyhedron}
 use Rattle.lra_program.specs.Program.{Program}
 use Rattle.lra_operations.specs.Tree.{Node}
 use Rattle.lra_options.specs.OptionRows.{default_options}
-use Rattle.lra_analysis_spec.specs.Accesses.{JudgesAccesses}
 use Rattle.lra_analysis_spec.specs.Operations.{exact_operations, lossy_operations, straining_operations}
-use Rattle.lra_analysis_spec.specs.Plan.{Plan, plan_of}
+use Rattle.lra_analysis_spec.specs.{Accesses.JudgesAccesses, Plan.Plan, Plan.plan_of}
 use Rattle.lra_fixpoint.specs.Solved.{IsSolved}
 use Rattle.lra_poly_domain.specs.Abstraction.{polyhedron_abstraction}
 

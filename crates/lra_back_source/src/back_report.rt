@@ -1,8 +1,7 @@
 //! From the bytes of a source to what going back from an assertion finds.
 
 ghost use Rattle.std.specs.Prelude.{◌≡◌, ◌<◌, ◌+◌, ◌^◌, ℕ, suc, map, length, IfOk, IfErr, Some, option_map};
-ghost use Rattle.lra_syntax.specs.Labels.{labels_of};
-ghost use Rattle.lra_syntax.specs.Views.{tree_view};
+ghost use Rattle.lra_syntax.specs.{Labels.labels_of, Views.tree_view};
 ghost use Rattle.lra_resolution_spec.specs.Resolve.{resolve};
 ghost use Rattle.lra_program.specs.ProgramViews.{program_view};
 ghost use Rattle.lra_operations.specs.TreeViews.{node_view, site_view};
@@ -11,9 +10,9 @@ ghost use Rattle.lra_fixpoint.specs.Solved.{IsSolved};
 ghost use Rattle.lra_poly_domain.specs.Abstraction.{polyhedron_abstraction};
 ghost use Rattle.lra_report.specs.View.{back_report_of, point_report_of};
 ghost use Rattle.lra_back.specs.BackwardAnalysis.{AreWide};
+ghost use Rattle.lra_back_source.specs.BackReports.{IsBackReportOf, IsBackRefusalOf, IsBackwardFinding, ShowsAtPoints};
 ghost use Rattle.lra_back_source.specs.Forward.{IsForward, forward_plan};
 ghost use Rattle.lra_back_source.specs.Refusals.{IfRefusal, IsFailure};
-ghost use Rattle.lra_back_source.specs.BackReports.{IsBackReportOf, IsBackRefusalOf, IsBackwardFinding, ShowsAtPoints};
 
 use crate::refusals::BackError;
 use lra_analyse_source::solve_front;

@@ -1,6 +1,5 @@
 -- The most bytes of a source or a script, as a number. The definition doesn't unfold by itself.
-use Rattle.std.proofs.Common.{◌≡◌, ◌<◌, ℕ, List, length, take, refl, arith}
-use Rattle.std.proofs.lemmas.List.{length-take}
+use Rattle.std.proofs.{Common.◌≡◌, Common.◌<◌, Common.ℕ, Common.List, Common.length, Common.take, Common.refl, Common.arith, lemmas.List.length-take}
 use Rattle.lra_base.specs.Places.{greatest_length}
 
 pub limit_is : greatest_length ≡ 65536

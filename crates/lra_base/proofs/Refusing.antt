@@ -1,11 +1,8 @@
 -- From a fact of one answer's refusal to a fact of another's.
-use Rattle.std.proofs.Common.{◌≡◌, Result, Ok, Err}
+use Rattle.std.proofs.{Common.◌≡◌, Common.Result, Common.Ok, Common.Err, lemmas.Result.err_from_is_err_and}
 use Rattle.std.specs.Result.{IsErrAnd}
-use Rattle.std.proofs.lemmas.Result.{err_from_is_err_and}
-use Rattle.lra_base.specs.declared.refusals.Refusal.{Refusal}
-use Rattle.lra_base.specs.declared.error.SourceError.{SourceError}
-use Rattle.lra_base.specs.declared.error.SourceError.TheVariants.{Refused, Memory}
 use Rattle.lra_base.specs.Refused.{IfRefusal, IfRefused}
+use Rattle.lra_base.specs.{declared.error.SourceError.SourceError, declared.error.SourceError.TheVariants.Refused, declared.error.SourceError.TheVariants.Memory, declared.refusals.Refusal.Refusal}
 
 pub refusal_by : (P Q : Refusal → Type 0) → ((r : Refusal) → P r → Q r) → (e : SourceError) → IfRefusal P e → IfRefusal Q e
 refusal_by P Q by (Refused r) h = by r h

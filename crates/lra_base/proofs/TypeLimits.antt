@@ -1,10 +1,8 @@
 -- Between which numbers those of a type lie.
-use Rattle.std.proofs.Common.{◌≡◌, ◌<◌, ℕ, ℤ, pos, true, false, arith}
+use Rattle.std.proofs.{Common.◌≡◌, Common.◌<◌, Common.ℕ, Common.ℤ, Common.pos, Common.true, Common.false, Common.arith, lemmas.Int.ints}
 use Rattle.std.specs.Prelude.{◌≤ℤ◌, int_le, if◌then◌else◌}
-use Rattle.std.proofs.lemmas.Int.{ints}
-use Rattle.lra_base.specs.declared.number_types.NumberType.{NumberType}
-use Rattle.lra_base.specs.declared.number_types.NumberType.TheVariants.{Int, Long}
 use Rattle.lra_base.specs.NumberTypes.{least_of, greatest_of, fits, wider}
+use Rattle.lra_base.specs.{declared.number_types.NumberType.NumberType, declared.number_types.NumberType.TheVariants.Int, declared.number_types.NumberType.TheVariants.Long}
 
 both_sides : (l h z : ℤ) → (if int_le l z then int_le z h else false) ≡ true → (l ≤ℤ z) × (z ≤ℤ h)
 both_sides l h z e = (grind (arith, ints), grind (arith, ints))

@@ -3,9 +3,8 @@ use Rattle.std.specs.Prelude.{ℕ, List, codes}
 use Rattle.lra_base.specs.declared.refusals.Cause.{Cause}
 use Rattle.lra_base.specs.declared.refusals.Cause.TheVariants.{TooLong, BadByte, BadLiteral, Syntax, TooDeep, NoMain}
 use Rattle.lra_base.specs.declared.refusals.Cause.TheVariants.{UnknownName, DuplicateName, BadCall, Misplaced}
-use Rattle.lra_base.specs.declared.refusals.Cause.TheVariants.{Recursive}
-use Rattle.lra_base.specs.declared.refusals.Cause.TheVariants.{TooManyVariables, TooManyPoints, DuplicateCase}
-use Rattle.lra_base.specs.declared.refusals.Cause.TheVariants.{BadLength, NotArray, NoThreads}
+use Rattle.lra_base.specs.declared.refusals.Cause.TheVariants.{Recursive, TooManyVariables, TooManyPoints}
+use Rattle.lra_base.specs.declared.refusals.Cause.TheVariants.{DuplicateCase, BadLength, NotArray, NoThreads}
 
 abbrev pub cause_number : Cause → ℕ
 cause_number TooLong = 1

@@ -1,7 +1,6 @@
 -- The operator that a value of the code's types stands for.
-use Rattle.lra_base.specs.declared.operators.Comparison.{Comparison}
+use Rattle.lra_base.specs.{declared.operators.Comparison.Comparison, declared.operators.Operator.Operator}
 use Rattle.lra_base.specs.declared.operators.Comparison.TheVariants as comparison
-use Rattle.lra_base.specs.declared.operators.Operator.{Operator}
 use Rattle.lra_base.specs.declared.operators.Operator.TheVariants as operator
 use Rattle.lra_base.specs.Operators as operators
 

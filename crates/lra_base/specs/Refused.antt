@@ -1,8 +1,7 @@
 -- What is told of an answer that may be a refusal.
 use Rattle.std.specs.Prelude.{Result, Ok, Err, ⊤}
-use Rattle.lra_base.specs.declared.refusals.Refusal.{Refusal}
-use Rattle.lra_base.specs.declared.error.SourceError.{SourceError}
 use Rattle.lra_base.specs.declared.error.SourceError.TheVariants.{Refused, Memory}
+use Rattle.lra_base.specs.{declared.error.SourceError.SourceError, declared.refusals.Refusal.Refusal}
 
 -- a fact of the refusal, if there is one
 abbrev pub IfRefusal : (Refusal → Type 0) → SourceError → Type 0

@@ -1,17 +1,10 @@
 -- How many values are true in both of two lists, by the bits of their words.
-use Rattle.std.proofs.Common.{◌≡◌, ℕ, zero, suc, ◌+◌, ◌-◌, ◌*◌, ◌/◌, ◌%◌, ◌^◌, ◌<◌, ◌≤◌, Bool, true, false, cond, List, [], ◌∷◌, length, get_or, refl, ap, sym, ◌∙◌, subst, arith}
-use Rattle.std.proofs.Common.{◌≢◌, min, bit_and, count_ones, inl, inr}
-use Rattle.std.specs.Prelude.{◌==◌, ◌↔◌, IsTrue}
-use Rattle.std.specs.Int.{bit_at}
-use Rattle.std.specs.List.{All}
-use Rattle.std.proofs.lemmas.Bool.{cases_eq, cases_lt, eqb-true, eq-eqb}
+use Rattle.std.proofs.Common.{◌≡◌, ℕ, zero, suc, ◌+◌, ◌-◌, ◌*◌, ◌/◌, ◌%◌, ◌^◌, ◌<◌, ◌≤◌, Bool, true, false, cond, List, [], ◌∷◌, length, get_or, refl, ap, sym, ◌∙◌, subst, arith, ◌≢◌, min, bit_and}
 use Rattle.std.proofs.lemmas.Nat.{pow_pos, mod_below, mod-pow-add, and_le_l, ones-le, ones_cat}
-use Rattle.std.proofs.lemmas.Nat.Bits.{bit_at-lt}
-use Rattle.lra_bits.specs.TruthValues.{value_at, both, true_count}
-use Rattle.lra_bits.specs.Words.{bit_of, unpacked, words_needed, common_words, common_bits, ArePacked}
-use Rattle.lra_bits.proofs.Packing.{all_packed}
-use Rattle.lra_bits.proofs.Pairs.{common_length, common_word, common_is, common_unused}
-use Rattle.lra_bits.proofs.CommonPlaces.{packed_bit}
+use Rattle.std.proofs.{Common.count_ones, Common.inl, Common.inr, lemmas.Bool.cases_eq, lemmas.Bool.cases_lt, lemmas.Bool.eqb-true, lemmas.Bool.eq-eqb, lemmas.Nat.Bits.bit_at-lt}
+use Rattle.std.specs.{Int.bit_at, List.All, Prelude.◌==◌, Prelude.◌↔◌, Prelude.IsTrue}
+use Rattle.lra_bits.specs.{TruthValues.value_at, TruthValues.both, TruthValues.true_count, Words.bit_of, Words.unpacked, Words.words_needed, Words.common_words, Words.common_bits, Words.ArePacked}
+use Rattle.lra_bits.proofs.{CommonPlaces.packed_bit, Packing.all_packed, Pairs.common_length, Pairs.common_word, Pairs.common_is, Pairs.common_unused}
 use lib.Bits.{and_step, and_self}
 use lib.Count.{ones_step}
 

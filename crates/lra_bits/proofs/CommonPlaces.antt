@@ -1,13 +1,9 @@
 -- Places where each of some rows is true, word by word.
 use Rattle.std.proofs.Common.{◌≡◌, ◌≢◌, ℕ, ◌+◌, ◌-◌, ◌/◌, ◌%◌, ◌*◌, ◌^◌, ◌<◌, ◌≤◌, Bool, true, false, List, [], length, get_or, ap, sym, ◌∙◌, subst, arith, bit_and, inl, inr}
-use Rattle.std.specs.Prelude.{◌==◌, ◌↔◌, min}
-use Rattle.std.specs.Int.{bit_at, w64, trailing_zeros}
-use Rattle.std.proofs.lemmas.Bool.{cases_eq, cases_lt, eqb-true}
-use Rattle.std.proofs.lemmas.Nat.{mod_below}
 use Rattle.std.proofs.lemmas.Nat.Bits.{bit_at-lt, bit_at-zero, bit_at_and, bit_at_clear_same, bit_at_clear_other, bit_at-trailing_zeros}
-use Rattle.lra_bits.specs.TruthValues.{value_at}
-use Rattle.lra_bits.specs.Words.{ArePacked}
-use Rattle.lra_bits.specs.Matrix.{Matrix, IsCommon, NoneCommon}
+use Rattle.std.proofs.{lemmas.Bool.cases_eq, lemmas.Bool.cases_lt, lemmas.Bool.eqb-true, lemmas.Nat.mod_below}
+use Rattle.std.specs.{Int.bit_at, Int.w64, Int.trailing_zeros, Prelude.◌==◌, Prelude.◌↔◌, Prelude.min}
+use Rattle.lra_bits.specs.{Matrix.Matrix, Matrix.IsCommon, Matrix.NoneCommon, TruthValues.value_at, Words.ArePacked}
 
 -- ---- a word without one bit
 pub cleared : (x at place j : ℕ) → place / 64 ≡ at → j < 64 → (bit_at (bit_and x (2 ^ 64 - 1 - 1 * 2 ^ (place % 64) % 2 ^ 64)) j ≡ 1) ↔ ((bit_at x j ≡ 1) × (at * 64 + j ≢ place))

@@ -1,14 +1,9 @@
 -- Matrices with a further column.
-use Rattle.std.proofs.Common.{◌≡◌, ◌≢◌, ℕ, zero, suc, ◌+◌, ◌%◌, ◌<◌, ◌≤◌, Bool, false, List, [], ◌∷◌, ◌++◌, length, drop, get_or, set, take, refl, ap, sym, ◌∙◌}
-use Rattle.std.proofs.Common.{subst, arith}
-use Rattle.std.proofs.Common.{inl, inr, get_or-set_same, get_or-set_other}
-use Rattle.std.specs.List.{All}
-use Rattle.std.proofs.lemmas.Bool.{cases_lt}
+use Rattle.std.proofs.Common.{◌≡◌, ◌≢◌, ℕ, zero, suc, ◌+◌, ◌%◌, ◌<◌, ◌≤◌, Bool, false, List, [], ◌∷◌, ◌++◌, length, drop, get_or, set, take, refl, ap, sym, ◌∙◌, subst, arith, inl, inr}
 use Rattle.std.proofs.lemmas.List.{ext_get_or, length-append, length-set, length-take-le, take_all, take_more}
-use Rattle.std.proofs.Math.Seq.{take-append_seam}
-use Rattle.std.proofs.lemmas.List.Elements.{All-append, All-from_get_or}
-use Rattle.lra_bits.specs.Matrix.{Matrix, lengthened_rows}
-use Rattle.lra_bits.specs.TruthValues.{value_at}
+use Rattle.std.proofs.{Common.get_or-set_same, Common.get_or-set_other, Math.Seq.take-append_seam, lemmas.Bool.cases_lt, lemmas.List.Elements.All-append, lemmas.List.Elements.All-from_get_or}
+use Rattle.std.specs.List.{All}
+use Rattle.lra_bits.specs.{Matrix.Matrix, Matrix.lengthened_rows, TruthValues.value_at}
 
 -- ---- the rows one after the other
 lengthened_push : (rows : List (List Bool)) (last : List Bool) (r : List Bool) (b : Bool) → length last ≡ length rows →

@@ -1,16 +1,11 @@
 -- The truth values of words, one place at a time.
 use Rattle.std.proofs.Common.{◌≡◌, ◌≢◌, ℕ, ◌/◌, ◌%◌, ◌^◌, ◌*◌, ◌<◌, ◌≤◌, Bool, true, false, List, length, get_or, set, replicate, ap, sym, ◌∙◌, arith, nat_eq, bit_and, bit_or, get_or-set_same}
 use Rattle.std.proofs.Common.{get_or-set_other, inl, inr}
-use Rattle.std.specs.Prelude.{◌==◌, ◌-◌}
-use Rattle.std.specs.Int.{bit_at, w64}
-use Rattle.std.proofs.lemmas.Bool.{cases_eq, cases_lt}
-use Rattle.std.proofs.lemmas.Nat.{mod_below}
-use Rattle.std.proofs.lemmas.List.{ext_get_or, get_or_past, get_or-replicate, length-replicate, length-set}
-use Rattle.std.proofs.lemmas.List.FromFn.{length-map-range_with_len, get_or-map-range_with_len}
 use Rattle.std.proofs.lemmas.Nat.Bits.{shr_and_one, bit_at-zero, bit_at_set_same, bit_at_set_other, bit_at_clear_same, bit_at_clear_other}
-use Rattle.std.proofs.lemmas.Grind.{get_or_default_zero}
-use Rattle.lra_bits.specs.TruthValues.{value_at}
-use Rattle.lra_bits.specs.Words.{bit_of, unpacked, words_needed, ArePacked}
+use Rattle.std.proofs.{lemmas.Bool.cases_eq, lemmas.Bool.cases_lt, lemmas.Grind.get_or_default_zero, lemmas.List.ext_get_or, lemmas.List.get_or_past, lemmas.List.get_or-replicate}
+use Rattle.std.proofs.{lemmas.List.length-replicate, lemmas.List.length-set, lemmas.List.FromFn.length-map-range_with_len, lemmas.List.FromFn.get_or-map-range_with_len, lemmas.Nat.mod_below}
+use Rattle.std.specs.{Int.bit_at, Int.w64, Prelude.◌==◌, Prelude.◌-◌}
+use Rattle.lra_bits.specs.{TruthValues.value_at, Words.bit_of, Words.unpacked, Words.words_needed, Words.ArePacked}
 
 -- ---- unpacked words
 pub length_unpacked : (width : ℕ) (words : List ℕ) → length (unpacked width words) ≡ width

@@ -1,15 +1,9 @@
 -- Two lists of truth values, word by word.
 use Rattle.std.proofs.Common.{◌≡◌, ℕ, zero, suc, ◌+◌, ◌/◌, ◌%◌, ◌^◌, ◌*◌, ◌<◌, ◌≤◌, Bool, true, false, List, [], ◌∷◌, ◌++◌, length, get_or, refl, ap, sym, ◌∙◌, arith, bit_and, inl, inr}
-use Rattle.std.specs.Prelude.{◌&&◌, ◌==◌, ◌⊎◌, min}
-use Rattle.std.specs.Int.{bit_at}
-use Rattle.std.proofs.lemmas.Bool.{cases_lt, eqb-true}
-use Rattle.std.proofs.lemmas.Bool.Decides.{nat_tests}
-use Rattle.std.proofs.lemmas.List.{ext_get_or, get_or_past, get_or_default, append_assoc, append-nil}
-use Rattle.std.proofs.lemmas.Nat.{and_le_l}
-use Rattle.std.proofs.lemmas.Nat.Bits.{bit_at-lt, bit_at_and, same_from_bits_below}
-use Rattle.std.specs.List.{All}
-use Rattle.lra_bits.specs.TruthValues.{value_at, IsSubset, both}
-use Rattle.lra_bits.specs.Words.{bit_of, unpacked, words_needed, common_words, AreWithin, AreCommonWithin}
+use Rattle.std.proofs.{lemmas.Bool.cases_lt, lemmas.Bool.eqb-true, lemmas.Bool.Decides.nat_tests, lemmas.List.ext_get_or, lemmas.List.get_or_past, lemmas.List.get_or_default, lemmas.List.append_assoc}
+use Rattle.std.proofs.{lemmas.List.append-nil, lemmas.Nat.and_le_l, lemmas.Nat.Bits.bit_at-lt, lemmas.Nat.Bits.bit_at_and, lemmas.Nat.Bits.same_from_bits_below}
+use Rattle.std.specs.{Int.bit_at, List.All, Prelude.◌&&◌, Prelude.◌==◌, Prelude.◌⊎◌, Prelude.min}
+use Rattle.lra_bits.specs.{TruthValues.value_at, TruthValues.IsSubset, TruthValues.both, Words.bit_of, Words.unpacked, Words.words_needed, Words.common_words, Words.AreWithin, Words.AreCommonWithin}
 use Rattle.lra_bits.proofs.Packing.{length_unpacked, value_unpacked, place_inside}
 
 -- ---- where both are true

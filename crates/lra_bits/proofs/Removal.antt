@@ -1,11 +1,9 @@
 -- Rows taken out in place: those that stay are swapped to the front, one after the other.
 use Rattle.std.proofs.Common.{◌≡◌, ℕ, ◌+◌, ◌<◌, ◌≤◌, Bool, true, false, cond, List, [], ◌∷◌, ◌++◌, length, get_or, take, drop, refl, ap, sym, ◌∙◌, subst, ◌-◌, arith}
-use Rattle.std.specs.List.{All, swap}
 use Rattle.std.proofs.lemmas.List.{ext_get_or, length-take-le, length-drop, get_or-take, get_or-drop, take_more, take_all, append-nil, drop-drop}
-use Rattle.std.proofs.lemmas.List.Edits.{swapped_from_swap, length-swap}
-use Rattle.std.proofs.lemmas.List.Elements.{All-cons, All-head, All-tail}
-use Rattle.lra_bits.specs.Matrix.{unmarked}
-use Rattle.lra_bits.specs.TruthValues.{value_at}
+use Rattle.std.proofs.{lemmas.List.Edits.swapped_from_swap, lemmas.List.Edits.length-swap, lemmas.List.Elements.All-cons, lemmas.List.Elements.All-head, lemmas.List.Elements.All-tail}
+use Rattle.std.specs.List.{All, swap}
+use Rattle.lra_bits.specs.{Matrix.unmarked, TruthValues.value_at}
 
 -- after k of the rows
 pub record IsPartlyKept {X : Type 0} (marks : List Bool) (rows now : List X) (kept k : ℕ) : Type 0 where

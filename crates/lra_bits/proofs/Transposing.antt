@@ -1,18 +1,10 @@
 -- A matrix turned: the set bits of its rows, word by word, become places of its columns.
-use Rattle.std.proofs.Common.{◌≡◌, ◌≢◌, ℕ, ◌+◌, ◌/◌, ◌%◌, ◌*◌, ◌<◌, ◌≤◌, Bool, true, false, List, [], length, get_or, set, replicate, ap, sym, ◌∙◌, refl, arith}
-use Rattle.std.proofs.Common.{inl, inr, nat_lt, get_or-set_same, get_or-set_other}
-use Rattle.std.specs.Prelude.{◌==◌, ◌&&◌, ◌||◌, IsTrue}
-use Rattle.std.specs.Int.{bit_at}
-use Rattle.std.specs.List.{All}
-use Rattle.std.proofs.lemmas.Bool.{cases_eq, cases_lt, eq-eqb}
-use Rattle.std.proofs.lemmas.Bool.Decides.{eqb_tells, nat_tests}
+use Rattle.std.proofs.Common.{◌≡◌, ◌≢◌, ℕ, ◌+◌, ◌/◌, ◌%◌, ◌*◌, ◌<◌, ◌≤◌, Bool, true, false, List, [], length, get_or, set, replicate, ap, sym, ◌∙◌, refl, arith, inl, inr, nat_lt, get_or-set_same}
 use Rattle.std.proofs.lemmas.List.{get_or_past, get_or-replicate, length-replicate, length-set}
-use Rattle.std.proofs.lemmas.List.Elements.{All-get_or, All-from_get_or}
-use Rattle.std.proofs.lemmas.Nat.Bits.{bit_at-zero}
-use Rattle.lra_bits.specs.TruthValues.{value_at}
-use Rattle.lra_bits.specs.Words.{ArePacked}
-use Rattle.lra_bits.specs.Matrix.{Matrix}
-use Rattle.lra_bits.specs.Transposed.{AreColumns, AreWider, IsMarked, is_in_word}
+use Rattle.std.proofs.{Common.get_or-set_other, lemmas.Bool.cases_eq, lemmas.Bool.cases_lt, lemmas.Bool.eq-eqb, lemmas.Bool.Decides.eqb_tells, lemmas.Bool.Decides.nat_tests}
+use Rattle.std.proofs.{lemmas.List.Elements.All-get_or, lemmas.List.Elements.All-from_get_or, lemmas.Nat.Bits.bit_at-zero}
+use Rattle.std.specs.{Int.bit_at, List.All, Prelude.◌==◌, Prelude.◌&&◌, Prelude.◌||◌, Prelude.IsTrue}
+use Rattle.lra_bits.specs.{Matrix.Matrix, Transposed.AreColumns, Transposed.AreWider, Transposed.IsMarked, Transposed.is_in_word, TruthValues.value_at, Words.ArePacked}
 
 -- ---- tests
 eq_no : (a b : ℕ) → a ≢ b → (a == b) ≡ false

@@ -1,10 +1,8 @@
 -- One more truth value behind the others.
 use Rattle.std.proofs.Common.{◌≡◌, ◌≢◌, ℕ, zero, suc, ◌+◌, ◌/◌, ◌%◌, ◌<◌, ◌≤◌, Bool, true, false, List, [], ◌∷◌, ◌++◌, length, get_or, set, refl, ap, sym, ◌∙◌, arith}
-use Rattle.std.specs.Prelude.{◌==◌}
-use Rattle.std.specs.Int.{bit_at}
 use Rattle.std.proofs.lemmas.List.{ext_get_or, length-append}
-use Rattle.lra_bits.specs.TruthValues.{value_at}
-use Rattle.lra_bits.specs.Words.{bit_of, unpacked, words_needed}
+use Rattle.std.specs.{Int.bit_at, Prelude.◌==◌}
+use Rattle.lra_bits.specs.{TruthValues.value_at, Words.bit_of, Words.unpacked, Words.words_needed}
 use Rattle.lra_bits.proofs.Packing.{length_unpacked, value_unpacked, all_packed}
 
 -- a default behind a list changes nothing that is read

@@ -1,14 +1,10 @@
 -- Rows that are true wherever two others are, by their words.
 use Rattle.std.proofs.Common.{◌≡◌, ◌≢◌, ℕ, ◌+◌, ◌^◌, ◌<◌, ◌≤◌, Bool, true, false, List, [], length, get_or, ap, sym, ◌∙◌, subst, arith, inl, inr}
-use Rattle.std.specs.Prelude.{IsTrue}
-use Rattle.std.specs.List.{All}
-use Rattle.std.proofs.lemmas.Bool.{cases_lt}
-use Rattle.std.proofs.lemmas.List.{ext_get_or, get_or_past, get_or_default}
-use Rattle.lra_bits.specs.TruthValues.{both, IsSubset}
+use Rattle.std.proofs.{lemmas.Bool.cases_lt, lemmas.List.ext_get_or, lemmas.List.get_or_past, lemmas.List.get_or_default}
+use Rattle.std.specs.{List.All, Prelude.IsTrue}
 use Rattle.lra_bits.specs.Words.{bit_of, unpacked, words_needed, ArePacked, AreCommonWithin}
-use Rattle.lra_bits.specs.Matrix.{Matrix, IsWithin, NoneWithin}
-use Rattle.lra_bits.proofs.Packing.{length_unpacked, value_unpacked}
-use Rattle.lra_bits.proofs.Pairs.{common_subset}
+use Rattle.lra_bits.specs.{Matrix.Matrix, Matrix.IsWithin, Matrix.NoneWithin, TruthValues.both, TruthValues.IsSubset}
+use Rattle.lra_bits.proofs.{Packing.length_unpacked, Packing.value_unpacked, Pairs.common_subset}
 
 -- ---- packed values
 unpacked_again : (width : ℕ) (values : List Bool) (words : List ℕ) → ArePacked values words → length values ≡ width → unpacked width words ≡ values

@@ -1,8 +1,7 @@
 -- The columns of a matrix, and the places that are set in them.
-use Rattle.std.specs.Prelude.{◌≡◌, ◌≢◌, ℕ, ◌<◌, ◌/◌, ◌%◌, ◌==◌, ◌&&◌, ◌||◌, Bool, List, [], length, slice_index_or}
 use Rattle.std.specs.Int.{bit_at}
-use Rattle.lra_bits.specs.TruthValues.{value_at}
-use Rattle.lra_bits.specs.Matrix.{Matrix}
+use Rattle.std.specs.Prelude.{◌≡◌, ◌≢◌, ℕ, ◌<◌, ◌/◌, ◌%◌, ◌==◌, ◌&&◌, ◌||◌, Bool, List, [], length, slice_index_or}
+use Rattle.lra_bits.specs.{Matrix.Matrix, TruthValues.value_at}
 
 -- the first n columns of a matrix are the rows of another
 pub record AreColumns (m : Matrix) (n : ℕ) (columns : Matrix) : Type 0 where

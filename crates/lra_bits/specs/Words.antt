@@ -1,9 +1,6 @@
 -- Truth values in words of 64 bits.
-use Rattle.std.specs.Prelude.{◌≡◌, ℕ, zero, suc, ◌+◌, ◌/◌, ◌%◌, ◌==◌, ◌<◌, Bool, count_ones}
-use Rattle.std.specs.Prelude.{List, [], ◌∷◌, length, slice_index, map}
-use Rattle.std.specs.Int.Bits.{bit_and}
-use Rattle.std.specs.Int.{bit_at}
-use Rattle.std.specs.List.{range_with_len}
+use Rattle.std.specs.Prelude.{◌≡◌, ℕ, zero, suc, ◌+◌, ◌/◌, ◌%◌, ◌==◌, ◌<◌, Bool, count_ones, List, [], ◌∷◌, length}
+use Rattle.std.specs.{Int.bit_at, Int.Bits.bit_and, List.range_with_len, Prelude.slice_index, Prelude.map}
 use Rattle.lra_bits.specs.TruthValues.{value_at}
 
 -- the truth value at a place of the words: bit k mod 64 of word k / 64, false past the last word

@@ -1,8 +1,8 @@
 //! Lists of truth values as words.
 
+ghost use Rattle.std.specs.Int.{bit_at};
 ghost use Rattle.std.specs.Prelude.{◌≡◌, ◌≢◌, ℕ, ◌<◌, ◌≤◌, ◌↔◌, ◌++◌, ◌∷◌, Bool, true, false, List, [], length};
 ghost use Rattle.std.specs.Prelude.{replicate, slice_set, IfOk, OnOk, OnErr, IsTrue, ◌+◌, ◌*◌, ◌%◌, ◌^◌, ◌==◌, min};
-ghost use Rattle.std.specs.Int.{bit_at};
 ghost use Rattle.lra_bits.specs.TruthValues.{value_at, are_true, true_count, ArePlaces, IsSubset, both};
 ghost use Rattle.lra_bits.specs.Words.{bit_of, unpacked, words_needed, ArePacked};
 

@@ -1,14 +1,11 @@
 //! Matrices of truth values, which say which rows are tight at which vectors.
 
-ghost use Rattle.std.specs.Prelude.{◌≡◌, ◌≢◌, ◌<◌, ◌++◌, ◌∷◌, [], length, IfOk, OnOk, OnErr, slice_index_or};
-ghost use Rattle.std.specs.List.{All};
-ghost use Rattle.std.specs.Prelude.{ℕ, ◌↔◌, ◌+◌, ◌*◌, ◌%◌, ◌^◌, suc, take};
-ghost use Rattle.std.specs.Int.{bit_at};
+ghost use Rattle.std.specs.Prelude.{◌≡◌, ◌≢◌, ◌<◌, ◌++◌, ◌∷◌, [], length, IfOk, OnOk, OnErr, slice_index_or, ℕ, ◌↔◌};
+ghost use Rattle.std.specs.Prelude.{◌+◌, ◌*◌, ◌%◌, ◌^◌, suc, take, Bool, false, replicate, IsTrue};
+ghost use Rattle.std.specs.{Int.bit_at, List.All};
 ghost use Rattle.lra_bits.specs.Matrix.{Matrix, lengthened_rows, unmarked, IsCommon, TellsCommon, TellsWithin};
-ghost use Rattle.std.specs.Prelude.{Bool, false, replicate, IsTrue};
-ghost use Rattle.lra_bits.specs.TruthValues.{value_at, ArePlaces};
 ghost use Rattle.lra_bits.specs.Transposed.{AreColumns, AreWider, IsMarked, is_in_word};
-ghost use Rattle.lra_bits.specs.Words.{words_needed};
+ghost use Rattle.lra_bits.specs.{TruthValues.value_at, TruthValues.ArePlaces, Words.words_needed};
 
 use crate::bit_row::BitRow;
 use crate::words::{WORD, are_common_within_from, clear, count_apart, without};

@@ -1,10 +1,7 @@
 //! Two lists of words, word by word.
 
-ghost use Rattle.std.specs.Prelude.{◌≡◌, ◌≢◌, ℕ, ◌<◌, ◌≤◌, ◌+◌, ◌-◌, ◌*◌, ◌^◌, ◌↔◌};
-ghost use Rattle.std.specs.Prelude.{length, IfOk, IsTrue, slice_index, count_ones};
-ghost use Rattle.std.specs.Int.Bits.{bit_and};
-ghost use Rattle.std.specs.Int.{bit_at};
-ghost use Rattle.std.specs.List.{All};
+ghost use Rattle.std.specs.Prelude.{◌≡◌, ◌≢◌, ℕ, ◌<◌, ◌≤◌, ◌+◌, ◌-◌, ◌*◌, ◌^◌, ◌↔◌, length, IfOk, IsTrue, slice_index};
+ghost use Rattle.std.specs.{Int.bit_at, Int.Bits.bit_and, List.All, Prelude.count_ones};
 ghost use Rattle.lra_bits.specs.Words.{common_words, common_bits, AreWithin, AreCommonWithin};
 
 use std::alloc::{AllocError, Global};

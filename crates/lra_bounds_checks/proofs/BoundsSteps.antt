@@ -1,26 +1,15 @@
 -- Steps of the proofs on accesses that are inside.
-use Rattle.std.proofs.Common.{◌≡◌, ◌∙◌, ℕ, ◌+◌, ◌<◌, ◌≤◌, List, [], ◌∷◌, ◌++◌, length, map, drop, get_or, Bool, Option}
-use Rattle.std.proofs.Common.{Some, None, refl, sym, ap, subst, append_assoc, append-nil}
-use Rattle.std.specs.Prelude.{◌-ℤ◌, pos, IfOk, Result}
+use Rattle.std.proofs.Common.{◌≡◌, ◌∙◌, ℕ, ◌+◌, ◌<◌, ◌≤◌, List, [], ◌∷◌, ◌++◌, length, map, drop, get_or, Bool, Option, Some, None, refl, sym, ap, subst, append_assoc, append-nil}
 use Rattle.std.proofs.lemmas.List.{drop_more, drop_all}
-use Rattle.lra_linear_forms.specs.Form.{Form}
-use Rattle.lra_linear_forms.specs.declared.test.Test.{Test}
-use Rattle.lra_base.specs.declared.refusals.Place.{Place}
-use Rattle.lra_base.specs.declared.operators.Comparison.TheVariants.{Below}
-use Rattle.lra_base.specs.Operators.{below}
-use Rattle.lra_domain.specs.declared.Exactness.{Exactness}
-use Rattle.lra_domain.specs.declared.Exactness.TheVariants.{Exact, Flagged}
-use Rattle.lra_domain.specs.Abstraction.{Abstraction, worse}
-use Rattle.lra_program.specs.Program.{Element}
-use Rattle.lra_program.specs.Value.{◌>>=◌}
-use Rattle.lra_bounds_checks.specs.declared.listing.Access.{Access}
-use Rattle.lra_bounds_checks.specs.Listed.{access_view}
-use Rattle.lra_analysis_spec.specs.Accesses.{AccessJudged, EachJudged, outside}
-use Rattle.lra_analysis_spec.specs.Linear.{at_least_zero, comparison_test, less_by}
-use Rattle.lra_analysis_spec.specs.Operations.{lossy_operations}
+use Rattle.std.specs.Prelude.{◌-ℤ◌, pos, IfOk, Result}
+use Rattle.lra_linear_forms.specs.{Form.Form, declared.test.Test.Test}
+use Rattle.lra_base.specs.{Operators.below, declared.operators.Comparison.TheVariants.Below, declared.refusals.Place.Place}
+use Rattle.lra_domain.specs.{Abstraction.Abstraction, Abstraction.worse, declared.Exactness.Exactness, declared.Exactness.TheVariants.Exact, declared.Exactness.TheVariants.Flagged}
+use Rattle.lra_program.specs.{Program.Element, Value.◌>>=◌}
+use Rattle.lra_bounds_checks.specs.{BoundsChecks.AreWide, BoundsChecks.IsEachTold, Listed.access_view, declared.listing.Access.Access}
+use Rattle.lra_analysis_spec.specs.{Accesses.AccessJudged, Accesses.EachJudged, Accesses.outside, Linear.at_least_zero, Linear.comparison_test, Linear.less_by, Operations.lossy_operations}
 use Rattle.lra_analysis_spec.proofs.FormLemmas.{fitting_same}
 use Rattle.lra_linearize.proofs.GuardThresholdSteps.{test_wide}
-use Rattle.lra_bounds_checks.specs.BoundsChecks.{AreWide, IsEachTold}
 
 -- tests ----------------------------------------------------------------------------------------------------------------
 

@@ -2,13 +2,10 @@
 use Rattle.std.specs.Prelude.{◌≡◌, ℕ, List, Bool, Option, None, Some, Vec, length, ⊤}
 use Rattle.std.specs.declared.alloc.Global.{Global}
 use Rattle.lra_linear_forms.specs.declared.test.Test.{Test}
-use Rattle.lra_domain.specs.Abstraction.{Abstraction}
-use Rattle.lra_domain.specs.declared.Exactness.{Exactness}
+use Rattle.lra_domain.specs.{Abstraction.Abstraction, declared.Exactness.Exactness}
 use Rattle.lra_base.specs.declared.refusals.Place.{Place}
-use Rattle.lra_program.specs.Program.{Element}
-use Rattle.lra_program.specs.Step.{Op}
-use Rattle.lra_analysis_spec.specs.Accesses.{EachJudged, OpInside}
-use Rattle.lra_analysis_spec.specs.Operations.{lossy_operations}
+use Rattle.lra_program.specs.{Program.Element, Step.Op}
+use Rattle.lra_analysis_spec.specs.{Accesses.EachJudged, Accesses.OpInside, Operations.lossy_operations}
 use Rattle.lra_overflow_checks.specs.Judged.{HasAnswers}
 
 -- a point with what is told of its accesses

@@ -2,8 +2,7 @@
 use Rattle.std.specs.Prelude.{List, [], ◌∷◌, ◌++◌}
 use Rattle.lra_base.specs.Operators.{Operator}
 use Rattle.lra_program.specs.Accesses.{expr_accesses, cond_accesses}
-use Rattle.lra_program.specs.Program.{Expr, Cond, Element}
-use Rattle.lra_program.specs.ProgramViews.{expr_view}
+use Rattle.lra_program.specs.{Program.Expr, Program.Cond, Program.Element, ProgramViews.expr_view}
 use Rattle.lra_bounds_checks.specs.declared.listing.Access.{Access}
 
 abbrev pub access_view : Access → Element

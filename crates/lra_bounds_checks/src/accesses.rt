@@ -5,15 +5,12 @@ ghost use Rattle.lra_program.specs.Accesses.{expr_accesses, op_accesses, op_acce
 ghost use Rattle.lra_program.specs.ProgramViews.{expr_view};
 ghost use Rattle.lra_operations.specs.TreeViews.{op_view};
 ghost use Rattle.lra_operations_list.specs.TreeOperations.{op_ref_view};
-ghost use Rattle.lra_bounds_checks.specs.Listed.{access_view};
-ghost use Rattle.lra_analysis_spec.specs.Accesses.{outside_of, BothInside, OneInside, OpInside};
-ghost use Rattle.lra_analysis_spec.specs.Accesses.{AccessJudged, IndexJudged};
-ghost use Rattle.lra_analysis_spec.specs.Analysis.{IsUnreachable};
-ghost use Rattle.lra_analysis_spec.specs.MovesOf.{test_action};
-ghost use Rattle.lra_analysis_spec.specs.Operations.{lossy_operations};
-ghost use Rattle.lra_analysis_spec.specs.LiveLimit.{most_live};
-ghost use Rattle.lra_overflow_checks.specs.Judged.{IsWide};
 ghost use Rattle.lra_bounds_checks.specs.BoundsChecks.{AreWide, IsEachTold, IsOpTold};
+ghost use Rattle.lra_bounds_checks.specs.Listed.{access_view};
+ghost use Rattle.lra_analysis_spec.specs.Accesses.{outside_of, BothInside, OneInside, OpInside, AccessJudged};
+ghost use Rattle.lra_analysis_spec.specs.{Accesses.IndexJudged, Analysis.IsUnreachable, LiveLimit.most_live};
+ghost use Rattle.lra_analysis_spec.specs.{MovesOf.test_action, Operations.lossy_operations};
+ghost use Rattle.lra_overflow_checks.specs.Judged.{IsWide};
 
 use crate::bounds::outside;
 use crate::listing::{Access, accesses, push_accesses};

@@ -1,11 +1,8 @@
 //! What is judged of the accesses of a whole program.
 
 ghost use Rattle.std.specs.Prelude.{◌<◌, None, length, map, All, IfOk};
-ghost use Rattle.lra_operations.specs.CheckedOperations.{accessing_ops};
-ghost use Rattle.lra_operations.specs.TreeViews.{node_view};
-ghost use Rattle.lra_analysis_spec.specs.Accesses.{JudgesAccesses};
-ghost use Rattle.lra_analysis_spec.specs.Operations.{lossy_operations};
-ghost use Rattle.lra_analysis_spec.specs.LiveLimit.{most_live};
+ghost use Rattle.lra_operations.specs.{CheckedOperations.accessing_ops, TreeViews.node_view};
+ghost use Rattle.lra_analysis_spec.specs.{Accesses.JudgesAccesses, LiveLimit.most_live, Operations.lossy_operations};
 ghost use Rattle.lra_overflow_checks.specs.Judged.{AreBelow};
 ghost use Rattle.lra_bounds_checks.specs.BoundsChecks.{reported_view};
 

@@ -1,16 +1,12 @@
 -- The bounds of one place, and an interval that comes in there.
 use Rattle.std.proofs.Common.{◌≡◌, ◌↔◌, ◌∙◌, ℕ, zero, suc, ℤ, List, [], ◌∷◌, Option, None, Some, refl, subst, sym}
+use Rattle.std.proofs.{Math.ListN.length-set, lemmas.Option.same_Some}
 use Rattle.std.specs.Prelude.{slice_get, slice_set, slice_index_or}
-use Rattle.std.proofs.Math.ListN.{length-set}
-use Rattle.std.proofs.lemmas.Option.{same_Some}
-use Rattle.lra_box.specs.declared.interval.Interval.{Interval}
 use Rattle.lra_box.specs.Bounds.{InInterval, InBounds, full_interval, EndsInRange, IsValidInterval}
-use Rattle.lra_box.specs.Content.{BoxContent, WellFormedBox, BoundsFit, BoundsAreValid}
 use Rattle.lra_box.specs.Tables.{has_bounds, on_bounds, joined_interval, bound_at, admitting, admitted}
-use Rattle.lra_box.specs.Abstraction.{BoxGamma}
+use Rattle.lra_box.specs.{Abstraction.BoxGamma, Content.BoxContent, Content.WellFormedBox, Content.BoundsFit, Content.BoundsAreValid, declared.interval.Interval.Interval}
 use Rattle.lra_box.proofs.BoxLemmas.{low_left, low_right, high_left, high_right, in_set}
-use Rattle.lra_box.proofs.SoundLemmas.{at_sound, set_sound, some_store, interval_sound}
-use Rattle.lra_box.proofs.StepLemmas.{has_length}
+use Rattle.lra_box.proofs.{SoundLemmas.at_sound, SoundLemmas.set_sound, SoundLemmas.some_store, SoundLemmas.interval_sound, StepLemmas.has_length}
 
 pub joined_first : (i j : Interval) (z : ℤ) → InInterval i z → InInterval (joined_interval i j) z
 joined_first i j z h = (low_left i.low j.low z h.0, high_left i.high j.high z h.1)

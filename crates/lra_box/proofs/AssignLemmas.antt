@@ -1,24 +1,14 @@
 -- What an assignment with computed bounds does.
 use Rattle.std.proofs.Common.{◌≡◌, ℕ, zero, suc, ◌<◌, ℤ, List, [], ◌∷◌, length, Option, Some, IfSome, ◌⊎◌, inl, inr, refl, ◌∙◌, arith}
-use Rattle.std.specs.Prelude.{slice_set, slice_index_or}
 use Rattle.std.proofs.Math.ListN.{length-set}
+use Rattle.std.specs.Prelude.{slice_set, slice_index_or}
 use Rattle.lra_linear_spec.specs.Range.{InRange}
 use Rattle.lra_linear_forms.specs.Form.{Form, form_value}
-use Rattle.lra_domain.specs.declared.Exactness.{Exactness}
-use Rattle.lra_domain.specs.declared.Exactness.TheVariants.{Exact, Flagged}
-use Rattle.lra_domain.specs.Bounds.{AtMost}
-use Rattle.lra_box.specs.declared.interval.Interval.{Interval}
-use Rattle.lra_box.specs.declared.interval.Side.TheVariants.{Low, High}
-use Rattle.lra_box.specs.declared.ends.Bound.{Bound}
+use Rattle.lra_domain.specs.{Bounds.AtMost, declared.Exactness.Exactness, declared.Exactness.TheVariants.Exact, declared.Exactness.TheVariants.Flagged}
 use Rattle.lra_box.specs.Bounds.{InInterval, AllValidIntervals, end_sum, SumPasses, IsBound, full_interval}
-use Rattle.lra_box.specs.Tables.{LowWithin}
-use Rattle.lra_box.specs.Answers.{AssignedTo}
-use Rattle.lra_box.specs.Sums.{end_sum_holds}
-use Rattle.lra_box.proofs.BoxLemmas.{assign_keeps, bound_holds}
-use Rattle.lra_box.proofs.SoundLemmas.{some_store, not_crossed, set_sound}
-use Rattle.lra_box.proofs.ExtremeLemmas.{end_is_extreme}
-use Rattle.lra_box.specs.Covering.{intervals_within_refl, low_within_refl, high_within_refl}
-use Rattle.lra_box.proofs.WithinLemmas.{set_within}
+use Rattle.lra_box.specs.{Answers.AssignedTo, Covering.intervals_within_refl, Covering.low_within_refl, Covering.high_within_refl, Sums.end_sum_holds, Tables.LowWithin, declared.ends.Bound.Bound}
+use Rattle.lra_box.specs.{declared.interval.Interval.Interval, declared.interval.Side.TheVariants.Low, declared.interval.Side.TheVariants.High}
+use Rattle.lra_box.proofs.{BoxLemmas.assign_keeps, BoxLemmas.bound_holds, ExtremeLemmas.end_is_extreme, SoundLemmas.some_store, SoundLemmas.not_crossed, SoundLemmas.set_sound, WithinLemmas.set_within}
 
 read_set : (is : List Interval) (k : ℕ) (i : Interval) → k < length is → slice_index_or (slice_set is k i) k full_interval ≡ i
 read_set [] k i h = absurd (omega arith)

@@ -1,20 +1,12 @@
 -- The same of bounds that may be none.
 use Rattle.std.proofs.Common.{◌≡◌, ◌≢◌, ℕ, ◌*◌, ◌<◌, ◌≤◌, ◌^◌, ◌⊎◌, inl, inr, Bool, true, false, cond, ℤ, List, [], ◌∷◌, length, Option, None, Some, refl, sym, ap, ◌∙◌, arith}
-use Rattle.std.specs.Prelude.{◌≤ℤ◌, slice_set, int_lt}
-use Rattle.std.proofs.lemmas.Int.{ints, clamps}
-use Rattle.std.proofs.lemmas.Option.{same_Some}
-use Rattle.std.specs.Int.{int_min, int_max}
-use Rattle.lra_domain.specs.declared.Mode.{Mode}
-use Rattle.lra_domain.specs.declared.Mode.TheVariants.{Join, Widen, Limited, Tightest}
-use Rattle.lra_domain.specs.Rank.{RankFits}
+use Rattle.std.proofs.{lemmas.Int.ints, lemmas.Int.clamps, lemmas.Option.same_Some}
+use Rattle.std.specs.{Int.int_min, Int.int_max, Prelude.◌≤ℤ◌, Prelude.slice_set, Prelude.int_lt}
 use Rattle.lra_domain.specs.Bounds.{AtMost, finite, greater, stable, lesser_low}
-use Rattle.lra_box.specs.declared.interval.Interval.{Interval}
-use Rattle.lra_box.specs.declared.interval.Side.{Side}
-use Rattle.lra_box.specs.declared.interval.Side.TheVariants.{Low, High}
-use Rattle.lra_box.specs.Bounds.{BoundHolds, InBounds, full_interval}
-use Rattle.lra_box.specs.Content.{BoxContent, BoundsFit}
-use Rattle.lra_box.specs.Tables.{has_bounds, on_bounds, joined_intervals, joined_bounds, widened_low, widened_intervals, widened_bounds, grown_bounds, LowWithin}
-use Rattle.lra_box.specs.Tables.{IntervalsWithin, BoundsWithin, finite_bounds, rank_number, rank_of}
+use Rattle.lra_domain.specs.{Rank.RankFits, declared.Mode.Mode, declared.Mode.TheVariants.Join, declared.Mode.TheVariants.Widen, declared.Mode.TheVariants.Limited, declared.Mode.TheVariants.Tightest}
+use Rattle.lra_box.specs.Tables.{has_bounds, on_bounds, joined_intervals, joined_bounds, widened_low, widened_intervals, widened_bounds, grown_bounds, LowWithin, IntervalsWithin, BoundsWithin}
+use Rattle.lra_box.specs.{Bounds.BoundHolds, Bounds.InBounds, Bounds.full_interval, Content.BoxContent, Content.BoundsFit, Tables.finite_bounds, Tables.rank_number, Tables.rank_of}
+use Rattle.lra_box.specs.{declared.interval.Interval.Interval, declared.interval.Side.Side, declared.interval.Side.TheVariants.Low, declared.interval.Side.TheVariants.High}
 use Rattle.lra_box.proofs.BoxLemmas.{in_joined_left, in_joined_right, in_set}
 
 pub widen_low_old : (a b : Option ℤ) (x : ℤ) → BoundHolds Low a x → BoundHolds Low (widened_low a b) x

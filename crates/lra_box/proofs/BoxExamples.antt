@@ -2,10 +2,7 @@
 use Rattle.std.proofs.Common.{◌≡◌, ℤ, pos, negsuc, [], ◌∷◌, None, Some, refl}
 use Rattle.lra_linear_spec.specs.declared.ConKind.TheVariants.{Ge, Eq}
 use Rattle.lra_domain.specs.declared.Mode.TheVariants.{Widen}
-use Rattle.lra_box.specs.declared.interval.Interval.{Interval}
-use Rattle.lra_box.specs.Bounds.{full_interval, form}
-use Rattle.lra_box.specs.Refine.{tested}
-use Rattle.lra_box.specs.Tables.{assigned_bounds, grown_bounds, joined_bounds}
+use Rattle.lra_box.specs.{Bounds.full_interval, Bounds.form, Refine.tested, Tables.assigned_bounds, Tables.grown_bounds, Tables.joined_bounds, declared.interval.Interval.Interval}
 
 abbrev between : ℤ → ℤ → Interval
 between l h = record { low = Some l; high = Some h }

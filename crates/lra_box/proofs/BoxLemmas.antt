@@ -1,18 +1,11 @@
 -- What the tables keep, and how the rank falls.
 use Rattle.std.proofs.Common.{◌≡◌, ℕ, zero, suc, ℤ, List, [], ◌∷◌, length, Option, None, Some, refl, arith}
-use Rattle.std.specs.Prelude.{slice_set}
 use Rattle.std.proofs.lemmas.Int.{ints, clamps}
+use Rattle.std.specs.Prelude.{slice_set}
 use Rattle.lra_linear_forms.specs.Form.{Form, form_value}
-use Rattle.lra_box.specs.declared.interval.Interval.{Interval}
-use Rattle.lra_box.specs.declared.ends.Bound.{Bound}
-use Rattle.lra_box.specs.declared.interval.Side.{Side}
-use Rattle.lra_box.specs.declared.interval.Side.TheVariants.{Low, High}
-use Rattle.lra_domain.specs.declared.Exactness.{Exactness}
-use Rattle.lra_domain.specs.declared.Exactness.TheVariants.{Exact, Flagged}
-use Rattle.lra_domain.specs.Bounds.{greater, lesser_low}
-use Rattle.lra_box.specs.Bounds.{BoundHolds, InInterval, InBounds, end_sum, SumPasses, IsBound}
-use Rattle.lra_box.specs.Tables.{joined_intervals}
-use Rattle.lra_box.specs.Sums.{end_sum_holds}
+use Rattle.lra_box.specs.{Bounds.BoundHolds, Bounds.InInterval, Bounds.InBounds, Bounds.end_sum, Bounds.SumPasses, Bounds.IsBound, Sums.end_sum_holds, Tables.joined_intervals}
+use Rattle.lra_box.specs.{declared.ends.Bound.Bound, declared.interval.Interval.Interval, declared.interval.Side.Side, declared.interval.Side.TheVariants.Low, declared.interval.Side.TheVariants.High}
+use Rattle.lra_domain.specs.{Bounds.greater, Bounds.lesser_low, declared.Exactness.Exactness, declared.Exactness.TheVariants.Exact, declared.Exactness.TheVariants.Flagged}
 
 -- a computed bound holds where the table's does
 bound_at : (side : Side) (table : Option ℤ) (passes : Type 0) (e : Exactness) (b : Bound) (v : ℤ) → b.exactness ≡ e → IsBound table passes b → BoundHolds side table v → BoundHolds side b.value v

@@ -2,11 +2,8 @@
 use Rattle.std.proofs.Common.{◌≡◌, ◌∙◌, zero, suc, ℤ, pos, negsuc, ◌+ℤ◌, List, [], ◌∷◌, Option, None, Some, inl, inr, refl, sym, subst}
 use Rattle.std.specs.Prelude.{◌⊎◌, IsSomeAnd}
 use Rattle.lra_linear_spec.specs.Range.{InRange}
-use Rattle.lra_box.specs.declared.interval.Interval.{Interval}
-use Rattle.lra_box.specs.declared.interval.Side.{Side}
-use Rattle.lra_box.specs.declared.interval.Side.TheVariants.{Low, High}
-use Rattle.lra_box.specs.Bounds.{EndProductPasses, SumPasses, TimesPasses, end_product, end_sum, times}
-use Rattle.lra_box.specs.Ends.{HasProduct, IsEndFrom, PlusEnd}
+use Rattle.lra_box.specs.{Bounds.EndProductPasses, Bounds.SumPasses, Bounds.TimesPasses, Bounds.end_product, Bounds.end_sum, Bounds.times, Ends.HasProduct, Ends.IsEndFrom, Ends.PlusEnd}
+use Rattle.lra_box.specs.{declared.interval.Interval.Interval, declared.interval.Side.Side, declared.interval.Side.TheVariants.Low, declared.interval.Side.TheVariants.High}
 
 -- no product is left
 pub ends_here : (side : Side) (a : ℤ) (is : List Interval) → IsEndFrom side a [] is (Some a)

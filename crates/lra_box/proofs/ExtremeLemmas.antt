@@ -1,16 +1,11 @@
 -- The ends of a form over a box are its least and greatest value there.
 use Rattle.std.proofs.Common.{◌≡◌, ℕ, zero, suc, ◌*◌, ◌≤◌, ℤ, pos, negsuc, List, [], ◌∷◌, length, Option, None, Some, refl, ◌∙◌, false, arith}
-use Rattle.std.specs.Prelude.{◌+ℤ◌, ◌*ℤ◌, ◌≤ℤ◌, neg_ℤ, option_and_then}
-use Rattle.std.specs.Int.{int_min, int_max}
-use Rattle.std.proofs.lemmas.Int.{ints, clamps}
-use Rattle.std.proofs.lemmas.Option.{same_Some}
+use Rattle.std.proofs.{lemmas.Int.ints, lemmas.Int.clamps, lemmas.Option.same_Some}
+use Rattle.std.specs.{Int.int_min, Int.int_max, Prelude.◌+ℤ◌, Prelude.◌*ℤ◌, Prelude.◌≤ℤ◌, Prelude.neg_ℤ, Prelude.option_and_then}
 use Rattle.lra_linear_spec.specs.Vectors.{product}
 use Rattle.lra_linear_forms.specs.Form.{Form}
-use Rattle.lra_box.specs.declared.interval.Interval.{Interval}
-use Rattle.lra_box.specs.declared.interval.Side.{Side}
-use Rattle.lra_box.specs.declared.interval.Side.TheVariants.{Low, High}
 use Rattle.lra_box.specs.Bounds.{BoundHolds, InInterval, InBounds, crossed, crossed_ends, AllValidIntervals, times, end_product, end_sum, IsExtreme}
-use Rattle.lra_box.specs.Sums.{end_sum_holds}
+use Rattle.lra_box.specs.{Sums.end_sum_holds, declared.interval.Interval.Interval, declared.interval.Side.Side, declared.interval.Side.TheVariants.Low, declared.interval.Side.TheVariants.High}
 use Rattle.lra_box.proofs.SoundLemmas.{some_number, some_store}
 
 zero_product : (x : ℤ) → pos 0 *ℤ x ≡ pos 0

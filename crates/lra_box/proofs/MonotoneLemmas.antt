@@ -1,16 +1,10 @@
 -- A test on narrower bounds gives narrower bounds.
 use Rattle.std.proofs.Common.{◌≡◌, ℕ, zero, suc, ◌*◌, ◌/◌, ◌≤◌, ℤ, pos, negsuc, List, [], ◌∷◌, length, Option, None, Some, Bool, true, false, cond, refl, sym, ◌∙◌, arith}
-use Rattle.std.specs.Prelude.{◌+ℤ◌, ◌≤ℤ◌, neg_ℤ, slice_set, slice_index_or, int_lt, option_and_then}
-use Rattle.std.specs.Int.{int_div_euclid}
-use Rattle.std.proofs.lemmas.Int.{ints, clamps}
-use Rattle.std.proofs.lemmas.Bool.{false≢true}
-use Rattle.std.proofs.Math.Nat.{le-div_iff_mul-le}
-use Rattle.lra_box.specs.declared.interval.Interval.{Interval}
-use Rattle.lra_box.specs.declared.interval.Side.TheVariants.{High}
-use Rattle.lra_box.specs.Bounds.{crossed, times, end_product, end_sum}
-use Rattle.lra_box.specs.Tables.{LowWithin, IntervalWithin, IntervalsWithin, BoundsWithin}
+use Rattle.std.proofs.{Math.Nat.le-div_iff_mul-le, lemmas.Bool.false≢true, lemmas.Int.ints, lemmas.Int.clamps}
+use Rattle.std.specs.{Int.int_div_euclid, Prelude.◌+ℤ◌, Prelude.◌≤ℤ◌, Prelude.neg_ℤ, Prelude.slice_set, Prelude.slice_index_or, Prelude.int_lt, Prelude.option_and_then}
 use Rattle.lra_box.specs.Refine.{raised, lowered, tightened, place_refined, refine_place, refined, some_occurs, ge_tested}
-use Rattle.lra_box.specs.Products.{mul_grows, mul_falls}
+use Rattle.lra_box.specs.{Bounds.crossed, Bounds.times, Bounds.end_product, Bounds.end_sum, Products.mul_grows, Products.mul_falls, Tables.LowWithin, Tables.IntervalWithin, Tables.IntervalsWithin}
+use Rattle.lra_box.specs.{Tables.BoundsWithin, declared.interval.Interval.Interval, declared.interval.Side.TheVariants.High}
 use Rattle.lra_box.proofs.WithinLemmas.{set_within, at_within, crossed_within}
 use Rattle.lra_domain.specs.Bounds.{AtMost}
 

@@ -1,18 +1,11 @@
 -- A tightened interval keeps each number for which the form may pass.
 use Rattle.std.proofs.Common.{◌≡◌, ℕ, zero, suc, ◌+◌, ◌*◌, ◌/◌, ◌<◌, ◌≤◌, ℤ, pos, negsuc, List, [], ◌∷◌, length, Option, None, Some, refl, ap, ◌∙◌, ◌⊎◌, inl, inr, zero-add, arith}
-use Rattle.std.specs.Prelude.{◌+ℤ◌, ◌*ℤ◌, ◌≤ℤ◌, neg_ℤ, slice_set, slice_index_or}
+use Rattle.std.proofs.{Math.ListN.length-set, Math.Nat.le-div_iff_mul-le, Math.Nat.div-lt_iff_lt-mul, Math.Nat.mul_comm, Math.Nat.suc-add, lemmas.Int.ints, lemmas.Int.clamps}
+use Rattle.std.specs.{Int.int_div_euclid, Prelude.◌+ℤ◌, Prelude.◌*ℤ◌, Prelude.◌≤ℤ◌, Prelude.neg_ℤ, Prelude.slice_set, Prelude.slice_index_or}
 use Rattle.lra_linear_spec.specs.Vectors.{product}
-use Rattle.std.specs.Int.{int_div_euclid}
-use Rattle.std.proofs.lemmas.Int.{ints, clamps}
-use Rattle.std.proofs.Math.Nat.{le-div_iff_mul-le, div-lt_iff_lt-mul, mul_comm}
-use Rattle.lra_box.specs.declared.interval.Interval.{Interval}
-use Rattle.lra_box.specs.declared.interval.Side.TheVariants.{Low, High}
-use Rattle.lra_box.specs.Bounds.{full_interval, BoundHolds, InInterval, InBounds}
-use Rattle.lra_box.specs.Sums.{end_sum_holds}
+use Rattle.lra_box.specs.{Bounds.full_interval, Bounds.BoundHolds, Bounds.InInterval, Bounds.InBounds, Refine.tightened, Refine.raised, Refine.lowered, Refine.others_most, Refine.refined}
+use Rattle.lra_box.specs.{Refine.RefinePasses, Sums.end_sum_holds, declared.interval.Interval.Interval, declared.interval.Side.TheVariants.Low, declared.interval.Side.TheVariants.High}
 use Rattle.lra_box.proofs.BoxLemmas.{in_length}
-use Rattle.std.proofs.Math.ListN.{length-set}
-use Rattle.std.proofs.Math.Nat.{suc-add}
-use Rattle.lra_box.specs.Refine.{tightened, raised, lowered, others_most, refined, RefinePasses}
 
 -- q * d <= a for the quotient q, and a < (q + 1) * d
 quotient : (a d : ℕ) → ((suc d) * (a / suc d) ≤ a) × (a < (suc d) * (a / suc d + 1))

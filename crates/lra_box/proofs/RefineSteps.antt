@@ -1,22 +1,15 @@
 -- A turn of the refinement.
 use Rattle.std.proofs.Common.{◌≡◌, ◌≢◌, ℕ, zero, suc, ◌+◌, ◌-◌, ◌<◌, ℤ, pos, Bool, true, false, cond, List, [], ◌∷◌, Option, None, Some, ◌⊎◌, inl, inr, length, refl, sym, ap, ◌∙◌, subst, arith}
-use Rattle.std.specs.Prelude.{◌+ℤ◌, ◌≤ℤ◌, slice_set, slice_index_or}
 use Rattle.std.proofs.lemmas.Bool.{false≢true}
+use Rattle.std.specs.Prelude.{◌+ℤ◌, ◌≤ℤ◌, slice_set, slice_index_or}
 use Rattle.lra_linear_spec.specs.Vectors.{product}
-use Rattle.lra_domain.specs.declared.Exactness.{Exactness}
-use Rattle.lra_domain.specs.declared.Exactness.TheVariants.{Exact, Flagged}
-use Rattle.lra_box.specs.declared.interval.Interval.{Interval}
-use Rattle.lra_box.specs.declared.interval.Side.TheVariants.{High}
+use Rattle.lra_domain.specs.{declared.Exactness.Exactness, declared.Exactness.TheVariants.Exact, declared.Exactness.TheVariants.Flagged}
 use Rattle.lra_box.specs.Bounds.{full_interval, crossed, InInterval, InBounds, EndsInRange, AllValidIntervals, SumPasses, IsBound}
-use Rattle.lra_box.specs.declared.ends.Bound.{Bound}
-use Rattle.lra_box.specs.Tables.{BoundsWithin, IntervalWithin}
-use Rattle.lra_box.specs.Answers.{TestedTo}
-use Rattle.lra_box.specs.Refine.{tightened, others_most, place_refined, refined, RefinePasses, TightAt}
-use Rattle.lra_box.proofs.BoxLemmas.{in_set}
-use Rattle.lra_box.proofs.RefineLemmas.{place_holds, none_stays, passes_stay}
-use Rattle.lra_box.proofs.SoundLemmas.{not_crossed, set_sound}
 use Rattle.lra_box.specs.Covering.{intervals_within_refl, low_within_refl, high_within_refl, within_refl, within_trans}
+use Rattle.lra_box.specs.Refine.{tightened, others_most, place_refined, refined, RefinePasses, TightAt}
+use Rattle.lra_box.specs.{Answers.TestedTo, Tables.BoundsWithin, Tables.IntervalWithin, declared.ends.Bound.Bound, declared.interval.Interval.Interval, declared.interval.Side.TheVariants.High}
 use Rattle.lra_box.proofs.MonotoneLemmas.{tightened_in, put_within, refine_place_within}
+use Rattle.lra_box.proofs.{BoxLemmas.in_set, RefineLemmas.place_holds, RefineLemmas.none_stays, RefineLemmas.passes_stay, SoundLemmas.not_crossed, SoundLemmas.set_sound}
 
 -- a place tightened by a computed bound of the others
 pub tight_of : (a : ℤ) (cs : List ℤ) (k : ℕ) (is : List Interval) (m : Bound) (i : Interval) → IsBound (others_most a cs k is) (SumPasses High a (slice_set cs k (pos 0)) is) m

@@ -1,27 +1,15 @@
 -- The rows of a box are in order, and are exactly its bounds.
-use Rattle.std.proofs.Common.{◌≡◌, ◌≢◌, ℕ, zero, suc, ◌+◌, ◌<◌, Bool, true, false, cond, ℤ, pos, negsuc, ◌<ℤ◌, List, [], ◌∷◌, ◌++◌, length, replicate}
-use Rattle.std.proofs.Common.{Option, None, Some, ◌⊎◌, inl, inr, ◌↔◌, refl, sym, ap, subst, ◌∙◌, arith}
-use Rattle.std.specs.Prelude.{neg_ℤ, slice_get, slice_set, unsigned_abs}
-use Rattle.std.specs.Ordering.{int_cmp, int_eq, nat_cmp, ordering_then}
-use Rattle.std.specs.Cmp.{nat_cmp_is}
-use Rattle.std.specs.Cmp.Lexicographic.{slice_cmp}
-use Rattle.std.specs.List.{Contains}
-use Rattle.std.specs.declared.cmp.Ordering.{Ordering}
-use Rattle.std.specs.declared.cmp.Ordering.TheVariants.{Less, Equal}
-use Rattle.std.proofs.lemmas.Int.{ints}
-use Rattle.std.proofs.lemmas.List.{length-replicate}
+use Rattle.std.proofs.Common.{◌≡◌, ◌≢◌, ℕ, zero, suc, ◌+◌, ◌<◌, Bool, true, false, cond, ℤ, pos, negsuc, ◌<ℤ◌, List, [], ◌∷◌, ◌++◌, length, replicate, Option, None, Some, ◌⊎◌, inl, inr, ◌↔◌, refl}
 use Rattle.std.proofs.lemmas.List.Elements.{Contains-append_cases, Contains-append_left, Contains-append_right}
-use Rattle.std.proofs.lemmas.Option.{slice_get_within}
+use Rattle.std.proofs.{Common.sym, Common.ap, Common.subst, Common.◌∙◌, Common.arith, lemmas.Int.ints, lemmas.List.length-replicate, lemmas.Option.slice_get_within}
+use Rattle.std.specs.{Cmp.nat_cmp_is, Cmp.Lexicographic.slice_cmp, List.Contains, Ordering.int_cmp, Ordering.int_eq, Ordering.nat_cmp, Ordering.ordering_then, Prelude.neg_ℤ, Prelude.slice_get}
+use Rattle.std.specs.{Prelude.slice_set, Prelude.unsigned_abs, declared.cmp.Ordering.Ordering, declared.cmp.Ordering.TheVariants.Less, declared.cmp.Ordering.TheVariants.Equal}
 use Rattle.lra_linear_spec.specs.Echelon.{Before, IsEchelon, HasPivot, lead_from, pivot}
-use Rattle.lra_linear_spec.specs.LowestTerms.{IsPrimitive}
-use Rattle.lra_linear_spec.specs.RowOrder.{Ascends, inequality_cmp}
-use Rattle.lra_linear_spec.specs.Vectors.{entry}
-use Rattle.lra_linear_spec.proofs.LowestTerms.{primitive_at}
+use Rattle.lra_linear_spec.specs.{LowestTerms.IsPrimitive, RowOrder.Ascends, RowOrder.inequality_cmp, Vectors.entry}
 use Rattle.lra_linear_spec.proofs.Membership.{contains_cases, contains_head, contains_none, contains_tail}
-use Rattle.lra_linear_spec.proofs.Products.{entry_set_other, entry_set_same}
-use Rattle.lra_box.specs.declared.interval.Interval.{Interval}
-use Rattle.lra_box.specs.ExactRows.{IsEqualityRow, IsInequalityRow, IsOfEnd}
+use Rattle.lra_linear_spec.proofs.{LowestTerms.primitive_at, Products.entry_set_other, Products.entry_set_same}
 use Rattle.lra_box.specs.Parts.{bound_row, box_equalities, high_rows, is_single, low_rows, box_inequalities}
+use Rattle.lra_box.specs.{ExactRows.IsEqualityRow, ExactRows.IsInequalityRow, ExactRows.IsOfEnd, declared.interval.Interval.Interval}
 
 -- ---- the entries of a bound's row
 

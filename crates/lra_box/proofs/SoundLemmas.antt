@@ -1,19 +1,14 @@
 -- Intervals in order hold some number, and the tables keep them in order.
 use Rattle.std.proofs.Common.{◌≡◌, ℕ, zero, suc, Bool, true, false, cond, ℤ, pos, List, [], ◌∷◌, ◌++◌, take, replicate, Option, None, Some, IfSome, refl, arith}
-use Rattle.std.specs.Prelude.{slice_set, slice_index_or, int_lt, IsTrue, ◌↔◌, not, is_some, Vec}
-use Rattle.std.specs.declared.alloc.Global.{Global}
 use Rattle.std.proofs.lemmas.Int.{ints, clamps}
+use Rattle.std.specs.{Prelude.slice_set, Prelude.slice_index_or, Prelude.int_lt, Prelude.IsTrue, Prelude.◌↔◌, Prelude.not, Prelude.is_some, Prelude.Vec, declared.alloc.Global.Global}
 use Rattle.lra_linear_spec.specs.Range.{InRange}
-use Rattle.lra_domain.specs.declared.Mode.{Mode}
 use Rattle.lra_domain.specs.declared.Mode.TheVariants.{Join, Widen, Limited, Tightest}
-use Rattle.lra_domain.specs.Bounds.{greater, stable, lesser_low}
-use Rattle.lra_box.specs.declared.interval.Interval.{Interval}
-use Rattle.lra_box.specs.declared.interval.Side.TheVariants.{Low, High}
+use Rattle.lra_domain.specs.{Bounds.greater, Bounds.stable, Bounds.lesser_low, declared.Mode.Mode}
 use Rattle.lra_box.specs.Bounds.{BoundHolds, InInterval, InBounds, full_interval, crossed, crossed_ends, EndsInRange, IsValidInterval, AllValidIntervals}
-use Rattle.lra_box.specs.Content.{BoundsAreValid, bounds_view}
 use Rattle.lra_box.specs.Tables.{has_bounds, joined_interval, joined_intervals, joined_bounds, widened_low, widened_intervals, widened_bounds, grown_bounds}
-use Rattle.lra_box.proofs.BoxLemmas.{low_left, high_left}
-use Rattle.lra_box.proofs.BoundLemmas.{widen_low_old, widen_high_old}
+use Rattle.lra_box.specs.{Content.BoundsAreValid, Content.bounds_view, declared.interval.Interval.Interval, declared.interval.Side.TheVariants.Low, declared.interval.Side.TheVariants.High}
+use Rattle.lra_box.proofs.{BoundLemmas.widen_low_old, BoundLemmas.widen_high_old, BoxLemmas.low_left, BoxLemmas.high_left}
 
 -- an interval that isn't crossed holds a number
 pub some_number : (i : Interval) → crossed i ≡ false → (x : ℤ) × InInterval i x

@@ -1,14 +1,9 @@
 -- What forgetting, embedding and removal keep.
 use Rattle.std.proofs.Common.{◌≡◌, ℕ, zero, suc, ◌+◌, ◌-◌, ◌≤◌, ℤ, List, [], ◌∷◌, ◌++◌, length, take, replicate, Option, None, Some, refl, ap, ◌∙◌, arith, length-append}
-use Rattle.std.specs.Prelude.{slice_set}
 use Rattle.std.proofs.Math.ListN.{length-set}
-use Rattle.lra_box.specs.declared.interval.Interval.{Interval}
-use Rattle.lra_box.specs.Bounds.{InBounds, full_interval}
-use Rattle.lra_box.specs.Content.{BoundsFit, BoundsAreValid}
-use Rattle.lra_box.specs.Tables.{has_bounds, on_bounds}
-use Rattle.lra_box.specs.Covering.{in_open}
-use Rattle.lra_box.proofs.BoxLemmas.{in_length}
-use Rattle.lra_box.proofs.SoundLemmas.{set_sound, open_sound, take_sound, append_sound, open_all_sound}
+use Rattle.std.specs.Prelude.{slice_set}
+use Rattle.lra_box.specs.{Bounds.InBounds, Bounds.full_interval, Content.BoundsFit, Content.BoundsAreValid, Covering.in_open, Tables.has_bounds, Tables.on_bounds, declared.interval.Interval.Interval}
+use Rattle.lra_box.proofs.{BoxLemmas.in_length, SoundLemmas.set_sound, SoundLemmas.open_sound, SoundLemmas.take_sound, SoundLemmas.append_sound, SoundLemmas.open_all_sound}
 
 pub set_fit : (n x : ℕ) (i : Interval) (b : Option (List Interval)) → BoundsFit n b → BoundsFit n (on_bounds (λ is. slice_set is x i) b)
 set_fit n x i None f = tt

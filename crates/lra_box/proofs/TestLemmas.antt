@@ -1,19 +1,13 @@
 -- Tests of the constant alone, and equalities as two tests.
 use Rattle.std.proofs.Common.{◌≡◌, ℕ, zero, suc, ℤ, pos, negsuc, List, [], ◌∷◌, length, map, Option, None, Bool, true, false, cond, ◌⊎◌, inl, inr, refl, sym, ap, ◌∙◌, arith}
+use Rattle.std.proofs.{lemmas.Bool.false≢true, lemmas.Int.ints}
 use Rattle.std.specs.Prelude.{◌+ℤ◌, ◌*ℤ◌, ◌≤ℤ◌, neg_ℤ, int_lt}
-use Rattle.std.proofs.lemmas.Int.{ints}
-use Rattle.std.proofs.lemmas.Bool.{false≢true}
-use Rattle.lra_linear_spec.specs.Vectors.{product}
+use Rattle.lra_linear_spec.specs.{Vectors.product, declared.ConKind.TheVariants.Eq}
 use Rattle.lra_linear_forms.specs.Form.{Form, form_value, HoldsAt}
-use Rattle.lra_linear_spec.specs.declared.ConKind.TheVariants.{Eq}
 use Rattle.lra_linear_forms.proofs.FormLemmas.{product_negated}
-use Rattle.lra_domain.specs.declared.Exactness.{Exactness}
-use Rattle.lra_domain.specs.declared.Exactness.TheVariants.{Exact, Flagged}
-use Rattle.lra_box.specs.declared.interval.Interval.{Interval}
-use Rattle.lra_box.specs.Content.{BoundsAreValid}
+use Rattle.lra_domain.specs.{declared.Exactness.Exactness, declared.Exactness.TheVariants.Exact, declared.Exactness.TheVariants.Flagged}
 use Rattle.lra_box.specs.Refine.{refined, some_occurs, ge_tested, tested, RefinePasses, TestPasses}
-use Rattle.lra_box.specs.Answers.{TestedTo}
-use Rattle.lra_box.specs.Covering.{within_refl, within_trans}
+use Rattle.lra_box.specs.{Answers.TestedTo, Content.BoundsAreValid, Covering.within_refl, Covering.within_trans, declared.interval.Interval.Interval}
 use Rattle.lra_box.proofs.MonotoneLemmas.{ge_tested_within}
 
 refined_none : (a : ℤ) (cs : List ℤ) (k : ℕ) → refined a cs k None ≡ None

@@ -1,13 +1,9 @@
 -- What a tightened interval is for a factor above or below zero, and that its ends stay in range.
 use Rattle.std.proofs.Common.{◌≡◌, zero, suc, ℤ, pos, negsuc, Option, None, Some, true, refl, sym, ap, subst, ◌∙◌, arith, FitsSigned}
-use Rattle.std.specs.Prelude.{◌<ℤ◌, ◌-ℤ◌, neg_ℤ, int_lt, IfSome}
-use Rattle.std.specs.Int.{w128, cast_signed, cast_unsigned, int_div_euclid}
-use Rattle.std.proofs.lemmas.Int.{ints, clamps, to_z-of_z}
-use Rattle.std.proofs.Math.Nat.{div-le_self}
+use Rattle.std.proofs.{Math.Nat.div-le_self, lemmas.Int.ints, lemmas.Int.clamps, lemmas.Int.to_z-of_z}
+use Rattle.std.specs.{Int.w128, Int.cast_signed, Int.cast_unsigned, Int.int_div_euclid, Prelude.◌<ℤ◌, Prelude.◌-ℤ◌, Prelude.neg_ℤ, Prelude.int_lt, Prelude.IfSome}
 use Rattle.lra_linear_spec.specs.Range.{InRange}
-use Rattle.lra_box.specs.declared.interval.Interval.{Interval}
-use Rattle.lra_box.specs.Bounds.{EndsInRange}
-use Rattle.lra_box.specs.Refine.{lowered, raised, tightened}
+use Rattle.lra_box.specs.{Bounds.EndsInRange, Refine.lowered, Refine.raised, Refine.tightened, declared.interval.Interval.Interval}
 
 -- a number as 128 bits hold it
 abbrev pub stored : ℤ → ℤ

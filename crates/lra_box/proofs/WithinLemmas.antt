@@ -1,13 +1,10 @@
 -- Being within is kept by the tables of a test.
 use Rattle.std.proofs.Common.{◌≡◌, ℕ, zero, suc, ℤ, List, [], ◌∷◌, length, Option, None, Some, true, refl, ap, arith}
+use Rattle.std.proofs.{lemmas.Bool.false≢true, lemmas.Int.ints, lemmas.Int.clamps}
 use Rattle.std.specs.Prelude.{slice_set, slice_index_or}
-use Rattle.std.proofs.lemmas.Int.{ints, clamps}
-use Rattle.std.proofs.lemmas.Bool.{false≢true}
-use Rattle.lra_box.specs.declared.interval.Interval.{Interval}
-use Rattle.lra_box.specs.Bounds.{full_interval, crossed, crossed_ends}
-use Rattle.lra_box.specs.Content.{BoundsFit}
-use Rattle.lra_box.specs.Tables.{joined_intervals, joined_bounds, LowWithin, IntervalWithin, IntervalsWithin, BoundsWithin}
 use Rattle.lra_box.specs.Covering.{low_within_refl, high_within_refl, intervals_within_refl, within_refl}
+use Rattle.lra_box.specs.Tables.{joined_intervals, joined_bounds, LowWithin, IntervalWithin, IntervalsWithin, BoundsWithin}
+use Rattle.lra_box.specs.{Bounds.full_interval, Bounds.crossed, Bounds.crossed_ends, Content.BoundsFit, declared.interval.Interval.Interval}
 use Rattle.lra_domain.specs.Bounds.{AtMost, greater, lesser_low}
 
 pub set_within : (is js : List Interval) (k : ℕ) (i j : Interval) → IntervalsWithin is js → IntervalWithin i j → IntervalsWithin (slice_set is k i) (slice_set js k j)

@@ -1,16 +1,11 @@
 -- The meaning of boxes.
 use Rattle.std.specs.Prelude.{◌≡◌, ◌≤◌, ℕ, ℤ, List, length, replicate, Some, None, ⊤}
 use Rattle.lra_domain.specs.Actions.{Action, HoldsStores, KeepsStores}
-use Rattle.lra_domain.specs.declared.Included.{Included}
 use Rattle.lra_domain.specs.declared.Included.TheVariants.{Yes, No, Wide}
-use Rattle.lra_domain.specs.Abstraction.{Abstraction}
-use Rattle.lra_box.specs.Bounds.{full_interval}
-use Rattle.lra_box.specs.Extremes.{AssignsExtremes}
-use Rattle.lra_box.specs.Content.{WellFormedBox, BoxContent}
-use Rattle.lra_box.specs.Ends.{BoundsTell}
+use Rattle.lra_domain.specs.{Abstraction.Abstraction, declared.Included.Included}
 use Rattle.lra_box.specs.Tables.{has_bounds, stepped, BoxTransferPasses, joined_bounds, BoundsWithin, grown_bounds}
-use Rattle.lra_box.specs.Tables.{rank_of}
-use Rattle.lra_box.specs.Parts.{box_parts}
+use Rattle.lra_box.specs.{Bounds.full_interval, Content.WellFormedBox, Content.BoxContent, Ends.BoundsTell}
+use Rattle.lra_box.specs.{Extremes.AssignsExtremes, Parts.box_parts, Tables.rank_of}
 
 -- the table's result; of an assignment with the form's least and greatest value
 pub record BoxTransfersTo (step : Action) (old new : BoxContent) : Type 0 where

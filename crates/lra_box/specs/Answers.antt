@@ -1,13 +1,11 @@
 -- What the changes of bounds answer.
 use Rattle.std.specs.Prelude.{◌≡◌, ℕ, ℤ, List, slice_set, Option}
 use Rattle.lra_linear_forms.specs.Form.{Form, form_value}
-use Rattle.lra_domain.specs.declared.Exactness.{Exactness}
 use Rattle.lra_domain.specs.declared.Exactness.TheVariants.{Exact, Flagged}
-use Rattle.lra_domain.specs.Actions.{assign}
-use Rattle.lra_box.specs.declared.interval.Interval.{Interval}
+use Rattle.lra_domain.specs.{Actions.assign, declared.Exactness.Exactness}
 use Rattle.lra_box.specs.Content.{BoundsFit, BoundsAreValid}
 use Rattle.lra_box.specs.Tables.{has_bounds, on_bounds, assigned_bounds, AssignPasses, BoundsWithin}
-use Rattle.lra_box.specs.Extremes.{AssignsExtremes}
+use Rattle.lra_box.specs.{Extremes.AssignsExtremes, declared.interval.Interval.Interval}
 
 -- bounds tested to new ones: the table's unless flagged, and wider ones with each store that passes then
 pub record TestedTo (table : Option (List Interval)) (passes : Type 0) (keeps : List ℤ → Type 0)

@@ -4,10 +4,8 @@ use Rattle.std.specs.Prelude.{Option, None, Some, option_and_then, IfSome, IsSom
 use Rattle.lra_linear_spec.specs.Range.{InRange}
 use Rattle.lra_linear_forms.specs.Form.{Form, form_value}
 use Rattle.lra_domain.specs.declared.Exactness.TheVariants.{Exact, Flagged}
-use Rattle.lra_box.specs.declared.interval.Interval.{Interval}
-use Rattle.lra_box.specs.declared.interval.Side.{Side}
 use Rattle.lra_box.specs.declared.interval.Side.TheVariants.{Low, High}
-use Rattle.lra_box.specs.declared.ends.Bound.{Bound}
+use Rattle.lra_box.specs.{declared.ends.Bound.Bound, declared.interval.Interval.Interval, declared.interval.Side.Side}
 
 -- the bound, where there is one, holds of the number
 abbrev pub BoundHolds : Side → Option ℤ → ℤ → Type 0

@@ -1,9 +1,7 @@
 -- What a box holds.
 use Rattle.std.specs.Prelude.{◌≡◌, ℕ, List, length, Option, None, Some, Vec}
-use Rattle.std.specs.declared.alloc.Global.{Global}
-use Rattle.std.specs.Option.{option_map}
-use Rattle.lra_box.specs.Bounds.{AllValidIntervals}
-use Rattle.lra_box.specs.declared.interval.Interval.{Interval}
+use Rattle.std.specs.{Option.option_map, declared.alloc.Global.Global}
+use Rattle.lra_box.specs.{Bounds.AllValidIntervals, declared.interval.Interval.Interval}
 
 -- the dimensions of a box, and its intervals, or none where it is empty
 pub record BoxContent : Type 0 where

@@ -2,11 +2,10 @@
 -- wider than both.
 use Rattle.std.proofs.Common.{◌≡◌, ℕ, zero, suc, ℤ, List, [], ◌∷◌, length, replicate, Option, None, Some, arith}
 use Rattle.std.proofs.lemmas.Int.{ints, clamps}
-use Rattle.lra_box.specs.declared.interval.Interval.{Interval}
-use Rattle.lra_box.specs.declared.interval.Side.TheVariants.{Low, High}
-use Rattle.lra_box.specs.Bounds.{BoundHolds, InBounds, full_interval}
 use Rattle.lra_box.specs.Tables.{has_bounds, joined_interval, joined_intervals, joined_bounds, LowWithin}
 use Rattle.lra_box.specs.Tables.{IntervalWithin, IntervalsWithin, BoundsWithin}
+use Rattle.lra_box.specs.declared.interval.Side.TheVariants.{Low, High}
+use Rattle.lra_box.specs.{Bounds.BoundHolds, Bounds.InBounds, Bounds.full_interval, declared.interval.Interval.Interval}
 use Rattle.lra_domain.specs.Bounds.{AtMost, greater, lesser_low}
 
 -- bounds that are all absent hold of every number

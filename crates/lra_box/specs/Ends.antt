@@ -3,10 +3,9 @@
 use Rattle.std.specs.Prelude.{◌≡◌, ◌⊎◌, ℤ, ◌+ℤ◌, List, Option, None, Some}
 use Rattle.lra_linear_spec.specs.Range.{InRange}
 use Rattle.lra_linear_forms.specs.Form.{Form}
-use Rattle.lra_box.specs.declared.interval.Interval.{Interval}
-use Rattle.lra_box.specs.declared.interval.Side.{Side}
-use Rattle.lra_box.specs.declared.interval.Side.TheVariants.{Low, High}
 use Rattle.lra_box.specs.Bounds.{EndProductPasses, SumPasses, end_product, end_sum}
+use Rattle.lra_box.specs.declared.interval.Side.TheVariants.{Low, High}
+use Rattle.lra_box.specs.{declared.interval.Interval.Interval, declared.interval.Side.Side}
 
 -- the end of a sum that begins with a number: the table's, or none where a product or a partial sum passes
 abbrev pub IsEndFrom : Side → ℤ → List ℤ → List Interval → Option ℤ → Type 0

@@ -1,7 +1,6 @@
 -- Which rows a box has, said of its bounds alone.
 use Rattle.std.specs.Prelude.{◌≡◌, ◌⊎◌, ℕ, ℤ, pos, negsuc, neg_ℤ, List, Some, true, false, slice_get}
-use Rattle.lra_box.specs.declared.interval.Interval.{Interval}
-use Rattle.lra_box.specs.Parts.{bound_row, is_single}
+use Rattle.lra_box.specs.{Parts.bound_row, Parts.is_single, declared.interval.Interval.Interval}
 
 -- x = l, where both bounds of x are l
 pub record IsEqualityRow (n : ℕ) (is : List Interval) (r : List ℤ) : Type 0 where

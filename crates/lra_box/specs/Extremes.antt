@@ -1,9 +1,8 @@
 -- What the bounds of an assignment are.
 use Rattle.std.specs.Prelude.{List, slice_index_or, Option, None, Some}
 use Rattle.lra_domain.specs.Actions.{Action, assign, forget, test, embed, remove_last}
-use Rattle.lra_box.specs.declared.interval.Interval.{Interval}
 use Rattle.lra_box.specs.declared.interval.Side.TheVariants.{Low, High}
-use Rattle.lra_box.specs.Bounds.{full_interval, IsExtreme}
+use Rattle.lra_box.specs.{Bounds.full_interval, Bounds.IsExtreme, declared.interval.Interval.Interval}
 
 -- the bounds that an assignment gives are the least and the greatest value of its form over the old box
 abbrev pub AssignsExtremes : Action → Option (List Interval) → Option (List Interval) → Type 0

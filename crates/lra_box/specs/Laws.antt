@@ -1,22 +1,16 @@
 -- The laws of boxes.
 use Rattle.std.proofs.Common.{◌≡◌, ◌≤◌, ℕ, ℤ, List, [], length, Option, None, Some, refl, ap, sym, subst, ◌∙◌, arith}
-use Rattle.std.proofs.Common.{inl, inr, pos, replicate}
-use Rattle.std.proofs.lemmas.List.{length-replicate}
+use Rattle.std.proofs.{Common.inl, Common.inr, Common.pos, Common.replicate, lemmas.List.length-replicate}
 use Rattle.lra_linear_forms.specs.Form.{Form, form_value}
-use Rattle.lra_domain.specs.Actions.{Within}
 use Rattle.lra_domain.specs.Bounds.{IsLowerBound, IsBetween, IsUpperBound}
-use Rattle.lra_domain.specs.Laws.{Laws, BaseLaws, SingleLaws}
-use Rattle.lra_box.specs.declared.interval.Interval.{Interval}
-use Rattle.lra_box.specs.declared.interval.Side.{Side}
-use Rattle.lra_box.specs.declared.interval.Side.TheVariants.{Low, High}
-use Rattle.lra_box.specs.Bounds.{BoundHolds, InBounds}
-use Rattle.lra_box.specs.Content.{BoundsFit, WellFormedBox, BoxContent}
-use Rattle.lra_box.specs.Ends.{BoundsTell, IsEnd}
-use Rattle.lra_box.specs.Sums.{end_sum_holds}
-use Rattle.lra_box.specs.Tables.{has_bounds, BoundsWithin}
-use Rattle.lra_box.specs.Parts.{box_parts}
-use Rattle.lra_box.specs.Covering.{in_open, has_wider, within_refl, within_trans, least_within}
+use Rattle.lra_domain.specs.{Actions.Within, Laws.Laws, Laws.BaseLaws, Laws.SingleLaws}
 use Rattle.lra_box.specs.Abstraction.{BoxGamma, BoxWithin, top_box, box_abstraction}
+use Rattle.lra_box.specs.Content.{BoundsFit, WellFormedBox, BoxContent}
+use Rattle.lra_box.specs.Covering.{in_open, has_wider, within_refl, within_trans, least_within}
+use Rattle.lra_box.specs.Tables.{has_bounds, BoundsWithin}
+use Rattle.lra_box.specs.declared.interval.Side.TheVariants.{Low, High}
+use Rattle.lra_box.specs.{Bounds.BoundHolds, Bounds.InBounds, Ends.BoundsTell, Ends.IsEnd, Parts.box_parts}
+use Rattle.lra_box.specs.{Sums.end_sum_holds, declared.interval.Interval.Interval, declared.interval.Side.Side}
 
 whole_has : (n : ℕ) (b : BoxContent) → b ≡ top_box n → (s : List ℤ) → length s ≡ n → BoxGamma b s
 whole_has n b e s l = subst (λ (c : BoxContent). BoxGamma c s) (sym e) (l, in_open s n l)

@@ -1,8 +1,7 @@
 -- The rows that mean a box: `x = l` where both bounds are equal, else its finite bounds as inequalities; the equalities
 -- first.
 use Rattle.std.specs.Prelude.{ℕ, suc, ℤ, pos, negsuc, neg_ℤ, List, [], ◌∷◌, ◌++◌, length, replicate, slice_set, Option}
-use Rattle.std.specs.Prelude.{None, Some, Bool, false, if◌then◌else◌}
-use Rattle.std.specs.Ordering.{int_eq}
+use Rattle.std.specs.{Ordering.int_eq, Prelude.None, Prelude.Some, Prelude.Bool, Prelude.false, Prelude.if◌then◌else◌}
 use Rattle.lra_systems.specs.LinearSystems.{LinearSystem}
 use Rattle.lra_linear_spec.specs.declared.ConKind.{ConKind}
 use Rattle.lra_linear_spec.specs.declared.ConKind.TheVariants.{Ge, Eq}

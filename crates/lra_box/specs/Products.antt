@@ -1,8 +1,7 @@
 -- Products of whole numbers grow or fall with a factor.
 use Rattle.std.proofs.Common.{ℕ, suc, ◌≤◌, ℤ, pos, negsuc, arith}
+use Rattle.std.proofs.{Math.Nat.mul-le-mul_left, lemmas.Int.ints}
 use Rattle.std.specs.Prelude.{◌*ℤ◌, ◌≤ℤ◌}
-use Rattle.std.proofs.lemmas.Int.{ints}
-use Rattle.std.proofs.Math.Nat.{mul-le-mul_left}
 
 -- a product grows with its second factor, where the first is not negative
 pub mul_grows : (c : ℕ) (l x : ℤ) → l ≤ℤ x → (pos c *ℤ l) ≤ℤ (pos c *ℤ x)

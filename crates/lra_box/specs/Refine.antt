@@ -1,15 +1,14 @@
 -- A test refines the bounds, variable by variable.
+use Rattle.std.specs.Int.{int_min, int_max, int_div_euclid}
 use Rattle.std.specs.Prelude.{◌≡◌, ◌≢◌, ℕ, zero, suc, ℤ, pos, negsuc, neg_ℤ, List, [], ◌∷◌, map, length, slice_set}
 use Rattle.std.specs.Prelude.{slice_index_or, Option, None, Some, ◌⊎◌, int_lt, Bool, true, false, if◌then◌else◌}
-use Rattle.std.specs.Int.{int_min, int_max, int_div_euclid}
 use Rattle.lra_linear_forms.specs.Form.{Form}
 use Rattle.lra_linear_spec.specs.declared.ConKind.{ConKind}
 use Rattle.lra_linear_spec.specs.declared.ConKind.TheVariants.{Ge, Eq}
 use Rattle.lra_domain.specs.declared.Exactness.{Exactness}
 use Rattle.lra_domain.specs.declared.Exactness.TheVariants.{Exact, Flagged}
-use Rattle.lra_box.specs.declared.interval.Interval.{Interval}
-use Rattle.lra_box.specs.declared.interval.Side.TheVariants.{High}
 use Rattle.lra_box.specs.Bounds.{full_interval, crossed, end_sum, SumPasses, EndsInRange}
+use Rattle.lra_box.specs.{declared.interval.Interval.Interval, declared.interval.Side.TheVariants.High}
 
 -- the greater of a bound, if there is one, and a number; the lesser
 abbrev pub raised : Option ℤ → ℤ → ℤ

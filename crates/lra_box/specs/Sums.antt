@@ -1,14 +1,12 @@
 -- The ends of a form over a box bound its values.
 use Rattle.std.proofs.Common.{◌≡◌, ℕ, zero, suc, ℤ, pos, negsuc, List, [], ◌∷◌, length, Option, None, Some, inr, refl}
-use Rattle.std.proofs.Common.{arith}
+use Rattle.std.proofs.{Common.arith, lemmas.Int.ints}
 use Rattle.std.specs.Prelude.{◌+ℤ◌, ◌*ℤ◌, option_and_then}
-use Rattle.std.proofs.lemmas.Int.{ints}
 use Rattle.lra_linear_spec.specs.Vectors.{product}
-use Rattle.lra_box.specs.Products.{mul_grows, mul_falls}
-use Rattle.lra_box.specs.declared.interval.Interval.{Interval}
-use Rattle.lra_box.specs.declared.interval.Side.{Side}
-use Rattle.lra_box.specs.declared.interval.Side.TheVariants.{Low, High}
 use Rattle.lra_box.specs.Bounds.{BoundHolds, InInterval, InBounds, times, end_product, end_sum, SumPasses}
+use Rattle.lra_box.specs.Products.{mul_grows, mul_falls}
+use Rattle.lra_box.specs.declared.interval.Side.TheVariants.{Low, High}
+use Rattle.lra_box.specs.{declared.interval.Interval.Interval, declared.interval.Side.Side}
 
 zero_product : (side : Side) (x : ℤ) → BoundHolds side (Some (pos 0)) (pos 0 *ℤ x)
 zero_product Low x = grind (arith, ints)

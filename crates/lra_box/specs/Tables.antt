@@ -3,15 +3,12 @@ use Rattle.std.specs.Prelude.{ℕ, ◌+◌, ◌*◌, ◌-◌, ℤ, ◌≤ℤ◌,
 use Rattle.std.specs.Prelude.{Option, None, Some, ◌⊎◌, slice_index_or}
 use Rattle.lra_linear_forms.specs.Form.{Form}
 use Rattle.lra_domain.specs.Actions.{Action, assign, forget, test, embed, remove_last}
-use Rattle.lra_domain.specs.declared.Mode.{Mode}
-use Rattle.lra_domain.specs.declared.Mode.TheVariants.{Join, Widen, Limited, Tightest}
-use Rattle.lra_domain.specs.declared.Rank.{Rank}
 use Rattle.lra_domain.specs.Bounds.{AtMost, finite, greater, lesser_low, stable}
-use Rattle.lra_box.specs.declared.interval.Interval.{Interval}
-use Rattle.lra_box.specs.declared.interval.Side.TheVariants.{Low, High}
+use Rattle.lra_domain.specs.declared.Mode.TheVariants.{Join, Widen, Limited, Tightest}
+use Rattle.lra_domain.specs.{declared.Mode.Mode, declared.Rank.Rank}
 use Rattle.lra_box.specs.Bounds.{full_interval, InBounds, end_sum, SumPasses}
-use Rattle.lra_box.specs.Content.{BoxContent}
-use Rattle.lra_box.specs.Refine.{tested, TestPasses}
+use Rattle.lra_box.specs.declared.interval.Side.TheVariants.{Low, High}
+use Rattle.lra_box.specs.{Content.BoxContent, Refine.tested, Refine.TestPasses, declared.interval.Interval.Interval}
 
 -- the list is a store of the box
 abbrev pub has_bounds : Option (List Interval) → List ℤ → Type 0

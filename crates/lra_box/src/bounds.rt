@@ -2,17 +2,13 @@
 
 ghost use Rattle.std.specs.Prelude.{◌≡◌, ◌+◌, ◌-◌, pos, neg_ℤ, ◌+ℤ◌, ◌≤ℤ◌, ◌≤◌, ◌<◌, ◌^◌, ◌++◌, All, IfOk, OnErr, OnOk};
 ghost use Rattle.std.specs.Prelude.{IsTrue, ◌↔◌, None, Some, length, map, replicate, slice_set, take, List};
-ghost use Rattle.lra_linear_spec.specs.Range.{InRange};
-ghost use Rattle.lra_linear_spec.specs.Vectors.{product};
+ghost use Rattle.lra_linear_spec.specs.{Range.InRange, Vectors.product};
 ghost use Rattle.lra_linear_forms.specs.Form.{HoldsAt};
-ghost use Rattle.lra_box.specs.declared.interval.Interval.{Interval};
-ghost use Rattle.lra_box.specs.Bounds.{form, full_interval};
-ghost use Rattle.lra_box.specs.Content.{bounds_view, BoundsFit, BoundsAreValid};
 ghost use Rattle.lra_box.specs.Refine.{ge_tested, tested, RefinePasses, TestPasses};
-ghost use Rattle.lra_box.specs.Tables.{on_bounds, joined_bounds, widened_bounds, grown_bounds, BoundsWithin};
-ghost use Rattle.lra_box.specs.Tables.{admitting, bound_at, rank_number};
-ghost use Rattle.lra_box.specs.Answers.{AssignedTo, TestedTo};
-ghost use Rattle.lra_box.specs.Ends.{BoundsTell};
+ghost use Rattle.lra_box.specs.Tables.{on_bounds, joined_bounds, widened_bounds, grown_bounds, BoundsWithin, admitting};
+ghost use Rattle.lra_box.specs.{Answers.AssignedTo, Answers.TestedTo, Bounds.form, Bounds.full_interval};
+ghost use Rattle.lra_box.specs.{Content.bounds_view, Content.BoundsFit, Content.BoundsAreValid, Ends.BoundsTell};
+ghost use Rattle.lra_box.specs.{Tables.bound_at, Tables.rank_number, declared.interval.Interval.Interval};
 
 use crate::ends::form_end;
 use crate::interval::{Interval, Side};

@@ -1,11 +1,10 @@
 //! Boxes as a domain.
 
-ghost use Rattle.std.specs.Prelude.{◌≡◌, ◌↔◌, ◌≤◌, ◌<◌, ◌^◌, refl, IsTrue, ℤ, List, [], None, Some};
-ghost use Rattle.std.specs.Prelude.{slice_get, slice_set};
-ghost use Rattle.lra_box.specs.declared.interval.Interval.{Interval};
-ghost use Rattle.lra_box.specs.Bounds.{EndsInRange, InInterval};
-ghost use Rattle.lra_box.specs.Tables.{admitted, bound_at};
+ghost use Rattle.std.specs.Prelude.{◌≡◌, ◌↔◌, ◌≤◌, ◌<◌, ◌^◌, refl, IsTrue, ℤ, List, [], None, Some, slice_get};
+ghost use Rattle.std.specs.Prelude.{slice_set};
 ghost use Rattle.lra_box.specs.Abstraction.{box_abstraction, BoxGamma};
+ghost use Rattle.lra_box.specs.Bounds.{EndsInRange, InInterval};
+ghost use Rattle.lra_box.specs.{Tables.admitted, Tables.bound_at, declared.interval.Interval.Interval};
 
 use crate::bounds::{
     Bounds, admit_in, assign_in, bounds_of, copy_bounds, embed_in, find_bound, forget_in,

@@ -2,9 +2,8 @@
 
 ghost use Rattle.std.specs.Prelude.{◌≡◌, ◌↔◌, IsTrue, IfSome};
 ghost use Rattle.lra_linear_spec.specs.Range.{InRange};
-ghost use Rattle.lra_box.specs.Bounds.{crossed, EndsInRange};
-ghost use Rattle.lra_box.specs.Refine.{raised, lowered, tightened};
 ghost use Rattle.lra_box.specs.Tables.{joined_interval, widened_low, IntervalWithin, LowWithin};
+ghost use Rattle.lra_box.specs.{Bounds.crossed, Bounds.EndsInRange, Refine.raised, Refine.lowered, Refine.tightened};
 
 use lra_domain::bounds::{is_at_most, join_highs, join_lows};
 

@@ -2,9 +2,8 @@
 
 ghost use Rattle.std.specs.Prelude.{◌≡◌, ◌≤◌, ◌<◌, ◌^◌, IfOk, IsTrue, ◌↔◌, Some, length};
 ghost use Rattle.lra_linear_spec.specs.Range.{InRange};
-ghost use Rattle.lra_box.specs.Bounds.{AllValidIntervals, form};
 ghost use Rattle.lra_box.specs.Tables.{joined_intervals, widened_intervals, IntervalsWithin, finite_bounds};
-ghost use Rattle.lra_box.specs.Answers.{AssignedTo};
+ghost use Rattle.lra_box.specs.{Answers.AssignedTo, Bounds.AllValidIntervals, Bounds.form};
 
 use crate::ends::sum_end;
 use crate::interval::{Interval, Side, widen_lows};

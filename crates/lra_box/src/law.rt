@@ -1,12 +1,9 @@
 //! A law: the function does nothing, and its contract is the theorem.
 
-ghost use Rattle.std.specs.Prelude.{◌↔◌, ℕ, ℤ, List, length};
-ghost use Rattle.std.specs.List.{Contains};
-ghost use Rattle.lra_linear_spec.specs.Echelon.{IsEchelon};
-ghost use Rattle.lra_linear_spec.specs.RowOrder.{Ascends, inequality_cmp};
-ghost use Rattle.lra_box.specs.declared.interval.Interval.{Interval};
+ghost use Rattle.std.specs.{List.Contains, Prelude.◌↔◌, Prelude.ℕ, Prelude.ℤ, Prelude.List, Prelude.length};
+ghost use Rattle.lra_linear_spec.specs.{Echelon.IsEchelon, RowOrder.Ascends, RowOrder.inequality_cmp};
 ghost use Rattle.lra_box.specs.ExactRows.{IsEqualityRow, IsInequalityRow};
-ghost use Rattle.lra_box.specs.Parts.{box_equalities, box_inequalities};
+ghost use Rattle.lra_box.specs.{Parts.box_equalities, Parts.box_inequalities, declared.interval.Interval.Interval};
 
 /// The rows of a box are in order, and are exactly its finite bounds; two equal ones are one equality.
 pub fn box_rows_are_bounds()

@@ -4,9 +4,8 @@ ghost use Rattle.std.specs.Prelude.{◌≡◌, ◌^◌, ◌≤◌, ◌<◌, ◌+
 ghost use Rattle.std.specs.Prelude.{if◌then◌else◌};
 ghost use Rattle.lra_linear_spec.specs.Range.{InRange};
 ghost use Rattle.lra_linear_spec.specs.declared.ConKind.TheVariants.{Ge, Eq};
-ghost use Rattle.lra_box.specs.Bounds.{AllValidIntervals, EndsInRange};
 ghost use Rattle.lra_box.specs.Parts.{bound_row, is_single, low_rows, high_rows, box_equalities, box_inequalities};
-ghost use Rattle.lra_box.specs.Parts.{box_system};
+ghost use Rattle.lra_box.specs.{Bounds.AllValidIntervals, Bounds.EndsInRange, Parts.box_system};
 
 use crate::interval::Interval;
 use lra_row::Row;

@@ -1,9 +1,7 @@
 -- From one fact about a script's answer to another.
 use Rattle.std.proofs.Common.{ℕ, List, Vec, Result, Ok, Err}
 use Rattle.std.specs.declared.alloc.Global.{Global}
-use Rattle.lra_calc.specs.Script.{Refusal}
-use Rattle.lra_calc.specs.Views.{Answers}
-use Rattle.lra_calc.specs.declared.refusal.CalcError.{CalcError}
+use Rattle.lra_calc.specs.{Script.Refusal, Views.Answers, declared.refusal.CalcError.CalcError}
 use Rattle.lra_calc.specs.declared.refusal.CalcError.TheVariants as calc_error
 
 pub answers_by : (r : Result (Vec ℕ Global) CalcError) (P Q : Result (List ℕ) Refusal → Type 0) → ((answer : Result (List ℕ) Refusal) → P answer → Q answer) → Answers r P → Answers r Q

@@ -1,29 +1,16 @@
 -- What a line makes: systems of rows of one width, with their kinds, and polyhedra of them, flagged or not.
-use Rattle.std.proofs.Common.{◌≡◌, ◌<◌, ◌+◌, get_or, drop, ℕ, suc, ℤ, pos, Bool, true, false, cond, nat_eq, List, [], ◌∷◌, ◌++◌, length, map, refl, ap, sym, ◌∙◌, subst, arith, append_assoc}
-use Rattle.std.proofs.Common.{Option, Some, None}
+use Rattle.std.proofs.Common.{◌≡◌, ◌<◌, ◌+◌, get_or, drop, ℕ, suc, ℤ, pos, Bool, true, false, cond, nat_eq, List, [], ◌∷◌, ◌++◌, length, map, refl, ap, sym, ◌∙◌, subst, arith, append_assoc, Option}
+use Rattle.std.proofs.{Common.Some, Common.None, lemmas.Bool.Decides.nat_tests, lemmas.List.Elements.All-nil, lemmas.List.Elements.All-cons}
 use Rattle.std.specs.List.{All}
-use Rattle.std.proofs.lemmas.Bool.Decides.{nat_tests}
-use Rattle.std.proofs.lemmas.List.Elements.{All-nil, All-cons}
-use Rattle.lra_linear_spec.specs.Points.{PointSet}
-use Rattle.lra_linear_spec.specs.Descriptions.{LinearRow}
-use Rattle.lra_linear_spec.specs.Representable.{IsRepresentable}
-use Rattle.lra_linear_spec.specs.Polyhedra.{Polyhedron}
-use Rattle.lra_linear_spec.specs.Strain.{Loss}
-use Rattle.lra_linear_spec.specs.declared.GenKind.{GenKind}
+use Rattle.lra_linear_spec.specs.{Descriptions.LinearRow, Kinds.is_line, Points.PointSet, Polyhedra.Polyhedron, Representable.IsRepresentable, Strain.Loss, declared.GenKind.GenKind}
 use Rattle.lra_linear_spec.specs.declared.GenKind.TheVariants as gen
-use Rattle.lra_linear_spec.specs.Kinds.{is_line}
 use Rattle.lra_systems.specs.LinearSystems.{LinearSystem, rows_by_kind, FitsKind, FitKinds}
 use Rattle.lra_script.specs.LineForms as form
-use Rattle.lra_poly.specs.Outcomes.{Becomes}
-use Rattle.lra_poly.specs.declared.outcome.Outcome.{Outcome}
-use Rattle.lra_poly.specs.declared.outcome.Outcome.TheVariants.{Exact, Flagged}
-use Rattle.lra_script.specs.Views.{constraint_of, generator_view, IsDivided}
-use Rattle.lra_script.specs.declared.rows.Constraint.{Constraint}
-use Rattle.lra_script.specs.declared.rows.Generator.{Generator}
+use Rattle.lra_poly.specs.{Outcomes.Becomes, declared.outcome.Outcome.Outcome, declared.outcome.Outcome.TheVariants.Exact, declared.outcome.Outcome.TheVariants.Flagged}
+use Rattle.lra_script.specs.{Views.constraint_of, Views.generator_view, Views.IsDivided, declared.rows.Constraint.Constraint, declared.rows.Generator.Generator}
 use Rattle.lra_script.proofs.AllOf.{rest_at}
-use Rattle.lra_calc.specs.MadeSets.{IsMadeOf}
+use Rattle.lra_calc.specs.{MadeSets.IsMadeOf, Views.is_flagged}
 use Rattle.lra_calc.specs.Script as script
-use Rattle.lra_calc.specs.Views.{is_flagged}
 
 -- ---- widths
 not_found : (b : Bool) (f : script.Fault) (o : Option script.Fault) → cond b o (Some f) ≡ None → (b ≡ true) × (o ≡ None)

@@ -1,19 +1,14 @@
 -- Of two sets there is one answer to an inclusion, and of a form on a set one greatest value.
 use Rattle.std.proofs.Common.{◌≡◌, ◌<◌, ◌+◌, ℕ, zero, suc, ℤ, pos, negsuc, ◌+ℤ◌, neg_ℤ, ◌*ℤ◌, ◌<ℤ◌, ◌≤ℤ◌, List, [], ◌∷◌, ◌++◌, length, length-append, refl, ap, sym, ◌∙◌, subst, arith}
-use Rattle.std.specs.List.{All}
 use Rattle.std.proofs.lemmas.Int.{ints}
-use Rattle.lra_linear_spec.specs.Descriptions.{LinearRow}
-use Rattle.lra_linear_spec.specs.LowestTerms.{IsPrimitive}
-use Rattle.lra_linear_spec.specs.Vectors.{entry, product}
-use Rattle.lra_linear_spec.proofs.LowestTerms.{same_multiple}
-use Rattle.lra_linear_spec.proofs.Ring.{mul_nonnegative, ring, v, ⊖, ◌⊕◌, ◌⊗◌}
-use Rattle.lra_linear_spec.proofs.Signs.{cancel_same, divide_nonnegative}
+use Rattle.std.specs.List.{All}
+use Rattle.lra_linear_spec.specs.{Descriptions.LinearRow, LowestTerms.IsPrimitive, Vectors.entry, Vectors.product}
+use Rattle.lra_linear_spec.proofs.{LowestTerms.same_multiple, Ring.mul_nonnegative, Ring.ring, Ring.v, Ring.⊖, Ring.◌⊕◌, Ring.◌⊗◌, Signs.cancel_same, Signs.divide_nonnegative}
 use Rattle.lra_systems.specs.FirstPlaces.{FirstAt}
 use Rattle.lra_duality.specs.Inclusions.{Satisfies, Violates, Passes, SatisfiesAll, ViolatesFirst, IsInclusion}
 use Rattle.lra_duality.specs.Maxima.{StaysInRange, PassesRange, Improves, DoesNotImprove, HasValue, IsAtMost, IsBelow, OfPoint, IsGreatest, IsMaximum}
-use Rattle.lra_duality.specs.declared.inclusion.Inclusion.{Inclusion}
+use Rattle.lra_duality.specs.{declared.inclusion.Inclusion.Inclusion, declared.maximum.Maximum.Maximum}
 use Rattle.lra_duality.specs.declared.inclusion.Inclusion.TheVariants as inclusion
-use Rattle.lra_duality.specs.declared.maximum.Maximum.{Maximum}
 use Rattle.lra_duality.specs.declared.maximum.Maximum.TheVariants as maximum
 use Rattle.lra_duality.proofs.MaximumLemmas.{difference, in_order, never_both}
 use Rattle.lra_calc.specs.Views.{IsPlacedInclusion, IsPlacedMaximum}

@@ -1,23 +1,17 @@
 -- Whether a script is refused, and why, is told by its lines alone, whatever its sets are made as, unless a set isn't in the other that it is widened by.
 use Rattle.std.proofs.Common.{◌≡◌, ◌+◌, ℕ, suc, Bool, true, false, cond, nat_eq, nat_lt, List, [], ◌∷◌, length, map, refl, ap, sym, subst, bytes_eq, nat_le, ◌&&◌, arith, Option, Some, None, Result}
 use Rattle.std.proofs.Common.{Ok, Err}
-use Rattle.std.specs.Prelude.{is_some, IfSome}
-use Rattle.std.specs.List.{All}
+use Rattle.std.specs.{List.All, Prelude.is_some, Prelude.IfSome}
 use Rattle.lra_base.specs.Places.{greatest_length}
-use Rattle.lra_linear_spec.specs.Descriptions.{LinearRow}
-use Rattle.lra_linear_spec.specs.Polyhedra.{Polyhedron}
-use Rattle.lra_duality.specs.Inclusions.{IsInclusion}
-use Rattle.lra_duality.specs.Maxima.{IsMaximum}
-use Rattle.lra_duality.specs.declared.inclusion.Inclusion.{Inclusion}
+use Rattle.lra_linear_spec.specs.{Descriptions.LinearRow, Polyhedra.Polyhedron}
+use Rattle.lra_duality.specs.{Inclusions.IsInclusion, Maxima.IsMaximum, declared.inclusion.Inclusion.Inclusion}
 use Rattle.lra_duality.specs.declared.inclusion.Inclusion.TheVariants as inclusion
-use Rattle.lra_script.specs.ScriptText.{is_skipped, words, lines}
 use Rattle.lra_script.specs.LineForms.{Generator, Line, Dims, Make, Ask, Recipe, Con, Gen, Combine, Widen, Limited, Map, Forget, Question, Show, Holds, Include, Maximise, line_of, row_of_generator}
-use Rattle.lra_calc.specs.Script.{Fault, UnknownName, Session, Unless, WithSet, wrong_width, wrong_row, numbers_needed, wrong_generator, wrong_coordinate, Made, MakesSet, WidenedBy, Widens, MadeBy}
-use Rattle.lra_calc.specs.Script.{Answer, Answers, AnswerTo}
-use Rattle.lra_calc.specs.Script.{made_as, printed_by, session_after, Brings, AfterLine, AfterForm, End, GoesOn, Performs, SkipsOr, CarriesOut, Refusal, AtLine, ended, TooLongOr, AnswersTo}
-use Rattle.lra_calc.specs.Script.{BadLine, WrongDimension, IsDeterminedByWords, IsDeterminedByLines, is_widening, widens, NeverWidens, AgreesWith}
-use Rattle.lra_calc.specs.Script.{shown, held}
+use Rattle.lra_script.specs.ScriptText.{is_skipped, words, lines}
 use Rattle.lra_calc.specs.MadeSets.{IsMadeOfRows, IsMadeOfGenerators, IsCombined, IsMapped, IsForgotten}
+use Rattle.lra_calc.specs.Script.{Fault, UnknownName, Session, Unless, WithSet, wrong_width, wrong_row, numbers_needed, wrong_generator, wrong_coordinate, Made, MakesSet, WidenedBy, Widens, MadeBy}
+use Rattle.lra_calc.specs.Script.{Answer, Answers, AnswerTo, made_as, printed_by, session_after, Brings, AfterLine, AfterForm, End, GoesOn, Performs, SkipsOr, CarriesOut, Refusal, AtLine, ended}
+use Rattle.lra_calc.specs.Script.{TooLongOr, AnswersTo, BadLine, WrongDimension, IsDeterminedByWords, IsDeterminedByLines, is_widening, widens, NeverWidens, AgreesWith, shown, held}
 use Rattle.lra_calc.specs.ShownSets.{include_text, is_wide_inclusion, maximise_text, is_wide_maximum}
 use Rattle.lra_calc.proofs.MakingLemmas.{all_tail}
 

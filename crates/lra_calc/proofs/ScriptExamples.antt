@@ -1,20 +1,14 @@
 -- Lines and scripts whose answers are known. Which slip an example would catch stands beside it.
 use Rattle.std.proofs.Common.{◌≡◌, ℕ, pos, negsuc, List, [], ◌∷◌, refl, inl, None, Result, Ok, Err, true, false}
-use Rattle.std.specs.Prelude.{codes}
-use Rattle.std.specs.List.{flat_map}
-use Rattle.std.specs.Fmt.{digits}
-use Rattle.lra_linear_spec.specs.Points.{IsWithin}
+use Rattle.std.specs.{Fmt.digits, List.flat_map, Prelude.codes}
 use Rattle.lra_linear_spec.specs.Descriptions.{LinearRow, inequality, equality, generator, line, Con as points_of}
-use Rattle.lra_linear_spec.specs.Representable.{IsRepresentable}
-use Rattle.lra_linear_spec.specs.Polyhedra.{Polyhedron, falsity}
-use Rattle.lra_linear_spec.proofs.SpellingExamples.{quadrant, plain_is_quadrant}
-use Rattle.lra_linear_spec.proofs.StrainExamples.{third_row_strains}
+use Rattle.lra_linear_spec.specs.{Points.IsWithin, Polyhedra.Polyhedron, Polyhedra.falsity, Representable.IsRepresentable}
+use Rattle.lra_linear_spec.proofs.{SpellingExamples.quadrant, SpellingExamples.plain_is_quadrant, StrainExamples.third_row_strains}
 use Rattle.lra_base.specs.Places.{greatest_length}
 use Rattle.lra_row_text.specs.Texts.{text_line}
 use Rattle.lra_script.specs.ScriptText.{lines}
-use Rattle.lra_calc.specs.MadeSets.{IsMadeOfRows}
-use Rattle.lra_calc.specs.ShownSets.{polyhedron_text}
 use Rattle.lra_calc.specs.Script.{Fault, BadLine, UnknownName, WrongDimension, NotIncluded, started, End, Refused, AtLine, TooLong, CarriesOut, output, AnswersTo, script_refusal_text}
+use Rattle.lra_calc.specs.{MadeSets.IsMadeOfRows, ShownSets.polyhedron_text}
 
 abbrev text : List (List ℕ) → List ℕ
 text = flat_map text_line

@@ -1,36 +1,21 @@
 -- What a session answers: membership of a point, tried constraint by constraint; and what its names stand for.
 use Rattle.std.proofs.Common.{◌≡◌, ◌-◌, ℕ, zero, suc, ℤ, pos, negsuc, Bool, true, false, cond, nat_eq, List, [], ◌∷◌, ◌++◌, length, get_or, take, drop, refl, ap, sym, ◌∙◌, subst, inl, inr, arith}
 use Rattle.std.proofs.Common.{append-nil, bytes_eq, Option, Some, None, Result, Ok, Err, IsOk, IsErr}
-use Rattle.std.specs.Prelude.{◌+◌, IfSome, option_map}
-use Rattle.std.specs.List.{All}
-use Rattle.std.specs.Map.{update}
-use Rattle.std.proofs.lemmas.Bool.Decides.{nat_tests}
-use Rattle.std.proofs.lemmas.Int.{ints}
-use Rattle.std.proofs.lemmas.List.{take_rest}
-use Rattle.std.proofs.lemmas.List.Elements.{All-nil, All-cons}
-use Rattle.lra_linear_spec.specs.declared.Excess.{Excess}
-use Rattle.lra_linear_spec.specs.Vectors.{product}
-use Rattle.lra_linear_spec.specs.CheckedArithmetic.{checked_product}
+use Rattle.std.proofs.{lemmas.Bool.Decides.nat_tests, lemmas.Int.ints, lemmas.List.take_rest, lemmas.List.Elements.All-nil, lemmas.List.Elements.All-cons, lemmas.Result.err_from_is_err_and}
+use Rattle.std.specs.{List.All, Map.update, Prelude.◌+◌, Prelude.IfSome, Prelude.option_map, Result.IsErrAnd}
 use Rattle.lra_linear_spec.specs.Descriptions.{LinearRow, Holds, HoldsWith, Con as points_of}
-use Rattle.lra_linear_spec.specs.Polyhedra.{Polyhedron}
-use Rattle.lra_linear_spec.proofs.CheckedArithmetic.{checked_product_value}
-use Rattle.lra_linear_spec.proofs.Membership.{contains_none, contains_head, contains_tail, contains_cases}
+use Rattle.lra_linear_spec.specs.{CheckedArithmetic.checked_product, Polyhedra.Polyhedron, Vectors.product, declared.Excess.Excess}
+use Rattle.lra_linear_spec.proofs.{CheckedArithmetic.checked_product_value, Membership.contains_none, Membership.contains_head, Membership.contains_tail, Membership.contains_cases}
 use Rattle.lra_systems.specs.declared.membership.MembershipAnswer as H
-use Rattle.lra_systems.specs.declared.membership.MembershipAnswer.TheVariants.{Yes, No, Wide}
 use Rattle.lra_systems.specs.Membership.{HoldsInRange, DecidesMembership}
+use Rattle.lra_systems.specs.declared.membership.MembershipAnswer.TheVariants.{Yes, No, Wide}
 use Rattle.lra_calc.specs.Script as script
-use Rattle.std.specs.Result.{IsErrAnd}
-use Rattle.std.proofs.lemmas.Result.{err_from_is_err_and}
-use Rattle.lra_script.specs.ScriptText.{is_skipped, words}
-use Rattle.lra_script.specs.LineForms.{line_of}
-use Rattle.lra_calc.specs.Views.{answered, fault_of, session_of, IsUnknown, Gives, StepsTo, Ends}
+use Rattle.lra_script.specs.{LineForms.line_of, ScriptText.is_skipped, ScriptText.words}
+use Rattle.lra_calc.specs.{Views.answered, Views.fault_of, Views.session_of, Views.IsUnknown, Views.Gives, Views.StepsTo, Views.Ends, declared.refusal.CalcError.CalcError}
+use Rattle.lra_calc.specs.{declared.refusal.Fault.Fault, declared.refusal.LineError.LineError, declared.refusal.LineError.TheVariants.Refused, declared.refusal.LineError.TheVariants.Memory}
 use Rattle.lra_calc.specs.declared.session.Session as S
 use Rattle.lra_calc.specs.declared.refusal.CalcRefusal.TheVariants as refusal
-use Rattle.lra_calc.specs.declared.refusal.CalcError.{CalcError}
 use Rattle.lra_calc.specs.declared.refusal.CalcError.TheVariants as calc_error
-use Rattle.lra_calc.specs.declared.refusal.Fault.{Fault}
-use Rattle.lra_calc.specs.declared.refusal.LineError.{LineError}
-use Rattle.lra_calc.specs.declared.refusal.LineError.TheVariants.{Refused, Memory}
 use Rattle.lra_calc.proofs.MakingLemmas.{all_tail}
 
 -- ---- membership

@@ -1,25 +1,14 @@
 -- The text of a polyhedron, by the texts of its lists of rows with their kinds; and the names of its variables.
 use Rattle.std.proofs.Common.{◌≡◌, ◌<◌, ◌-◌, ◌+◌, ℕ, zero, suc, ℤ, pos, negsuc, Bool, false, List, [], ◌∷◌, ◌++◌, length, get_or, map, refl, ap, sym, ◌∙◌, subst, arith, append_assoc, nat_eq, ◌<ℤ◌}
-use Rattle.std.specs.Prelude.{codes}
-use Rattle.std.specs.Fmt.{decimal}
-use Rattle.std.specs.List.{flat_map}
 use Rattle.std.proofs.lemmas.Int.{ints}
-use Rattle.lra_linear_spec.specs.Vectors.{entry}
-use Rattle.lra_linear_spec.specs.Descriptions.{LinearRow, line}
-use Rattle.lra_linear_spec.specs.Polyhedra.{Polyhedron}
-use Rattle.lra_linear_spec.specs.declared.ConKind.{ConKind}
+use Rattle.std.specs.{Fmt.decimal, List.flat_map, Prelude.codes}
+use Rattle.lra_linear_spec.specs.{Descriptions.LinearRow, Descriptions.line, Kinds.is_equality, Kinds.is_line, Polyhedra.Polyhedron, Vectors.entry, declared.ConKind.ConKind, declared.GenKind.GenKind}
 use Rattle.lra_linear_spec.specs.declared.ConKind.TheVariants as con
-use Rattle.lra_linear_spec.specs.declared.GenKind.{GenKind}
 use Rattle.lra_linear_spec.specs.declared.GenKind.TheVariants as gen
 use Rattle.lra_systems.specs.LinearSystems.{LinearSystem, rows_by_kind, constraints, generators, FitsKind, FitKinds}
-use Rattle.lra_linear_spec.specs.Kinds.{is_equality, is_line}
-use Rattle.lra_row_text.specs.Shown.{report_row, report_generator}
 use Rattle.lra_row_text.specs.ShownDescriptions.{generator_kind, shown_constraint, shown_generator}
-use Rattle.lra_row_text.specs.Rows.{ReportRow}
-use Rattle.lra_row_text.specs.Part.{ReportGenerator}
 use Rattle.lra_row_text.specs.Texts.{text_line, rows_text, generators_text, generator_text}
-use Rattle.lra_row_text.specs.Lists.{shown_rows, shown_generators}
-use Rattle.lra_row_text.specs.Lines.{generator_line}
+use Rattle.lra_row_text.specs.{Lines.generator_line, Lists.shown_rows, Lists.shown_generators, Part.ReportGenerator, Rows.ReportRow, Shown.report_row, Shown.report_generator}
 use Rattle.lra_calc.specs.ShownSets.{variables_from, variables, empty_or, polyhedron_text, generator_at}
 
 -- ---- lists

@@ -1,27 +1,16 @@
 -- What is answered of widenings: the set that is made, with all points where the inclusion is wide, or the generator outside.
 use Rattle.std.proofs.Common.{◌≡◌, ◌∙◌, inl, inr, ℕ, Bool, true, List, [], length, refl, ap, sym, subst, Some, None, Result, Ok, Err}
-use Rattle.lra_linear_spec.specs.Points.{PointSet}
-use Rattle.lra_linear_spec.specs.Descriptions.{LinearRow, Con as points_of}
-use Rattle.lra_linear_spec.specs.Representable.{IsRepresentable}
-use Rattle.lra_linear_spec.specs.Polyhedra.{Polyhedron, IsPolyhedronOf}
-use Rattle.lra_linear_spec.specs.Strain.{Loss}
-use Rattle.lra_poly.specs.Outcomes.{Becomes, IfExact}
+use Rattle.lra_linear_spec.specs.{Descriptions.LinearRow, Descriptions.Con as points_of, Points.PointSet, Polyhedra.Polyhedron, Polyhedra.IsPolyhedronOf, Representable.IsRepresentable, Strain.Loss}
+use Rattle.lra_poly.specs.{Outcomes.Becomes, Outcomes.IfExact, declared.outcome.Outcome.Outcome, declared.outcome.Outcome.TheVariants.Exact, declared.outcome.Outcome.TheVariants.Flagged}
 use Rattle.lra_duality.specs.declared.inclusion.Inclusion.TheVariants as inclusion
-use Rattle.lra_poly.specs.declared.outcome.Outcome.{Outcome}
-use Rattle.lra_poly.specs.declared.outcome.Outcome.TheVariants.{Exact, Flagged}
-use Rattle.lra_poly_widening.specs.Widenings.{IsRefusal, LiesOrIsGivenUp}
-use Rattle.lra_poly_widening.specs.declared.error.WidenError.{WidenError}
+use Rattle.lra_poly_widening.specs.{Widenings.IsRefusal, Widenings.LiesOrIsGivenUp, declared.error.WidenError.WidenError}
 use Rattle.lra_poly_widening.specs.declared.error.WidenError.TheVariants as widen_error
 use Rattle.lra_script.specs.LineForms as form
-use Rattle.lra_calc.specs.MadeSets.{IsMadeOf, IsAllFlagged, IsWidened, IsLimited}
+use Rattle.lra_calc.specs.{MadeSets.IsMadeOf, MadeSets.IsAllFlagged, MadeSets.IsWidened, MadeSets.IsLimited, Views.is_flagged, Views.made_of, Views.Gives, Views.NamesOutside, Views.IsPlacedRefusal}
+use Rattle.lra_calc.specs.{declared.refusal.LineError.LineError, declared.refusal.LineError.TheVariants.Refused, declared.refusal.LineError.TheVariants.Memory}
 use Rattle.lra_calc.specs.Script as script
-use Rattle.lra_calc.specs.Views.{is_flagged, made_of, Gives, NamesOutside, IsPlacedRefusal}
 use Rattle.lra_calc.specs.declared.making.Made as making
-use Rattle.lra_calc.specs.declared.refusal.LineError.{LineError}
-use Rattle.lra_calc.specs.declared.refusal.LineError.TheVariants.{Refused, Memory}
-use Rattle.lra_calc.proofs.MakingLemmas.{made_as_told}
-use Rattle.lra_calc.proofs.OneAnswer.{inclusion_placed}
-use Rattle.lra_calc.proofs.SessionLemmas.{known_gives, right_gives}
+use Rattle.lra_calc.proofs.{MakingLemmas.made_as_told, OneAnswer.inclusion_placed, SessionLemmas.known_gives, SessionLemmas.right_gives}
 
 not_exact : (o : Outcome) → IfExact ⊥ o → is_flagged o ≡ true
 not_exact Exact h = absurd h

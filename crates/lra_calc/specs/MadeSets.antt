@@ -1,20 +1,17 @@
 -- The sets that lines make: without a flag by the canonical lists of exactly the points that the line tells. A flagged
 -- one may have further points, and there what was given strains.
 use Rattle.std.specs.Prelude.{◌≡◌, ℕ, ℤ, Bool, true, false, List, []}
-use Rattle.lra_linear_spec.specs.Points.{PointSet, IsWithin}
 use Rattle.lra_linear_spec.specs.Descriptions.{LinearRow, Con as points_of, Gen as generated_by}
-use Rattle.lra_linear_spec.specs.Representable.{IsRepresentable}
-use Rattle.lra_linear_spec.specs.Polyhedra.{Polyhedron, IsPolyhedronOf}
-use Rattle.lra_linear_spec.specs.SetOperations as sets
-use Rattle.lra_linear_spec.specs.Strain.{Loss}
 use Rattle.lra_linear_spec.specs.OperationStrain.{FromRowsStrains, FromGeneratorsStrains, MeetStrains, HullStrains}
 use Rattle.lra_linear_spec.specs.OperationStrain.{TimeElapseStrains, ImageStrains, PreimageStrains, ForgetStrains}
 use Rattle.lra_linear_spec.specs.OperationStrain.{StandardStrains, LimitedStrains}
+use Rattle.lra_linear_spec.specs.Polyhedra.{Polyhedron, IsPolyhedronOf}
+use Rattle.lra_linear_spec.specs.{Points.PointSet, Points.IsWithin, Representable.IsRepresentable, Strain.Loss}
+use Rattle.lra_linear_spec.specs.SetOperations as sets
 use Rattle.lra_linear_spec.specs.Widening as widening
-use Rattle.lra_script.specs.declared.recipes.Combination.{Combination}
 use Rattle.lra_script.specs.declared.recipes.Combination.TheVariants.{Meet, Hull, Elapse}
-use Rattle.lra_script.specs.declared.recipes.Mapping.{Mapping}
 use Rattle.lra_script.specs.declared.recipes.Mapping.TheVariants.{Image, Preimage}
+use Rattle.lra_script.specs.{declared.recipes.Combination.Combination, declared.recipes.Mapping.Mapping}
 
 -- the canonical lists of a set that has all points of P, within the limit of a description and with numbers of the
 -- range; what was given strains

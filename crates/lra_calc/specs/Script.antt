@@ -2,35 +2,24 @@
 -- place of all. A line that makes a set makes its canonical lists, so that what is shown depends on the set alone. Only
 -- where what it gives strains may it make those of a larger set; then it is flagged. So a script that isn't flagged has
 -- one answer.
-use Rattle.std.specs.Prelude.{◌≡◌, ◌+◌, ℕ, suc, ℤ, pos, negsuc, Bool, true, false, ◌&&◌, nat_eq, nat_lt, nat_le}
-use Rattle.std.specs.Prelude.{List, [], ◌∷◌, ◌++◌, length, take, map, codes, bytes_eq, if◌then◌else◌}
-use Rattle.std.specs.Prelude.{Option, Some, None, Result, Ok, Err}
-use Rattle.std.specs.Fmt.{decimal}
-use Rattle.std.specs.List.{All}
-use Rattle.std.specs.Map.{update}
-use Rattle.lra_linear_spec.specs.declared.Excess.{Excess}
+use Rattle.std.specs.Prelude.{◌≡◌, ◌+◌, ℕ, suc, ℤ, pos, negsuc, Bool, true, false, ◌&&◌, nat_eq, nat_lt, nat_le, List}
+use Rattle.std.specs.Prelude.{[], ◌∷◌, ◌++◌, length, take, map, codes, bytes_eq, if◌then◌else◌, Option, Some, None}
+use Rattle.std.specs.{Fmt.decimal, List.All, Map.update, Prelude.Result, Prelude.Ok, Prelude.Err}
 use Rattle.lra_linear_spec.specs.CheckedArithmetic.{checked_product}
 use Rattle.lra_linear_spec.specs.Descriptions.{LinearRow, Con as points_of}
-use Rattle.lra_linear_spec.specs.Polyhedra.{Polyhedron}
-use Rattle.lra_linear_spec.specs.declared.GenKind.{GenKind}
+use Rattle.lra_linear_spec.specs.{Polyhedra.Polyhedron, declared.Excess.Excess, declared.GenKind.GenKind}
 use Rattle.lra_linear_spec.specs.declared.GenKind.TheVariants as gen
-use Rattle.lra_systems.specs.FirstPlaces.{FirstAt}
-use Rattle.lra_systems.specs.Membership.{HoldsInRange, IsWide}
-use Rattle.lra_duality.specs.Inclusions.{IsInclusion}
-use Rattle.lra_duality.specs.declared.inclusion.Inclusion.{Inclusion}
+use Rattle.lra_systems.specs.{FirstPlaces.FirstAt, Membership.HoldsInRange, Membership.IsWide}
+use Rattle.lra_duality.specs.{Inclusions.IsInclusion, Maxima.IsMaximum, declared.inclusion.Inclusion.Inclusion}
 use Rattle.lra_duality.specs.declared.inclusion.Inclusion.TheVariants as inclusion
-use Rattle.lra_duality.specs.Maxima.{IsMaximum}
-use Rattle.lra_base.specs.declared.refusals.Place.{Place}
-use Rattle.lra_base.specs.Places.{place_after, greatest_length}
+use Rattle.lra_base.specs.{Places.place_after, Places.greatest_length, declared.refusals.Place.Place}
 use Rattle.lra_row_text.specs.Texts.{text_line}
-use Rattle.lra_script.specs.ScriptText.{lines, is_skipped, words}
 use Rattle.lra_script.specs.LineForms.{Generator, row_of_generator, line_of, Line, Dims, Make, Ask, Recipe, Con, Gen}
-use Rattle.lra_script.specs.LineForms.{Combine}
-use Rattle.lra_script.specs.LineForms.{Widen, Limited, Map, Forget, Question, Show, Holds, Include, Maximise}
+use Rattle.lra_script.specs.LineForms.{Combine, Widen, Limited, Map, Forget, Question, Show, Holds, Include, Maximise}
+use Rattle.lra_script.specs.ScriptText.{lines, is_skipped, words}
+use Rattle.lra_calc.specs.MadeSets.{IsMadeOfRows, IsMadeOfGenerators, IsCombined, IsMapped, IsForgotten, IsWidened}
 use Rattle.lra_calc.specs.ShownSets.{show_text, holds_text, include_text, is_wide_inclusion, maximise_text}
-use Rattle.lra_calc.specs.ShownSets.{is_wide_maximum, generator_at}
-use Rattle.lra_calc.specs.MadeSets.{IsMadeOfRows, IsMadeOfGenerators, IsCombined, IsMapped, IsForgotten}
-use Rattle.lra_calc.specs.MadeSets.{IsWidened, IsLimited, IsAllFlagged}
+use Rattle.lra_calc.specs.{MadeSets.IsLimited, MadeSets.IsAllFlagged, ShownSets.is_wide_maximum, ShownSets.generator_at}
 
 -- why a line is refused
 pub data Fault : Type 0 where

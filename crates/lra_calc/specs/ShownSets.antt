@@ -1,16 +1,12 @@
 -- What lines print. A polyhedron is printed by its canonical constraints, then its canonical generators, in their
 -- orders. The variables are x1, x2 and on.
-use Rattle.std.specs.Prelude.{ℕ, zero, suc, ◌+◌, ℤ, nat_abs, Bool, true, false, List, [], ◌∷◌, ◌++◌}
-use Rattle.std.specs.Prelude.{map, codes, get_or, Option, Some, None}
-use Rattle.std.specs.Fmt.{decimal}
-use Rattle.lra_linear_spec.specs.Descriptions.{LinearRow, line}
-use Rattle.lra_linear_spec.specs.Polyhedra.{Polyhedron}
-use Rattle.lra_row_text.specs.ShownDescriptions.{shown_constraint, shown_generator}
-use Rattle.lra_row_text.specs.Part.{Part}
+use Rattle.std.specs.Prelude.{ℕ, zero, suc, ◌+◌, ℤ, nat_abs, Bool, true, false, List, [], ◌∷◌, ◌++◌, map, codes, get_or}
+use Rattle.std.specs.{Fmt.decimal, Prelude.Option, Prelude.Some, Prelude.None}
+use Rattle.lra_linear_spec.specs.{Descriptions.LinearRow, Descriptions.line, Polyhedra.Polyhedron}
 use Rattle.lra_row_text.specs.Texts.{text_line, part_text, generator_text, fraction_text}
-use Rattle.lra_duality.specs.declared.inclusion.Inclusion.{Inclusion}
+use Rattle.lra_row_text.specs.{Part.Part, ShownDescriptions.shown_constraint, ShownDescriptions.shown_generator}
+use Rattle.lra_duality.specs.{declared.inclusion.Inclusion.Inclusion, declared.maximum.Maximum.Maximum}
 use Rattle.lra_duality.specs.declared.inclusion.Inclusion.TheVariants as inclusion
-use Rattle.lra_duality.specs.declared.maximum.Maximum.{Maximum}
 use Rattle.lra_duality.specs.declared.maximum.Maximum.TheVariants as maximum
 
 -- so many, from this number on

@@ -1,21 +1,20 @@
 -- What the values of the code stand for.
 use Rattle.std.specs.Prelude.{◌≡◌, ◌≤◌, ◌<◌, ℕ, ◌+◌, pos, ◌<ℤ◌, Bool, true, false, List, ◌∷◌, Option, Some, None}
 use Rattle.std.specs.Prelude.{option_map, Result, Ok, Err, Vec, IfSome, string_bytes}
-use Rattle.std.specs.BTreeMap.{get_by_text}
-use Rattle.std.specs.declared.alloc.Global.{Global}
+use Rattle.std.specs.{BTreeMap.get_by_text, declared.alloc.Global.Global}
 use Rattle.lra_linear_spec.specs.Polyhedra.{Polyhedron}
 use Rattle.lra_systems.specs.declared.membership.MembershipAnswer as H
 use Rattle.lra_systems.specs.declared.membership.MembershipAnswer.TheVariants as holds
 use Rattle.lra_poly.specs.declared.outcome.Outcome.{Outcome}
 use Rattle.lra_poly.specs.declared.outcome.Outcome.TheVariants as outcome
-use Rattle.lra_duality.specs.declared.inclusion.Inclusion.{Inclusion}
+use Rattle.lra_duality.specs.{declared.inclusion.Inclusion.Inclusion, declared.maximum.Maximum.Maximum}
 use Rattle.lra_duality.specs.declared.inclusion.Inclusion.TheVariants as inclusion
-use Rattle.lra_duality.specs.declared.maximum.Maximum.{Maximum}
 use Rattle.lra_duality.specs.declared.maximum.Maximum.TheVariants as maximum
 use Rattle.lra_poly_widening.specs.declared.error.WidenError.{WidenError}
 use Rattle.lra_poly_widening.specs.declared.error.WidenError.TheVariants as widen_error
 use Rattle.lra_script.specs.LineForms.{greatest_dims}
 use Rattle.lra_calc.specs.ShownSets.{generator_at}
+use Rattle.lra_calc.specs.{declared.refusal.CalcError.CalcError, declared.refusal.LineError.LineError}
 use Rattle.lra_calc.specs.Script as script
 use Rattle.lra_calc.specs.declared.making.Made as making
 use Rattle.lra_calc.specs.declared.answering.Answer as answering
@@ -23,9 +22,7 @@ use Rattle.lra_calc.specs.declared.refusal.Fault as F
 use Rattle.lra_calc.specs.declared.refusal.Fault.TheVariants as fault
 use Rattle.lra_calc.specs.declared.refusal.CalcRefusal as R
 use Rattle.lra_calc.specs.declared.refusal.CalcRefusal.TheVariants as refusal
-use Rattle.lra_calc.specs.declared.refusal.LineError.{LineError}
 use Rattle.lra_calc.specs.declared.refusal.LineError.TheVariants as line_error
-use Rattle.lra_calc.specs.declared.refusal.CalcError.{CalcError}
 use Rattle.lra_calc.specs.declared.refusal.CalcError.TheVariants as calc_error
 use Rattle.lra_calc.specs.declared.session.Session as S
 

@@ -4,10 +4,8 @@ ghost use Rattle.std.specs.Prelude.{◌≡◌, ◌≤◌, ◌<◌, ◌<ℤ◌, �
 ghost use Rattle.std.specs.Prelude.{ℕ, ℤ};
 ghost use Rattle.lra_row_text.specs.Texts.{text_line};
 ghost use Rattle.lra_systems.specs.LinearSystems.{constraints as constraints_of};
-ghost use Rattle.lra_duality.specs.Inclusions.{IsInclusion};
-ghost use Rattle.lra_duality.specs.Maxima.{IsMaximum};
-ghost use Rattle.lra_script.specs.LineForms.{greatest_dims};
-ghost use Rattle.lra_script.specs.Views.{HasDivisor};
+ghost use Rattle.lra_duality.specs.{Inclusions.IsInclusion, Maxima.IsMaximum};
+ghost use Rattle.lra_script.specs.{LineForms.greatest_dims, Views.HasDivisor};
 ghost use Rattle.lra_calc.specs.ShownSets as shown;
 ghost use Rattle.lra_calc.specs.Script as script;
 ghost use Rattle.lra_calc.specs.Views.{answer_of, answered, IsPlacedInclusion, IsPlacedMaximum};

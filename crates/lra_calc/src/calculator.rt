@@ -2,13 +2,11 @@
 
 ghost use Rattle.std.specs.Prelude.{List, ℕ, suc, ℤ, Result, None, ◌≡◌, ◌<◌, ◌^◌, ◌++◌, length, map, Some};
 ghost use Rattle.std.specs.Prelude.{string_bytes, IfOk, IfSome, OnOk, option_map};
-ghost use Rattle.lra_linear_spec.specs.Points.{SameSet};
-ghost use Rattle.lra_linear_spec.specs.Descriptions.{Con, Gen};
 ghost use Rattle.lra_linear_spec.specs.Polyhedra.{Polyhedron, IsPolyhedron};
+ghost use Rattle.lra_linear_spec.specs.{Descriptions.Con, Descriptions.Gen, Points.SameSet};
 ghost use Rattle.lra_duality.specs.Inclusions.{IsInclusion, TellsInclusion};
 ghost use Rattle.lra_duality.specs.Maxima.{IsMaximum, TellsMaximum};
-ghost use Rattle.lra_duality.specs.declared.inclusion.Inclusion.{Inclusion};
-ghost use Rattle.lra_duality.specs.declared.maximum.Maximum.{Maximum};
+ghost use Rattle.lra_duality.specs.{declared.inclusion.Inclusion.Inclusion, declared.maximum.Maximum.Maximum};
 ghost use Rattle.lra_script.specs.ScriptText as text;
 ghost use Rattle.lra_script.specs.LineForms as form;
 ghost use Rattle.lra_calc.specs.Script as spec;

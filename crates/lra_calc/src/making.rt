@@ -1,9 +1,8 @@
 //! What recipes make: polyhedra, of constraints, of generators or of other polyhedra.
 
-ghost use Rattle.std.specs.Prelude.{◌≡◌, ◌≤◌, ◌<◌, ◌∷◌, suc, length, pos, map, None, IfOk, option_map};
 ghost use Rattle.std.specs.List.{All};
-ghost use Rattle.lra_linear_spec.specs.Representable.{IsRepresentable};
-ghost use Rattle.lra_linear_spec.specs.Kinds.{is_line};
+ghost use Rattle.std.specs.Prelude.{◌≡◌, ◌≤◌, ◌<◌, ◌∷◌, suc, length, pos, map, None, IfOk, option_map};
+ghost use Rattle.lra_linear_spec.specs.{Kinds.is_line, Representable.IsRepresentable};
 ghost use Rattle.lra_systems.specs.LinearSystems.{constraints as constraints_of, generators as generators_of, FitKinds};
 ghost use Rattle.lra_poly.specs.Outcomes.{Becomes};
 ghost use Rattle.lra_linear_forms.specs.Form.{form_row};

@@ -1,7 +1,7 @@
 //! Why a script is refused.
 
-ghost use Rattle.std.specs.Prelude.{◌≡◌, ◌++◌, codes, IfOk, OnOk, string_bytes};
 ghost use Rattle.std.specs.Fmt.{decimal};
+ghost use Rattle.std.specs.Prelude.{◌≡◌, ◌++◌, codes, IfOk, OnOk, string_bytes};
 ghost use Rattle.lra_row_text.specs.Texts.{text_line};
 ghost use Rattle.lra_calc.specs.Script as script;
 ghost use Rattle.lra_calc.specs.Views.{fault_of, refusal_of};

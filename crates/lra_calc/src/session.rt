@@ -1,11 +1,11 @@
 //! What a script has made and printed so far.
 
-ghost use Rattle.std.specs.Prelude.{◌≡◌, ◌≤◌, ◌++◌, Some, map, string_bytes, IfOk, IfErr, OnOk};
 ghost use Rattle.std.specs.List.{All};
+ghost use Rattle.std.specs.Prelude.{◌≡◌, ◌≤◌, ◌++◌, Some, map, string_bytes, IfOk, IfErr, OnOk};
 ghost use Rattle.lra_script.specs.LineForms as form;
 ghost use Rattle.lra_script.specs.LineForms.{greatest_dims};
-ghost use Rattle.lra_script.specs.Views.{constraint_of, generator_view, recipe_said, question_said, said};
-ghost use Rattle.lra_script.specs.Views.{IsLine, IsRecipe, IsQuestion, IsDivided, HasDivisor};
+ghost use Rattle.lra_script.specs.Views.{constraint_of, generator_view, recipe_said, question_said, said, IsLine};
+ghost use Rattle.lra_script.specs.Views.{IsRecipe, IsQuestion, IsDivided, HasDivisor};
 ghost use Rattle.lra_calc.specs.Script as script;
 ghost use Rattle.lra_calc.specs.Views.{session_of, made_of, answer_of, IsSession, IsUnknown, Gives};
 

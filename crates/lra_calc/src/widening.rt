@@ -1,8 +1,7 @@
 //! Polyhedra that are widened by others in which they lie.
 
 ghost use Rattle.std.specs.Prelude.{◌≡◌, ◌≤◌, ◌<◌, length, IfOk, IfErr, map, None};
-ghost use Rattle.lra_script.specs.LineForms.{greatest_dims};
-ghost use Rattle.lra_script.specs.Views.{constraint_of};
+ghost use Rattle.lra_script.specs.{LineForms.greatest_dims, Views.constraint_of};
 ghost use Rattle.lra_calc.specs.MadeSets as sets;
 ghost use Rattle.lra_calc.specs.Script as script;
 ghost use Rattle.lra_calc.specs.Views.{made_of, Gives, NamesOutside, IsPlacedRefusal};

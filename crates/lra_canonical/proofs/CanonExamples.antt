@@ -1,29 +1,14 @@
 -- Worked rows, by the definitions.
 use Rattle.std.proofs.Common.{◌≡◌, ◌↔◌, ℕ, zero, suc, ◌<◌, ◌^◌, ◌-◌, true, false, List, [], ◌∷◌, length, get_or, refl, ap, sym, ◌∙◌, subst, pos, negsuc, ℤ, ◌+ℤ◌, ◌*ℤ◌, ◌≤ℤ◌, Ok, arith, inl, inr}
-use Rattle.std.proofs.Common.{true≢false}
-use Rattle.std.specs.List.{Contains}
-use Rattle.std.specs.declared.cmp.Ordering.TheVariants.{Less}
-use Rattle.std.proofs.lemmas.Int.{ints}
-use Rattle.lra_linear_spec.specs.declared.Operation.TheVariants.{Product}
-use Rattle.std.proofs.lemmas.List.Elements.{All-cons}
+use Rattle.std.proofs.{Common.true≢false, lemmas.Int.ints, lemmas.List.Elements.All-cons}
+use Rattle.std.specs.{List.Contains, declared.cmp.Ordering.TheVariants.Less}
 use Rattle.lra_linear_spec.specs.Descriptions.{LinearRow, Gen, generator}
-use Rattle.lra_linear_spec.specs.Echelon.{Before}
-use Rattle.lra_linear_spec.specs.LowestTerms.{IsPrimitive}
-use Rattle.lra_linear_spec.specs.Reduction.{checked_clearing}
-use Rattle.lra_linear_spec.specs.Vectors.{entry, product}
-use Rattle.lra_linear_spec.proofs.Descriptions.{gen_generated}
-use Rattle.lra_linear_spec.proofs.LinearMaps.{generated_nonneg}
-use Rattle.lra_linear_spec.proofs.LowestTerms.{primitive_at}
+use Rattle.lra_linear_spec.specs.{Echelon.Before, LowestTerms.IsPrimitive, Reduction.checked_clearing, Vectors.entry, Vectors.product, declared.Operation.TheVariants.Product}
 use Rattle.lra_linear_spec.proofs.Membership.{contains_cases, contains_head, contains_none, contains_tail, each_two}
-use Rattle.lra_linear_spec.proofs.Ring.{ring, v, ◌⊕◌, ◌⊗◌}
-use Rattle.lra_linear_spec.proofs.Signs.{as_nat}
-use Rattle.lra_bits.specs.Matrix.{Matrix}
-use Rattle.lra_bits.specs.TruthValues.{value_at}
-use Rattle.lra_canonical.specs.Echelons.{HaveOneWidth}
-use Rattle.lra_canonical.specs.Irredundant.{IsSaturation, Solutions}
-use Rattle.lra_canonical.specs.Ordered.{cmp_by}
-use Rattle.lra_canonical.specs.Reduced.{IsEchelonForm, FirstPassing}
+use Rattle.lra_linear_spec.proofs.{Descriptions.gen_generated, LinearMaps.generated_nonneg, LowestTerms.primitive_at, Ring.ring, Ring.v, Ring.◌⊕◌, Ring.◌⊗◌, Signs.as_nat}
+use Rattle.lra_bits.specs.{Matrix.Matrix, TruthValues.value_at}
 use Rattle.lra_canonical.specs.declared.order.Order.TheVariants.{Inequalities, Generators, Pivots}
+use Rattle.lra_canonical.specs.{Echelons.HaveOneWidth, Irredundant.IsSaturation, Irredundant.Solutions, Ordered.cmp_by, Reduced.IsEchelonForm, Reduced.FirstPassing}
 
 -- ---- 2 x1 + x2 = 0
 abbrev sloped : List ℤ

@@ -1,28 +1,14 @@
 -- Chains of reduction, a line of the form at a time.
 use Rattle.std.proofs.Common.{◌≡◌, ◌≢◌, ℕ, zero, suc, ◌+◌, ◌*◌, ◌<◌, ◌≤◌, List, [], ◌∷◌, ◌++◌, length, get_or, refl, ap, sym, ◌∙◌, subst, pos, ℤ, ◌+ℤ◌, ◌*ℤ◌, neg_ℤ, ◌<ℤ◌, arith, inl, inr, Ok}
-use Rattle.std.proofs.Common.{length-append, FitsSigned, of_z, to_z, take, drop}
-use Rattle.std.specs.Int.{w128}
-use Rattle.std.proofs.lemmas.Bool.{cases_lt}
-use Rattle.std.proofs.lemmas.Int.{ints, to_z-of_z}
-use Rattle.std.proofs.lemmas.List.{take_more, take_all}
-use Rattle.std.proofs.lemmas.List.Elements.{Contains-append_left, Contains-append_right}
-use Rattle.std.specs.List.{All, Contains}
+use Rattle.std.proofs.{Common.length-append, Common.FitsSigned, Common.of_z, Common.to_z, Common.take, Common.drop, lemmas.Bool.cases_lt, lemmas.Int.ints, lemmas.Int.to_z-of_z, lemmas.List.take_more}
+use Rattle.std.proofs.{lemmas.List.take_all, lemmas.List.Elements.Contains-append_left, lemmas.List.Elements.Contains-append_right}
+use Rattle.std.specs.{Int.w128, List.All, List.Contains}
 use Rattle.lra_linear_spec.specs.declared.Excess as E
-use Rattle.lra_linear_spec.specs.Vectors.{entry}
-use Rattle.lra_linear_spec.specs.LowestTerms.{IsLowest}
-use Rattle.lra_linear_spec.specs.Echelon.{pivot}
-use Rattle.lra_linear_spec.specs.CheckedArithmetic.{checked_blend}
-use Rattle.lra_linear_spec.specs.Reduction.{ClearingStep, ReducesAlong, ReductionPasses}
-use Rattle.lra_linear_spec.proofs.CheckedArithmetic.{checked_blend_is}
-use Rattle.lra_linear_spec.proofs.Membership.{contains_head, contains_tail}
-use Rattle.lra_linear_spec.proofs.Pivots.{echelon_positive, echelon_apart_at}
-use Rattle.lra_linear_spec.proofs.Products.{entry_blend, blend_length}
-use Rattle.lra_linear_spec.proofs.Ring.{ring, v, ⊖, ◌⊕◌, ◌⊗◌}
+use Rattle.lra_linear_spec.specs.{CheckedArithmetic.checked_blend, Echelon.pivot, LowestTerms.IsLowest, Reduction.ClearingStep, Reduction.ReducesAlong, Reduction.ReductionPasses, Vectors.entry}
 use Rattle.lra_linear_spec.proofs.Signs.{as_nat, no_product, positive_is_nonnegative, positive_nat}
-use Rattle.lra_linear_spec.proofs.Spans.{spanned_linear, spanned_row, spanned_zero}
-use Rattle.lra_row.specs.declared.error.RowError.{RowError}
-use Rattle.lra_row.specs.declared.error.RowError.TheVariants.{Excess, Memory}
-use Rattle.lra_row.specs.Rows.{IsExcessOf}
+use Rattle.lra_linear_spec.proofs.{CheckedArithmetic.checked_blend_is, Membership.contains_head, Membership.contains_tail, Pivots.echelon_positive, Pivots.echelon_apart_at, Products.entry_blend}
+use Rattle.lra_linear_spec.proofs.{Products.blend_length, Ring.ring, Ring.v, Ring.⊖, Ring.◌⊕◌, Ring.◌⊗◌, Spans.spanned_linear, Spans.spanned_row, Spans.spanned_zero}
+use Rattle.lra_row.specs.{Rows.IsExcessOf, declared.error.RowError.RowError, declared.error.RowError.TheVariants.Excess, declared.error.RowError.TheVariants.Memory}
 use Rattle.lra_canonical.specs.Reduced.{IsEchelonForm, IsAlong, IsReducedBy, IsCleared, IsClearingExcess, Clears, FirstPassing, IsChainEnd, IsFirstExcess, IsReductionExcess}
 
 -- ---- one step

@@ -1,8 +1,7 @@
 -- A row that no other row covers.
 use Rattle.std.proofs.Common.{◌≡◌, ℕ, Bool, true, false, List, length, Option, None, refl, sym, ◌∙◌, subst}
 use Rattle.std.specs.Prelude.{◌&&◌, ◌↔◌, IsTrue}
-use Rattle.lra_bits.specs.TruthValues.{value_at, both}
-use Rattle.lra_bits.specs.Matrix.{Matrix, NoneWithin, TellsWithin}
+use Rattle.lra_bits.specs.{Matrix.Matrix, Matrix.NoneWithin, Matrix.TellsWithin, TruthValues.value_at, TruthValues.both}
 use Rattle.lra_bits.proofs.Pairs.{both_value}
 use Rattle.lra_canonical.specs.Irredundant.{IsCovered}
 

@@ -1,32 +1,20 @@
 -- Echelon forms row by row: the form of the first rows with one more row is that of one row more; of lists with the same solutions
 -- it is the same; and the first number that passes is a strain.
 use Rattle.std.proofs.Common.{◌≡◌, ℕ, ◌+◌, ◌<◌, List, [], ◌∷◌, ◌++◌, length, All, take, drop, get_or, refl, ap, sym, ◌∙◌, subst, pos, negsuc, ℤ, ◌+ℤ◌, ◌*ℤ◌, ◌<ℤ◌, neg_ℤ, arith, inl, inr, ◌⊎◌, Some}
-use Rattle.std.proofs.Common.{None}
-use Rattle.std.specs.List.{Contains}
-use Rattle.std.proofs.lemmas.Int.{ints}
-use Rattle.std.proofs.lemmas.List.{take_more, take_all}
 use Rattle.std.proofs.lemmas.List.Elements.{All-contains, Contains-append_cases, Contains-append_left, Contains-append_right}
-use Rattle.lra_linear_spec.specs.Cones.{both_ways}
+use Rattle.std.proofs.{Common.None, lemmas.Int.ints, lemmas.List.take_more, lemmas.List.take_all}
+use Rattle.std.specs.List.{Contains}
 use Rattle.lra_linear_spec.specs.Echelon.{IsEchelon, IsEchelonOf, Spanned, pivot}
-use Rattle.lra_linear_spec.specs.LowestTerms.{IsPrimitive}
-use Rattle.lra_linear_spec.specs.Vectors.{blend, entry, product, signed_sum}
-use Rattle.lra_linear_spec.proofs.EchelonExtension.{ClearedRows, cleared_exist}
-use Rattle.lra_linear_spec.proofs.FlatRows.{member_primitive, signed_primitive}
-use Rattle.lra_linear_spec.proofs.Lines.{described_generated}
-use Rattle.lra_linear_spec.proofs.Membership.{all_from, contains_cases, contains_head, contains_none, contains_tail}
-use Rattle.lra_linear_spec.proofs.Pivots.{echelon_apart, echelon_positive}
-use Rattle.lra_linear_spec.proofs.Products.{entry_blend, entry_negated, product_comm}
-use Rattle.lra_linear_spec.proofs.Ring.{ring, v, ⊖, ◌⊕◌, ◌⊗◌}
-use Rattle.lra_linear_spec.proofs.Signs.{not_both, zero_at_least}
+use Rattle.lra_linear_spec.specs.{Cones.both_ways, LowestTerms.IsPrimitive, Vectors.blend, Vectors.entry, Vectors.product, Vectors.signed_sum}
 use Rattle.lra_linear_spec.proofs.Spans.{echelon_rows_at_most, echelon_unique, spanned_divided, spanned_head, spanned_linear, spanned_more, spanned_row, spanned_same, spanned_through}
-use Rattle.lra_row.specs.declared.error.RowError.{RowError}
-use Rattle.lra_row.specs.declared.error.RowError.TheVariants.{Excess, Memory}
-use Rattle.lra_canonical.specs.Reduced.{IsEchelonForm, SolvesAll, IsAlong, IsCleared, IsReducedBy}
+use Rattle.lra_linear_spec.proofs.{EchelonExtension.ClearedRows, EchelonExtension.cleared_exist, FlatRows.member_primitive, FlatRows.signed_primitive, Lines.described_generated, Membership.all_from}
+use Rattle.lra_linear_spec.proofs.{Membership.contains_cases, Membership.contains_head, Membership.contains_none, Membership.contains_tail, Pivots.echelon_apart, Pivots.echelon_positive}
+use Rattle.lra_linear_spec.proofs.{Products.entry_blend, Products.entry_negated, Products.product_comm, Ring.ring, Ring.v, Ring.⊖, Ring.◌⊕◌, Ring.◌⊗◌, Signs.not_both, Signs.zero_at_least}
+use Rattle.lra_row.specs.{declared.error.RowError.RowError, declared.error.RowError.TheVariants.Excess, declared.error.RowError.TheVariants.Memory}
 use Rattle.lra_canonical.specs.Echelons.{SameEqualities, HaveWidth, IsOneForm, AreCleared, IsDirected, IsPlaced, IsInserted, IsExtended, IsExtensionExcess, Extends, IsFirstRowExcess, IsEchelonExcess}
-use Rattle.lra_canonical.proofs.Chains.{chain_passes, split_at, step_length}
-use Rattle.lra_canonical.proofs.EchelonSteps.{directed_width}
-use Rattle.lra_canonical.proofs.Extension.{cleared_rows, placed_extension}
+use Rattle.lra_canonical.specs.Reduced.{IsEchelonForm, SolvesAll, IsAlong, IsCleared, IsReducedBy}
 use Rattle.lra_canonical.proofs.Solutions.{all_widths, farkas, have_width, signed_spanned, solves_all, spanned_solved, sum_none}
+use Rattle.lra_canonical.proofs.{Chains.chain_passes, Chains.split_at, Chains.step_length, EchelonSteps.directed_width, Extension.cleared_rows, Extension.placed_extension}
 
 -- ---- widths
 cleared_widths : (w : ℕ) (line : List ℤ) (rows new : List (List ℤ)) → length line ≡ w → ((r : List ℤ) → Contains rows r → length r ≡ w) → AreCleared line rows new → (t : List ℤ) → Contains new t →

@@ -1,20 +1,15 @@
 -- What the code of echelon forms computes, step by step.
 use Rattle.std.proofs.Common.{◌≡◌, ℕ, zero, suc, ◌+◌, ◌<◌, ◌≤◌, false, List, [], ◌∷◌, ◌++◌, length, All, take, drop, get_or, refl, ap, sym, ◌∙◌, subst, pos, negsuc, ℤ, ◌<ℤ◌, arith, inl, inr, Option}
 use Rattle.std.proofs.Common.{Some, FitsSigned, of_z, to_z}
+use Rattle.std.proofs.{lemmas.Int.ints, lemmas.Int.to_z-of_z, lemmas.List.take_more, lemmas.List.get_or-take, lemmas.List.get_or-drop, lemmas.List.length-take-le, lemmas.List.length-drop}
 use borrow.Author.Tests.{ltb-false}
-use Rattle.std.specs.Int.{w128}
-use Rattle.std.specs.Int.Signed.{lt_z}
-use Rattle.std.proofs.lemmas.Int.{ints, to_z-of_z}
-use Rattle.std.proofs.lemmas.List.{take_more, get_or-take, get_or-drop, length-take-le, length-drop}
-use Rattle.lra_linear_spec.specs.Echelon.{Before, pivot}
-use Rattle.lra_linear_spec.specs.Vectors.{entry, negated}
+use Rattle.std.specs.{Int.w128, Int.Signed.lt_z}
+use Rattle.lra_linear_spec.specs.{Echelon.Before, Echelon.pivot, Vectors.entry, Vectors.negated}
 use Rattle.lra_linear_spec.proofs.Products.{negated_length}
-use Rattle.lra_row.specs.declared.error.RowError.{RowError}
-use Rattle.lra_row.specs.declared.error.RowError.TheVariants.{Excess, Memory}
-use Rattle.lra_canonical.specs.Reduced.{IsCleared, IsClearingExcess, IsReducedBy, IsChainEnd, IsFirstExcess}
+use Rattle.lra_row.specs.{declared.error.RowError.RowError, declared.error.RowError.TheVariants.Excess, declared.error.RowError.TheVariants.Memory}
 use Rattle.lra_canonical.specs.Echelons.{IsDirected, AreCleared, IsClearedExcess, StartsAfter, IsPlaced, IsInserted, InsertionPasses, IsInsertionExcess, IsExtended, IsExtensionExcess}
-use Rattle.lra_canonical.proofs.Chains.{split_at}
-use Rattle.lra_canonical.proofs.Extension.{zero_at_pivot, negated_leads}
+use Rattle.lra_canonical.specs.Reduced.{IsCleared, IsClearingExcess, IsReducedBy, IsChainEnd, IsFirstExcess}
+use Rattle.lra_canonical.proofs.{Chains.split_at, Extension.zero_at_pivot, Extension.negated_leads}
 
 -- ---- the direction of a row
 pub directed_zero : (r : List ℤ) (p : ℕ) (x : ℤ) → p ≡ pivot r → x ≡ entry r p → FitsSigned w128 x → of_z w128 x ≡ 0 → (j : ℕ) → entry r j ≡ pos 0

@@ -1,26 +1,14 @@
 -- An echelon form with one more row is one, and of the same span; and what passes where it is made is a strain.
 use Rattle.std.proofs.Common.{◌≡◌, ◌≢◌, ℕ, zero, suc, ◌+◌, ◌<◌, Bool, true, false, cond, List, [], ◌∷◌, ◌++◌, length, refl, ap, sym, ◌∙◌, subst, pos, ℤ, ◌+ℤ◌, ◌*ℤ◌, ◌<ℤ◌, neg_ℤ, arith, inl, inr, ◌⊎◌}
-use Rattle.std.proofs.Common.{true≢false}
-use Rattle.std.specs.Cmp.{signed_Decides}
-use Rattle.std.specs.List.{Contains}
-use Rattle.std.specs.Ordering.{int_eq}
-use Rattle.std.proofs.lemmas.Bool.{cases_lt}
-use Rattle.std.proofs.lemmas.Int.{ints}
-use Rattle.std.proofs.lemmas.List.Elements.{Contains-append_right}
-use Rattle.lra_linear_spec.specs.Echelon.{Before, IsEchelon, HasPivot, Spanned, lead_from, pivot}
-use Rattle.lra_linear_spec.specs.LowestTerms.{IsPrimitive}
-use Rattle.lra_linear_spec.specs.Vectors.{entry, negated}
+use Rattle.std.proofs.{Common.true≢false, lemmas.Bool.cases_lt, lemmas.Int.ints, lemmas.List.Elements.Contains-append_right}
+use Rattle.std.specs.{Cmp.signed_Decides, List.Contains, Ordering.int_eq}
+use Rattle.lra_linear_spec.specs.{Echelon.Before, Echelon.IsEchelon, Echelon.HasPivot, Echelon.Spanned, Echelon.lead_from, Echelon.pivot, LowestTerms.IsPrimitive, Vectors.entry, Vectors.negated}
 use Rattle.lra_linear_spec.proofs.EchelonExtension.{ClearedRow, ClearedRows, before_trans, echelon_insert, extension_span}
 use Rattle.lra_linear_spec.proofs.Membership.{contains_cases, contains_head, contains_none, contains_tail}
-use Rattle.lra_linear_spec.proofs.Pivots.{echelon_positive, pivot_is}
-use Rattle.lra_linear_spec.proofs.Products.{entry_negated}
-use Rattle.lra_linear_spec.proofs.Ring.{ring, v, ⊖, ◌⊕◌, ◌⊗◌}
 use Rattle.lra_linear_spec.proofs.Signs.{as_nat, not_both, positive_is_nonnegative, positive_nat}
-use Rattle.lra_linear_spec.proofs.Widening.{zero_said}
-use Rattle.lra_canonical.specs.Echelons.{AreCleared, IsPlaced, StartsAfter}
-use Rattle.lra_canonical.specs.Reduced.{IsEchelonForm, IsCleared}
-use Rattle.lra_canonical.proofs.Chains.{step_entry}
-use Rattle.lra_canonical.proofs.Solutions.{pivot_of_some}
+use Rattle.lra_linear_spec.proofs.{Pivots.echelon_positive, Pivots.pivot_is, Products.entry_negated, Ring.ring, Ring.v, Ring.⊖, Ring.◌⊕◌, Ring.◌⊗◌, Widening.zero_said}
+use Rattle.lra_canonical.specs.{Echelons.AreCleared, Echelons.IsPlaced, Echelons.StartsAfter, Reduced.IsEchelonForm, Reduced.IsCleared}
+use Rattle.lra_canonical.proofs.{Chains.step_entry, Solutions.pivot_of_some}
 
 -- ---- the pivot of a row
 other_of : (x : ℤ) → int_eq x (pos 0) ≡ false → ¬ (x ≡ pos 0)

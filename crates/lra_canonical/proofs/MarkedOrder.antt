@@ -1,14 +1,8 @@
 -- Marked rows in the order of their rows.
 use Rattle.std.proofs.Common.{◌≡◌, ◌∙◌, ◌+◌, ◌<◌, ℕ, ℤ, Bool, List, [], ap, arith, get_or, length, map, subst, sym}
-use Rattle.std.specs.List.Sorted.{IsPermutation, IsSorted}
-use Rattle.std.specs.Ordering.{is_lt}
-use Rattle.std.specs.declared.cmp.Ordering.{Ordering}
-use Rattle.std.proofs.lemmas.List.{ext_get_or, get_or-map, length-map}
-use Rattle.std.proofs.lemmas.List.Sorted.{All-permutation, IsPermutation-map}
-use Rattle.lra_canonical.specs.MarkedRows.{AreToldBy, bits_in, rows_in}
-use Rattle.lra_canonical.specs.Ordered.{cmp_by}
-use Rattle.lra_canonical.specs.declared.order.Marked.{Marked}
-use Rattle.lra_canonical.specs.declared.order.Order.{Order}
+use Rattle.std.proofs.{lemmas.List.ext_get_or, lemmas.List.get_or-map, lemmas.List.length-map, lemmas.List.Sorted.All-permutation, lemmas.List.Sorted.IsPermutation-map}
+use Rattle.std.specs.{List.Sorted.IsPermutation, List.Sorted.IsSorted, Ordering.is_lt, declared.cmp.Ordering.Ordering}
+use Rattle.lra_canonical.specs.{MarkedRows.AreToldBy, MarkedRows.bits_in, MarkedRows.rows_in, Ordered.cmp_by, declared.order.Marked.Marked, declared.order.Order.Order}
 
 abbrev pub marked_cmp : Order → Marked → Marked → Ordering
 marked_cmp order x y = cmp_by order x.row y.row

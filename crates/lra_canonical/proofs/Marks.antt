@@ -1,8 +1,7 @@
 -- Lists without the elements that are marked: one more mark, and the places of what is left.
 use Rattle.std.proofs.Common.{◌≡◌, ◌≢◌, ℕ, zero, suc, ◌<◌, Bool, true, false, List, [], ◌∷◌, ◌++◌, length, get_or, slice_set, refl, ap, sym, ◌∙◌, subst, arith, inl, inr, true≢false}
 use Rattle.std.specs.List.{Contains}
-use Rattle.lra_bits.specs.TruthValues.{value_at}
-use Rattle.lra_bits.specs.Matrix.{unmarked}
+use Rattle.lra_bits.specs.{Matrix.unmarked, TruthValues.value_at}
 use Rattle.lra_linear_spec.proofs.Membership.{contains_cases, contains_head, contains_none, contains_tail}
 
 -- ---- one more mark takes one element out

@@ -1,25 +1,16 @@
 -- Of the orders of one list of rows one is sorted, where only equal rows tie.
 use Rattle.std.proofs.Common.{◌≡◌, ◌==◌, ℕ, suc, ◌+◌, ◌<◌, Bool, false, cond, List, [], ◌∷◌, length, get_or, refl, ap, sym, ◌∙◌, subst, ℤ, arith, Bor}
-use Rattle.std.specs.Cmp.{IsTotalOrder, IsStrictWeakOrder, on_total, then_total, bool_cmp_total, nat_cmp_total}
-use Rattle.std.specs.FinMap.{nat_cmp-IsAntisymmetric}
-use Rattle.std.specs.List.{Contains, sum_by}
-use Rattle.std.specs.Fn.{Called, Mut, ComparesAs}
-use Rattle.std.specs.List.Sorted.{IsSorted, IsSortedBy, IsPermutation}
-use Rattle.std.specs.Ordering.{is_lt, is_eq, ordering_reverse, ordering_then, bool_cmp, nat_cmp}
-use Rattle.std.specs.declared.cmp.Ordering.{Ordering}
-use Rattle.std.specs.declared.cmp.Ordering.TheVariants.{Less, Equal, Greater}
 use Rattle.std.proofs.lemmas.List.Sorted.{sorted_far, sum_by-IsPermutation, length_permutation, Contains-permutation, IsPermutation-sym}
-use Rattle.std.proofs.lemmas.List.MinMax.{ranks_by}
-use Rattle.std.proofs.lemmas.Fn.{always_returns_same}
-use Rattle.std.proofs.lemmas.List.Sums.{sum_by-cons}
-use Rattle.lra_linear_spec.specs.Echelon.{pivot}
-use Rattle.lra_linear_spec.specs.RowOrder.{row_cmp, Ascends}
-use Rattle.lra_linear_spec.proofs.Membership.{contains_head, contains_tail, NoRepeat}
-use Rattle.lra_linear_spec.proofs.RowOrder.{row_cmp_total, inequality_cmp_total}
+use Rattle.std.proofs.{lemmas.Fn.always_returns_same, lemmas.List.MinMax.ranks_by, lemmas.List.Sums.sum_by-cons}
+use Rattle.std.specs.Cmp.{IsTotalOrder, IsStrictWeakOrder, on_total, then_total, bool_cmp_total, nat_cmp_total}
+use Rattle.std.specs.Ordering.{is_lt, is_eq, ordering_reverse, ordering_then, bool_cmp, nat_cmp}
+use Rattle.std.specs.{FinMap.nat_cmp-IsAntisymmetric, Fn.Called, Fn.Mut, Fn.ComparesAs, List.Contains, List.sum_by, List.Sorted.IsSorted, List.Sorted.IsSortedBy, List.Sorted.IsPermutation}
+use Rattle.std.specs.{declared.cmp.Ordering.Ordering, declared.cmp.Ordering.TheVariants.Less, declared.cmp.Ordering.TheVariants.Equal, declared.cmp.Ordering.TheVariants.Greater}
+use Rattle.lra_linear_spec.specs.{Echelon.pivot, RowOrder.row_cmp, RowOrder.Ascends}
+use Rattle.lra_linear_spec.proofs.{Membership.contains_head, Membership.contains_tail, Membership.NoRepeat, RowOrder.row_cmp_total, RowOrder.inequality_cmp_total}
 use Rattle.lra_row.proofs.OrderLemmas.{row_cmp_ties}
-use Rattle.lra_canonical.specs.Ordered.{cmp_by, TiesAreEqual, IsOneOrder}
-use Rattle.lra_canonical.specs.declared.order.Order.{Order}
 use Rattle.lra_canonical.specs.declared.order.Order.TheVariants.{Inequalities, Generators, Pivots}
+use Rattle.lra_canonical.specs.{Ordered.cmp_by, Ordered.TiesAreEqual, Ordered.IsOneOrder, declared.order.Order.Order}
 
 -- ---- sorted lists
 -- 1 where z ties with x

@@ -1,18 +1,12 @@
 -- Inequalities without the redundant ones, told from which generators they are tight at (Le Verge 1992, Fukuda and
 -- Prodon 1996).
 use Rattle.std.specs.Prelude.{◌≡◌, ◌≢◌, ◌↔◌, ℕ, ◌<◌, ◌≤◌, ℤ, pos, ◌≤ℤ◌, Bool, true, false, List, [], length}
-use Rattle.std.specs.Prelude.{slice_index_or}
-use Rattle.std.specs.List.{Contains}
-use Rattle.lra_linear_spec.specs.Vectors.{entry, product}
-use Rattle.lra_linear_spec.specs.LowestTerms.{IsPrimitive}
-use Rattle.lra_linear_spec.specs.Echelon.{pivot}
-use Rattle.lra_linear_spec.specs.Canonical.{IsCanonical}
+use Rattle.std.specs.{List.Contains, Prelude.slice_index_or}
 use Rattle.lra_linear_spec.specs.Cones.{Generated, all_rows}
-use Rattle.lra_linear_spec.specs.Descriptions.{LinearRow, Gen}
-use Rattle.lra_bits.specs.TruthValues.{value_at, IsSubset}
-use Rattle.lra_bits.specs.Matrix.{Matrix, unmarked}
-use Rattle.lra_canonical.specs.Reduced.{IsEchelonForm, SolvesAll}
-use Rattle.lra_canonical.specs.Echelons.{HaveWidth}
+use Rattle.lra_linear_spec.specs.{Canonical.IsCanonical, Descriptions.LinearRow, Descriptions.Gen, Echelon.pivot}
+use Rattle.lra_linear_spec.specs.{LowestTerms.IsPrimitive, Vectors.entry, Vectors.product}
+use Rattle.lra_bits.specs.{Matrix.Matrix, Matrix.unmarked, TruthValues.value_at, TruthValues.IsSubset}
+use Rattle.lra_canonical.specs.{Echelons.HaveWidth, Reduced.IsEchelonForm, Reduced.SolvesAll}
 
 -- u solves the inequalities, and the form as equalities
 abbrev pub Solutions : List (List ℤ) → List (List ℤ) → List ℤ → Type 0

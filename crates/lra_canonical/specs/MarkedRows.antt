@@ -1,6 +1,5 @@
 -- Rows with truth values that go with them.
-use Rattle.std.specs.Prelude.{◌≡◌, ℤ, Bool, List, map}
-use Rattle.std.specs.List.{All}
+use Rattle.std.specs.{List.All, Prelude.◌≡◌, Prelude.ℤ, Prelude.Bool, Prelude.List, Prelude.map}
 use Rattle.lra_canonical.specs.declared.order.Marked.{Marked}
 
 abbrev pub rows_in : List Marked → List (List ℤ)

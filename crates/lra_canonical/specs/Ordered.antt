@@ -1,11 +1,8 @@
 -- The orders in which rows are shown.
-use Rattle.std.specs.Prelude.{◌≡◌, ◌==◌, ℤ, List}
-use Rattle.std.specs.Ordering.{bool_cmp, nat_cmp, ordering_then}
+use Rattle.std.specs.{List.Contains, List.Sorted.IsSorted, List.Sorted.IsPermutation, Ordering.bool_cmp}
+use Rattle.std.specs.{Ordering.nat_cmp, Ordering.ordering_then, Prelude.◌≡◌, Prelude.◌==◌, Prelude.ℤ, Prelude.List}
 use Rattle.std.specs.declared.cmp.Ordering as std_ordering
-use Rattle.std.specs.List.{Contains}
-use Rattle.std.specs.List.Sorted.{IsSorted, IsPermutation}
-use Rattle.lra_linear_spec.specs.Echelon.{pivot}
-use Rattle.lra_linear_spec.specs.RowOrder.{row_cmp, inequality_cmp}
+use Rattle.lra_linear_spec.specs.{Echelon.pivot, RowOrder.row_cmp, RowOrder.inequality_cmp}
 use Rattle.lra_canonical.specs.declared.order.Order.{Order}
 use Rattle.lra_canonical.specs.declared.order.Order.TheVariants.{Inequalities, Generators, Pivots}
 

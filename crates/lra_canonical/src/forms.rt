@@ -1,14 +1,12 @@
 //! Reduced echelon forms.
 
-ghost use Rattle.std.specs.Prelude.{◌≡◌, ◌≤◌, ◌<◌, ◌↔◌, ℕ, [], length, slice_index_or};
-ghost use Rattle.std.specs.Prelude.{IsTrue, IfOk, IfErr, OnOk, OnErr};
-ghost use Rattle.std.specs.List.{All};
+ghost use Rattle.std.specs.Prelude.{◌≡◌, ◌≤◌, ◌<◌, ◌↔◌, ℕ, [], length, slice_index_or, IsTrue, IfOk, IfErr, OnOk};
+ghost use Rattle.std.specs.{List.All, Prelude.OnErr};
 ghost use Rattle.lra_linear_spec.specs.Echelon.{Before, IsEchelonOf, pivot};
-ghost use Rattle.lra_canonical.specs.Reduced.{IsEchelonForm};
 ghost use Rattle.lra_canonical.specs.Echelons.{SameEqualities, HaveWidth, IsOneForm, IsDirected, AreCleared};
-ghost use Rattle.lra_canonical.specs.Echelons.{IsClearedExcess};
-ghost use Rattle.lra_canonical.specs.Echelons.{IsInserted, IsInsertionExcess, IsExtended, IsExtensionExcess, Extends};
-ghost use Rattle.lra_canonical.specs.Echelons.{HaveOneWidth, IsFirstRowExcess, IsEchelonExcess};
+ghost use Rattle.lra_canonical.specs.Echelons.{IsClearedExcess, IsInserted, IsInsertionExcess, IsExtended};
+ghost use Rattle.lra_canonical.specs.Echelons.{IsExtensionExcess, Extends, HaveOneWidth, IsFirstRowExcess};
+ghost use Rattle.lra_canonical.specs.{Echelons.IsEchelonExcess, Reduced.IsEchelonForm};
 
 use crate::reduction::{clear, reduce_by};
 use lra_row::{Row, RowError, push_copies};

@@ -1,10 +1,8 @@
 //! The orders of lists that are shown.
 
-ghost use Rattle.std.specs.Prelude.{◌≡◌, OnOk, OnErr};
-ghost use Rattle.std.specs.List.Sorted.{IsPermutation, IsSorted};
+ghost use Rattle.std.specs.{List.Sorted.IsPermutation, List.Sorted.IsSorted, Prelude.◌≡◌, Prelude.OnOk, Prelude.OnErr};
 ghost use Rattle.lra_linear_spec.specs.RowOrder.{inequality_cmp};
-ghost use Rattle.lra_canonical.specs.Ordered.{cmp_by, pivot_cmp, IsOneOrder};
-ghost use Rattle.lra_canonical.specs.MarkedRows.{rows_in};
+ghost use Rattle.lra_canonical.specs.{MarkedRows.rows_in, Ordered.cmp_by, Ordered.pivot_cmp, Ordered.IsOneOrder};
 
 use lra_bits::BitRow;
 use lra_row::Row;

@@ -1,9 +1,8 @@
 //! Reductions of a row by an echelon form.
 
-ghost use Rattle.std.specs.Prelude.{◌≡◌, ◌<◌, pos, length, IfOk, IfErr, OnOk, OnErr, IsTrue};
 ghost use Rattle.std.specs.List.{All};
-ghost use Rattle.lra_linear_spec.specs.Echelon.{pivot};
-ghost use Rattle.lra_linear_spec.specs.Vectors.{entry};
+ghost use Rattle.std.specs.Prelude.{◌≡◌, ◌<◌, pos, length, IfOk, IfErr, OnOk, OnErr, IsTrue};
+ghost use Rattle.lra_linear_spec.specs.{Echelon.pivot, Vectors.entry};
 ghost use Rattle.lra_canonical.specs.Reduced.{IsEchelonForm, SameSolutions, IsReducedBy, IsOneReduced, IsCleared};
 ghost use Rattle.lra_canonical.specs.Reduced.{IsClearingExcess, IsChainEnd, IsFirstExcess, IsReductionExcess};
 

@@ -1,8 +1,7 @@
 //! Inequalities without the redundant ones, told from which generators they are tight at.
 
 ghost use Rattle.std.specs.Prelude.{◌≡◌, ◌<◌, ◌≤◌, ◌↔◌, length, IsTrue, IfOk, OnOk, OnErr};
-ghost use Rattle.lra_bits.specs.Matrix.{unmarked};
-ghost use Rattle.lra_bits.specs.Transposed.{AreColumns};
+ghost use Rattle.lra_bits.specs.{Matrix.unmarked, Transposed.AreColumns};
 ghost use Rattle.lra_canonical.specs.Irredundant.{IsCoveredBy, IsCovered, AreMarks, AreKept, WithoutRedundant};
 
 use lra_bits::{BitRow, SatMatrix};

@@ -1,29 +1,16 @@
 -- What lines show, as the code tells it of a path's track.
-use Rattle.std.proofs.Common.{◌≡◌, ◌+◌, ◌++◌, ◌∷◌, [], ℕ, zero, suc, ℤ, Bool, true, false, List, drop, Option, Some, None, Result, Ok, Err}
-use Rattle.std.proofs.Common.{refl, ap, sym, ◌∙◌, subst, add-one}
-use Rattle.std.specs.Prelude.{if◌then◌else◌, slice_get, codes, MatchOption}
+use Rattle.std.proofs.Common.{◌≡◌, ◌+◌, ◌++◌, ◌∷◌, [], ℕ, zero, suc, ℤ, Bool, true, false, List, drop, Option, Some, None, Result, Ok, Err, refl, ap, sym, ◌∙◌, subst, add-one}
 use Rattle.std.proofs.lemmas.Option.{same_Some, none-some}
-use Rattle.lra_linear_spec.specs.declared.Excess.{Excess}
-use Rattle.lra_linear_spec.specs.declared.ConKind.{ConKind}
-use Rattle.lra_linear_spec.specs.Cones.{with_row}
-use Rattle.lra_linear_spec.specs.Descriptions.{LinearRow, system_of}
-use Rattle.lra_linear_spec.specs.Kinds.{is_equality}
-use Rattle.lra_linear_spec.specs.Vectors.{negated}
+use Rattle.std.specs.Prelude.{if◌then◌else◌, slice_get, codes, MatchOption}
+use Rattle.lra_linear_spec.specs.{Cones.with_row, Descriptions.LinearRow, Descriptions.system_of, Kinds.is_equality, Vectors.negated, declared.ConKind.ConKind, declared.Excess.Excess}
 use Rattle.lra_systems.specs.LinearSystems.{LinearSystem, constraints, rows_by_kind}
-use Rattle.lra_multipliers.specs.Symbols.{SymbolicState, executed_path, width_of}
-use Rattle.lra_multipliers.specs.Multipliers.{Multipliers, Answer}
-use Rattle.lra_certificate_spec.specs.Certificates.{PathPremises, premises_of}
-use Rattle.lra_certificate_spec.specs.Judged.{Left, Judged, RowsAtPoint, then_judged, after_line, by_answer, judged_claim, judged_walk, premises_count, judged_multipliers}
-use Rattle.lra_certificate_spec.specs.Judged.{judged_line, judged_claims, judged_to, judged_lines, judged_dead, multipliers_in, line_on, line_or_empty}
-use Rattle.lra_certificate_spec.specs.Judged.{is_dead_line}
-use Rattle.lra_certificate_lines.specs.declared.refusals.VerifyError.{VerifyError}
-use Rattle.lra_certificate_spec.specs.Lines.{judged_in_turn}
-use Rattle.lra_certificate_lines.specs.LineViews.{IsFault, IsJudgedAs}
-use Rattle.lra_certificate_lines.specs.MultiplierLineViews.{given_on, multipliers_on}
-use Rattle.lra_certificate_lines.specs.PathCheckViews.{claimed, answered, ArePathFactsOf, IsPathCheck, answer_by, shown_by, line_by, claim_by, row_by}
-use Rattle.lra_certificate_lines.specs.PathCheckViews.{target_by, lines_by}
-use Rattle.lra_certificate_lines.specs.declared.path_checks.PathFacts.{PathFacts}
-use Rattle.lra_certificate_lines.specs.declared.path_checks.PathCheck.{PathCheck}
+use Rattle.lra_multipliers.specs.{Multipliers.Multipliers, Multipliers.Answer, Symbols.SymbolicState, Symbols.executed_path, Symbols.width_of}
+use Rattle.lra_certificate_spec.specs.Judged.{Left, Judged, RowsAtPoint, then_judged, after_line, by_answer, judged_claim, judged_walk, premises_count, judged_multipliers, judged_line, judged_claims}
+use Rattle.lra_certificate_spec.specs.Judged.{judged_to, judged_lines, judged_dead, multipliers_in, line_on, line_or_empty, is_dead_line}
+use Rattle.lra_certificate_spec.specs.{Certificates.PathPremises, Certificates.premises_of, Lines.judged_in_turn}
+use Rattle.lra_certificate_lines.specs.PathCheckViews.{claimed, answered, ArePathFactsOf, IsPathCheck, answer_by, shown_by, line_by, claim_by, row_by, target_by, lines_by}
+use Rattle.lra_certificate_lines.specs.{LineViews.IsFault, LineViews.IsJudgedAs, MultiplierLineViews.given_on, MultiplierLineViews.multipliers_on, declared.path_checks.PathCheck.PathCheck}
+use Rattle.lra_certificate_lines.specs.{declared.path_checks.PathFacts.PathFacts, declared.refusals.VerifyError.VerifyError}
 use Rattle.lra_certificate_lines.proofs.Told.{then_ok, then_err, then_same, then_then, fault_through}
 
 -- ---- in turn

@@ -1,23 +1,15 @@
 -- What the code tells of lines, passed on from one part to the whole.
-use Rattle.std.proofs.Common.{◌≡◌, ◌+◌, ◌++◌, ℕ, suc, true, false, List, [], ◌∷◌, length, refl, ap, sym, ◌∙◌, subst, append_assoc}
-use Rattle.std.proofs.Common.{append-nil, ℤ, Option, Some, None, Ok, Err}
-use Rattle.lra_linear_spec.specs.Descriptions.{LinearRow}
-use Rattle.lra_linear_spec.specs.Kinds.{is_equality}
-use Rattle.lra_linear_spec.specs.declared.ConKind.{ConKind}
+use Rattle.std.proofs.Common.{◌≡◌, ◌+◌, ◌++◌, ℕ, suc, true, false, List, [], ◌∷◌, length, refl, ap, sym, ◌∙◌, subst, append_assoc, append-nil, ℤ, Option, Some, None, Ok, Err}
+use Rattle.lra_linear_spec.specs.{Descriptions.LinearRow, Kinds.is_equality, declared.ConKind.ConKind}
 use Rattle.lra_systems.specs.LinearSystems.{LinearSystem, constraints}
 use Rattle.lra_systems.proofs.LinearRows.{constraints_pushed}
 use Rattle.lra_program.specs.Sites.{Site}
-use Rattle.lra_certificate_lines.specs.declared.refusals.LineFault.{LineFault}
-use Rattle.lra_certificate_lines.specs.declared.refusals.VerifyError.{VerifyError}
 use Rattle.lra_certificate_lines.specs.declared.refusals.VerifyError.TheVariants.{Refused, Memory}
 use Rattle.lra_certificate_lines.specs.declared.refusals.VerifyRefusal.TheVariants.{Source, Paths, Line}
+use Rattle.lra_certificate_lines.specs.{LineViews.IsFault, Views.fault_view, declared.refusals.LineFault.LineFault, declared.refusals.VerifyError.VerifyError}
 use Rattle.lra_certificate_spec.specs.Judged as judged
-use Rattle.lra_certificate_spec.specs.Judged.{Left, Judged, then_judged, refuses, line_on, row_in, row_before, judged_with_row, judged_rows, RowsAtPoint}
-use Rattle.lra_certificate_spec.specs.Judged.{judged_state, state_before, judged_states}
-use Rattle.lra_certificate_lines.specs.Views.{fault_view}
-use Rattle.lra_certificate_spec.specs.Lines.{pieces_at, line_number_at, left_at, IsLineAt}
-use Rattle.lra_certificate_lines.specs.LineViews.{IsFault}
-use Rattle.lra_certificate_spec.specs.Lines.{is_row_line}
+use Rattle.lra_certificate_spec.specs.Judged.{Left, Judged, then_judged, refuses, line_on, row_in, row_before, judged_with_row, judged_rows, RowsAtPoint, judged_state, state_before, judged_states}
+use Rattle.lra_certificate_spec.specs.Lines.{pieces_at, line_number_at, left_at, IsLineAt, is_row_line}
 use Rattle.lra_certificate_spec.proofs.RowLines.{rows_on, rows_end}
 
 -- a part's refusal is the whole's

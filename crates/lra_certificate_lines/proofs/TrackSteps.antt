@@ -1,13 +1,8 @@
 -- The premises of a path's lines as they are put together.
-use Rattle.std.proofs.Common.{◌≡◌, ◌≤◌, ◌+◌, ◌-◌, ◌++◌, ◌∷◌, [], ℕ, zero, suc, ℤ, pos, Bool, List, length, map, take, Some, Ok, refl}
-use Rattle.std.proofs.Common.{ap, sym, ◌∙◌, subst, arith, add-one, append_assoc, length-append}
+use Rattle.std.proofs.Common.{◌≡◌, ◌≤◌, ◌+◌, ◌-◌, ◌++◌, ◌∷◌, [], ℕ, zero, suc, ℤ, pos, Bool, List, length, map, take, Some, Ok, refl, ap, sym, ◌∙◌, subst, arith, add-one, append_assoc, length-append}
+use Rattle.std.proofs.{lemmas.List.take_all, lemmas.List.map-append, lemmas.List.length-map, lemmas.List.replicate_more, lemmas.Option.same_Some, lemmas.Option.none-some}
 use Rattle.std.specs.Prelude.{slice_get}
-use Rattle.std.proofs.lemmas.List.{take_all, map-append, length-map, replicate_more}
-use Rattle.std.proofs.lemmas.Option.{same_Some, none-some}
-use Rattle.lra_linear_spec.specs.declared.ConKind.{ConKind}
-use Rattle.lra_linear_spec.specs.Descriptions.{LinearRow}
-use Rattle.lra_linear_spec.specs.Kinds.{is_equality}
-use Rattle.lra_linear_spec.specs.Vectors.{zeros}
+use Rattle.lra_linear_spec.specs.{Descriptions.LinearRow, Kinds.is_equality, Vectors.zeros, declared.ConKind.ConKind}
 use Rattle.lra_linear_spec.proofs.UnitRows.{zeros_are, zeros_more}
 use Rattle.lra_systems.specs.LinearSystems.{LinearSystem, constraints, rows_by_kind}
 use Rattle.lra_systems.proofs.LinearRows.{constraints_pushed}
@@ -15,12 +10,9 @@ use Rattle.lra_domain.specs.Actions.{Action}
 use Rattle.lra_certificate_spec.specs.Certificates.{padded}
 use Rattle.lra_multipliers.specs.Symbols.{SymbolicState, executed_path, width_of, new_symbols, tests_in, symbols}
 use Rattle.lra_certificate_lines.specs.SymbolicViews.{symbolic_view, HasWidth}
-use Rattle.lra_certificate_lines.specs.PathCheckViews.{ArePathFactsOf}
-use Rattle.lra_certificate_lines.specs.declared.path_checks.PathFacts.{PathFacts}
-use Rattle.lra_certificate_lines.specs.declared.symbolic.SymbolicExecution.{SymbolicExecution}
+use Rattle.lra_certificate_lines.specs.{PathCheckViews.ArePathFactsOf, declared.path_checks.PathFacts.PathFacts, declared.symbolic.SymbolicExecution.SymbolicExecution}
 use Rattle.lra_multipliers.proofs.CheckSteps.{length_zeros}
-use Rattle.lra_certificate_spec.proofs.WalkedRows.{symbols_width}
-use Rattle.lra_certificate_spec.proofs.WalkedWidths.{wide_walk}
+use Rattle.lra_certificate_spec.proofs.{WalkedRows.symbols_width, WalkedWidths.wide_walk}
 
 -- ---- a row with zeros behind it
 pub padded_more : (row old new : List ℤ) → length row ≤ length old → old ≡ row ++ zeros (length old - length row) → new ≡ old ++ pos 0 ∷ [] →

@@ -1,26 +1,16 @@
 -- A path as it is walked, change by change.
-use Rattle.std.proofs.Common.{Bor, zero, drop, drop-cons, add-one, ◌<◌, ◌≤◌, slice_index_or, ◌≡◌, ◌+◌, ◌-◌, ℕ, suc}
-use Rattle.std.proofs.Common.{ℤ, List, [], ◌∷◌, ◌++◌, length, take, Result, Ok, ap, sym, ◌∙◌, subst, arith}
+use Rattle.std.proofs.Common.{Bor, zero, drop, drop-cons, add-one, ◌<◌, ◌≤◌, slice_index_or, ◌≡◌, ◌+◌, ◌-◌, ℕ, suc, ℤ, List, [], ◌∷◌, ◌++◌, length, take, Result, Ok, ap, sym, ◌∙◌, subst, arith}
+use Rattle.std.proofs.{lemmas.List.drop_all, lemmas.List.Elements.All-cons}
 use Rattle.std.specs.List.{All}
-use Rattle.std.proofs.lemmas.List.{drop_all}
-use Rattle.std.proofs.lemmas.List.Elements.{All-cons}
-use Rattle.lra_linear_spec.specs.declared.Excess.{Excess}
-use Rattle.lra_linear_spec.specs.CheckedArithmetic.{and_then}
-use Rattle.lra_linear_spec.specs.Kinds.{is_equality}
+use Rattle.lra_linear_spec.specs.{CheckedArithmetic.and_then, Descriptions.LinearRow, Kinds.is_equality, declared.ConKind.ConKind, declared.Excess.Excess}
 use Rattle.lra_linear_forms.specs.Form.{form_row}
-use Rattle.lra_domain.specs.Actions.{Action, assign, forget, test, embed, remove_last}
-use Rattle.lra_row.specs.Rows.{IsExcessOf}
-use Rattle.lra_row.specs.declared.error.RowError.{RowError}
+use Rattle.lra_domain.specs.{Actions.Action, Actions.assign, Actions.forget, Actions.test, Actions.embed, Actions.remove_last, Changes.action_of, declared.changes.Change.Change}
+use Rattle.lra_row.specs.{Rows.IsExcessOf, declared.error.RowError.RowError}
 use Rattle.lra_row.specs.declared.error.RowError.TheVariants as of_row
 use Rattle.lra_systems.specs.LinearSystems.{LinearSystem, constraints}
 use Rattle.lra_systems.proofs.LinearRows.{constraints_pushed}
-use Rattle.lra_linear_spec.specs.declared.ConKind.{ConKind}
-use Rattle.lra_linear_spec.specs.Descriptions.{LinearRow}
-use Rattle.lra_domain.specs.Changes.{action_of}
-use Rattle.lra_domain.specs.declared.changes.Change.{Change}
 use Rattle.lra_path_disjuncts.specs.TableDisjuncts.{all_done}
-use Rattle.lra_multipliers.specs.Symbols.{composed, symbol, symbols, SymbolicState, gives, tests_too, executed_action, executed, new_symbols, tests_in}
-use Rattle.lra_multipliers.specs.Symbols.{width_of, executed_path}
+use Rattle.lra_multipliers.specs.Symbols.{composed, symbol, symbols, SymbolicState, gives, tests_too, executed_action, executed, new_symbols, tests_in, width_of, executed_path}
 use Rattle.lra_certificate_spec.proofs.WalkedRows.{and_ok, ok_is, symbol_width}
 
 -- ---- symbols

@@ -1,20 +1,12 @@
 -- Rows over symbols as they are made, coefficient by coefficient.
-use Rattle.std.proofs.Common.{◌≡◌, ◌⊎◌, ◌<◌, ◌≤◌, ◌+◌, ◌-◌, ℕ, zero, suc, ℤ, pos, ◌+ℤ◌, ◌*ℤ◌, Bool, cond, List, [], ◌∷◌, ◌++◌, length, drop, get_or}
-use Rattle.std.proofs.Common.{refl}
-use Rattle.std.proofs.Common.{ap, sym, ◌∙◌, subst, arith, inl, inr, drop-cons, add-one, append_assoc, Result, Ok, Err}
-use Rattle.std.specs.Prelude.{slice_set}
-use Rattle.std.specs.List.{All}
-use Rattle.std.proofs.lemmas.List.{drop_all}
-use Rattle.std.proofs.lemmas.List.Elements.{All-head, All-tail, All-cons}
-use Rattle.lra_linear_spec.specs.declared.Excess.{Excess}
-use Rattle.lra_linear_spec.specs.declared.Operation.TheVariants.{Product, Sum}
+use Rattle.std.proofs.Common.{◌≡◌, ◌⊎◌, ◌<◌, ◌≤◌, ◌+◌, ◌-◌, ℕ, zero, suc, ℤ, pos, ◌+ℤ◌, ◌*ℤ◌, Bool, cond, List, [], ◌∷◌, ◌++◌, length, drop, get_or, refl, ap, sym, ◌∙◌, subst, arith, inl, inr}
+use Rattle.std.proofs.Common.{drop-cons, add-one, append_assoc, Result, Ok, Err}
+use Rattle.std.proofs.{lemmas.List.drop_all, lemmas.List.Elements.All-head, lemmas.List.Elements.All-tail, lemmas.List.Elements.All-cons}
+use Rattle.std.specs.{List.All, Prelude.slice_set}
 use Rattle.lra_linear_spec.specs.CheckedArithmetic.{checked_added_entry, checked_added, then_rest, and_then}
-use Rattle.lra_linear_spec.specs.Range.{InRange, in_range}
-use Rattle.lra_linear_spec.specs.Vectors.{entry, zeros}
-use Rattle.lra_linear_spec.proofs.CheckedArithmetic.{in_range_yes}
-use Rattle.lra_linear_spec.proofs.Ring.{ring, v, ◌⊕◌, ◌⊗◌}
-use Rattle.lra_row.specs.Rows.{IsExcessOf}
-use Rattle.lra_row.specs.declared.error.RowError.{RowError}
+use Rattle.lra_linear_spec.specs.{Range.InRange, Range.in_range, Vectors.entry, Vectors.zeros, declared.Excess.Excess, declared.Operation.TheVariants.Product, declared.Operation.TheVariants.Sum}
+use Rattle.lra_linear_spec.proofs.{CheckedArithmetic.in_range_yes, Ring.ring, Ring.v, Ring.◌⊕◌, Ring.◌⊗◌}
+use Rattle.lra_row.specs.{Rows.IsExcessOf, declared.error.RowError.RowError}
 use Rattle.lra_row.specs.declared.error.RowError.TheVariants as of_row
 use Rattle.lra_multipliers.specs.Symbols.{composed_from, composed, symbol, symbols}
 

@@ -1,11 +1,10 @@
 -- What the code tells of lines.
 use Rattle.std.specs.Prelude.{◌≡◌, Result, Ok, Err, ⊤}
-use Rattle.lra_certificate_lines.specs.declared.refusals.VerifyError.{VerifyError}
 use Rattle.lra_certificate_lines.specs.declared.refusals.VerifyError.TheVariants.{Refused, Memory}
 use Rattle.lra_certificate_lines.specs.declared.refusals.VerifyRefusal.{VerifyRefusal}
 use Rattle.lra_certificate_lines.specs.declared.refusals.VerifyRefusal.TheVariants.{Source, Paths, Line}
+use Rattle.lra_certificate_lines.specs.{Views.fault_view, declared.refusals.VerifyError.VerifyError}
 use Rattle.lra_certificate_spec.specs.Judged.{Judged}
-use Rattle.lra_certificate_lines.specs.Views.{fault_view}
 
 -- the code's answer is that of the definition, unless memory is wanting
 abbrev pub IsLineRefusal : {B : Type 0} → Judged B → VerifyRefusal → Type 0

@@ -1,11 +1,9 @@
 -- Lines of multipliers as the code reads them.
 use Rattle.std.specs.Prelude.{ℕ, List, Option, None, Some, Ok}
 use Rattle.lra_certificate_lines.specs.declared.multiplier_lines.MultiplierLine.{MultiplierLine}
-use Rattle.lra_multipliers.specs.Multipliers.{Multipliers}
-use Rattle.lra_multipliers.specs.MultiplierViews.{multipliers_view}
+use Rattle.lra_multipliers.specs.{MultiplierViews.multipliers_view, Multipliers.Multipliers}
 use Rattle.lra_certificate_spec.specs.Judged.{Left, Judged, refuses, bad_line, after_line, line_on, line_or_empty}
-use Rattle.lra_certificate_spec.specs.Judged.{multipliers_in}
-use Rattle.lra_certificate_spec.specs.Lines.{left_at}
+use Rattle.lra_certificate_spec.specs.{Judged.multipliers_in, Lines.left_at}
 
 abbrev pub read_view : List ℕ → MultiplierLine → Multipliers × Left
 read_view bytes r = (multipliers_view r.multipliers, left_at bytes r.after)

@@ -1,23 +1,17 @@
 -- Paths as the code judges their lines.
-use Rattle.std.specs.Prelude.{◌≡◌, ◌<◌, ◌+◌, ◌-◌, ◌++◌, ◌^◌, ℕ, suc, ℤ, List, [], map, codes, if◌then◌else◌}
-use Rattle.std.specs.Prelude.{length, Result, Ok, Err, Option, None, Some, option_map, MatchOption, IfSome}
-use Rattle.std.specs.Borrow.{Bor}
-use Rattle.std.specs.List.{All}
-use Rattle.lra_linear_spec.specs.declared.Excess.{Excess}
-use Rattle.lra_linear_spec.specs.declared.ConKind.{ConKind}
-use Rattle.lra_linear_spec.specs.Cones.{with_row}
+use Rattle.std.specs.Prelude.{◌≡◌, ◌<◌, ◌+◌, ◌-◌, ◌++◌, ◌^◌, ℕ, suc, ℤ, List, [], map, codes, if◌then◌else◌, length}
+use Rattle.std.specs.Prelude.{Result, Ok, Err, Option, None, Some, option_map, MatchOption, IfSome}
+use Rattle.std.specs.{Borrow.Bor, List.All}
 use Rattle.lra_linear_spec.specs.Descriptions.{LinearRow}
-use Rattle.lra_linear_spec.specs.Polyhedra.{falsity}
+use Rattle.lra_linear_spec.specs.{Cones.with_row, Polyhedra.falsity, declared.ConKind.ConKind, declared.Excess.Excess}
 use Rattle.lra_systems.specs.LinearSystems.{LinearSystem, constraints}
 use Rattle.lra_domain.specs.Actions.{Action}
-use Rattle.lra_multipliers.specs.Symbols.{SymbolicState, composed, executed_path, width_of, tests_in}
 use Rattle.lra_multipliers.specs.Multipliers.{Multipliers, Answer, wide, checked}
-use Rattle.lra_certificate_spec.specs.Certificates.{padded}
+use Rattle.lra_multipliers.specs.Symbols.{SymbolicState, composed, executed_path, width_of, tests_in}
 use Rattle.lra_certificate_spec.specs.Judged.{Left, Judged, RowsAtPoint, then_judged, by_answer, is_dead_line, line_on}
-use Rattle.lra_certificate_spec.specs.Lines.{judged_in_turn}
-use Rattle.lra_certificate_lines.specs.MultiplierLineViews.{multipliers_on}
-use Rattle.lra_certificate_lines.specs.declared.path_checks.PathFacts.{PathFacts}
-use Rattle.lra_certificate_lines.specs.declared.path_checks.PathCheck.{PathCheck}
+use Rattle.lra_certificate_spec.specs.{Certificates.padded, Lines.judged_in_turn}
+use Rattle.lra_certificate_lines.specs.{MultiplierLineViews.multipliers_on, declared.path_checks.PathCheck.PathCheck}
+use Rattle.lra_certificate_lines.specs.{declared.path_checks.PathFacts.PathFacts}
 use Rattle.lra_row.specs.declared.row.Row.{Row}
 
 -- all forms are rows over the symbols, as the premises are

@@ -1,13 +1,13 @@
 //! The lines of an input, by the place where they begin among its bytes.
 
-ghost use Rattle.std.specs.Prelude.{◌≡◌, ◌≤◌, ◌<◌, ◌^◌, length, MatchOption, IfOk, IfErr, true, false, None, nat_eq};
 ghost use Rattle.std.specs.List.{position_or_len, count_by};
+ghost use Rattle.std.specs.Prelude.{◌≡◌, ◌≤◌, ◌<◌, ◌^◌, length, MatchOption, IfOk, IfErr, true, false, None, nat_eq};
+ghost use Rattle.lra_certificate_lines.specs.LineViews.{IsJudgedAs, IsRefusal};
 ghost use Rattle.lra_certificate_lines.specs.declared.refusals.VerifyError.{VerifyError};
 ghost use Rattle.lra_certificate_lines.specs.declared.refusals.VerifyError.TheVariants.{Refused};
 ghost use Rattle.lra_certificate_lines.specs.declared.refusals.VerifyRefusal.TheVariants.{Line};
 ghost use Rattle.lra_certificate_spec.specs.Judged.{is_next_line, line_on, after_line, takes};
 ghost use Rattle.lra_certificate_spec.specs.Lines.{is_feed, pieces_at, line_number_at, left_at, HasNoFeed, IsLineAt};
-ghost use Rattle.lra_certificate_lines.specs.LineViews.{IsJudgedAs, IsRefusal};
 
 use crate::refusals::{LineFault, VerifyError, VerifyRefusal};
 

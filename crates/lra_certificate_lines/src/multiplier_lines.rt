@@ -5,8 +5,8 @@ ghost use Rattle.lra_linear_spec.specs.Range.{InRange};
 ghost use Rattle.lra_certificate_spec.specs.Judged.{multipliers_in, by_answer};
 ghost use Rattle.lra_certificate_spec.specs.Lines.{line_number_at, left_at};
 ghost use Rattle.lra_certificate_lines.specs.LineViews.{IsJudgedAs, IsRefusal};
-ghost use Rattle.lra_multipliers.specs.MultiplierViews.{answer_view, multipliers_view};
 ghost use Rattle.lra_certificate_lines.specs.MultiplierLineViews.{multipliers_on, read_view};
+ghost use Rattle.lra_multipliers.specs.MultiplierViews.{answer_view, multipliers_view};
 
 use crate::lines::{line_at, refuse};
 use crate::numbers::numbers_behind;

@@ -1,12 +1,10 @@
 //! Numbers among the words of a line, each of one spelling.
 
 ghost use Rattle.std.specs.Prelude.{◌≡◌, MatchOption, IfOk, IfSome, length};
-ghost use Rattle.std.specs.List.{All, list_all};
-ghost use Rattle.std.specs.Char.{is_ascii_digit};
+ghost use Rattle.std.specs.{Char.is_ascii_digit, List.All, List.list_all};
 ghost use Rattle.lra_linear_spec.specs.Range.{InRange};
 ghost use Rattle.lra_certificate_spec.specs.Judged.{is_magnitude, is_spelled, number_in, words_of, spaced_numbers};
-ghost use Rattle.lra_certificate_spec.specs.Judged.{so_many};
-ghost use Rattle.lra_certificate_spec.specs.Judged.{numbers_after};
+ghost use Rattle.lra_certificate_spec.specs.Judged.{so_many, numbers_after};
 ghost use Rattle.lra_certificate_spec.specs.NumberViews.{option_items, HasNoWord, IsWordOf};
 
 use crate::lines::place_of;

@@ -1,23 +1,19 @@
 //! Paths as their lines are judged: the premises of these, and the claims over the symbols.
 
-ghost use Rattle.std.specs.Prelude.{◌≡◌, ◌≤◌, ◌<◌, ◌+◌, ◌-◌, ◌++◌, ◌^◌, [], ◌∷◌, suc, map, length};
-ghost use Rattle.std.specs.Prelude.{IfOk, IfErr, IfSome, OnOk, codes, None};
-ghost use Rattle.lra_linear_spec.specs.Kinds.{is_equality};
-ghost use Rattle.lra_linear_spec.specs.Vectors.{zeros};
+ghost use Rattle.std.specs.Prelude.{◌≡◌, ◌≤◌, ◌<◌, ◌+◌, ◌-◌, ◌++◌, ◌^◌, [], ◌∷◌, suc, map, length, IfOk, IfErr, IfSome};
+ghost use Rattle.std.specs.Prelude.{OnOk, codes, None};
+ghost use Rattle.lra_linear_spec.specs.{Kinds.is_equality, Vectors.zeros};
 ghost use Rattle.lra_row.specs.Rows.{IsExcessOf};
 ghost use Rattle.lra_systems.specs.LinearSystems.{constraints};
 ghost use Rattle.lra_domain.specs.Changes.{action_of};
 ghost use Rattle.lra_path_disjuncts.specs.TableDisjuncts.{all_done};
-ghost use Rattle.lra_multipliers.specs.Symbols.{tests_in};
 ghost use Rattle.lra_multipliers.specs.MultiplierViews.{answer_view, multipliers_view};
-ghost use Rattle.lra_certificate_spec.specs.Certificates.{padded};
-ghost use Rattle.lra_certificate_spec.specs.Judged.{is_dead_line, line_on};
+ghost use Rattle.lra_multipliers.specs.Symbols.{tests_in};
 ghost use Rattle.lra_certificate_spec.specs.Lines.{pieces_at, left_at, judged_in_turn};
-ghost use Rattle.lra_certificate_lines.specs.LineViews.{IsJudgedAs};
-ghost use Rattle.lra_certificate_lines.specs.SymbolicViews.{HasWidth};
+ghost use Rattle.lra_certificate_spec.specs.{Certificates.padded, Judged.is_dead_line, Judged.line_on};
 ghost use Rattle.lra_certificate_lines.specs.PathCheckViews.{ArePathFacts, IsPathCheck, IsWhole, claimed, claim_row};
-ghost use Rattle.lra_certificate_lines.specs.PathCheckViews.{target_rows, answered};
-ghost use Rattle.lra_certificate_lines.specs.PathCheckViews.{answer_by, line_by, row_by, lines_by};
+ghost use Rattle.lra_certificate_lines.specs.PathCheckViews.{target_rows, answered, answer_by, line_by, row_by};
+ghost use Rattle.lra_certificate_lines.specs.{LineViews.IsJudgedAs, PathCheckViews.lines_by, SymbolicViews.HasWidth};
 
 use crate::lines::line_at;
 use crate::multiplier_lines::{MultiplierLine, take_answer, take_multipliers};

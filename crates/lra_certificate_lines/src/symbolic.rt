@@ -1,13 +1,10 @@
 //! What a path does to its variables, as rows over symbols.
 
-ghost use Rattle.std.specs.Prelude.{◌++◌, ◌≡◌, ◌≤◌, ◌<◌, ◌+◌, ◌-◌, ◌^◌, length, take, slice_set, IfOk, IfErr, OnOk};
-ghost use Rattle.std.specs.Prelude.{[], ◌∷◌, suc, MatchOption};
-ghost use Rattle.std.specs.List.{All};
-ghost use Rattle.lra_linear_spec.specs.CheckedArithmetic.{checked_added};
-ghost use Rattle.lra_linear_spec.specs.Range.{InRange};
+ghost use Rattle.std.specs.Prelude.{◌++◌, ◌≡◌, ◌≤◌, ◌<◌, ◌+◌, ◌-◌, ◌^◌, length, take, slice_set, IfOk, IfErr, OnOk, []};
+ghost use Rattle.std.specs.{List.All, Prelude.◌∷◌, Prelude.suc, Prelude.MatchOption};
+ghost use Rattle.lra_linear_spec.specs.{CheckedArithmetic.checked_added, Range.InRange};
 ghost use Rattle.lra_row.specs.Rows.{IsExcessOf};
-ghost use Rattle.lra_domain.specs.Actions.{embed, forget};
-ghost use Rattle.lra_domain.specs.Changes.{action_of};
+ghost use Rattle.lra_domain.specs.{Actions.embed, Actions.forget, Changes.action_of};
 ghost use Rattle.lra_linear_forms.specs.Form.{form_row};
 ghost use Rattle.lra_path_disjuncts.specs.TableDisjuncts.{all_done};
 ghost use Rattle.lra_multipliers.specs.Symbols.{composed, new_symbols, symbols, executed_path, executed_action};

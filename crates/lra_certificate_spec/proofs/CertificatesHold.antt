@@ -1,7 +1,6 @@
 -- What a certificate says holds in all runs of its program.
 use Rattle.std.proofs.Common.{ℕ, List}
-use Rattle.lra_paths.proofs.FollowedRuns.{graphs_follow_runs}
-use Rattle.lra_paths.proofs.CoverSteps.{kept}
+use Rattle.lra_paths.proofs.{CoverSteps.kept, FollowedRuns.graphs_follow_runs}
 use Rattle.lra_certificate_spec.specs.Claims.{IsCertificate, RowsHold, ClaimsAt, program_of}
 use Rattle.lra_certificate_spec.proofs.CertificatesKept.{first_kept, next_kept, rows_hold}
 

@@ -1,37 +1,24 @@
 -- What a certificate that meets its program says is kept along each path: its rows hold at the goal's store where they
 -- hold at the source's; and no path leads to where a listed assertion is false.
-use Rattle.std.proofs.Common.{◌≡◌, ℕ, zero, suc, ◌<◌, ◌≤◌, ◌+◌, ◌-◌, ℤ, pos, negsuc, ◌+ℤ◌, ◌*ℤ◌, ◌≤ℤ◌, List, [], ◌∷◌, ◌++◌, length, map, drop, Option, Some}
-use Rattle.std.proofs.Common.{None, Ok, refl, ap, sym, ◌∙◌, subst, arith, inl, inr, ◌⊎◌}
-use Rattle.std.specs.Prelude.{slice_get}
-use Rattle.std.specs.List.{AllByRecursion, Contains, flat_map, range_with_len}
-use Rattle.std.proofs.lemmas.Bool.{cases_lt}
-use Rattle.std.proofs.lemmas.Int.{ints}
-use Rattle.std.proofs.lemmas.Option.{slice_get_within}
+use Rattle.std.proofs.Common.{◌≡◌, ℕ, zero, suc, ◌<◌, ◌≤◌, ◌+◌, ◌-◌, ℤ, pos, negsuc, ◌+ℤ◌, ◌*ℤ◌, ◌≤ℤ◌, List, [], ◌∷◌, ◌++◌, length, map, drop, Option, Some, None, Ok, refl, ap, sym, ◌∙◌, subst, arith}
 use Rattle.std.proofs.lemmas.List.Elements.{All-from_recursion, All-contains, Contains-append_cases}
-use Rattle.lra_domain.specs.Actions.{Action}
-use Rattle.lra_domain.specs.Moves.{LeadsAll, SomeLeads}
+use Rattle.std.proofs.{Common.inl, Common.inr, Common.◌⊎◌, lemmas.Bool.cases_lt, lemmas.Int.ints, lemmas.Option.slice_get_within}
+use Rattle.std.specs.{List.AllByRecursion, List.Contains, List.flat_map, List.range_with_len, Prelude.slice_get}
+use Rattle.lra_domain.specs.{Actions.Action, Moves.LeadsAll, Moves.SomeLeads}
 use Rattle.lra_linear_spec.specs.Descriptions.{LinearRow, HoldsWith, Holds, Con, system_of}
-use Rattle.lra_linear_spec.specs.Polyhedra.{falsity}
-use Rattle.lra_linear_spec.specs.Vectors.{entry, dot, product, zeros}
-use Rattle.lra_linear_spec.proofs.Descriptions.{solves_con}
+use Rattle.lra_linear_spec.specs.{Polyhedra.falsity, Vectors.entry, Vectors.dot, Vectors.product, Vectors.zeros}
 use Rattle.lra_linear_spec.proofs.Membership.{contains_none, contains_cases, contains_head, contains_tail, map_has, map_from}
-use Rattle.lra_linear_spec.proofs.Ring.{ring, v, ◌⊕◌, ◌⊗◌}
-use Rattle.lra_program.specs.Program.{Program}
-use Rattle.lra_program.specs.Sites.{Site, sites_of}
+use Rattle.lra_linear_spec.proofs.{Descriptions.solves_con, Ring.ring, Ring.v, Ring.◌⊕◌, Ring.◌⊗◌}
+use Rattle.lra_program.specs.{Program.Program, Sites.Site, Sites.sites_of}
 use Rattle.lra_operations.specs.Tree.{Node}
 use Rattle.lra_path_segments.specs.Segments.{Goal, comes_to, violates}
-use Rattle.lra_paths.specs.Covers.{HoldInAllRuns}
+use Rattle.lra_paths.specs.Covers.{HoldInAllRuns, IsGoalOf}
 use Rattle.lra_paths.specs.Paths.{Path, path_by, live_of, live_at, actions_between, paths_between, paths_of, violations_of, sources_of, points_of}
-use Rattle.lra_multipliers.specs.Symbols.{SymbolicState, symbols, new_symbols, width_of, executed_path}
-use Rattle.lra_multipliers.specs.Multipliers.{Multipliers}
-use Rattle.lra_certificate_spec.specs.Certificates.{Evidence, none, infeasible, implies, ListedAssertion, Certificate, state_or_empty, state_from, state_to}
-use Rattle.lra_certificate_spec.specs.Certificates.{live_at_source, PathPremises, padded}
-use Rattle.lra_certificate_spec.specs.Certificates.{premises_of, contradiction, IsShownInfeasible, IsClaimImplied, AreImplied, CertifiesClaims}
-use Rattle.lra_certificate_spec.specs.Certificates.{CertifiesByEvidence, CertifiesFrom, CertifiesPath}
-use Rattle.lra_certificate_spec.specs.Certificates.{CertifiesPaths}
-use Rattle.lra_certificate_spec.specs.Certificates.{CertifiesAssertion, IsPointRow, IsState, AreStates, Certifies}
+use Rattle.lra_multipliers.specs.{Multipliers.Multipliers, Symbols.SymbolicState, Symbols.symbols, Symbols.new_symbols, Symbols.width_of, Symbols.executed_path}
+use Rattle.lra_certificate_spec.specs.Certificates.{Evidence, none, infeasible, implies, ListedAssertion, Certificate, state_or_empty, state_from, state_to, live_at_source, PathPremises, padded}
+use Rattle.lra_certificate_spec.specs.Certificates.{premises_of, contradiction, IsShownInfeasible, IsClaimImplied, AreImplied, CertifiesClaims, CertifiesByEvidence, CertifiesFrom, CertifiesPath}
+use Rattle.lra_certificate_spec.specs.Certificates.{CertifiesPaths, CertifiesAssertion, IsPointRow, IsState, AreStates, Certifies}
 use Rattle.lra_certificate_spec.specs.Claims.{RowsHoldAt, RowsHold, ClaimsAt, PathsKeepRows}
-use Rattle.lra_paths.specs.Covers.{IsGoalOf}
 use Rattle.lra_path_segments.proofs.Lists.{flat_map_has}
 use Rattle.lra_multipliers.proofs.ShownRows.{shown_holds}
 use Rattle.lra_certificate_spec.proofs.WalkedRows.{values, composed_value, GoesOn, symbols_values, symbols_behind, symbols_width, Stands, goes_on}

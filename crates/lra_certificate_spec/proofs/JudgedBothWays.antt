@@ -1,19 +1,16 @@
 -- The lines are taken exactly where the input is a certificate that meets its program.
-use Rattle.std.proofs.Common.{◌≡◌, ◌≤◌, ◌+◌, ◌^◌, ℕ, suc, pos, Bool, true, false, List, [], ◌∷◌, ◌++◌, length, ap, sym, ◌∙◌, arith, Option, Some}
-use Rattle.std.proofs.Common.{None, Ok, length-append}
-use Rattle.std.specs.Prelude.{if◌then◌else◌, nat_lt}
+use Rattle.std.proofs.Common.{◌≡◌, ◌≤◌, ◌+◌, ◌^◌, ℕ, suc, pos, Bool, true, false, List, [], ◌∷◌, ◌++◌, length, ap, sym, ◌∙◌, arith, Option, Some, None, Ok, length-append}
 use Rattle.std.proofs.lemmas.Bool.Decides.{nat_tests}
+use Rattle.std.specs.Prelude.{if◌then◌else◌, nat_lt}
 use Rattle.lra_base.specs.declared.refusals.Refusal.{Refusal}
 use Rattle.lra_linear_spec.specs.Range.{InRange}
 use Rattle.lra_syntax.specs.Labels.{labels_of}
 use Rattle.lra_resolution_spec.specs.Refuse.{greatest_live, greatest_points, limit_fault}
 use Rattle.lra_program.specs.Sites.{Event, comes, one_call_more, event_sites, sites_of, events_of}
 use Rattle.lra_paths.specs.Paths.{paths_of}
-use Rattle.lra_certificate_spec.specs.CertificateText.{text_line, numbered_text, head_text, body_text}
-use Rattle.lra_certificate_spec.specs.Judged.{Head}
 use Rattle.lra_certificate_spec.specs.Claims.{IsProgram, program_of, IsVerified, JudgedSo, JudgedExactly}
-use Rattle.lra_certificate_spec.proofs.ReadCertificate.{verified_of}
-use Rattle.lra_certificate_spec.proofs.WriteCertificate.{judged_written, head_read}
+use Rattle.lra_certificate_spec.specs.{CertificateText.text_line, CertificateText.numbered_text, CertificateText.head_text, CertificateText.body_text, Judged.Head}
+use Rattle.lra_certificate_spec.proofs.{ReadCertificate.verified_of, WriteCertificate.judged_written, WriteCertificate.head_read}
 
 -- ---- a program that is read has few points
 not_none : (r : Refusal) → (let o : Option Refusal = Some r in o) ≡ None → ⊥

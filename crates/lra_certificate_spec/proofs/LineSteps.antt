@@ -1,19 +1,12 @@
 -- Lines by the place where they begin.
-use Rattle.std.proofs.Common.{◌≡◌, ◌⊎◌, ◌<◌, ◌≤◌, ◌+◌, ℕ, suc, Bool, true, false, List, [], ◌∷◌, ◌++◌, length, take, drop}
-use Rattle.std.proofs.Common.{refl, ap, sym, ◌∙◌, subst, arith, inl, inr, Option, Some, None, append_assoc, take-append-drop, nat_eq, cond, drop-drop}
-use Rattle.std.proofs.Common.{length-drop}
-use Rattle.std.proofs.lemmas.Grind.{common_steps}
-use Rattle.std.specs.List.{All, slice_split, starts_with, join_with_byte, position_or_len, count_by}
-use Rattle.std.proofs.Math.Seq.{drop-append_seam}
+use Rattle.std.proofs.Common.{◌≡◌, ◌⊎◌, ◌<◌, ◌≤◌, ◌+◌, ℕ, suc, Bool, true, false, List, [], ◌∷◌, ◌++◌, length, take, drop, refl, ap, sym, ◌∙◌, subst, arith, inl, inr, Option, Some, None, append_assoc}
+use Rattle.std.proofs.Common.{take-append-drop, nat_eq, cond, drop-drop, length-drop}
 use Rattle.std.proofs.lemmas.List.Splits.{slice_split_first, slice_split_none, slice_split_at, length-slice_split, join_with_byte-slice_split}
-use Rattle.std.proofs.lemmas.List.Sums.{sum_by-append, fails_before_first}
-use Rattle.std.proofs.lemmas.Bool.{cases_lt}
-use Rattle.std.proofs.lemmas.Bool.Decides.{Decides-eqb}
-use Rattle.std.proofs.lemmas.Option.{same_Some, none-some}
-use Rattle.std.proofs.lemmas.Slice.Eq.{bytes_eq-Decides, starts_is}
-use Rattle.lra_certificate_spec.specs.CertificateText.{text_line}
-use Rattle.lra_certificate_spec.specs.Judged.{line_on, after_line, is_next_line}
+use Rattle.std.proofs.{Math.Seq.drop-append_seam, lemmas.Bool.cases_lt, lemmas.Bool.Decides.Decides-eqb, lemmas.Grind.common_steps, lemmas.List.Sums.sum_by-append, lemmas.List.Sums.fails_before_first}
+use Rattle.std.proofs.{lemmas.Option.same_Some, lemmas.Option.none-some, lemmas.Slice.Eq.bytes_eq-Decides, lemmas.Slice.Eq.starts_is}
+use Rattle.std.specs.List.{All, slice_split, starts_with, join_with_byte, position_or_len, count_by}
 use Rattle.lra_certificate_spec.specs.Lines.{is_feed, pieces_at, line_number_at, left_at, IsLineAt}
+use Rattle.lra_certificate_spec.specs.{CertificateText.text_line, Judged.line_on, Judged.after_line, Judged.is_next_line}
 
 some_parts : (parts : List (List ℕ)) (line : List ℕ) → 0 < length parts → line_on (line ∷ parts) ≡ Some line
 some_parts [] line h = absurd (omega (arith, h))

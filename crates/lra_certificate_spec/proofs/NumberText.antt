@@ -1,19 +1,10 @@
 -- A number of the range is spelled as it is printed, and in no other way.
-use Rattle.std.proofs.Common.{◌≡◌, ◌≢◌, ◌⊎◌, ◌<◌, ◌≤◌, ◌+◌, ◌*◌, ◌/◌, ◌%◌, ◌^◌, ℕ, zero, suc, ℤ, pos, negsuc, neg_ℤ, Bool, true, false, cond, ◌&&◌, nat_eq}
-use Rattle.std.proofs.Common.{List, [], ◌∷◌, ◌++◌}
-use Rattle.std.proofs.Common.{refl, ap, sym, ◌∙◌, subst, arith, inl, inr, Some, None, append_assoc, append-nil, drop, ◌-◌}
-use Rattle.std.proofs.lemmas.Bool.{ne_eqb, ltb-true, eqb-true}
-use Rattle.std.specs.Prelude.{◌||◌, nat_le, codes, if◌then◌else◌, unsigned_abs}
-use Rattle.std.specs.List.{list_all}
-use Rattle.std.specs.Char.{is_ascii_digit, digit_value}
-use Rattle.std.specs.Fmt.{decimal, signed_decimal}
-use Rattle.std.specs.Str.{bytes_eq}
-use Rattle.std.specs.Str.Parse.{AllDigits, digits_value_after, digits_value, signed_digits_value, without_leading_plus}
-use Rattle.std.proofs.lemmas.Bool.Decides.{nat_tests}
-use Rattle.std.proofs.lemmas.Fmt.{decimal_digit, decimal_step_wide, decimal_by_steps_wide, decimal_is_IsNumeral_wide}
-use Rattle.std.proofs.lemmas.Str.Parse.{digit_from_value}
-use Rattle.std.proofs.lemmas.Str.{digit_value_digit}
-use Rattle.std.proofs.lemmas.Option.{same_Some, none-some}
+use Rattle.std.proofs.Common.{◌≡◌, ◌≢◌, ◌⊎◌, ◌<◌, ◌≤◌, ◌+◌, ◌*◌, ◌/◌, ◌%◌, ◌^◌, ℕ, zero, suc, ℤ, pos, negsuc, neg_ℤ, Bool, true, false, cond, ◌&&◌, nat_eq, List, [], ◌∷◌, ◌++◌, refl, ap, sym, ◌∙◌}
+use Rattle.std.proofs.{Common.subst, Common.arith, Common.inl, Common.inr, Common.Some, Common.None, Common.append_assoc, Common.append-nil, Common.drop, Common.◌-◌, lemmas.Bool.ne_eqb}
+use Rattle.std.proofs.{lemmas.Bool.ltb-true, lemmas.Bool.eqb-true, lemmas.Bool.Decides.nat_tests, lemmas.Fmt.decimal_digit, lemmas.Fmt.decimal_step_wide, lemmas.Fmt.decimal_by_steps_wide}
+use Rattle.std.proofs.{lemmas.Fmt.decimal_is_IsNumeral_wide, lemmas.Option.same_Some, lemmas.Option.none-some, lemmas.Str.digit_value_digit, lemmas.Str.Parse.digit_from_value}
+use Rattle.std.specs.{Char.is_ascii_digit, Char.digit_value, Fmt.decimal, Fmt.signed_decimal, List.list_all, Prelude.◌||◌, Prelude.nat_le, Prelude.codes, Prelude.if◌then◌else◌, Prelude.unsigned_abs}
+use Rattle.std.specs.{Str.bytes_eq, Str.Parse.AllDigits, Str.Parse.digits_value_after, Str.Parse.digits_value, Str.Parse.signed_digits_value, Str.Parse.without_leading_plus}
 use Rattle.lra_linear_spec.specs.Range.{InRange, in_range}
 use Rattle.lra_linear_spec.proofs.CheckedArithmetic.{in_range_yes}
 use Rattle.lra_certificate_spec.specs.Judged.{begins_with_minus, is_magnitude, is_spelled, number_in}

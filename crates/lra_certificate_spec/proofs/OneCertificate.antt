@@ -1,19 +1,13 @@
 -- A text is that of at most one certificate that meets its program: its head tells the source, so both have one program, and what stands behind it the rest.
-use Rattle.std.proofs.Common.{◌≡◌, ◌≤◌, ℕ, pos, List, length, ap, sym, ◌∙◌, subst, arith, Some}
-use Rattle.std.proofs.lemmas.Option.{same_Some}
+use Rattle.std.proofs.{Common.◌≡◌, Common.◌≤◌, Common.ℕ, Common.pos, Common.List, Common.length, Common.ap, Common.sym, Common.◌∙◌, Common.subst, Common.arith, Common.Some, lemmas.Option.same_Some}
 use Rattle.lra_base.specs.Places.{greatest_length}
 use Rattle.lra_linear_spec.specs.Range.{InRange}
 use Rattle.lra_program.specs.Program.{Program}
 use Rattle.lra_operations.specs.Tree.{Node}
 use Rattle.lra_paths.specs.Paths.{paths_of}
-use Rattle.lra_certificate_spec.specs.Certificates.{Certificate, Certifies}
-use Rattle.lra_certificate_spec.specs.CertificateText.{body_text}
-use Rattle.lra_certificate_spec.specs.Judged.{Head, head_of}
 use Rattle.lra_certificate_spec.specs.Claims.{IsProgram, program_of, IsCertificate, OneCertificate}
-use Rattle.lra_certificate_spec.proofs.JudgedBothWays.{few_points}
-use Rattle.lra_certificate_spec.proofs.WriteCertificate.{head_read}
-use Rattle.lra_certificate_spec.proofs.OneProgram.{as_said}
-use Rattle.lra_certificate_spec.proofs.OneText.{one_body}
+use Rattle.lra_certificate_spec.specs.{CertificateText.body_text, Certificates.Certificate, Certificates.Certifies, Judged.Head, Judged.head_of}
+use Rattle.lra_certificate_spec.proofs.{JudgedBothWays.few_points, OneProgram.as_said, OneText.one_body, WriteCertificate.head_read}
 
 source_short : (source : List ℕ) → length source ≤ greatest_length → InRange (pos (length source))
 unfolding greatest_length

@@ -1,11 +1,9 @@
 -- A source has one program, with one tree of operations.
 use Rattle.std.proofs.Common.{◌≡◌, ℕ, List, ap, sym, subst}
 use Rattle.lra_syntax.specs.Grammar.{Spells}
-use Rattle.lra_resolution_spec.specs.Refuse.{Accepts}
-use Rattle.lra_resolution_spec.specs.Resolve.{resolve}
+use Rattle.lra_resolution_spec.specs.{Refuse.Accepts, Resolve.resolve}
 use Rattle.lra_program.specs.Program.{Program}
-use Rattle.lra_operations.specs.Agree.{IsInlinedTree}
-use Rattle.lra_operations.specs.Tree.{Node}
+use Rattle.lra_operations.specs.{Agree.IsInlinedTree, Tree.Node}
 use Rattle.lra_analysis_spec.proofs.OneTree.{one_tree}
 use Rattle.lra_front_end.proofs.EachAnswer.{each_answer}
 use Rattle.lra_front_end.proofs.StageSteps as stages

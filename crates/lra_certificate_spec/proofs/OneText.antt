@@ -1,29 +1,21 @@
 -- Two certificates that meet one program and have one text behind the head are one: what is read of a text is one, so what is left behind each piece is
 -- one too, and a piece has one text.
 use Rattle.std.proofs.Common.{◌≡◌, ◌<◌, ◌^◌, ℕ, ℤ, List, [], ◌∷◌, ◌++◌, length, get_or, refl, ap, sym, ◌∙◌, subst, arith, append_assoc, None, Some}
-use Rattle.std.specs.Prelude.{codes}
-use Rattle.std.specs.List.{AllByRecursion, join_with_byte, flat_map}
-use Rattle.std.proofs.lemmas.List.{append_cancel_left, append_cancel_right}
-use Rattle.std.proofs.lemmas.List.Splits.{join_with_byte-slice_split}
-use Rattle.std.proofs.lemmas.Option.{same_Some, slice_get_within}
+use Rattle.std.proofs.{lemmas.List.append_cancel_left, lemmas.List.append_cancel_right, lemmas.List.Splits.join_with_byte-slice_split, lemmas.Option.same_Some, lemmas.Option.slice_get_within}
+use Rattle.std.specs.{List.AllByRecursion, List.join_with_byte, List.flat_map, Prelude.codes}
 use Rattle.lra_linear_spec.specs.Range.{InRange}
-use Rattle.lra_program.specs.Program.{Program}
-use Rattle.lra_program.specs.Sites.{sites_of}
+use Rattle.lra_program.specs.{Program.Program, Sites.sites_of}
 use Rattle.lra_operations.specs.Tree.{Node}
 use Rattle.lra_paths.specs.Paths.{Path, paths_of, violations_of}
 use Rattle.lra_multipliers.specs.Multipliers.{Multipliers}
-use Rattle.lra_certificate_spec.specs.Certificates.{Evidence, none, infeasible, implies, ListedAssertion, Certificate, PathPremises, state_from, state_to}
-use Rattle.lra_certificate_spec.specs.Certificates.{live_at_source, CertifiesByEvidence, CertifiesFrom}
-use Rattle.lra_certificate_spec.specs.Certificates.{CertifiesPath, CertifiesPaths, CertifiesAssertion, ShowsNoClaim, AreNumbers, IsWritable, Certifies}
 use Rattle.lra_certificate_spec.specs.CertificateText.{text_line, numbers_text, multipliers_text, evidence_text, edge_text, edges_text, assert_text, body_text}
+use Rattle.lra_certificate_spec.specs.Certificates.{Evidence, none, infeasible, implies, ListedAssertion, Certificate, PathPremises, state_from, state_to, live_at_source, CertifiesByEvidence}
+use Rattle.lra_certificate_spec.specs.Certificates.{CertifiesFrom, CertifiesPath, CertifiesPaths, CertifiesAssertion, ShowsNoClaim, AreNumbers, IsWritable, Certifies}
 use Rattle.lra_certificate_spec.specs.Judged.{words_of, spaced_numbers, multipliers_of, Left, Judged, RowsAtPoint, judged_from, violation_from, lines_left}
-use Rattle.lra_certificate_spec.proofs.ReadText.{ok_same}
-use Rattle.lra_certificate_spec.proofs.ReadPaths.{AreRows}
-use Rattle.lra_certificate_spec.proofs.SourceRows.{sources_fit, denials_denied}
-use Rattle.lra_certificate_spec.proofs.WriteText.{AreFrom, spaced_read, pieces_of, line_pieces}
-use Rattle.lra_certificate_spec.proofs.WritePoints.{states_read}
-use Rattle.lra_certificate_spec.proofs.WritePaths.{Read, IsAlive, multipliers_from_32, by_from, from_read, denied_read, edges_alive}
 use Rattle.lra_certificate_spec.proofs.WriteCertificate.{assert_from, assert_same, listing, listed_shape, listing_alive, listing_other, edges_other, body_shape}
+use Rattle.lra_certificate_spec.proofs.WritePaths.{Read, IsAlive, multipliers_from_32, by_from, from_read, denied_read, edges_alive}
+use Rattle.lra_certificate_spec.proofs.WriteText.{AreFrom, spaced_read, pieces_of, line_pieces}
+use Rattle.lra_certificate_spec.proofs.{ReadPaths.AreRows, ReadText.ok_same, SourceRows.sources_fit, SourceRows.denials_denied, WritePoints.states_read}
 
 -- ---- lines
 pieces_same : (r s : List ℕ) → pieces_of r ≡ pieces_of s → r ≡ s

@@ -1,30 +1,17 @@
 -- Lines that are taken are those of a certificate that meets its program.
-use Rattle.std.proofs.Common.{◌≡◌, ◌⊎◌, ◌<◌, ◌≤◌, ◌+◌, ℕ, zero, suc, ℤ, pos, negsuc, Bool, true, false, List, [], ◌∷◌, ◌++◌, length, take, drop, get_or}
-use Rattle.std.proofs.Common.{refl, ap, sym, ◌∙◌, subst, arith, inl, inr}
-use Rattle.std.proofs.Common.{append_assoc, append-nil, Option, Some, None, Ok, nat_eq}
-use Rattle.std.specs.Prelude.{if◌then◌else◌, codes, slice_get}
-use Rattle.std.specs.List.{flat_map, before_first, after_first, position_or_len}
-use Rattle.std.specs.Fmt.{decimal}
-use Rattle.std.proofs.lemmas.Bool.{eqb-true, cases_lt}
-use Rattle.std.proofs.lemmas.List.{drop_all}
-use Rattle.std.proofs.lemmas.List.Splits.{join_with_byte-slice_split}
-use Rattle.std.proofs.lemmas.List.Sums.{split_at_first, passes_at_first}
-use Rattle.std.proofs.lemmas.Option.{same_Some, none-some}
-use Rattle.lra_program.specs.Program.{Program}
-use Rattle.lra_program.specs.Sites.{sites_of}
+use Rattle.std.proofs.Common.{◌≡◌, ◌⊎◌, ◌<◌, ◌≤◌, ◌+◌, ℕ, zero, suc, ℤ, pos, negsuc, Bool, true, false, List, [], ◌∷◌, ◌++◌, length, take, drop, get_or, refl, ap, sym, ◌∙◌, subst, arith, inl, inr}
+use Rattle.std.proofs.{Common.append_assoc, Common.append-nil, Common.Option, Common.Some, Common.None, Common.Ok, Common.nat_eq, lemmas.Bool.eqb-true, lemmas.Bool.cases_lt, lemmas.List.drop_all}
+use Rattle.std.proofs.{lemmas.List.Splits.join_with_byte-slice_split, lemmas.List.Sums.split_at_first, lemmas.List.Sums.passes_at_first, lemmas.Option.same_Some, lemmas.Option.none-some}
+use Rattle.std.specs.{Fmt.decimal, List.flat_map, List.before_first, List.after_first, List.position_or_len, Prelude.if◌then◌else◌, Prelude.codes, Prelude.slice_get}
+use Rattle.lra_program.specs.{Program.Program, Sites.sites_of}
 use Rattle.lra_operations.specs.Tree.{Node}
 use Rattle.lra_paths.specs.Paths.{paths_of}
+use Rattle.lra_certificate_spec.specs.CertificateText.{text_line, numbered_text, head_text, body_text, states_text, edges_text, listed_text, end_text}
 use Rattle.lra_certificate_spec.specs.Certificates.{Evidence, ListedAssertion, Certificate, Certifies}
-use Rattle.lra_certificate_spec.specs.CertificateText.{text_line, numbered_text, head_text, body_text, states_text, edges_text, listed_text}
-use Rattle.lra_certificate_spec.specs.CertificateText.{end_text}
-use Rattle.lra_certificate_spec.specs.Judged.{Left, Judged, then_judged, RowsAtPoint, judged_states, judged_paths, judged_listed, judged_end, counted}
-use Rattle.lra_certificate_spec.specs.Judged.{lines_left}
-use Rattle.lra_certificate_spec.specs.Judged.{judged, Head, has_feed, headed, head_of}
-use Rattle.lra_certificate_spec.specs.Judged.{numbers_after}
-use Rattle.lra_certificate_spec.specs.Claims.{IsProgram, program_of, IsCertificate, IsVerified, JudgedSo}
+use Rattle.lra_certificate_spec.specs.Judged.{Left, Judged, then_judged, RowsAtPoint, judged_states, judged_paths, judged_listed, judged_end, counted, lines_left, judged, Head, has_feed, headed}
+use Rattle.lra_certificate_spec.specs.{Claims.IsProgram, Claims.program_of, Claims.IsCertificate, Claims.IsVerified, Claims.JudgedSo, Judged.head_of, Judged.numbers_after}
 use Rattle.lra_certificate_spec.proofs.ReadText.{ok_same, then_is, numbers_text_is, judged_states_text}
-use Rattle.lra_certificate_spec.proofs.ReadPaths.{paths_said, listed_said, end_said}
-use Rattle.lra_certificate_spec.proofs.SourceRows.{sources_fit, denials_denied}
+use Rattle.lra_certificate_spec.proofs.{ReadPaths.paths_said, ReadPaths.listed_said, ReadPaths.end_said, SourceRows.sources_fit, SourceRows.denials_denied}
 
 -- ---- behind the head
 abbrev pub as_certificate : List ℕ → List RowsAtPoint → List Evidence → List ListedAssertion → Certificate

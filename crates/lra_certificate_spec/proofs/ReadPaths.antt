@@ -1,34 +1,22 @@
 -- What is read of paths and of assertions has this text, and shows what it has to.
-use Rattle.std.proofs.Common.{◌≡◌, ◌<◌, ◌≤◌, ◌+◌, ℕ, suc, ℤ, Bool, true, false, List, [], ◌∷◌, ◌++◌, length, refl, ap, sym, ◌∙◌, subst, arith}
-use Rattle.std.proofs.Common.{append_assoc, append-nil, Option, Some, None, Result, Ok, Err, length-append}
-use Rattle.std.specs.Prelude.{if◌then◌else◌, codes, slice_get, ◌&&◌, ⊤}
-use Rattle.std.specs.List.{AllByRecursion, flat_map}
-use Rattle.lra_linear_spec.specs.declared.Excess.{Excess}
-use Rattle.lra_linear_spec.specs.Descriptions.{LinearRow, system_of}
-use Rattle.lra_program.specs.Program.{Program}
-use Rattle.lra_program.specs.Sites.{Site, sites_of}
+use Rattle.std.proofs.Common.{◌≡◌, ◌<◌, ◌≤◌, ◌+◌, ℕ, suc, ℤ, Bool, true, false, List, [], ◌∷◌, ◌++◌, length, refl, ap, sym, ◌∙◌, subst, arith, append_assoc, append-nil, Option, Some, None, Result, Ok}
+use Rattle.std.proofs.Common.{Err, length-append}
+use Rattle.std.specs.{List.AllByRecursion, List.flat_map, Prelude.if◌then◌else◌, Prelude.codes, Prelude.slice_get, Prelude.◌&&◌, Prelude.⊤}
+use Rattle.lra_linear_spec.specs.{Descriptions.LinearRow, Descriptions.system_of, declared.Excess.Excess}
+use Rattle.lra_program.specs.{Program.Program, Sites.Site, Sites.sites_of}
 use Rattle.lra_operations.specs.Tree.{Node}
 use Rattle.lra_paths.specs.Paths.{Path, violations_of}
-use Rattle.lra_multipliers.specs.Symbols.{SymbolicState, executed_path}
 use Rattle.lra_multipliers.specs.Multipliers.{Multipliers, Answer, yes, no, wide, IsAnswer, checked}
-use Rattle.lra_certificate_spec.specs.Certificates.{PathPremises, premises_of, contradiction, IsPointRow, IsShownInfeasible, IsClaimImplied, AreImplied}
-use Rattle.lra_certificate_spec.specs.Certificates.{CertifiesByEvidence, CertifiesFrom}
-use Rattle.lra_certificate_spec.specs.Certificates.{Evidence, none, infeasible, implies}
-use Rattle.lra_certificate_spec.specs.Certificates.{ListedAssertion, state_from, state_to, live_at_source, CertifiesPath, CertifiesPaths, ShowsNoClaim}
-use Rattle.lra_certificate_spec.specs.Certificates.{CertifiesAssertion, Ascend, AreNumbers}
-use Rattle.lra_certificate_spec.specs.Certificates.{IsWritable}
+use Rattle.lra_multipliers.specs.Symbols.{SymbolicState, executed_path}
 use Rattle.lra_certificate_spec.specs.CertificateText.{text_line, multipliers_text, evidence_text, edge_text, edges_text, assert_text, listed_text, end_text}
-use Rattle.lra_certificate_spec.specs.Judged.{Left, Judged, then_judged, refuses, line_on, after_line, is_next_line, takes, bad_line, wide_line, not_row}
-use Rattle.lra_certificate_spec.specs.Judged.{multipliers_in}
-use Rattle.lra_certificate_spec.specs.Judged.{by_answer, judged_claim, judged_walk, premises_count, judged_multipliers, line_or_empty, judged_line, judged_dead}
-use Rattle.lra_certificate_spec.specs.Judged.{claim_of}
-use Rattle.lra_certificate_spec.specs.Judged.{judged_claims, is_dead_line, judged_to, judged_lines, judged_from, violation_from, RowsAtPoint, judged_path}
-use Rattle.lra_certificate_spec.specs.Judged.{judged_paths}
-use Rattle.lra_certificate_spec.specs.Judged.{judged_violations}
-use Rattle.lra_certificate_spec.specs.Judged.{one_more, judged_listed, is_nothing, judged_end}
+use Rattle.lra_certificate_spec.specs.Certificates.{PathPremises, premises_of, contradiction, IsPointRow, IsShownInfeasible, IsClaimImplied, AreImplied, CertifiesByEvidence, CertifiesFrom, Evidence}
+use Rattle.lra_certificate_spec.specs.Certificates.{none, infeasible, implies, ListedAssertion, state_from, state_to, live_at_source, CertifiesPath, CertifiesPaths, ShowsNoClaim, CertifiesAssertion}
+use Rattle.lra_certificate_spec.specs.Certificates.{Ascend, AreNumbers, IsWritable}
+use Rattle.lra_certificate_spec.specs.Judged.{Left, Judged, then_judged, refuses, line_on, after_line, is_next_line, takes, bad_line, wide_line, not_row, multipliers_in, by_answer, judged_claim}
+use Rattle.lra_certificate_spec.specs.Judged.{judged_walk, premises_count, judged_multipliers, line_or_empty, judged_line, judged_dead, claim_of, judged_claims, is_dead_line, judged_to, judged_lines}
+use Rattle.lra_certificate_spec.specs.Judged.{judged_from, violation_from, RowsAtPoint, judged_path, judged_paths, judged_violations, one_more, judged_listed, is_nothing, judged_end}
 use Rattle.lra_certificate_spec.proofs.ReadText.{ok_same, no_ok, then_is, joined, takes_text, multipliers_text_is}
-use Rattle.lra_certificate_spec.proofs.LineSteps.{line_text, is_line_on}
-use Rattle.lra_certificate_spec.proofs.WalkedWidths.{dead_exact, row_exact}
+use Rattle.lra_certificate_spec.proofs.{LineSteps.line_text, LineSteps.is_line_on, WalkedWidths.dead_exact, WalkedWidths.row_exact}
 
 -- ---- one line
 answer_is : (n : ℕ) (x next : Left) (t : Answer) → by_answer n x t ≡ Ok next → (t ≡ yes) × (x ≡ next)

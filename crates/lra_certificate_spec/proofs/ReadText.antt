@@ -1,29 +1,17 @@
 -- What is read has this text: lines, their numbers, the rows of points.
-use Rattle.std.proofs.Common.{◌≡◌, ◌+◌, ℕ, suc, ℤ, Bool, true, false, List, [], ◌∷◌, ◌++◌, length, drop, refl, ap, sym, ◌∙◌, subst}
-use Rattle.std.proofs.Common.{arith}
-use Rattle.std.proofs.Common.{append_assoc, append-nil, Option, Some, None, Ok, Err, nat_eq}
-use Rattle.std.specs.Prelude.{if◌then◌else◌, codes}
-use Rattle.std.specs.List.{AllByRecursion, starts_with, join_with_byte, flat_map}
-use Rattle.std.specs.Fmt.{signed_decimal}
-use Rattle.std.proofs.lemmas.Bool.{eqb-true}
-use Rattle.std.proofs.lemmas.Bool.Decides.{Decides-eqb}
-use Rattle.std.proofs.lemmas.List.Splits.{join_with_byte-slice_split}
+use Rattle.std.proofs.Common.{◌≡◌, ◌+◌, ℕ, suc, ℤ, Bool, true, false, List, [], ◌∷◌, ◌++◌, length, drop, refl, ap, sym, ◌∙◌, subst, arith, append_assoc, append-nil, Option, Some, None, Ok, Err}
 use Rattle.std.proofs.lemmas.Option.{same_Some, none-some}
-use Rattle.std.proofs.lemmas.Slice.Eq.{starts_is}
-use Rattle.lra_linear_spec.specs.Descriptions.{LinearRow}
-use Rattle.lra_linear_spec.specs.Range.{InRange}
+use Rattle.std.proofs.{Common.nat_eq, lemmas.Bool.eqb-true, lemmas.Bool.Decides.Decides-eqb, lemmas.List.Splits.join_with_byte-slice_split, lemmas.Slice.Eq.starts_is}
+use Rattle.std.specs.{Fmt.signed_decimal, List.AllByRecursion, List.starts_with, List.join_with_byte, List.flat_map, Prelude.if◌then◌else◌, Prelude.codes}
+use Rattle.lra_linear_spec.specs.{Descriptions.LinearRow, Range.InRange}
 use Rattle.lra_program.specs.Sites.{Site}
 use Rattle.lra_multipliers.specs.Multipliers.{Multipliers}
-use Rattle.lra_certificate_spec.specs.Certificates.{IsPointRow, IsState, AreStates, AreNumbers}
 use Rattle.lra_certificate_spec.specs.CertificateText.{text_line, numbers_text, relation_text, row_text, point_text, state_text, states_text, multipliers_text}
-use Rattle.lra_certificate_spec.specs.Judged.{number_in, then_number, numbers_in, words_of, so_many, spaced_numbers, numbers_after, Refused, Left, Judged}
-use Rattle.lra_certificate_spec.specs.Judged.{then_judged, refuses}
-use Rattle.lra_certificate_spec.specs.Judged.{line_on, after_line, is_next_line, takes, bad_line, constraint_row, or_else, row_in, judged_with_row, judged_rows}
-use Rattle.lra_certificate_spec.specs.Judged.{RowsAtPoint}
-use Rattle.lra_certificate_spec.specs.Judged.{some_rows}
-use Rattle.lra_certificate_spec.specs.Judged.{judged_state, state_before, judged_states, multipliers_of, multipliers_from, multipliers_in}
-use Rattle.lra_certificate_spec.proofs.LineSteps.{line_text, is_line_on}
-use Rattle.lra_certificate_spec.proofs.NumberText.{spelled_text}
+use Rattle.lra_certificate_spec.specs.Certificates.{IsPointRow, IsState, AreStates, AreNumbers}
+use Rattle.lra_certificate_spec.specs.Judged.{number_in, then_number, numbers_in, words_of, so_many, spaced_numbers, numbers_after, Refused, Left, Judged, then_judged, refuses, line_on, after_line}
+use Rattle.lra_certificate_spec.specs.Judged.{is_next_line, takes, bad_line, constraint_row, or_else, row_in, judged_with_row, judged_rows, RowsAtPoint, some_rows, judged_state, state_before}
+use Rattle.lra_certificate_spec.specs.Judged.{judged_states, multipliers_of, multipliers_from, multipliers_in}
+use Rattle.lra_certificate_spec.proofs.{LineSteps.line_text, LineSteps.is_line_on, NumberText.spelled_text}
 
 -- ---- results
 pub ok_same : {A : Type 0} (x y : A) → (let r : Judged A = Ok x in r) ≡ Ok y → x ≡ y

@@ -1,10 +1,8 @@
 -- The rows of a point, line by line.
 use Rattle.std.proofs.Common.{◌≡◌, ℕ, suc, Bool, true, false, List, [], ◌∷◌, drop, refl, ap, sym, ◌∙◌, subst, Some, Ok}
-use Rattle.std.specs.Prelude.{if◌then◌else◌, nat_eq, codes}
-use Rattle.std.specs.List.{starts_with}
 use Rattle.std.proofs.lemmas.Option.{same_Some, none-some}
-use Rattle.lra_certificate_spec.specs.Judged.{Left, line_on, row_in, judged_with_row, judged_rows}
-use Rattle.lra_certificate_spec.specs.Lines.{is_row_line}
+use Rattle.std.specs.{List.starts_with, Prelude.if◌then◌else◌, Prelude.nat_eq, Prelude.codes}
+use Rattle.lra_certificate_spec.specs.{Judged.Left, Judged.line_on, Judged.row_in, Judged.judged_with_row, Judged.judged_rows, Lines.is_row_line}
 
 pub rows_on : (live n : ℕ) (pieces : List (List ℕ)) (line : List ℕ) → line_on pieces ≡ Some line → is_row_line (Some line) ≡ true →
     judged_rows live n pieces ≡ judged_with_row n (row_in live line) (judged_rows live (suc n) (drop 1 pieces))

@@ -1,30 +1,18 @@
 -- What rows over symbols stand for: where actions lead from one store to another, the symbols have values at which the
 -- rows are the numbers of the second store, and at which the tests hold.
-use Rattle.std.proofs.Common.{◌≡◌, ℕ, zero, suc, ◌<◌, ◌≤◌, ◌+◌, ◌-◌, ℤ, pos, ◌+ℤ◌, ◌*ℤ◌, List, [], ◌∷◌, ◌++◌, length, map, take, drop, Result, Ok, Err, refl}
-use Rattle.std.proofs.Common.{ap, sym, ◌∙◌, subst, arith, inl, inr, ◌⊎◌, add-one}
-use Rattle.std.specs.Prelude.{slice_set}
-use Rattle.std.specs.List.{AllByRecursion, Contains}
-use Rattle.std.proofs.Math.IntN.{+ℤ_idr}
-use Rattle.std.proofs.lemmas.Bool.{cases_lt}
+use Rattle.std.proofs.Common.{◌≡◌, ℕ, zero, suc, ◌<◌, ◌≤◌, ◌+◌, ◌-◌, ℤ, pos, ◌+ℤ◌, ◌*ℤ◌, List, [], ◌∷◌, ◌++◌, length, map, take, drop, Result, Ok, Err, refl, ap, sym, ◌∙◌, subst, arith, inl, inr, ◌⊎◌}
 use Rattle.std.proofs.lemmas.List.{map-append, length-append, length-map, map-set, take-map}
-use Rattle.std.proofs.lemmas.List.Elements.{Contains-append_cases}
-use Rattle.lra_linear_spec.specs.declared.Excess.{Excess}
-use Rattle.lra_linear_spec.specs.declared.ConKind.{ConKind}
-use Rattle.lra_linear_spec.specs.declared.ConKind.TheVariants.{Ge, Eq}
-use Rattle.lra_linear_spec.specs.CheckedArithmetic.{checked_added, and_then}
+use Rattle.std.proofs.{Common.add-one, Math.IntN.+ℤ_idr, lemmas.Bool.cases_lt, lemmas.List.Elements.Contains-append_cases}
+use Rattle.std.specs.{List.AllByRecursion, List.Contains, Prelude.slice_set}
 use Rattle.lra_linear_spec.specs.Descriptions.{LinearRow, HoldsWith, Holds, Con}
-use Rattle.lra_linear_spec.specs.Kinds.{is_equality}
-use Rattle.lra_linear_spec.specs.Vectors.{entry, dot, product, zeros}
-use Rattle.lra_linear_spec.proofs.Membership.{contains_none, contains_cases}
+use Rattle.lra_linear_spec.specs.{CheckedArithmetic.checked_added, CheckedArithmetic.and_then, Kinds.is_equality, Vectors.entry, Vectors.dot, Vectors.product, Vectors.zeros, declared.ConKind.ConKind}
+use Rattle.lra_linear_spec.specs.{declared.ConKind.TheVariants.Ge, declared.ConKind.TheVariants.Eq, declared.Excess.Excess}
 use Rattle.lra_linear_spec.proofs.Products.{entry_past, dot_same, dot_plus, product_comm, product_none}
-use Rattle.lra_linear_spec.proofs.Ring.{ring, v, ◌⊕◌, ◌⊗◌}
-use Rattle.lra_linear_spec.proofs.UnitRows.{entry_product}
+use Rattle.lra_linear_spec.proofs.{Membership.contains_none, Membership.contains_cases, Ring.ring, Ring.v, Ring.◌⊕◌, Ring.◌⊗◌, UnitRows.entry_product}
 use Rattle.lra_linear_forms.specs.Form.{Form, form_row, form_value, KindHolds}
-use Rattle.lra_domain.specs.Actions.{Action, assign, forget, test, embed, remove_last}
-use Rattle.lra_domain.specs.Moves.{LeadsAll}
-use Rattle.lra_multipliers.specs.Symbols.{symbol, symbols, constant_row, composed_from, composed, SymbolicState, tests_too, gives, executed_action, executed}
-use Rattle.lra_multipliers.specs.Symbols.{new_symbols}
+use Rattle.lra_domain.specs.{Actions.Action, Actions.assign, Actions.forget, Actions.test, Actions.embed, Actions.remove_last, Moves.LeadsAll}
 use Rattle.lra_multipliers.specs.Columns.{added_to}
+use Rattle.lra_multipliers.specs.Symbols.{symbol, symbols, constant_row, composed_from, composed, SymbolicState, tests_too, gives, executed_action, executed, new_symbols}
 use Rattle.lra_multipliers.proofs.CheckSteps.{Matches, added_columns, added_is, length_zeros}
 
 -- ---- results

@@ -1,18 +1,14 @@
 -- All rows of a path have its width, and there are as many tests as it makes: so its checks are exact.
 use Rattle.std.proofs.Common.{◌≡◌, ℕ, suc, ◌≤◌, ◌+◌, ◌-◌, ℤ, pos, List, [], ◌∷◌, ◌++◌, length, map, take, Ok, refl, ap, sym, ◌∙◌, subst, arith, length-append}
-use Rattle.std.specs.List.{AllByRecursion}
 use Rattle.std.proofs.lemmas.List.{length-map}
-use Rattle.lra_linear_spec.specs.Descriptions.{LinearRow}
-use Rattle.lra_linear_spec.specs.Kinds.{is_equality}
-use Rattle.lra_linear_spec.specs.Vectors.{zeros}
+use Rattle.std.specs.List.{AllByRecursion}
+use Rattle.lra_linear_spec.specs.{Descriptions.LinearRow, Kinds.is_equality, Vectors.zeros}
 use Rattle.lra_linear_forms.specs.Form.{form_row}
 use Rattle.lra_domain.specs.Actions.{Action, assign, forget, test, embed, remove_last}
 use Rattle.lra_paths.specs.Paths.{Path}
-use Rattle.lra_multipliers.specs.Symbols.{symbol, symbols, composed, SymbolicState, tests_too, gives, executed_action, executed, new_symbols, tests_in}
-use Rattle.lra_multipliers.specs.Symbols.{width_of, executed_path}
 use Rattle.lra_multipliers.specs.Multipliers.{Multipliers, IsAnswer, checked}
-use Rattle.lra_certificate_spec.specs.Certificates.{PathPremises, padded, premises_of, contradiction, IsPointRow}
-use Rattle.lra_certificate_spec.specs.Judged.{premises_count}
+use Rattle.lra_multipliers.specs.Symbols.{symbol, symbols, composed, SymbolicState, tests_too, gives, executed_action, executed, new_symbols, tests_in, width_of, executed_path}
+use Rattle.lra_certificate_spec.specs.{Certificates.PathPremises, Certificates.padded, Certificates.premises_of, Certificates.contradiction, Certificates.IsPointRow, Judged.premises_count}
 use Rattle.lra_multipliers.proofs.CheckSteps.{AreWide, checked_exact, length_zeros}
 use Rattle.lra_certificate_spec.proofs.WalkedRows.{and_ok, ok_is, AreOfWidth, composed_value, all_put, all_behind, all_taken, symbol_width, symbols_width}
 

@@ -1,37 +1,22 @@
 -- The text of a certificate that meets its program is read, and taken with its numbers.
-use Rattle.std.proofs.Common.{◌≡◌, ◌⊎◌, ◌<◌, ◌≤◌, ◌+◌, ◌^◌, ℕ, zero, suc, ℤ, pos, Bool, true, false, List, [], ◌∷◌, ◌++◌, length, take, drop, get_or, refl}
-use Rattle.std.proofs.Common.{ap, sym, ◌∙◌, subst, arith, inl, inr}
+use Rattle.std.proofs.Common.{◌≡◌, ◌⊎◌, ◌<◌, ◌≤◌, ◌+◌, ◌^◌, ℕ, zero, suc, ℤ, pos, Bool, true, false, List, [], ◌∷◌, ◌++◌, length, take, drop, get_or, refl, ap, sym, ◌∙◌, subst, arith, inl, inr}
 use Rattle.std.proofs.Common.{append_assoc, append-nil, Option, Some, None, Ok, nat_eq, length-append}
-use Rattle.std.specs.Prelude.{if◌then◌else◌, codes, slice_get, ◌&&◌}
+use Rattle.std.proofs.{Math.Seq.take-append_seam, Math.Seq.drop-append-add, lemmas.Bool.cases_lt, lemmas.Fmt.decimal_is_IsNumeral_wide, lemmas.Grind.common_steps, lemmas.List.Sums.position_or_len_is}
+use Rattle.std.proofs.{lemmas.Option.same_Some, lemmas.Option.none-some, lemmas.Slice.Eq.bytes_eq-Decides}
 use Rattle.std.specs.List.{AllByRecursion, flat_map, position_or_len, before_first, after_first}
-use Rattle.std.specs.Fmt.{decimal}
-use Rattle.std.specs.Str.Parse.{digits_value}
-use Rattle.std.proofs.Math.Seq.{take-append_seam, drop-append-add}
-use Rattle.std.proofs.lemmas.Bool.{cases_lt}
-use Rattle.std.proofs.lemmas.Fmt.{decimal_is_IsNumeral_wide}
-use Rattle.std.proofs.lemmas.Grind.{common_steps}
-use Rattle.std.proofs.lemmas.List.Sums.{position_or_len_is}
-use Rattle.std.proofs.lemmas.Option.{same_Some, none-some}
-use Rattle.std.proofs.lemmas.Slice.Eq.{bytes_eq-Decides}
+use Rattle.std.specs.{Fmt.decimal, Prelude.if◌then◌else◌, Prelude.codes, Prelude.slice_get, Prelude.◌&&◌, Str.Parse.digits_value}
 use Rattle.lra_linear_spec.specs.Range.{InRange}
-use Rattle.lra_program.specs.Program.{Program}
-use Rattle.lra_program.specs.Sites.{Site, sites_of}
+use Rattle.lra_program.specs.{Program.Program, Sites.Site, Sites.sites_of}
 use Rattle.lra_operations.specs.Tree.{Node}
 use Rattle.lra_paths.specs.Paths.{Path, paths_of, violations_of}
-use Rattle.lra_certificate_spec.specs.Certificates.{Evidence, ListedAssertion, Certificate, state_from, state_to, live_at_source, CertifiesAssertion, Ascend}
-use Rattle.lra_certificate_spec.specs.Certificates.{IsWritable, Certifies}
-use Rattle.lra_certificate_spec.specs.CertificateText.{text_line, numbers_text, numbered_text, edge_text, edges_text, evidence_text, assert_text, listed_text}
-use Rattle.lra_certificate_spec.specs.CertificateText.{end_text, head_text, states_text, body_text}
-use Rattle.lra_certificate_spec.specs.Judged.{Left, Judged, then_judged, line_on, after_line, is_next_line, RowsAtPoint, judged_paths, judged_violations}
-use Rattle.lra_certificate_spec.specs.Judged.{one_more, judged_listed, counted}
-use Rattle.lra_certificate_spec.specs.Judged.{lines_left, judged, Head, has_feed, headed, head_of, is_dead_line, numbers_after}
-use Rattle.lra_certificate_spec.specs.Lines.{is_row_line}
-use Rattle.lra_certificate_spec.proofs.ReadPaths.{AreRows}
-use Rattle.lra_certificate_spec.proofs.SourceRows.{sources_fit, denials_denied}
-use Rattle.lra_certificate_spec.proofs.WriteText.{AreFrom, text_from, from_lower, from_joined, decimal_from, clean, numbers_read, pieces_of, line_pieces}
-use Rattle.lra_certificate_spec.proofs.WriteText.{line_first, is_itself}
-use Rattle.lra_certificate_spec.proofs.WritePoints.{IsOther, states_read}
+use Rattle.lra_certificate_spec.specs.CertificateText.{text_line, numbers_text, numbered_text, edge_text, edges_text, evidence_text, assert_text, listed_text, end_text, head_text, states_text}
+use Rattle.lra_certificate_spec.specs.Certificates.{Evidence, ListedAssertion, Certificate, state_from, state_to, live_at_source, CertifiesAssertion, Ascend, IsWritable, Certifies}
+use Rattle.lra_certificate_spec.specs.Judged.{Left, Judged, then_judged, line_on, after_line, is_next_line, RowsAtPoint, judged_paths, judged_violations, one_more, judged_listed, counted, lines_left}
+use Rattle.lra_certificate_spec.specs.Judged.{judged, Head, has_feed, headed, head_of, is_dead_line, numbers_after}
+use Rattle.lra_certificate_spec.specs.{CertificateText.body_text, Lines.is_row_line}
 use Rattle.lra_certificate_spec.proofs.WritePaths.{IsAlive, edge_from, paths_read, denials_read, end_read}
+use Rattle.lra_certificate_spec.proofs.WriteText.{AreFrom, text_from, from_lower, from_joined, decimal_from, clean, numbers_read, pieces_of, line_pieces, line_first, is_itself}
+use Rattle.lra_certificate_spec.proofs.{ReadPaths.AreRows, SourceRows.sources_fit, SourceRows.denials_denied, WritePoints.IsOther, WritePoints.states_read}
 
 -- ---- assertions
 pub assert_from : (q : ℕ) → AreFrom 32 (assert_text q)

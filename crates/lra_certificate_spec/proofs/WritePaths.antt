@@ -1,33 +1,21 @@
 -- Paths and assertions that are written are read again, and taken.
-use Rattle.std.proofs.Common.{◌≡◌, ℕ, suc, ℤ, Bool, false, List, [], ◌∷◌, ◌++◌, length, drop, refl, ap, sym, ◌∙◌, subst}
-use Rattle.std.proofs.Common.{arith}
-use Rattle.std.proofs.Common.{append_assoc, append-nil, Option, Some, None, Result, Ok}
-use Rattle.std.specs.Prelude.{if◌then◌else◌, codes}
-use Rattle.std.specs.List.{AllByRecursion, flat_map}
-use Rattle.std.specs.Fmt.{decimal}
-use Rattle.lra_linear_spec.specs.declared.Excess.{Excess}
-use Rattle.lra_linear_spec.specs.Descriptions.{LinearRow, system_of}
+use Rattle.std.proofs.Common.{◌≡◌, ℕ, suc, ℤ, Bool, false, List, [], ◌∷◌, ◌++◌, length, drop, refl, ap, sym, ◌∙◌, subst, arith, append_assoc, append-nil, Option, Some, None, Result, Ok}
+use Rattle.std.specs.{Fmt.decimal, List.AllByRecursion, List.flat_map, Prelude.if◌then◌else◌, Prelude.codes}
+use Rattle.lra_linear_spec.specs.{Descriptions.LinearRow, Descriptions.system_of, declared.Excess.Excess}
 use Rattle.lra_program.specs.Program.{Program}
 use Rattle.lra_operations.specs.Tree.{Node}
 use Rattle.lra_paths.specs.Paths.{Path}
-use Rattle.lra_multipliers.specs.Symbols.{SymbolicState, executed_path}
 use Rattle.lra_multipliers.specs.Multipliers.{Multipliers, Answer, yes, no, wide, IsAnswer, AreSigned, checked}
-use Rattle.lra_certificate_spec.specs.Certificates.{PathPremises, premises_of, contradiction, IsPointRow, IsShownInfeasible, IsClaimImplied, AreImplied}
-use Rattle.lra_certificate_spec.specs.Certificates.{CertifiesClaims, CertifiesByEvidence, CertifiesFrom}
-use Rattle.lra_certificate_spec.specs.Certificates.{Evidence, none, infeasible, implies}
-use Rattle.lra_certificate_spec.specs.Certificates.{state_from, state_to, live_at_source, CertifiesPath, CertifiesPaths, ShowsNoClaim, AreNumbers, IsWritable}
-use Rattle.lra_certificate_spec.specs.CertificateText.{text_line, numbers_text, multipliers_text, evidence_text, numbered_text, goal_number, edge_text}
-use Rattle.lra_certificate_spec.specs.CertificateText.{edges_text}
-use Rattle.lra_certificate_spec.specs.CertificateText.{end_text}
-use Rattle.lra_certificate_spec.specs.Judged.{Left, Judged, then_judged, line_on, after_line, multipliers_in, by_answer, judged_claim}
-use Rattle.lra_certificate_spec.specs.Judged.{judged_walk, premises_count}
-use Rattle.lra_certificate_spec.specs.Judged.{judged_multipliers, line_or_empty, judged_line, judged_dead, claim_of, judged_claims, is_dead_line, judged_to}
-use Rattle.lra_certificate_spec.specs.Judged.{judged_lines, judged_from, violation_from, RowsAtPoint}
-use Rattle.lra_certificate_spec.specs.Judged.{judged_path, judged_paths, judged_violations, is_nothing, judged_end, refuses, bad_line}
-use Rattle.lra_certificate_spec.proofs.ReadPaths.{AreRows}
-use Rattle.lra_certificate_spec.proofs.WalkedWidths.{premises_many, dead_exact, row_exact}
-use Rattle.lra_certificate_spec.proofs.WriteText.{AreFrom, text_from, from_lower, from_joined, decimal_from, numbers_from, multipliers_read, pieces_of}
-use Rattle.lra_certificate_spec.proofs.WriteText.{line_pieces, line_first, takes_it}
+use Rattle.lra_multipliers.specs.Symbols.{SymbolicState, executed_path}
+use Rattle.lra_certificate_spec.specs.CertificateText.{text_line, numbers_text, multipliers_text, evidence_text, numbered_text, goal_number, edge_text, edges_text, end_text}
+use Rattle.lra_certificate_spec.specs.Certificates.{PathPremises, premises_of, contradiction, IsPointRow, IsShownInfeasible, IsClaimImplied, AreImplied, CertifiesClaims, CertifiesByEvidence}
+use Rattle.lra_certificate_spec.specs.Certificates.{CertifiesFrom, Evidence, none, infeasible, implies, state_from, state_to, live_at_source, CertifiesPath, CertifiesPaths, ShowsNoClaim, AreNumbers}
+use Rattle.lra_certificate_spec.specs.Certificates.{IsWritable}
+use Rattle.lra_certificate_spec.specs.Judged.{Left, Judged, then_judged, line_on, after_line, multipliers_in, by_answer, judged_claim, judged_walk, premises_count, judged_multipliers, line_or_empty}
+use Rattle.lra_certificate_spec.specs.Judged.{judged_line, judged_dead, claim_of, judged_claims, is_dead_line, judged_to, judged_lines, judged_from, violation_from, RowsAtPoint, judged_path}
+use Rattle.lra_certificate_spec.specs.Judged.{judged_paths, judged_violations, is_nothing, judged_end, refuses, bad_line}
+use Rattle.lra_certificate_spec.proofs.WriteText.{AreFrom, text_from, from_lower, from_joined, decimal_from, numbers_from, multipliers_read, pieces_of, line_pieces, line_first, takes_it}
+use Rattle.lra_certificate_spec.proofs.{ReadPaths.AreRows, WalkedWidths.premises_many, WalkedWidths.dead_exact, WalkedWidths.row_exact}
 
 -- ---- one answer
 pub one_answer : (premises : List LinearRow) (claim : List ℤ) (m : Multipliers) (s t : Answer) → IsAnswer premises claim m s → IsAnswer premises claim m t →

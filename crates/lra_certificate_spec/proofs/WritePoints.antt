@@ -1,22 +1,14 @@
 -- The points that are written are read again.
-use Rattle.std.proofs.Common.{◌≡◌, ◌<◌, ℕ, suc, Bool, true, false, List, [], ◌∷◌, ◌++◌, length, drop, refl, ap, sym, ◌∙◌, subst, arith}
-use Rattle.std.proofs.Common.{append_assoc, Option, Some, None, Ok, length-append}
-use Rattle.std.specs.Prelude.{if◌then◌else◌, codes}
-use Rattle.std.specs.List.{AllByRecursion}
-use Rattle.std.specs.Fmt.{decimal}
+use Rattle.std.proofs.Common.{◌≡◌, ◌<◌, ℕ, suc, Bool, true, false, List, [], ◌∷◌, ◌++◌, length, drop, refl, ap, sym, ◌∙◌, subst, arith, append_assoc, Option, Some, None, Ok, length-append}
 use Rattle.std.proofs.lemmas.Slice.Eq.{bytes_eq-Decides}
+use Rattle.std.specs.{Fmt.decimal, List.AllByRecursion, Prelude.if◌then◌else◌, Prelude.codes}
 use Rattle.lra_linear_spec.specs.Descriptions.{LinearRow}
 use Rattle.lra_program.specs.Sites.{Site}
-use Rattle.lra_certificate_spec.specs.Certificates.{IsPointRow, IsState, AreStates}
 use Rattle.lra_certificate_spec.specs.CertificateText.{text_line, numbers_text, relation_text, row_text, point_text, state_text, states_text}
-use Rattle.lra_certificate_spec.specs.Judged.{Left, Judged, then_judged, line_on, after_line, is_next_line, takes, judged_with_row, row_before, judged_rows}
-use Rattle.lra_certificate_spec.specs.Judged.{RowsAtPoint}
-use Rattle.lra_certificate_spec.specs.Judged.{some_rows, judged_state, state_before, judged_states}
-use Rattle.lra_certificate_spec.specs.Lines.{HasNoFeed, is_row_line}
-use Rattle.lra_certificate_spec.proofs.ReadText.{rows_text}
-use Rattle.lra_certificate_spec.proofs.RowLines.{rows_on, rows_end}
-use Rattle.lra_certificate_spec.proofs.WriteText.{AreFrom, text_from, from_lower, from_joined, decimal_from, numbers_from, row_read, pieces_of, line_pieces}
-use Rattle.lra_certificate_spec.proofs.WriteText.{line_first, is_itself, takes_it, clean}
+use Rattle.lra_certificate_spec.specs.Judged.{Left, Judged, then_judged, line_on, after_line, is_next_line, takes, judged_with_row, row_before, judged_rows, RowsAtPoint, some_rows, judged_state}
+use Rattle.lra_certificate_spec.specs.{Certificates.IsPointRow, Certificates.IsState, Certificates.AreStates, Judged.state_before, Judged.judged_states, Lines.HasNoFeed, Lines.is_row_line}
+use Rattle.lra_certificate_spec.proofs.WriteText.{AreFrom, text_from, from_lower, from_joined, decimal_from, numbers_from, row_read, pieces_of, line_pieces, line_first, is_itself, takes_it, clean}
+use Rattle.lra_certificate_spec.proofs.{ReadText.rows_text, RowLines.rows_on, RowLines.rows_end}
 
 -- the next line is no row
 abbrev pub IsOther : List ℕ → Type 0

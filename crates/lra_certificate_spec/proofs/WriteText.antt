@@ -1,32 +1,19 @@
 -- What is written is read again: lines, their numbers, the rows of points.
-use Rattle.std.proofs.Common.{◌≡◌, ◌<◌, ◌≤◌, ◌+◌, ◌/◌, ◌%◌, ℕ, zero, suc, ℤ, pos, negsuc, Bool, true, false, List, [], ◌∷◌, ◌++◌, length, take, drop}
-use Rattle.std.proofs.Common.{get_or, refl, ap, sym, ◌∙◌, arith}
-use Rattle.std.proofs.Common.{append_assoc, Option, Some, None, Ok, nat_eq, length-append}
-use Rattle.std.specs.Prelude.{if◌then◌else◌, ◌==◌, nat_le}
+use Rattle.std.proofs.Common.{◌≡◌, ◌<◌, ◌≤◌, ◌+◌, ◌/◌, ◌%◌, ℕ, zero, suc, ℤ, pos, negsuc, Bool, true, false, List, [], ◌∷◌, ◌++◌, length, take, drop, get_or, refl, ap, sym, ◌∙◌, arith, append_assoc}
+use Rattle.std.proofs.Common.{Option, Some, None, Ok, nat_eq, length-append}
+use Rattle.std.proofs.{Math.Seq.drop-append_seam, Math.Seq.take-append_seam, lemmas.Bool.ne_eqb, lemmas.Bool.eq-eqb, lemmas.Bool.lt-ltb, lemmas.Bool.Decides.Decides-eqb, lemmas.Bool.Decides.nat_tests}
+use Rattle.std.proofs.{lemmas.Grind.common_steps, lemmas.List.Elements.All-from_recursion, lemmas.List.Splits.slice_split_at, lemmas.List.Splits.length-slice_split}
+use Rattle.std.proofs.{lemmas.List.Sums.position_or_len_is, lemmas.Nat.mod_below, lemmas.Slice.Eq.bytes_eq-Decides, lemmas.Slice.Eq.starts_is}
 use Rattle.std.specs.List.{All, AllByRecursion, starts_with, slice_split, position_or_len, list_all}
-use Rattle.std.specs.Fmt.{decimal, digits, digit_glyph, digits_onto, signed_decimal}
-use Rattle.std.proofs.Math.Seq.{drop-append_seam, take-append_seam}
-use Rattle.std.proofs.lemmas.Bool.{ne_eqb, eq-eqb, lt-ltb}
-use Rattle.std.proofs.lemmas.Bool.Decides.{Decides-eqb, nat_tests}
-use Rattle.std.proofs.lemmas.Nat.{mod_below}
-use Rattle.std.proofs.lemmas.Grind.{common_steps}
-use Rattle.std.proofs.lemmas.List.Elements.{All-from_recursion}
-use Rattle.std.proofs.lemmas.List.Splits.{slice_split_at, length-slice_split}
-use Rattle.std.proofs.lemmas.List.Sums.{position_or_len_is}
-use Rattle.std.proofs.lemmas.Slice.Eq.{bytes_eq-Decides, starts_is}
-use Rattle.lra_linear_spec.specs.Descriptions.{LinearRow}
-use Rattle.lra_linear_spec.specs.Range.{InRange}
+use Rattle.std.specs.{Fmt.decimal, Fmt.digits, Fmt.digit_glyph, Fmt.digits_onto, Fmt.signed_decimal, Prelude.if◌then◌else◌, Prelude.◌==◌, Prelude.nat_le}
+use Rattle.lra_linear_spec.specs.{Descriptions.LinearRow, Range.InRange}
 use Rattle.lra_multipliers.specs.Multipliers.{Multipliers}
+use Rattle.lra_certificate_spec.specs.CertificateText.{text_line, numbers_text, relation_text, row_text, multipliers_text}
 use Rattle.lra_certificate_spec.specs.Certificates.{IsPointRow, AreNumbers}
-use Rattle.lra_certificate_spec.specs.CertificateText.{text_line, numbers_text, relation_text, row_text}
-use Rattle.lra_certificate_spec.specs.CertificateText.{multipliers_text}
-use Rattle.lra_certificate_spec.specs.Judged.{number_in, then_number, numbers_in, words_of, so_many, spaced_numbers, numbers_after, Left, Judged, then_judged}
-use Rattle.lra_certificate_spec.specs.Judged.{line_on, after_line, is_next_line, takes, constraint_row, or_else, row_in, judged_rows, RowsAtPoint, judged_state}
-use Rattle.lra_certificate_spec.specs.Judged.{judged_states}
-use Rattle.lra_certificate_spec.specs.Judged.{multipliers_in}
+use Rattle.lra_certificate_spec.specs.Judged.{number_in, then_number, numbers_in, words_of, so_many, spaced_numbers, numbers_after, Left, Judged, then_judged, line_on, after_line, is_next_line, takes}
+use Rattle.lra_certificate_spec.specs.Judged.{constraint_row, or_else, row_in, judged_rows, RowsAtPoint, judged_state, judged_states, multipliers_in}
 use Rattle.lra_script.proofs.WordLemmas.{both}
-use Rattle.lra_certificate_spec.proofs.NumberSteps.{word_behind}
-use Rattle.lra_certificate_spec.proofs.NumberText.{text_spelled}
+use Rattle.lra_certificate_spec.proofs.{NumberSteps.word_behind, NumberText.text_spelled}
 
 -- ---- bytes of words and of lines: above the space, and at least that
 abbrev pub AreFrom : ℕ → List ℕ → Type 0

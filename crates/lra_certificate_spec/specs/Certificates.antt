@@ -1,19 +1,15 @@
 -- Certificates as values, and when one meets its program: its rows hold at the goal of each path where they hold at its
 -- source, as multipliers show. Points are numbered from 0 here, sources as in paths.
-use Rattle.std.specs.Prelude.{◌≡◌, ◌<◌, ℕ, zero, suc, ◌-◌, ℤ, ⊤, true, List, [], ◌∷◌, ◌++◌, length, map, Option}
-use Rattle.std.specs.Prelude.{None, Some, slice_get, Ok}
-use Rattle.std.specs.List.{AllByRecursion}
+use Rattle.std.specs.Prelude.{◌≡◌, ◌<◌, ℕ, zero, suc, ◌-◌, ℤ, ⊤, true, List, [], ◌∷◌, ◌++◌, length, map, Option, None}
+use Rattle.std.specs.{List.AllByRecursion, Prelude.Some, Prelude.slice_get, Prelude.Ok}
 use Rattle.lra_linear_spec.specs.Descriptions.{LinearRow, system_of}
-use Rattle.lra_linear_spec.specs.Polyhedra.{falsity}
-use Rattle.lra_linear_spec.specs.Range.{InRange}
-use Rattle.lra_linear_spec.specs.Vectors.{zeros}
-use Rattle.lra_program.specs.Program.{Program}
-use Rattle.lra_program.specs.Sites.{Site, sites_of}
+use Rattle.lra_linear_spec.specs.{Polyhedra.falsity, Range.InRange, Vectors.zeros}
+use Rattle.lra_program.specs.{Program.Program, Sites.Site, Sites.sites_of}
 use Rattle.lra_operations.specs.Tree.{Node}
 use Rattle.lra_path_segments.specs.Segments.{Goal, comes_to, violates}
 use Rattle.lra_paths.specs.Paths.{Path, live_at, paths_of, violations_of}
-use Rattle.lra_multipliers.specs.Symbols.{SymbolicState, composed, width_of, executed_path}
 use Rattle.lra_multipliers.specs.Multipliers.{Multipliers, yes, IsAnswer}
+use Rattle.lra_multipliers.specs.Symbols.{SymbolicState, composed, width_of, executed_path}
 
 -- what a certificate says of one path: nothing, where its source is empty; that nothing goes along it; or what shows
 -- its claims, one after the other

@@ -1,27 +1,20 @@
 -- What is verified: that a text is a certificate that meets its program, and what then holds in all runs; and the
 -- answer to each input.
 use Rattle.std.specs.Prelude.{◌≡◌, ◌≤◌, ◌<◌, ◌⊎◌, ℕ, suc, ℤ, ◌^◌, List, [], length, Option, None, Some, slice_get, Ok}
-use Rattle.std.specs.Prelude.{Err}
-use Rattle.lra_base.specs.declared.refusals.Cause.{Cause}
-use Rattle.lra_base.specs.declared.refusals.Place.{Place}
-use Rattle.lra_syntax.specs.Trees.{FileTree}
-use Rattle.lra_syntax.specs.Grammar.{Spells}
-use Rattle.lra_resolution_spec.specs.Resolve.{resolve}
-use Rattle.lra_resolution_spec.specs.Refuse.{Refuse}
+use Rattle.std.specs.Prelude.{Err, pos, ◌∷◌, Contains}
+use Rattle.lra_base.specs.{declared.refusals.Cause.Cause, declared.refusals.Place.Place}
+use Rattle.lra_syntax.specs.{Grammar.Spells, Trees.FileTree}
+use Rattle.lra_resolution_spec.specs.{Refuse.Refuse, Resolve.resolve}
 use Rattle.lra_linear_spec.specs.Descriptions.{LinearRow, Con}
-use Rattle.lra_program.specs.Program.{Program}
-use Rattle.lra_program.specs.Run.{At, Fails}
-use Rattle.lra_program.specs.Sites.{Site, sites_of}
-use Rattle.lra_operations.specs.Tree.{Node}
-use Rattle.lra_operations.specs.Agree.{point_of}
+use Rattle.lra_program.specs.{Program.Program, Run.At, Run.Fails, Sites.Site, Sites.sites_of}
+use Rattle.lra_operations.specs.{Agree.point_of, Tree.Node}
 use Rattle.lra_front_end.specs.Stages.{HasTree, HasInlinedTree}
 use Rattle.lra_domain.specs.Moves.{SomeLeads}
 use Rattle.lra_path_segments.specs.Segments.{Goal, comes_to, violates}
-use Rattle.lra_paths.specs.Paths.{live_at, actions_between, paths_of, AreFewPaths, HasTooManyPaths}
 use Rattle.lra_paths.specs.Covers.{IsGoalOf, HoldInAllRuns}
-use Rattle.std.specs.Prelude.{pos, ◌∷◌, Contains}
-use Rattle.lra_certificate_spec.specs.Certificates.{ListedAssertion, Certificate, Certifies, state_or_empty, state_to}
+use Rattle.lra_paths.specs.Paths.{live_at, actions_between, paths_of, AreFewPaths, HasTooManyPaths}
 use Rattle.lra_certificate_spec.specs.CertificateText.{certificate_text}
+use Rattle.lra_certificate_spec.specs.Certificates.{ListedAssertion, Certificate, Certifies, state_or_empty, state_to}
 use Rattle.lra_certificate_spec.specs.Judged.{too_long, bad_line, Refused, Head, judged, head_of}
 
 -- an accepted source with the tree of its operations

@@ -2,25 +2,20 @@
 -- of listed assertions. Lines are counted from 1 behind the source. In one line the form comes first, with how many
 -- numbers stand there, how they are spelled and their range; then whether a product or a sum passes the range, of a
 -- form in symbols before the check's; then whether the line shows its claim.
-use Rattle.std.specs.Prelude.{ℕ, suc, ◌+◌, ℤ, pos, Bool, true, false, ◌&&◌, ◌||◌, List, []}
-use Rattle.std.specs.Prelude.{◌∷◌, ◌++◌, length, take, drop, Option, None, Some, Result, Ok, Err, nat_eq, nat_le}
-use Rattle.std.specs.Prelude.{if◌then◌else◌, codes, slice_get}
 use Rattle.std.specs.List.{list_all, slice_split, starts_with, before_first, after_first}
-use Rattle.std.specs.Char.{is_ascii_digit}
-use Rattle.std.specs.Str.{bytes_eq}
-use Rattle.std.specs.Str.Parse.{signed_digits_value}
-use Rattle.lra_linear_spec.specs.declared.Excess.{Excess}
+use Rattle.std.specs.Prelude.{ℕ, suc, ◌+◌, ℤ, pos, Bool, true, false, ◌&&◌, ◌||◌, List, [], ◌∷◌, ◌++◌, length, take}
+use Rattle.std.specs.Prelude.{drop, Option, None, Some, Result, Ok, Err, nat_eq, nat_le, if◌then◌else◌, codes}
+use Rattle.std.specs.{Char.is_ascii_digit, Prelude.slice_get, Str.bytes_eq, Str.Parse.signed_digits_value}
 use Rattle.lra_linear_spec.specs.Descriptions.{LinearRow, system_of}
-use Rattle.lra_linear_spec.specs.Range.{in_range}
-use Rattle.lra_program.specs.Program.{Program}
-use Rattle.lra_program.specs.Sites.{Site, sites_of}
+use Rattle.lra_linear_spec.specs.{Range.in_range, declared.Excess.Excess}
+use Rattle.lra_program.specs.{Program.Program, Sites.Site, Sites.sites_of}
 use Rattle.lra_operations.specs.Tree.{Node}
 use Rattle.lra_paths.specs.Paths.{Path, paths_of, violations_of}
-use Rattle.lra_multipliers.specs.Symbols.{SymbolicState, composed, width_of, executed_path, tests_in}
 use Rattle.lra_multipliers.specs.Multipliers.{Multipliers, Answer, yes, no, wide, checked}
+use Rattle.lra_multipliers.specs.Symbols.{SymbolicState, composed, width_of, executed_path, tests_in}
+use Rattle.lra_certificate_spec.specs.CertificateText.{point_text, edge_text, assert_text, relation_text}
 use Rattle.lra_certificate_spec.specs.Certificates.{PathPremises, premises_of, contradiction, state_from, state_to}
 use Rattle.lra_certificate_spec.specs.Certificates.{live_at_source}
-use Rattle.lra_certificate_spec.specs.CertificateText.{point_text, edge_text, assert_text, relation_text}
 
 -- why a line is refused
 pub data LineFault : Type 0 where

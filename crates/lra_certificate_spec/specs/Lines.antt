@@ -1,7 +1,7 @@
 -- The lines of an input by the place where they begin among its bytes.
+use Rattle.std.specs.List.{All, slice_split, count_by, starts_with}
 use Rattle.std.specs.Prelude.{◌≡◌, ◌<◌, ℕ, suc, ◌+◌, Bool, false, List, [], ◌∷◌, length, take, drop, Option, None, Some}
 use Rattle.std.specs.Prelude.{Ok, nat_eq, codes}
-use Rattle.std.specs.List.{All, slice_split, count_by, starts_with}
 use Rattle.lra_certificate_spec.specs.Judged.{Left, Judged, then_judged, line_on, after_line}
 
 abbrev pub is_feed : ℕ → Bool

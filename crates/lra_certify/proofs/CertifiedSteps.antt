@@ -1,46 +1,27 @@
 -- What has been written of the points, paths and listed assertions of a program is the text of its certificate.
-use Rattle.std.proofs.Common.{◌≡◌, ◌⊎◌, inl, inr, ◌<◌, ◌+◌, ◌++◌, ◌∷◌, [], ℕ, zero, suc, true, List, length, map, Some, None, refl, ap, sym}
-use Rattle.std.proofs.Common.{◌∙◌, subst}
-use Rattle.std.proofs.Common.{arith}
-use Rattle.std.specs.Prelude.{slice_get}
-use Rattle.std.specs.List.{Contains, All, AllByRecursion, flat_map, range_with_len}
-use Rattle.std.proofs.lemmas.List.{length-map}
-use Rattle.std.proofs.lemmas.List.Elements.{All-contains, Contains-append_cases}
-use Rattle.std.proofs.lemmas.Option.{none-some}
+use Rattle.std.proofs.Common.{◌≡◌, ◌⊎◌, inl, inr, ◌<◌, ◌+◌, ◌++◌, ◌∷◌, [], ℕ, zero, suc, true, List, length, map, Some, None, refl, ap, sym, ◌∙◌, subst, arith}
+use Rattle.std.proofs.{lemmas.List.length-map, lemmas.List.Elements.All-contains, lemmas.List.Elements.Contains-append_cases, lemmas.Option.none-some}
+use Rattle.std.specs.{List.Contains, List.All, List.AllByRecursion, List.flat_map, List.range_with_len, Prelude.slice_get}
 use Rattle.lra_linear_spec.proofs.Membership.{contains_none, contains_head, contains_tail, contains_cases, map_from, all_from}
 use Rattle.lra_domain.specs.Actions.{Action}
-use Rattle.lra_program.specs.Program.{Program}
-use Rattle.lra_program.specs.Sites.{Site, sites_of}
-use Rattle.lra_operations.specs.Tree.{Node}
-use Rattle.lra_operations.specs.TreeViews.{site_view}
+use Rattle.lra_program.specs.{Program.Program, Sites.Site, Sites.sites_of}
+use Rattle.lra_operations.specs.{Tree.Node, TreeViews.site_view}
 use Rattle.lra_path_segments.specs.Segments.{Goal, comes_to, violates}
 use Rattle.lra_paths.specs.Paths.{Path, path_by, paths_between, paths_of, violations_of, sources_of, points_of, actions_between, live_at, AreFewPaths}
-use Rattle.lra_certificate_spec.specs.Certificates.{Evidence, none, infeasible, implies, ListedAssertion, live_at_source, state_from, state_to, CertifiesFrom}
-use Rattle.lra_certificate_spec.specs.Certificates.{CertifiesPaths}
-use Rattle.lra_certificate_spec.specs.Certificates.{CertifiesAssertion}
+use Rattle.lra_certificate_spec.specs.Certificates.{Evidence, none, infeasible, implies, ListedAssertion, live_at_source, state_from, state_to, CertifiesFrom, CertifiesPaths, CertifiesAssertion}
 use Rattle.lra_certificate_spec.specs.Certificates.{ShowsNoClaim, Ascend, AreStates, IsWritable}
-use Rattle.lra_certificate_spec.specs.CertificateText.{edges_text, listed_text, states_text, end_text}
-use Rattle.lra_certificate_spec.specs.Judged.{RowsAtPoint}
+use Rattle.lra_certificate_spec.specs.{CertificateText.edges_text, CertificateText.listed_text, CertificateText.states_text, CertificateText.end_text, Judged.RowsAtPoint}
 use Rattle.lra_verify.specs.EdgeViews.{IsAnnotatedProgram, sites_in, states_in, actions_by, live_by}
-use Rattle.lra_verify.specs.SourceViews.{LeadAs}
-use Rattle.lra_verify.specs.declared.annotated.AnnotatedProgram.{AnnotatedProgram}
-use Rattle.lra_certify.specs.declared.failures.CertifyFailure.{CertifyFailure}
-use Rattle.lra_certify.specs.declared.failures.CertifyFailure.TheVariants as of_program
-use Rattle.lra_certify.specs.declared.failures.StrainedAt.{StrainedAt}
-use Rattle.lra_certify.specs.declared.failures.StrainedAt.TheVariants.{Edge, Assertion}
-use Rattle.lra_certify.specs.Each.{Each, Stops, each_text}
-use Rattle.lra_certify.specs.PathEvidence.{IsEvidenceFrom, IsEvidenceFor, StrainsAlong, StopsIn}
+use Rattle.lra_verify.specs.{SourceViews.LeadAs, declared.annotated.AnnotatedProgram.AnnotatedProgram}
 use Rattle.lra_certify.specs.Certified.{AscendStrictly, AreListable, IsListedFound, IsCertified, AssertionStops, StopsAt, IsFailure}
-use Rattle.lra_certify.specs.InductiveRows.{IsInductiveAlong, MustBeShown, AreInductiveRows}
-use Rattle.lra_certify.specs.WrittenPaths.{paths_to, paths_from, all_paths, violating_paths, AllAreInductive, AllAssertionsInductive, edge_lines, SomeStops}
-use Rattle.lra_certify.specs.WrittenPaths.{IfStopped}
-use Rattle.lra_certify.specs.WrittenPaths.{IsListed, ListStops, AddsBody, StopsListing, BodyStops}
+use Rattle.lra_certify.specs.WrittenPaths.{paths_to, paths_from, all_paths, violating_paths, AllAreInductive, AllAssertionsInductive, edge_lines, SomeStops, IfStopped, IsListed, ListStops, AddsBody}
+use Rattle.lra_certify.specs.WrittenPaths.{StopsListing, BodyStops, AddsPaths, AddsListed}
+use Rattle.lra_certify.specs.{Each.Each, Each.Stops, Each.each_text, InductiveRows.IsInductiveAlong, InductiveRows.MustBeShown, InductiveRows.AreInductiveRows, Lines.HasPointRows}
+use Rattle.lra_certify.specs.{PathEvidence.IsEvidenceFrom, PathEvidence.IsEvidenceFor, PathEvidence.StrainsAlong, PathEvidence.StopsIn, declared.failures.CertifyFailure.CertifyFailure}
+use Rattle.lra_certify.specs.{declared.failures.StrainedAt.StrainedAt, declared.failures.StrainedAt.TheVariants.Edge, declared.failures.StrainedAt.TheVariants.Assertion}
+use Rattle.lra_certify.specs.declared.failures.CertifyFailure.TheVariants as of_program
 use Rattle.lra_certify.specs.WrittenPaths as written
-use Rattle.lra_certify.specs.WrittenPaths.{AddsPaths, AddsListed}
-use Rattle.lra_certify.specs.Lines.{HasPointRows}
-use Rattle.lra_certify.proofs.EachSteps.{each_weaker, stops_has}
-use Rattle.lra_certify.proofs.PathSteps.{stopped_weaker}
-use Rattle.lra_certify.proofs.TextSteps.{are_states}
+use Rattle.lra_certify.proofs.{EachSteps.each_weaker, EachSteps.stops_has, PathSteps.stopped_weaker, TextSteps.are_states}
 
 -- ---- lists of lists
 abbrev IsFrom : {A B : Type 0} → (A → List B) → List A → B → Type 0

@@ -1,38 +1,21 @@
 -- Lines of claims, as the code finds and writes them.
-use Rattle.std.proofs.Common.{◌≡◌, inl, inr, ◌++◌, ◌∷◌, [], ℕ, ℤ, Bool, true, false, List, Option, Some, None, Result, Ok, Err, refl, ap, sym}
-use Rattle.std.proofs.Common.{◌∙◌, subst}
-use Rattle.std.proofs.Common.{IfOk, IfErr, OnOk, ◌+◌, take, drop}
-use Rattle.std.specs.Prelude.{cond, codes}
-use Rattle.std.specs.List.{Contains}
-use Rattle.std.proofs.lemmas.List.{take-append-drop}
-use Rattle.std.proofs.lemmas.List.Elements.{All-contains, Contains-append_left}
-use Rattle.lra_linear_spec.specs.Cones.{with_row}
-use Rattle.lra_linear_spec.specs.Descriptions.{LinearRow, system_of}
-use Rattle.lra_linear_spec.specs.Range.{InRange}
-use Rattle.lra_linear_spec.specs.Vectors.{negated}
-use Rattle.lra_linear_spec.proofs.SetOperations.{system_append_in}
-use Rattle.lra_linear_spec.proofs.Membership.{contains_head, contains_tail}
+use Rattle.std.proofs.Common.{◌≡◌, inl, inr, ◌++◌, ◌∷◌, [], ℕ, ℤ, Bool, true, false, List, Option, Some, None, Result, Ok, Err, refl, ap, sym, ◌∙◌, subst, IfOk, IfErr, OnOk, ◌+◌, take, drop}
+use Rattle.std.proofs.{lemmas.List.take-append-drop, lemmas.List.Elements.All-contains, lemmas.List.Elements.Contains-append_left}
+use Rattle.std.specs.{List.Contains, Prelude.cond, Prelude.codes}
+use Rattle.lra_linear_spec.specs.{Cones.with_row, Descriptions.LinearRow, Descriptions.system_of, Range.InRange, Vectors.negated}
+use Rattle.lra_linear_spec.proofs.{Membership.contains_head, Membership.contains_tail, SetOperations.system_append_in}
 use Rattle.lra_systems.specs.LinearSystems.{constraints}
 use Rattle.lra_multipliers.specs.declared.multipliers.Multipliers as made
-use Rattle.lra_multipliers.specs.MultiplierViews.{multipliers_view}
-use Rattle.lra_multipliers.specs.Multipliers.{Multipliers, yes, IsAnswer}
-use Rattle.lra_certificate_spec.specs.Certificates.{infeasible, implies, AreNumbers}
+use Rattle.lra_multipliers.specs.{MultiplierViews.multipliers_view, Multipliers.Multipliers, Multipliers.yes, Multipliers.IsAnswer}
 use Rattle.lra_certificate_spec.specs.CertificateText.{text_line, multipliers_text, evidence_text}
-use Rattle.lra_certificate_spec.specs.Judged.{RowsAtPoint}
+use Rattle.lra_certificate_spec.specs.{Certificates.infeasible, Certificates.implies, Certificates.AreNumbers, Judged.RowsAtPoint}
 use Rattle.lra_certificate_lines.specs.declared.path_checks.PathFacts.{PathFacts}
-use Rattle.lra_farkas.specs.MultiplierRows.{AreAsWide}
 use Rattle.lra_farkas.specs.FirstMultipliers.{AreFirst, MultipliersInRange, IsMultipliersFailure}
-use Rattle.lra_farkas.specs.declared.first.MultipliersFailure.{MultipliersFailure}
 use Rattle.lra_farkas.specs.declared.first.MultipliersFailure.TheVariants.{NotImplied, Strained, Memory}
-use Rattle.lra_certify.specs.declared.failures.PathFailure.{PathFailure}
-use Rattle.lra_certify.specs.Each.{Each, Stops, each_text}
-use Rattle.lra_certify.specs.PathFactViews.{claim_on, IsLine, IsNotShown, LineStrains, IsLineFailure, by_line, IsClaimLine, ClaimStrained, AddsLines}
-use Rattle.lra_certify.specs.PathFactViews.{SomeStrains}
-use Rattle.lra_certify.specs.PathFactViews.{IsEvidence, AddsEvidence}
-use Rattle.lra_certify.specs.PathFactViews.{AllHold, HoldsOn, TargetStrains, IfStrained}
-use Rattle.lra_certify.proofs.PathSteps.{strained_weaker}
-use Rattle.lra_certify.proofs.EachSteps.{adds_one, adds_both, stops_one, stops_first, stops_later}
-use Rattle.lra_certify.proofs.TextSteps.{every_number}
+use Rattle.lra_farkas.specs.{MultiplierRows.AreAsWide, declared.first.MultipliersFailure.MultipliersFailure}
+use Rattle.lra_certify.specs.PathFactViews.{claim_on, IsLine, IsNotShown, LineStrains, IsLineFailure, by_line, IsClaimLine, ClaimStrained, AddsLines, SomeStrains, IsEvidence, AddsEvidence, AllHold}
+use Rattle.lra_certify.specs.{Each.Each, Each.Stops, Each.each_text, PathFactViews.HoldsOn, PathFactViews.TargetStrains, PathFactViews.IfStrained, declared.failures.PathFailure.PathFailure}
+use Rattle.lra_certify.proofs.{EachSteps.adds_one, EachSteps.adds_both, EachSteps.stops_one, EachSteps.stops_first, EachSteps.stops_later, PathSteps.strained_weaker, TextSteps.every_number}
 
 -- ---- found
 are_numbers : (m : Multipliers) → MultipliersInRange m → AreNumbers m

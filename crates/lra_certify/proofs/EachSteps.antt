@@ -1,7 +1,7 @@
 -- Lists of which something is found for each, joined, and written one after the other.
 use Rattle.std.proofs.Common.{◌≡◌, ℕ, List, [], ◌∷◌, ◌++◌, refl, ap, sym, ◌∙◌, subst, append_assoc, append-nil}
-use Rattle.std.specs.List.{Contains}
 use Rattle.std.proofs.lemmas.List.Elements.{Contains-append_right}
+use Rattle.std.specs.List.{Contains}
 use Rattle.lra_linear_spec.proofs.Membership.{contains_head}
 use Rattle.lra_certify.specs.Each.{Each, Stops, each_text, AddsEach, IsLeft}
 

@@ -1,11 +1,7 @@
 -- What is found over the grounds of a path, as it is said of the path.
 use Rattle.std.proofs.Common.{◌≡◌, inl, suc, ℕ, ℤ, List, length, Option, Some, None, Result, Ok, Err, sym, ◌∙◌, subst, OnOk, IfErr, IfSome}
-use Rattle.std.specs.Prelude.{MatchOption}
-use Rattle.std.specs.List.{All, Contains}
-use Rattle.lra_linear_spec.specs.declared.ConKind.{ConKind}
-use Rattle.lra_linear_spec.specs.declared.Excess.{Excess}
-use Rattle.lra_linear_spec.specs.Descriptions.{LinearRow}
-use Rattle.lra_linear_spec.specs.Vectors.{zeros}
+use Rattle.std.specs.{List.All, List.Contains, Prelude.MatchOption}
+use Rattle.lra_linear_spec.specs.{Descriptions.LinearRow, Vectors.zeros, declared.ConKind.ConKind, declared.Excess.Excess}
 use Rattle.lra_systems.specs.LinearSystems.{LinearSystem, constraints}
 use Rattle.lra_domain.specs.Actions.{Action}
 use Rattle.lra_paths.specs.Paths.{path_by}
@@ -14,16 +10,11 @@ use Rattle.lra_multipliers.specs.Symbols.{executed_path}
 use Rattle.lra_multipliers.proofs.CheckSteps.{length_zeros}
 use Rattle.lra_certificate_spec.specs.Judged.{RowsAtPoint}
 use Rattle.lra_certificate_lines.specs.PathCheckViews.{ArePathFactsOf, IsPathCheck, IsWhole, ArePathFacts, AreCounted}
-use Rattle.lra_certificate_lines.specs.declared.path_checks.PathFacts.{PathFacts}
-use Rattle.lra_certificate_lines.specs.declared.path_checks.PathCheck.{PathCheck}
+use Rattle.lra_certificate_lines.specs.{declared.path_checks.PathCheck.PathCheck, declared.path_checks.PathFacts.PathFacts}
 use Rattle.lra_farkas.proofs.FirstPoints.{as_wide}
-use Rattle.lra_certify.specs.declared.failures.PathFailure.{PathFailure}
-use Rattle.lra_certify.specs.InductiveRows.{IsInductiveFrom}
 use Rattle.lra_certify.specs.PathFactViews.{AllLead, IsEvidence, AddsEvidence, TargetStrains, IfStrained}
-use Rattle.lra_certify.specs.WrittenPaths.{FoundOn, StrainsOn}
-use Rattle.lra_certify.proofs.FoundPaths.{all_lead, evidence_found, path_strains}
-use Rattle.lra_certify.proofs.NeverUnshown.{AreLaws}
-use Rattle.lra_certify.proofs.PathSteps.{strained_weaker}
+use Rattle.lra_certify.specs.{InductiveRows.IsInductiveFrom, WrittenPaths.FoundOn, WrittenPaths.StrainsOn, declared.failures.PathFailure.PathFailure}
+use Rattle.lra_certify.proofs.{FoundPaths.all_lead, FoundPaths.evidence_found, FoundPaths.path_strains, NeverUnshown.AreLaws, PathSteps.strained_weaker}
 
 -- the rows of a list have its width
 rows_wide : (s : LinearSystem ConKind) (seen : List (List ℤ)) → seen ≡ s.rows → All (λ r. length r ≡ suc s.dims) seen → (f : LinearRow) →

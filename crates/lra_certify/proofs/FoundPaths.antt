@@ -1,37 +1,23 @@
 -- What is found over the grounds of a path is what has to be said of it; and points of its premises lead to its target.
-use Rattle.std.proofs.Common.{◌≡◌, inl, inr, ◌-◌, ℕ, suc, ℤ, pos, ◌≤ℤ◌, ◌<ℤ◌, ◌<◌, List, [], ◌∷◌, length, map, take, Option, None}
-use Rattle.std.proofs.Common.{Some, Result, Ok, Err, refl}
-use Rattle.std.proofs.Common.{ap, sym, ◌∙◌, subst, arith}
+use Rattle.std.proofs.Common.{◌≡◌, inl, inr, ◌-◌, ℕ, suc, ℤ, pos, ◌≤ℤ◌, ◌<ℤ◌, ◌<◌, List, [], ◌∷◌, length, map, take, Option, None, Some, Result, Ok, Err, refl, ap, sym, ◌∙◌, subst, arith}
+use Rattle.std.proofs.{lemmas.List.length-take-le, lemmas.List.Elements.All-contains, lemmas.List.Elements.Contains-append_left, lemmas.List.Elements.Contains-append_right}
 use Rattle.std.specs.List.{Contains, AllByRecursion}
-use Rattle.std.proofs.lemmas.List.{length-take-le}
-use Rattle.std.proofs.lemmas.List.Elements.{All-contains, Contains-append_left, Contains-append_right}
-use Rattle.lra_linear_spec.specs.declared.Excess.{Excess}
 use Rattle.lra_linear_spec.specs.Descriptions.{LinearRow, Con, system_of}
-use Rattle.lra_linear_spec.specs.Points.{IsPoint, IsEmptySet}
-use Rattle.lra_linear_spec.specs.Polyhedra.{falsity}
-use Rattle.lra_linear_spec.specs.Vectors.{entry, product}
-use Rattle.lra_linear_spec.proofs.Descriptions.{con_solves}
-use Rattle.lra_linear_spec.proofs.Membership.{contains_head, contains_tail, map_has}
+use Rattle.lra_linear_spec.specs.{Points.IsPoint, Points.IsEmptySet, Polyhedra.falsity, Vectors.entry, Vectors.product, declared.Excess.Excess}
+use Rattle.lra_linear_spec.proofs.{Descriptions.con_solves, Membership.contains_head, Membership.contains_tail, Membership.map_has}
 use Rattle.lra_systems.specs.LinearSystems.{constraints}
 use Rattle.lra_paths.specs.Paths.{Path}
-use Rattle.lra_multipliers.specs.Symbols.{SymbolicState, composed, width_of}
-use Rattle.lra_multipliers.specs.Multipliers.{Multipliers, IsFarkasCertificate, yes, IsAnswer}
-use Rattle.lra_certificate_spec.specs.Certificates.{Evidence, none, infeasible, implies, PathPremises, padded, premises_of, contradiction, IsShownInfeasible}
-use Rattle.lra_certificate_spec.specs.Certificates.{IsClaimImplied, AreImplied, AreNumbers}
+use Rattle.lra_multipliers.specs.{Multipliers.Multipliers, Multipliers.IsFarkasCertificate, Multipliers.yes, Multipliers.IsAnswer, Symbols.SymbolicState, Symbols.composed, Symbols.width_of}
+use Rattle.lra_certificate_spec.specs.Certificates.{Evidence, none, infeasible, implies, PathPremises, padded, premises_of, contradiction, IsShownInfeasible, IsClaimImplied, AreImplied, AreNumbers}
 use Rattle.lra_certificate_spec.specs.Judged.{RowsAtPoint}
 use Rattle.lra_certificate_spec.proofs.WalkedRows.{ok_is, AreOfWidth}
-use Rattle.lra_certificate_lines.specs.PathCheckViews.{ArePathFacts, ArePathFactsOf}
-use Rattle.lra_certificate_lines.specs.declared.path_checks.PathFacts.{PathFacts}
-use Rattle.lra_farkas.specs.MultiplierRows.{multiplier_dims, multiplier_rows, AreAsWide}
-use Rattle.lra_farkas.specs.FirstMultipliers.{AreFirst, MultipliersStrain}
-use Rattle.lra_certify.specs.InductiveRows.{IsIn, IsInductiveFrom}
-use Rattle.lra_certify.specs.Each.{Each}
+use Rattle.lra_certificate_lines.specs.{PathCheckViews.ArePathFacts, PathCheckViews.ArePathFactsOf, declared.path_checks.PathFacts.PathFacts}
+use Rattle.lra_farkas.specs.{FirstMultipliers.AreFirst, FirstMultipliers.MultipliersStrain, MultiplierRows.multiplier_dims, MultiplierRows.multiplier_rows, MultiplierRows.AreAsWide}
 use Rattle.lra_certify.specs.PathEvidence.{IsFirstInfeasible, IsNotShownInfeasible, IsFirstShown, IsEvidenceAlong, ClaimStrains, EvidenceStrains, PathStrains}
-use Rattle.lra_certify.specs.PathFactViews.{claim_on, led_to, AllLead, HoldsOn, AllHold, IsLine, IsNotShown, LineStrains, IsClaimLine, ClaimStrained}
-use Rattle.lra_certify.specs.PathFactViews.{IsEvidence, TargetStrains}
-use Rattle.lra_certify.proofs.EachSteps.{stops_has}
-use Rattle.lra_certify.proofs.NeverUnshown.{AreLaws, none_show, never_unshown, never_alive}
+use Rattle.lra_certify.specs.PathFactViews.{claim_on, led_to, AllLead, HoldsOn, AllHold, IsLine, IsNotShown, LineStrains, IsClaimLine, ClaimStrained, IsEvidence, TargetStrains}
+use Rattle.lra_certify.specs.{Each.Each, InductiveRows.IsIn, InductiveRows.IsInductiveFrom}
 use Rattle.lra_certify.proofs.WalkedBack.{composed_at, point_at, walked_back, padded_holds}
+use Rattle.lra_certify.proofs.{EachSteps.stops_has, NeverUnshown.AreLaws, NeverUnshown.none_show, NeverUnshown.never_unshown, NeverUnshown.never_alive}
 
 -- ---- widths
 wide_forms : (n : ℕ) (forms : List (List ℤ)) → ((f : List ℤ) → Contains forms f → length f ≡ n) → AreOfWidth n forms

@@ -1,12 +1,8 @@
 -- A claim that holds wherever its premises do has multipliers, unless some show that the premises have no point.
 use Rattle.std.proofs.Common.{◌≡◌, ℕ, suc, ℤ, pos, ◌≤ℤ◌, List, length}
-use Rattle.lra_linear_spec.specs.Descriptions.{LinearRow, Con}
-use Rattle.lra_linear_spec.specs.Points.{IsEmptySet, IsWithin}
-use Rattle.lra_linear_spec.specs.Polyhedra.{falsity}
-use Rattle.lra_linear_spec.specs.Vectors.{product}
+use Rattle.lra_linear_spec.specs.{Descriptions.LinearRow, Descriptions.Con, Points.IsEmptySet, Points.IsWithin, Polyhedra.falsity, Vectors.product}
 use Rattle.lra_multipliers.specs.Multipliers.{Multipliers, IsFarkasCertificate}
-use Rattle.lra_farkas.specs.MultiplierRows.{multiplier_dims, multiplier_rows, point_of, AreAsWide, PointsShow}
-use Rattle.lra_farkas.specs.MultiplierRows.{WhatHoldsAtPointsIsShown, NoPointIsShown}
+use Rattle.lra_farkas.specs.MultiplierRows.{multiplier_dims, multiplier_rows, point_of, AreAsWide, PointsShow, WhatHoldsAtPointsIsShown, NoPointIsShown}
 
 abbrev AreNone : List LinearRow → List ℤ → Type 0
 AreNone premises claim = IsEmptySet (multiplier_dims premises) (Con (multiplier_rows premises claim))

@@ -1,47 +1,27 @@
 -- Paths and assertions whose lines are written one after the other.
-use Rattle.std.proofs.Common.{◌≡◌, ◌≤◌, ◌<◌, ◌+◌, ◌-◌, ◌++◌, ◌∷◌, [], ℕ, zero, suc, List, length, drop, map, Option, Some, None, Result, Ok, Err, refl, ap, sym}
-use Rattle.std.proofs.Common.{◌∙◌, subst, arith, add-one, append_assoc, append-nil, IfErr, OnOk, IsErrAnd, slice_index_or, Vec, ◌⊎◌, inl, inr, drop-cons}
-use Rattle.std.proofs.Common.{get_or}
-use Rattle.std.proofs.lemmas.List.{map-append}
-use Rattle.std.proofs.lemmas.List.Elements.{Contains-append_left, Contains-get_or}
-use Rattle.std.proofs.lemmas.Result.{err_from_is_err_and}
-use Rattle.std.specs.Global.{Global}
-use Rattle.std.specs.Prelude.{slice_get}
-use Rattle.std.specs.List.{Contains, flat_map, range_with_len}
-use Rattle.std.proofs.lemmas.Bool.{cases_lt}
+use Rattle.std.proofs.Common.{◌≡◌, ◌≤◌, ◌<◌, ◌+◌, ◌-◌, ◌++◌, ◌∷◌, [], ℕ, zero, suc, List, length, drop, map, Option, Some, None, Result, Ok, Err, refl, ap, sym, ◌∙◌, subst, arith, add-one}
+use Rattle.std.proofs.Common.{append_assoc, append-nil, IfErr, OnOk, IsErrAnd, slice_index_or, Vec, ◌⊎◌, inl, inr, drop-cons, get_or}
+use Rattle.std.proofs.{lemmas.Bool.cases_lt, lemmas.List.map-append, lemmas.List.Elements.Contains-append_left, lemmas.List.Elements.Contains-get_or, lemmas.Result.err_from_is_err_and}
+use Rattle.std.specs.{Borrow.Bor, Global.Global, List.Contains, List.flat_map, List.range_with_len, Prelude.slice_get}
 use Rattle.lra_linear_spec.proofs.Membership.{contains_head, contains_tail, contains_cases, contains_none, map_has, map_from}
 use Rattle.lra_linear_spec.specs.Descriptions.{LinearRow}
-use Rattle.std.specs.Borrow.{Bor}
-use Rattle.lra_domain.specs.Actions.{Action}
-use Rattle.lra_domain.specs.declared.changes.Change.{Change}
+use Rattle.lra_domain.specs.{Actions.Action, declared.changes.Change.Change}
 use Rattle.lra_path_segments.specs.Segments.{Goal, comes_to, violates}
-use Rattle.lra_paths.specs.Paths.{Path, path_by}
+use Rattle.lra_paths.specs.{Paths.Path, Paths.path_by, Sources.to_goal, declared.sources.Source.Source}
 use Rattle.lra_path_disjuncts.specs.TableDisjuncts.{all_done, lists_done}
-use Rattle.lra_paths.specs.Sources.{to_goal}
-use Rattle.lra_paths.specs.declared.sources.Source.{Source}
 use Rattle.lra_path_segments.proofs.Lists.{flat_map_has}
-use Rattle.lra_certificate_spec.specs.Certificates.{Evidence, none, ListedAssertion, state_from, state_to}
 use Rattle.lra_certificate_spec.specs.CertificateText.{text_line, edge_text, assert_text, evidence_text, listed_text}
-use Rattle.lra_certificate_spec.specs.Judged.{RowsAtPoint}
-use Rattle.lra_verify.specs.EdgeViews.{sites_in, states_in, actions_out_of, actions_by, live_by}
-use Rattle.lra_verify.specs.declared.annotated.AnnotatedProgram.{AnnotatedProgram}
+use Rattle.lra_certificate_spec.specs.{Certificates.Evidence, Certificates.none, Certificates.ListedAssertion, Certificates.state_from, Certificates.state_to, Judged.RowsAtPoint}
+use Rattle.lra_verify.specs.{EdgeViews.sites_in, EdgeViews.states_in, EdgeViews.actions_out_of, EdgeViews.actions_by, EdgeViews.live_by, declared.annotated.AnnotatedProgram.AnnotatedProgram}
 use Rattle.lra_verify.proofs.EdgeSteps.{lists_next, lists_end, numbers_next, numbers_end}
-use Rattle.lra_certify.specs.declared.failures.PathFailure.{PathFailure}
-use Rattle.lra_certify.specs.declared.failures.PathFailure.TheVariants as of_path
-use Rattle.lra_certify.specs.declared.failures.CertifyFailure.{CertifyFailure}
-use Rattle.lra_certify.specs.declared.failures.CertifyFailure.TheVariants as of_program
-use Rattle.lra_certify.specs.declared.failures.StrainedAt.{StrainedAt}
-use Rattle.lra_certify.specs.declared.failures.StrainedAt.TheVariants.{Edge, Assertion}
-use Rattle.lra_certify.specs.InductiveRows.{IsInductiveAlong, IsInductiveFrom}
-use Rattle.lra_certify.specs.Each.{Each, each_text}
 use Rattle.lra_certify.specs.PathEvidence.{IsEvidenceFrom, IsEvidenceFor, StrainsFrom, StrainsAlong, StopsIn}
-use Rattle.lra_certify.specs.Failures.{failed_at}
-use Rattle.lra_certify.specs.PathFactViews.{AddsEvidence, IfStrained}
-use Rattle.lra_certify.specs.WrittenPaths.{paths_to, paths_from, all_paths, violating_paths, AllAreInductive, edge_lines, violation_lines, AddsPaths, FoundOn}
-use Rattle.lra_certify.specs.WrittenPaths.{StrainsOn}
-use Rattle.lra_certify.specs.WrittenPaths.{IsInfeasibleEvidence, StrainsDead, AddsDead}
-use Rattle.lra_certify.specs.WrittenPaths.{AllDead, DeadLeft, SomeDeadStops, SomePathStops, SomeStops, IfStopped, PathsLeft}
-use Rattle.lra_certify.specs.WrittenPaths.{IsListed, AddsListed, AssertionStops, ListedLeft, ListStops}
+use Rattle.lra_certify.specs.WrittenPaths.{paths_to, paths_from, all_paths, violating_paths, AllAreInductive, edge_lines, violation_lines, AddsPaths, FoundOn, StrainsOn, IsInfeasibleEvidence}
+use Rattle.lra_certify.specs.WrittenPaths.{StrainsDead, AddsDead, AllDead, DeadLeft, SomeDeadStops, SomePathStops, SomeStops, IfStopped, PathsLeft, IsListed, AddsListed, AssertionStops, ListedLeft}
+use Rattle.lra_certify.specs.declared.failures.StrainedAt.TheVariants.{Edge, Assertion}
+use Rattle.lra_certify.specs.{Each.Each, Each.each_text, Failures.failed_at, InductiveRows.IsInductiveAlong, InductiveRows.IsInductiveFrom, PathFactViews.AddsEvidence, PathFactViews.IfStrained}
+use Rattle.lra_certify.specs.{WrittenPaths.ListStops, declared.failures.CertifyFailure.CertifyFailure, declared.failures.PathFailure.PathFailure, declared.failures.StrainedAt.StrainedAt}
+use Rattle.lra_certify.specs.declared.failures.PathFailure.TheVariants as of_path
+use Rattle.lra_certify.specs.declared.failures.CertifyFailure.TheVariants as of_program
 use Rattle.lra_certify.proofs.EachSteps.{adds_one, stops_one, left_all, left_next, left_stops, left_end, stops_has}
 
 -- ---- exits

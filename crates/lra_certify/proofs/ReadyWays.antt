@@ -1,22 +1,15 @@
 -- The ways of a program are ready to be gone through: its points as its graph has them, and the sources that are found.
 use Rattle.std.proofs.Common.{◌≡◌, ◌<◌, ◌≤◌, ◌^◌, ◌∙◌, ℕ, suc, [], List, length, map, refl, ap, sym, subst}
-use Rattle.std.specs.Prelude.{slice_get}
-use Rattle.std.specs.List.{All}
 use Rattle.std.proofs.lemmas.List.{length-map}
-use Rattle.lra_program.specs.Program.{Program}
-use Rattle.lra_program.specs.Sites.{sites_of}
-use Rattle.lra_program.specs.declared.program.GlobalVariable.{GlobalVariable}
-use Rattle.lra_operations.specs.Tree.{Node}
+use Rattle.std.specs.{List.All, Prelude.slice_get}
+use Rattle.lra_program.specs.{Program.Program, Sites.sites_of, declared.program.GlobalVariable.GlobalVariable}
+use Rattle.lra_operations.specs.{Tree.Node, TreeViews.site_view}
 use Rattle.lra_operations.specs.declared.tree.Site as declared
-use Rattle.lra_operations.specs.TreeViews.{site_view}
 use Rattle.lra_path_segments.specs.Segments.{Goal}
 use Rattle.lra_path_disjuncts.specs.Tables.{IsTable}
-use Rattle.lra_paths.specs.Paths.{actions_between_in, AreFewIn}
-use Rattle.lra_paths.specs.declared.sources.Source.{Source}
+use Rattle.lra_paths.specs.{Paths.actions_between_in, Paths.AreFewIn, declared.sources.Source.Source}
 use Rattle.lra_verify.specs.EdgeViews.{IsAnnotatedProgram, actions_out_of, sites_in}
-use Rattle.lra_verify.specs.PointViews.{HaveDims}
-use Rattle.lra_verify.specs.SourceViews.{AreSources, LeadAs}
-use Rattle.lra_verify.specs.declared.annotated.AnnotatedProgram.{AnnotatedProgram}
+use Rattle.lra_verify.specs.{PointViews.HaveDims, SourceViews.AreSources, SourceViews.LeadAs, declared.annotated.AnnotatedProgram.AnnotatedProgram}
 use Rattle.lra_verify.proofs.VerifySteps.{ways_ready, sources_ready, lead_ready}
 
 ways_are : (w : AnnotatedProgram) (items : List declared.Site) → w.sites.now ≡ items → w.start.now.rows ≡ [] → w.start.now.dims ≡ 0 →

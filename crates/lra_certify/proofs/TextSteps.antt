@@ -1,28 +1,17 @@
 -- Lines of rows, of points and of multipliers, one behind the other.
-use Rattle.std.proofs.Common.{◌≡◌, ◌≤◌, ◌<◌, ◌+◌, ◌++◌, ◌∷◌, [], ℕ, suc, ℤ, List, length, map, Option, Some, None, codes, refl, ap, sym}
-use Rattle.std.proofs.Common.{◌∙◌, subst, Result, Ok, Err, OnOk, IfSome, drop, take, slice_index_or, drop-cons, option_copied}
-use Rattle.std.proofs.Math.Seq.{take-suc}
-use Rattle.std.proofs.Common.{arith, add-one, append_assoc, append-nil}
-use Rattle.std.proofs.lemmas.List.{take_all}
-use Rattle.std.proofs.lemmas.Result.{on_ok_weaker}
-use Rattle.std.specs.Borrow.{Bor}
-use Rattle.std.specs.Fmt.{decimal, signed_decimal}
-use Rattle.std.specs.List.{All, AllByRecursion, Contains}
-use Rattle.std.proofs.lemmas.List.Elements.{All-contains, All-append, All-cons, All-nil}
-use Rattle.lra_linear_spec.specs.declared.ConKind.{ConKind}
-use Rattle.lra_linear_spec.specs.Descriptions.{LinearRow}
-use Rattle.lra_linear_spec.specs.Kinds.{is_equality}
-use Rattle.lra_linear_spec.specs.Range.{InRange}
+use Rattle.std.proofs.Common.{◌≡◌, ◌≤◌, ◌<◌, ◌+◌, ◌++◌, ◌∷◌, [], ℕ, suc, ℤ, List, length, map, Option, Some, None, codes, refl, ap, sym, ◌∙◌, subst, Result, Ok, Err, OnOk, IfSome, drop, take}
+use Rattle.std.proofs.{Common.slice_index_or, Common.drop-cons, Common.option_copied, Common.arith, Common.add-one, Common.append_assoc, Common.append-nil, Math.Seq.take-suc, lemmas.List.take_all}
+use Rattle.std.proofs.{lemmas.List.Elements.All-contains, lemmas.List.Elements.All-append, lemmas.List.Elements.All-cons, lemmas.List.Elements.All-nil, lemmas.Result.on_ok_weaker}
+use Rattle.std.specs.{Borrow.Bor, Fmt.decimal, Fmt.signed_decimal, List.All, List.AllByRecursion, List.Contains}
+use Rattle.lra_linear_spec.specs.{Descriptions.LinearRow, Kinds.is_equality, Range.InRange, declared.ConKind.ConKind}
 use Rattle.lra_linear_spec.proofs.Membership.{contains_head, contains_tail}
 use Rattle.lra_systems.specs.LinearSystems.{LinearSystem, constraints, rows_by_kind}
 use Rattle.lra_program.specs.Sites.{Site}
 use Rattle.lra_paths.specs.Paths.{path_by}
 use Rattle.lra_path_segments.specs.Segments.{comes_to}
 use Rattle.lra_multipliers.specs.Multipliers.{Multipliers}
-use Rattle.lra_certificate_spec.specs.Certificates.{IsPointRow, IsState, AreStates}
-use Rattle.lra_certificate_spec.specs.CertificateText.{text_line, numbers_text, relation_text, row_text, point_text, state_text, states_text, multipliers_text}
-use Rattle.lra_certificate_spec.specs.CertificateText.{edge_text}
-use Rattle.lra_certificate_spec.specs.Judged.{RowsAtPoint}
+use Rattle.lra_certificate_spec.specs.CertificateText.{text_line, numbers_text, relation_text, row_text, point_text, state_text, states_text, multipliers_text, edge_text}
+use Rattle.lra_certificate_spec.specs.{Certificates.IsPointRow, Certificates.IsState, Certificates.AreStates, Judged.RowsAtPoint}
 use Rattle.lra_certificate_lines.specs.PathCheckViews.{target_rows}
 use Rattle.lra_verify.specs.PointViews.{state_view, HaveDims}
 use Rattle.lra_certify.specs.Lines.{rows_text, ArePointRows, HasPointRows}

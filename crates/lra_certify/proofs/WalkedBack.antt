@@ -1,24 +1,17 @@
 -- Values of the symbols at which the tests of a path hold are a point of its source, from which the path leads to the
 -- values of its forms.
-use Rattle.std.proofs.Common.{◌≡◌, ℕ, zero, suc, ◌≤◌, ◌+◌, ◌-◌, ℤ, ◌+ℤ◌, ◌*ℤ◌, List, [], ◌∷◌, ◌++◌, length, take, drop, Ok, refl}
-use Rattle.std.proofs.Common.{ap, sym, ◌∙◌, subst, arith}
-use Rattle.std.specs.Prelude.{slice_set}
+use Rattle.std.proofs.Common.{◌≡◌, ℕ, zero, suc, ◌≤◌, ◌+◌, ◌-◌, ℤ, ◌+ℤ◌, ◌*ℤ◌, List, [], ◌∷◌, ◌++◌, length, take, drop, Ok, refl, ap, sym, ◌∙◌, subst, arith}
 use Rattle.std.proofs.lemmas.List.{map-append, length-map, map-set, take-map, length-take-le, take-append-drop}
 use Rattle.std.proofs.lemmas.List.Elements.{Contains-append_left, Contains-push}
-use Rattle.lra_linear_spec.specs.Descriptions.{LinearRow, HoldsWith, Holds, Con}
-use Rattle.lra_linear_spec.specs.Kinds.{is_equality}
-use Rattle.lra_linear_spec.specs.Vectors.{entry, product, zeros}
-use Rattle.lra_linear_spec.proofs.OneSpelling.{dot_zeros}
-use Rattle.lra_linear_spec.proofs.Products.{product_none}
-use Rattle.lra_linear_spec.proofs.UnitRows.{entry_product}
+use Rattle.std.specs.Prelude.{slice_set}
+use Rattle.lra_linear_spec.specs.{Descriptions.LinearRow, Descriptions.HoldsWith, Descriptions.Holds, Descriptions.Con, Kinds.is_equality, Vectors.entry, Vectors.product, Vectors.zeros}
+use Rattle.lra_linear_spec.proofs.{OneSpelling.dot_zeros, Products.product_none, UnitRows.entry_product}
 use Rattle.lra_linear_forms.specs.Form.{form_row}
 use Rattle.lra_domain.specs.Actions.{Action, assign, forget, test, embed, remove_last}
-use Rattle.lra_multipliers.specs.Symbols.{symbol, symbols, composed, SymbolicState, tests_too, gives, executed_action, executed, new_symbols, width_of}
-use Rattle.lra_multipliers.specs.Symbols.{executed_path}
+use Rattle.lra_multipliers.specs.Symbols.{symbol, symbols, composed, SymbolicState, tests_too, gives, executed_action, executed, new_symbols, width_of, executed_path}
 use Rattle.lra_multipliers.proofs.CheckSteps.{length_zeros}
 use Rattle.lra_certificate_spec.specs.Certificates.{padded}
-use Rattle.lra_certificate_spec.proofs.WalkedRows.{and_ok, ok_is, AreOfWidth, values, composed_from_value, symbols_values, all_put, all_behind, all_taken}
-use Rattle.lra_certificate_spec.proofs.WalkedRows.{symbol_width, symbols_width}
+use Rattle.lra_certificate_spec.proofs.WalkedRows.{and_ok, ok_is, AreOfWidth, values, composed_from_value, symbols_values, all_put, all_behind, all_taken, symbol_width, symbols_width}
 use Rattle.lra_certify.specs.PointMoves.{PointLeadsAll}
 
 -- ---- the row of a form, and of a claim

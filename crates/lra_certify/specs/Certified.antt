@@ -1,20 +1,17 @@
 -- What is written of a program: the text of a certificate that meets it, with given rows and listed assertions; or why
 -- there is none.
 use Rattle.std.specs.Prelude.{◌≡◌, ◌<◌, ℕ, ⊤, true, List, [], ◌∷◌, Some, slice_get, Contains}
-use Rattle.lra_program.specs.Program.{Program}
-use Rattle.lra_program.specs.Sites.{Site, sites_of}
+use Rattle.lra_program.specs.{Program.Program, Sites.Site, Sites.sites_of}
 use Rattle.lra_operations.specs.Tree.{Node}
 use Rattle.lra_path_segments.specs.Segments.{comes_to}
 use Rattle.lra_paths.specs.Paths.{Path, paths_of, violations_of, AreFewPaths, HasTooManyPaths}
 use Rattle.lra_certificate_spec.specs.Certificates.{Evidence, ListedAssertion, Certificate, Certifies}
-use Rattle.lra_certificate_spec.specs.CertificateText.{body_text}
-use Rattle.lra_certificate_spec.specs.Judged.{RowsAtPoint}
+use Rattle.lra_certificate_spec.specs.{CertificateText.body_text, Judged.RowsAtPoint}
+use Rattle.lra_certify.specs.PathEvidence.{IsEvidenceFor, StopsIn}
 use Rattle.lra_certify.specs.declared.failures.CertifyFailure.{CertifyFailure}
 use Rattle.lra_certify.specs.declared.failures.CertifyFailure.TheVariants.{TooMany, Strained, Memory}
-use Rattle.lra_certify.specs.declared.failures.StrainedAt.{StrainedAt}
 use Rattle.lra_certify.specs.declared.failures.StrainedAt.TheVariants.{Edge, Assertion}
-use Rattle.lra_certify.specs.Each.{Each, Stops}
-use Rattle.lra_certify.specs.PathEvidence.{IsEvidenceFor, StopsIn}
+use Rattle.lra_certify.specs.{Each.Each, Each.Stops, declared.failures.StrainedAt.StrainedAt}
 
 -- the numbers of assertions, in ascending order
 abbrev pub AscendStrictly : List ℕ → Type 0

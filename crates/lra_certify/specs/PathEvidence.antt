@@ -1,17 +1,14 @@
 -- What is written of a path: the first multipliers that show that nothing goes along it; where there are none, the
 -- first for each claim of its target.
 use Rattle.std.specs.Prelude.{◌≡◌, ◌⊎◌, ℕ, ℤ, List, [], None, Some, Ok, Err, Contains}
-use Rattle.lra_linear_spec.specs.declared.Excess.{Excess}
-use Rattle.lra_linear_spec.specs.Descriptions.{system_of}
+use Rattle.lra_linear_spec.specs.{Descriptions.system_of, declared.Excess.Excess}
 use Rattle.lra_program.specs.Sites.{Site}
 use Rattle.lra_paths.specs.Paths.{Path}
-use Rattle.lra_multipliers.specs.Symbols.{SymbolicState, executed_path}
 use Rattle.lra_multipliers.specs.Multipliers.{Multipliers, IsFarkasCertificate}
+use Rattle.lra_multipliers.specs.Symbols.{SymbolicState, executed_path}
 use Rattle.lra_certificate_spec.specs.Certificates.{Evidence, none, infeasible, implies, PathPremises, premises_of}
-use Rattle.lra_certificate_spec.specs.Certificates.{contradiction}
-use Rattle.lra_certificate_spec.specs.Certificates.{CertifiesByEvidence}
-use Rattle.lra_certificate_spec.specs.Certificates.{IsWritable, state_from, state_to}
-use Rattle.lra_certificate_spec.specs.Judged.{RowsAtPoint, claim_of}
+use Rattle.lra_certificate_spec.specs.Certificates.{contradiction, CertifiesByEvidence, IsWritable, state_from}
+use Rattle.lra_certificate_spec.specs.{Certificates.state_to, Judged.RowsAtPoint, Judged.claim_of}
 use Rattle.lra_verify.specs.EdgeViews.{live_by}
 use Rattle.lra_farkas.specs.FirstMultipliers.{AreFirst, MultipliersStrain}
 use Rattle.lra_certify.specs.Each.{Each, Stops}

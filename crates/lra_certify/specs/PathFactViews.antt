@@ -1,26 +1,21 @@
 -- Lines of one path as the code writes them, over its premises and the rows of the variables behind it.
 use Rattle.std.specs.Prelude.{◌≡◌, ◌⊎◌, ◌++◌, ◌≤ℤ◌, suc, ℤ, pos, ℕ, List, ◌∷◌, map, codes, Result, Ok, Err, Option}
-use Rattle.std.specs.Prelude.{None, Some}
-use Rattle.std.specs.Prelude.{Contains}
-use Rattle.lra_linear_spec.specs.declared.Excess.{Excess}
-use Rattle.lra_linear_spec.specs.Descriptions.{Con, system_of}
-use Rattle.lra_linear_spec.specs.Points.{IsPoint, IsEmptySet}
-use Rattle.lra_linear_spec.specs.Vectors.{entry, product}
+use Rattle.std.specs.Prelude.{None, Some, Contains}
+use Rattle.lra_linear_spec.specs.{Descriptions.Con, Descriptions.system_of, Points.IsPoint, Points.IsEmptySet}
+use Rattle.lra_linear_spec.specs.{Vectors.entry, Vectors.product, declared.Excess.Excess}
 use Rattle.lra_systems.specs.LinearSystems.{constraints}
 use Rattle.lra_multipliers.specs.Multipliers.{Multipliers, yes, IsAnswer}
-use Rattle.lra_certificate_spec.specs.Certificates.{Evidence, none, infeasible, implies, AreNumbers}
 use Rattle.lra_certificate_spec.specs.CertificateText.{text_line, multipliers_text, evidence_text}
+use Rattle.lra_certificate_spec.specs.Certificates.{Evidence, none, infeasible, implies, AreNumbers}
 use Rattle.lra_certificate_spec.specs.Judged.{RowsAtPoint}
-use Rattle.lra_certificate_lines.specs.PathCheckViews.{claimed}
-use Rattle.lra_certificate_lines.specs.declared.path_checks.PathFacts.{PathFacts}
-use Rattle.lra_farkas.specs.MultiplierRows.{multiplier_dims, multiplier_rows, AreAsWide}
+use Rattle.lra_certificate_lines.specs.{PathCheckViews.claimed, declared.path_checks.PathFacts.PathFacts}
 use Rattle.lra_farkas.specs.FirstMultipliers.{AreFirst, MultipliersStrain}
+use Rattle.lra_farkas.specs.MultiplierRows.{multiplier_dims, multiplier_rows, AreAsWide}
 use Rattle.lra_farkas.specs.declared.first.MultipliersFailure.{MultipliersFailure}
 use Rattle.lra_farkas.specs.declared.first.MultipliersFailure.TheVariants.{NotImplied, Strained, Memory}
-use Rattle.lra_certify.specs.declared.failures.PathFailure.{PathFailure}
-use Rattle.lra_certify.specs.declared.failures.PathFailure.TheVariants as of_path
 use Rattle.lra_certify.specs.Each.{Each, Stops, AddsEach, IsLeft}
-use Rattle.lra_certify.specs.InductiveRows.{IsIn}
+use Rattle.lra_certify.specs.{InductiveRows.IsIn, declared.failures.PathFailure.PathFailure}
+use Rattle.lra_certify.specs.declared.failures.PathFailure.TheVariants as of_path
 
 -- the claim over the symbols: a row over the variables, or that nothing is left
 abbrev pub claim_on : PathFacts → Option (List ℤ) → Result (List ℤ) Excess

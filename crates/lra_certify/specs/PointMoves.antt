@@ -1,8 +1,6 @@
 -- What least changes do to rational points, at the same divisor; dimension x is column x + 1.
 use Rattle.std.specs.Prelude.{◌≡◌, suc, ◌-◌, ℤ, List, [], ◌∷◌, ◌++◌, length, take, slice_set}
-use Rattle.lra_linear_spec.specs.Descriptions.{Holds}
-use Rattle.lra_linear_spec.specs.Kinds.{is_equality}
-use Rattle.lra_linear_spec.specs.SetOperations.{assigned}
+use Rattle.lra_linear_spec.specs.{Descriptions.Holds, Kinds.is_equality, SetOperations.assigned}
 use Rattle.lra_linear_forms.specs.Form.{form_row}
 use Rattle.lra_domain.specs.Actions.{Action, assign, forget, test, embed, remove_last}
 

@@ -1,7 +1,6 @@
 -- From values of a path's symbols back to points.
 use Rattle.std.specs.Prelude.{◌≡◌, ℕ, suc, ℤ, List, ◌∷◌, length, take, Ok, map}
-use Rattle.lra_linear_spec.specs.Descriptions.{Con}
-use Rattle.lra_linear_spec.specs.Vectors.{entry, product}
+use Rattle.lra_linear_spec.specs.{Descriptions.Con, Vectors.entry, Vectors.product}
 use Rattle.lra_domain.specs.Actions.{Action}
 use Rattle.lra_multipliers.specs.Symbols.{SymbolicState, width_of, executed_path}
 use Rattle.lra_certify.specs.PointMoves.{PointLeadsAll}

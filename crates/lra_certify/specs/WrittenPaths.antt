@@ -1,23 +1,21 @@
 -- Paths as the code writes their lines, from one source after the other.
-use Rattle.std.specs.Prelude.{◌≡◌, ◌⊎◌, ◌++◌, ℕ, List, map, length, Some, None, Contains}
 use Rattle.std.specs.List.{flat_map, range_with_len}
+use Rattle.std.specs.Prelude.{◌≡◌, ◌⊎◌, ◌++◌, ℕ, List, map, length, Some, None, Contains}
 use Rattle.lra_path_segments.specs.Segments.{Goal, comes_to, violates}
 use Rattle.lra_paths.specs.Paths.{Path, path_by}
 use Rattle.lra_linear_spec.specs.Descriptions.{LinearRow}
 use Rattle.lra_domain.specs.Actions.{Action}
-use Rattle.lra_certificate_spec.specs.Certificates.{Evidence, ListedAssertion, AreStates}
 use Rattle.lra_certificate_spec.specs.CertificateText.{text_line, edge_text, evidence_text, listed_text, states_text}
-use Rattle.lra_certificate_spec.specs.CertificateText.{end_text}
-use Rattle.lra_certificate_spec.specs.Judged.{RowsAtPoint}
+use Rattle.lra_certificate_spec.specs.Certificates.{Evidence, ListedAssertion, AreStates}
+use Rattle.lra_certificate_spec.specs.{CertificateText.end_text, Judged.RowsAtPoint}
 use Rattle.lra_verify.specs.EdgeViews.{sites_in, states_in, actions_by}
 use Rattle.lra_verify.specs.declared.annotated.AnnotatedProgram.{AnnotatedProgram}
-use Rattle.lra_certify.specs.declared.failures.CertifyFailure.{CertifyFailure}
-use Rattle.lra_certify.specs.declared.failures.CertifyFailure.TheVariants as of_program
-use Rattle.lra_certify.specs.declared.failures.StrainedAt.{StrainedAt}
-use Rattle.lra_certify.specs.declared.failures.StrainedAt.TheVariants.{Edge, Assertion}
 use Rattle.lra_certify.specs.Each.{Each, Stops, AddsEach, IsLeft}
-use Rattle.lra_certify.specs.PathEvidence.{IsEvidenceFor, IsEvidenceFrom, StrainsAlong, StrainsFrom, StopsIn}
 use Rattle.lra_certify.specs.InductiveRows.{IsInductiveAlong, IsInductiveFrom}
+use Rattle.lra_certify.specs.PathEvidence.{IsEvidenceFor, IsEvidenceFrom, StrainsAlong, StrainsFrom, StopsIn}
+use Rattle.lra_certify.specs.declared.failures.StrainedAt.TheVariants.{Edge, Assertion}
+use Rattle.lra_certify.specs.{declared.failures.CertifyFailure.CertifyFailure, declared.failures.StrainedAt.StrainedAt}
+use Rattle.lra_certify.specs.declared.failures.CertifyFailure.TheVariants as of_program
 
 -- paths --------------------------------------------------------------------------------------------------------------
 

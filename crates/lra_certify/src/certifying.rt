@@ -1,17 +1,14 @@
 //! The lines behind the source of a certificate.
 
-ghost use Rattle.std.specs.Prelude.{◌≡◌, ◌<◌, ◌^◌, map, length, OnOk, IfOk, IfErr, string_bytes};
 ghost use Rattle.std.specs.List.{All};
-ghost use Rattle.lra_program.specs.ProgramViews.{program_view};
-ghost use Rattle.lra_program.specs.Sites.{sites_of};
+ghost use Rattle.std.specs.Prelude.{◌≡◌, ◌<◌, ◌^◌, map, length, OnOk, IfOk, IfErr, string_bytes};
+ghost use Rattle.lra_program.specs.{ProgramViews.program_view, Sites.sites_of};
 ghost use Rattle.lra_operations.specs.TreeViews.{node_view, site_view};
 ghost use Rattle.lra_paths.specs.Paths.{AreFewPaths};
-ghost use Rattle.lra_verify.specs.EdgeViews.{IsAnnotatedProgram};
-ghost use Rattle.lra_verify.specs.PointViews.{HaveDims, state_view};
+ghost use Rattle.lra_verify.specs.{EdgeViews.IsAnnotatedProgram, PointViews.HaveDims, PointViews.state_view};
 ghost use Rattle.lra_certify.specs.Certified.{AreListable, IsCertified, IsFailure};
-ghost use Rattle.lra_certify.specs.InductiveRows.{AreInductiveRows};
 ghost use Rattle.lra_certify.specs.WrittenPaths.{AllAreInductive, AllAssertionsInductive, AddsBody, BodyStops};
-ghost use Rattle.lra_certify.specs.WrittenPaths.{IfStopped, all_paths};
+ghost use Rattle.lra_certify.specs.{InductiveRows.AreInductiveRows, WrittenPaths.IfStopped, WrittenPaths.all_paths};
 
 use crate::edges::push_sources;
 use crate::failures::CertifyFailure;

@@ -2,9 +2,7 @@
 //! for each claim of its target.
 
 ghost use Rattle.std.specs.Prelude.{◌<◌, [], ◌∷◌, length, OnOk, IfOk, IfErr, IfSome, Some, None, string_bytes};
-ghost use Rattle.lra_linear_spec.specs.Cones.{with_row};
-ghost use Rattle.lra_linear_spec.specs.Descriptions.{system_of};
-ghost use Rattle.lra_linear_spec.specs.Kinds.{is_equality};
+ghost use Rattle.lra_linear_spec.specs.{Cones.with_row, Descriptions.system_of, Kinds.is_equality};
 ghost use Rattle.lra_systems.specs.LinearSystems.{constraints};
 ghost use Rattle.lra_multipliers.specs.MultiplierViews.{multipliers_view};
 ghost use Rattle.lra_certificate_lines.specs.PathCheckViews.{ArePathFacts, claim_row, target_rows};

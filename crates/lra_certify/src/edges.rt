@@ -10,8 +10,7 @@ ghost use Rattle.lra_verify.specs.EdgeViews.{IsAnnotatedProgram};
 ghost use Rattle.lra_certify.specs.InductiveRows.{IsInductiveFrom};
 ghost use Rattle.lra_certify.specs.PathFactViews.{AddsEvidence, IfStrained};
 ghost use Rattle.lra_certify.specs.WrittenPaths.{FoundOn, StrainsOn, AllAreInductive, AddsPaths, SomeStops};
-ghost use Rattle.lra_certify.specs.WrittenPaths.{SomePathStops};
-ghost use Rattle.lra_certify.specs.WrittenPaths.{IfStopped, edge_lines, paths_to, paths_from, all_paths};
+ghost use Rattle.lra_certify.specs.WrittenPaths.{SomePathStops, IfStopped, edge_lines, paths_to, paths_from, all_paths};
 
 use crate::claims::push_evidence;
 use crate::failures::{CertifyFailure, PathFailure, StrainedAt};

@@ -1,15 +1,15 @@
 //! The lines of listed assertions: nothing goes along the paths to where they are false.
 
-ghost use Rattle.std.specs.Prelude.{◌≤◌, ◌<◌, ◌^◌, ◌∷◌, [], length, OnOk, IfErr, string_bytes};
 ghost use Rattle.std.specs.List.{All};
+ghost use Rattle.std.specs.Prelude.{◌≤◌, ◌<◌, ◌^◌, ◌∷◌, [], length, OnOk, IfErr, string_bytes};
 ghost use Rattle.lra_systems.specs.LinearSystems.{constraints};
 ghost use Rattle.lra_path_disjuncts.specs.TableDisjuncts.{lists_done};
 ghost use Rattle.lra_path_segments.specs.Segments.{violates};
 ghost use Rattle.lra_verify.specs.EdgeViews.{IsAnnotatedProgram};
 ghost use Rattle.lra_certify.specs.PathFactViews.{IfStrained};
 ghost use Rattle.lra_certify.specs.WrittenPaths.{AllAreInductive, AllDead, AddsPaths, AddsDead, AddsListed};
-ghost use Rattle.lra_certify.specs.WrittenPaths.{SomePathStops, SomeDeadStops, ListStops, IfStopped};
-ghost use Rattle.lra_certify.specs.WrittenPaths.{violation_lines, paths_to, violating_paths, AllAssertionsInductive};
+ghost use Rattle.lra_certify.specs.WrittenPaths.{SomePathStops, SomeDeadStops, ListStops, IfStopped, violation_lines};
+ghost use Rattle.lra_certify.specs.WrittenPaths.{paths_to, violating_paths, AllAssertionsInductive};
 
 use crate::edges::push_path;
 use crate::failures::{CertifyFailure, PathFailure, StrainedAt};

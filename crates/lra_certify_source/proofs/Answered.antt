@@ -1,56 +1,35 @@
 -- What an iteration over polyhedra that isn't narrowed hands to the lines of a certificate, and what its report and these make.
 use Rattle.std.proofs.Common.{◌≡◌, ◌∙◌, ◌<◌, ◌++◌, ◌^◌, ℕ, ℤ, Bool, false, List, String, length, map, refl, ap, sym, subst, arith}
-use Rattle.std.specs.declared.alloc.Global.{Global}
+use Rattle.std.proofs.{lemmas.List.length-map, lemmas.Option.slice_get_within}
 use Rattle.std.specs.Prelude.{Option, Some, Result, Ok, Err, IfOk, IfErr, OnOk, slice_get, string_bytes}
-use Rattle.std.specs.List.{All, AllByRecursion}
-use Rattle.std.proofs.lemmas.List.{length-map}
-use Rattle.std.proofs.lemmas.Option.{slice_get_within}
-use Rattle.lra_linear_spec.specs.Polyhedra.{Polyhedron, IsPolyhedron}
-use Rattle.lra_linear_spec.specs.declared.ConKind.{ConKind}
+use Rattle.std.specs.{List.All, List.AllByRecursion, declared.alloc.Global.Global}
+use Rattle.lra_linear_spec.specs.{Polyhedra.Polyhedron, Polyhedra.IsPolyhedron, declared.ConKind.ConKind}
 use Rattle.lra_systems.specs.LinearSystems.{LinearSystem}
 use Rattle.lra_syntax.specs.Trees.{FileTree}
 use Rattle.lra_resolution_spec.specs.Resolve.{resolve}
-use Rattle.lra_program.specs.Program.{Program}
-use Rattle.lra_program.specs.Sites.{Site, sites_of}
-use Rattle.lra_operations.specs.Tree.{Node}
-use Rattle.lra_operations.specs.TreeViews.{site_view}
+use Rattle.lra_program.specs.{Program.Program, Sites.Site, Sites.sites_of}
+use Rattle.lra_operations.specs.{Tree.Node, TreeViews.site_view}
 use Rattle.lra_operations.specs.declared.tree.Site as declared
-use Rattle.lra_analysis_spec.specs.Operations.{lossy_operations}
-use Rattle.lra_analysis_spec.specs.Plan.{plan_of}
+use Rattle.lra_analysis_spec.specs.{Operations.lossy_operations, Plan.plan_of}
 use Rattle.lra_fixpoint.specs.Solved.{IsSolved}
 use Rattle.lra_fixpoint.proofs.Counting.{iteration_fails_once}
-use Rattle.lra_poly_domain.specs.Laws.{polyhedron_laws}
-use Rattle.lra_poly_domain.specs.Abstraction.{polyhedron_abstraction}
+use Rattle.lra_poly_domain.specs.{Abstraction.polyhedron_abstraction, Laws.polyhedron_laws}
 use Rattle.lra_report_build.specs.Polyhedra.{shown_polyhedron}
 use Rattle.lra_report.specs.Report.{Report}
 use Rattle.lra_front_end.specs.Stages.{HasTree, HasInlinedTree, HasConstants}
 use Rattle.lra_paths.specs.Paths.{AreFewPaths, live_of}
-use Rattle.lra_inductive_sound.specs.Inductive.{AreInductive, AreWide, FailOnce}
-use Rattle.lra_inductive_sound.specs.RationalPoints.{rational_points}
+use Rattle.lra_inductive_sound.specs.{Inductive.AreInductive, Inductive.AreWide, Inductive.FailOnce, RationalPoints.rational_points}
 use Rattle.lra_inductive_sound.proofs.RationalPoints.{polyhedra_closed}
-use Rattle.lra_certificate_spec.specs.CertificateText.{head_text}
-use Rattle.lra_certificate_spec.specs.Claims.{IsProgram}
-use Rattle.lra_certificate_spec.specs.Judged.{RowsAtPoint}
+use Rattle.lra_certificate_spec.specs.{CertificateText.head_text, Claims.IsProgram, Judged.RowsAtPoint}
 use Rattle.lra_verify.specs.PointViews.{HaveDims, state_view}
 use Rattle.lra_verify.proofs.VerifySteps.{live_few}
-use Rattle.lra_certify.specs.Certified.{AreListable, IsCertified, IsFailure}
-use Rattle.lra_certify.specs.InductiveRows.{AreInductiveRows}
-use Rattle.lra_certify.specs.declared.failures.CertifyFailure.{CertifyFailure}
+use Rattle.lra_certify.specs.{Certified.AreListable, Certified.IsCertified, Certified.IsFailure, InductiveRows.AreInductiveRows, declared.failures.CertifyFailure.CertifyFailure}
 use Rattle.lra_certify.specs.declared.failures.CertifyFailure.TheVariants as of_paths
-use Rattle.lra_analyse_source.specs.SourceReports.{IsAnalysisReport}
-use Rattle.lra_analyse_source.specs.Stages.{IsReportOfTree, ReportsSolution}
-use Rattle.lra_analyse_source.proofs.Handing.{as_many, of_assertions, value_dims}
-use Rattle.lra_analyse_source.proofs.Numbering.{numbered}
-use Rattle.lra_analyse_source.proofs.ReportSteps.{few_points}
-use Rattle.lra_analyse_source.proofs.StageSteps.{is_answered}
-use Rattle.lra_certify_source.specs.Settings.{certify_options}
-use Rattle.lra_certify_source.specs.Extraction.{state_by, dims_by, dims_in, proved_in}
+use Rattle.lra_analyse_source.specs.{SourceReports.IsAnalysisReport, Stages.IsReportOfTree, Stages.ReportsSolution}
+use Rattle.lra_analyse_source.proofs.{Handing.as_many, Handing.of_assertions, Handing.value_dims, Numbering.numbered, ReportSteps.few_points, StageSteps.is_answered}
 use Rattle.lra_certify_source.specs.Certified.{IsHanded, IsCertificateOf, IsCertifyRefusalOf, HasSmallPoint}
-use Rattle.lra_certify_source.specs.Refusals.{IfRefusal, error_by}
-use Rattle.lra_certify_source.proofs.ClosedPaths.{at_below, paths_stay}
-use Rattle.lra_certify_source.proofs.Listing.{listable, shows_rows}
-use Rattle.lra_certify_source.proofs.TakenSteps.{taken_dims}
-use Rattle.lra_certify_source.proofs.Written.{stops_there, counted}
+use Rattle.lra_certify_source.specs.{Extraction.state_by, Extraction.dims_by, Extraction.dims_in, Extraction.proved_in, Refusals.IfRefusal, Refusals.error_by, Settings.certify_options}
+use Rattle.lra_certify_source.proofs.{ClosedPaths.at_below, ClosedPaths.paths_stay, Listing.listable, Listing.shows_rows, TakenSteps.taken_dims, Written.stops_there, Written.counted}
 
 -- ---- the program
 -- few variables live at each point

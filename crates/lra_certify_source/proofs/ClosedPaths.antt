@@ -1,35 +1,25 @@
 -- The rows of an iteration that isn't narrowed are closed along paths: what leads to a point at the same divisor leads there among
 -- rational points.
 use Rattle.std.proofs.Common.{◌≡◌, ◌≢◌, ◌∙◌, ◌<◌, ◌+◌, ◌-◌, ℕ, zero, suc, ℤ, ◌*ℤ◌, Bool, List, [], ◌∷◌, ◌++◌, length, take, refl, ap, sym, subst, arith}
-use Rattle.std.specs.Prelude.{Option, None, Some, map, option_map, slice_get, slice_set, Contains}
-use Rattle.std.specs.List.{AllByRecursion}
-use Rattle.std.proofs.Math.Seq.{take-append_seam}
 use Rattle.std.proofs.lemmas.List.{length-set, length-append, length-take-le}
-use Rattle.std.proofs.lemmas.Option.{none-some, same_Some, slice_get-map}
-use Rattle.lra_linear_spec.specs.Descriptions.{LinearRow, Con}
-use Rattle.lra_linear_spec.specs.Points.{IsPoint, SamePoint}
+use Rattle.std.proofs.{Math.Seq.take-append_seam, lemmas.Option.none-some, lemmas.Option.same_Some, lemmas.Option.slice_get-map}
+use Rattle.std.specs.{List.AllByRecursion, Prelude.Option, Prelude.None, Prelude.Some, Prelude.map, Prelude.option_map, Prelude.slice_get, Prelude.slice_set, Prelude.Contains}
 use Rattle.lra_linear_spec.specs.Polyhedra.{Polyhedron, IsPolyhedron}
-use Rattle.lra_linear_spec.specs.SetOperations.{assigned, SameBut}
-use Rattle.lra_linear_spec.specs.Vectors.{entry, product}
+use Rattle.lra_linear_spec.specs.{Descriptions.LinearRow, Descriptions.Con, Points.IsPoint, Points.SamePoint, SetOperations.assigned, SetOperations.SameBut, Vectors.entry, Vectors.product}
 use Rattle.lra_linear_spec.proofs.Products.{entry_set_other}
 use Rattle.lra_linear_forms.specs.Form.{form_row}
 use Rattle.lra_domain.specs.Actions.{Action, dims_after, assign, forget, test, embed, remove_last}
 use Rattle.lra_poly_domain.specs.Abstraction.{polyhedron_abstraction}
-use Rattle.lra_program.specs.Program.{Program}
-use Rattle.lra_program.specs.Sites.{Site, sites_of}
+use Rattle.lra_program.specs.{Program.Program, Sites.Site, Sites.sites_of}
 use Rattle.lra_operations.specs.Tree.{Node}
 use Rattle.lra_path_segments.specs.Segments.{Goal, comes_to, violates}
 use Rattle.lra_paths.specs.Paths.{live_of, actions_between}
-use Rattle.lra_inductive_sound.specs.Points.{LeadsBy}
-use Rattle.lra_inductive_sound.specs.Inductive.{IsAtGoal, AreInductive, AreWide}
 use Rattle.lra_inductive_sound.specs.RationalPoints.{MovesPoint, LeadsPoint, IsPointOf, dimension, rational_points}
-use Rattle.lra_certificate_spec.specs.Certificates.{state_to, state_or_empty}
-use Rattle.lra_certificate_spec.specs.Judged.{RowsAtPoint}
-use Rattle.lra_certify.specs.PointMoves.{PointLeads, PointLeadsAll}
-use Rattle.lra_certify.specs.InductiveRows.{IsIn, IsInductiveFrom, MustBeShown, AreInductiveRows}
+use Rattle.lra_inductive_sound.specs.{Inductive.IsAtGoal, Inductive.AreInductive, Inductive.AreWide, Points.LeadsBy}
+use Rattle.lra_certificate_spec.specs.{Certificates.state_to, Certificates.state_or_empty, Judged.RowsAtPoint}
+use Rattle.lra_certify.specs.{InductiveRows.IsIn, InductiveRows.IsInductiveFrom, InductiveRows.MustBeShown, InductiveRows.AreInductiveRows, PointMoves.PointLeads, PointMoves.PointLeadsAll}
 use Rattle.lra_certify_source.specs.Extraction.{state_by, proved_in}
-use Rattle.lra_certify_source.proofs.TakenSteps.{in_state, state_rows}
-use Rattle.lra_certify_source.proofs.Listing.{proved_there}
+use Rattle.lra_certify_source.proofs.{Listing.proved_there, TakenSteps.in_state, TakenSteps.state_rows}
 
 -- ---- points
 -- rows that are the same are the same point

@@ -1,28 +1,19 @@
 -- Verdicts as they are listed, and what a report shows of values and verdicts.
 use Rattle.std.proofs.Common.{◌≡◌, ◌∙◌, ◌<◌, ◌++◌, ℕ, suc, Bool, true, false, List, [], ◌∷◌, cond, map, refl, ap, ap₂, sym, subst, arith}
-use Rattle.std.specs.Prelude.{Option, Some, option_map, slice_get, Contains, ◌&&◌}
-use Rattle.std.specs.List.{filter, flat_map}
-use Rattle.std.proofs.lemmas.List.{append-nil}
-use Rattle.std.proofs.lemmas.List.Elements.{filter-append}
-use Rattle.std.proofs.lemmas.Option.{slice_get-get_or}
-use Rattle.std.proofs.lemmas.Simd.{map-map}
-use Rattle.lra_linear_spec.specs.Descriptions.{LinearRow}
-use Rattle.lra_linear_spec.specs.Polyhedra.{Polyhedron}
+use Rattle.std.proofs.{lemmas.List.append-nil, lemmas.List.Elements.filter-append, lemmas.Option.slice_get-get_or, lemmas.Simd.map-map}
+use Rattle.std.specs.{List.filter, List.flat_map, Prelude.Option, Prelude.Some, Prelude.option_map, Prelude.slice_get, Prelude.Contains, Prelude.◌&&◌}
+use Rattle.lra_linear_spec.specs.{Descriptions.LinearRow, Polyhedra.Polyhedron}
 use Rattle.lra_linear_spec.proofs.Membership.{map_from, filter_from}
 use Rattle.lra_base.specs.declared.refusals.Place.{Place}
 use Rattle.lra_program.specs.Sites.{Site}
-use Rattle.lra_row_text.specs.Part.{ReportGenerator}
-use Rattle.lra_row_text.specs.Rows.{ReportRow}
-use Rattle.lra_row_text.specs.ShownDescriptions.{shown_constraint, shown_generator}
-use Rattle.lra_report.specs.declared.verdict_kinds.VerdictKind.TheVariants.{Assertion}
-use Rattle.lra_report.specs.Report.{PointReport, Verdict, Report}
+use Rattle.lra_row_text.specs.{Part.ReportGenerator, Rows.ReportRow, ShownDescriptions.shown_constraint, ShownDescriptions.shown_generator}
+use Rattle.lra_report.specs.{Report.PointReport, Report.Verdict, Report.Report, declared.verdict_kinds.VerdictKind.TheVariants.Assertion}
 use Rattle.lra_report_build.specs.AnalysisResults.{IsAssertion, ReportedVerdict, reported_verdict, reported_from, reported_accesses, reported_of, reported_all}
 use Rattle.lra_report_build.specs.Polyhedra.{part_if_any, shown_polyhedron}
 use Rattle.lra_analyse_source.specs.Stages.{ReportsSolution}
 use Rattle.lra_certify.specs.Certified.{AscendStrictly, AreListable}
-use Rattle.lra_certify_source.specs.Extraction.{rows_if_any, state_by, proved_in}
 use Rattle.lra_certify_source.specs.Assertions.{is_assertion, is_proved_assertion, proved_numbers}
-use Rattle.lra_certify_source.specs.Certified.{rows_at, shown_state_rows, ReportShowsRows}
+use Rattle.lra_certify_source.specs.{Certified.rows_at, Certified.shown_state_rows, Certified.ReportShowsRows, Extraction.rows_if_any, Extraction.state_by, Extraction.proved_in}
 
 -- ---- verdicts
 abbrev InOrder : List (ℕ × Bool) → Type 0

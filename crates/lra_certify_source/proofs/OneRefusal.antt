@@ -1,17 +1,14 @@
 -- A source from one of whose points too many paths lead gets that refusal, and no certificate.
-use Rattle.std.proofs.Common.{◌≡◌, ◌≤◌, ◌<◌, ◌⊎◌, ℕ, List, ap, arith, inl, inr}
-use Rattle.std.proofs.lemmas.Bool.{cases_order}
-use Rattle.lra_program.specs.Program.{Program}
-use Rattle.lra_program.specs.Sites.{sites_of}
+use Rattle.std.proofs.{Common.◌≡◌, Common.◌≤◌, Common.◌<◌, Common.◌⊎◌, Common.ℕ, Common.List, Common.ap, Common.arith, Common.inl, Common.inr, lemmas.Bool.cases_order}
+use Rattle.lra_program.specs.{Program.Program, Sites.sites_of}
 use Rattle.lra_operations.specs.Tree.{Node}
 use Rattle.lra_front_end.proofs.EachAnswer.{each_answer}
 use Rattle.lra_paths.specs.Paths.{AreFewPaths, HasTooManyPaths}
 use Rattle.lra_paths.proofs.ManyPaths.{not_both}
 use Rattle.lra_certificate_spec.specs.Claims.{IsProgram, program_of}
 use Rattle.lra_certificate_spec.proofs.OneProgram.{accepted_of, as_said}
-use Rattle.lra_certify_source.specs.declared.refusals.CertifyRefusal.{CertifyRefusal}
 use Rattle.lra_certify_source.specs.declared.refusals.CertifyRefusal.TheVariants.{Source, Paths, Strained}
-use Rattle.lra_certify_source.specs.Certified.{IsCertifyRefusalOf, ManyAreRefused}
+use Rattle.lra_certify_source.specs.{Certified.IsCertifyRefusalOf, Certified.ManyAreRefused, declared.refusals.CertifyRefusal.CertifyRefusal}
 
 -- the least source from which too many paths lead
 pub one_source : (P : Program) (g : Node) (p q : ℕ) → HasTooManyPaths P g p → HasTooManyPaths P g q → p ≡ q

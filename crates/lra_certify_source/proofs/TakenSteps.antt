@@ -1,16 +1,10 @@
 -- What is taken of values: a point of a value is one of its rows, and there are rows where there is a point.
 use Rattle.std.proofs.Common.{◌≡◌, ◌≢◌, ◌∙◌, ◌<◌, ℕ, ℤ, true, false, List, [], ◌∷◌, ◌++◌, length, refl, ap, sym, subst, arith, inl, inr}
+use Rattle.std.proofs.{lemmas.List.append_assoc, lemmas.Option.none-some, lemmas.Option.same_Some, lemmas.Option.slice_get-map}
 use Rattle.std.specs.Prelude.{Option, None, Some, option_map, map, slice_get, Contains}
-use Rattle.std.proofs.lemmas.List.{append_assoc}
-use Rattle.std.proofs.lemmas.Option.{none-some, same_Some, slice_get-map}
-use Rattle.lra_linear_spec.specs.Descriptions.{LinearRow, rows_as, Con}
-use Rattle.lra_linear_spec.specs.Kinds.{is_line}
-use Rattle.lra_linear_spec.specs.Points.{IsPoint}
 use Rattle.lra_linear_spec.specs.Polyhedra.{Polyhedron, IsPolyhedron, HasPoint, falsity}
-use Rattle.lra_linear_spec.specs.declared.ConKind.{ConKind}
-use Rattle.lra_linear_spec.specs.declared.GenKind.{GenKind}
-use Rattle.lra_linear_spec.proofs.Membership.{contains_head}
-use Rattle.lra_linear_spec.proofs.OneSpelling.{falsity_never}
+use Rattle.lra_linear_spec.specs.{Descriptions.LinearRow, Descriptions.rows_as, Descriptions.Con, Kinds.is_line, Points.IsPoint, declared.ConKind.ConKind, declared.GenKind.GenKind}
+use Rattle.lra_linear_spec.proofs.{Membership.contains_head, OneSpelling.falsity_never}
 use Rattle.lra_systems.specs.LinearSystems.{LinearSystem, rows_by_kind, generators}
 use Rattle.lra_certificate_spec.specs.Judged.{RowsAtPoint}
 use Rattle.lra_certify.specs.InductiveRows.{IsIn}

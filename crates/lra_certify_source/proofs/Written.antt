@@ -1,26 +1,17 @@
 -- What is written is a certificate; and a path that strains leads to a point.
 use Rattle.std.proofs.Common.{◌≡◌, ◌∙◌, ◌≤◌, ◌<◌, ℕ, List, [], ◌∷◌, ◌++◌, length, map, refl, ap, ap₂, sym, subst, arith}
-use Rattle.std.specs.Prelude.{Contains}
-use Rattle.std.specs.List.{flat_map}
-use Rattle.std.proofs.lemmas.List.Elements.{Contains-append_right}
-use Rattle.std.proofs.lemmas.Option.{slice_get_within}
+use Rattle.std.proofs.{lemmas.List.Elements.Contains-append_right, lemmas.Option.slice_get_within}
+use Rattle.std.specs.{List.flat_map, Prelude.Contains}
 use Rattle.lra_linear_spec.proofs.Membership.{contains_head, map_from}
-use Rattle.lra_program.specs.Program.{Program}
-use Rattle.lra_program.specs.Sites.{sites_of}
+use Rattle.lra_program.specs.{Program.Program, Sites.sites_of}
 use Rattle.lra_operations.specs.Tree.{Node}
 use Rattle.lra_path_segments.specs.Segments.{comes_to}
 use Rattle.lra_paths.specs.Paths.{Path, path_by, actions_between, paths_between, points_of, sources_of, paths_of}
-use Rattle.lra_certificate_spec.specs.Certificates.{ListedAssertion}
-use Rattle.lra_certificate_spec.specs.CertificateText.{head_text}
-use Rattle.lra_certificate_spec.specs.Claims.{program_of}
-use Rattle.lra_certificate_spec.specs.Judged.{RowsAtPoint}
-use Rattle.lra_certify.specs.declared.failures.StrainedAt.{StrainedAt}
-use Rattle.lra_certify.specs.declared.failures.StrainedAt.TheVariants.{Edge, Assertion}
-use Rattle.lra_certify.specs.Each.{Each}
+use Rattle.lra_certificate_spec.specs.{CertificateText.head_text, Certificates.ListedAssertion, Claims.program_of, Judged.RowsAtPoint}
 use Rattle.lra_certify.specs.Certified.{AreListable, IsListedFound, certificate_by, StopsAt}
+use Rattle.lra_certify.specs.{Each.Each, declared.failures.StrainedAt.StrainedAt, declared.failures.StrainedAt.TheVariants.Edge, declared.failures.StrainedAt.TheVariants.Assertion}
 use Rattle.lra_certify.proofs.CertifiedSteps.{flat_from, in_range_below}
-use Rattle.lra_certify_source.specs.declared.refusals.CertifyRefusal.TheVariants.{Strained}
-use Rattle.lra_certify_source.specs.Certified.{CertifiedAreCertificates, HasSmallPoint}
+use Rattle.lra_certify_source.specs.{Certified.CertifiedAreCertificates, Certified.HasSmallPoint, declared.refusals.CertifyRefusal.TheVariants.Strained}
 
 -- ---- certificates
 numbers_found : (P : Program) (g : Node) (states : List RowsAtPoint) (proved : List ℕ) (asserted : List ListedAssertion) →

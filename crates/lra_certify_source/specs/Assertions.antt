@@ -1,10 +1,9 @@
 -- The assertions among a report's verdicts. Certificates tell of these alone, and so does the status with which they
 -- are written: of what fits, and of accesses, they say nothing.
-use Rattle.std.specs.Prelude.{ℕ, List, Bool, true, false, ◌&&◌, not, map, count_by}
 use Rattle.std.specs.List.{filter}
-use Rattle.lra_report.specs.declared.verdict_kinds.VerdictKind.{VerdictKind}
+use Rattle.std.specs.Prelude.{ℕ, List, Bool, true, false, ◌&&◌, not, map, count_by}
 use Rattle.lra_report.specs.declared.verdict_kinds.VerdictKind.TheVariants.{Assertion, Fit, Access}
-use Rattle.lra_report.specs.Report.{Verdict}
+use Rattle.lra_report.specs.{Report.Verdict, declared.verdict_kinds.VerdictKind.VerdictKind}
 
 abbrev pub is_assertion : VerdictKind → Bool
 is_assertion Assertion = true

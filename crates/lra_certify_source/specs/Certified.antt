@@ -3,22 +3,18 @@
 use Rattle.std.specs.Prelude.{◌≡◌, ◌<◌, ◌^◌, ℕ, suc, ⊤, List, [], ◌∷◌, ◌++◌, map, Option, None, Some, option_map}
 use Rattle.lra_syntax.specs.Grammar.{Spells}
 use Rattle.lra_resolution_spec.specs.Refuse.{Refuse}
-use Rattle.lra_row_text.specs.Rows.{ReportRow}
-use Rattle.lra_row_text.specs.ShownDescriptions.{shown_constraint}
+use Rattle.lra_row_text.specs.{Rows.ReportRow, ShownDescriptions.shown_constraint}
 use Rattle.lra_report.specs.Report.{Invariant, PointReport, Report}
 use Rattle.lra_paths.specs.Paths.{AreFewPaths, HasTooManyPaths}
-use Rattle.lra_certificate_spec.specs.Judged.{RowsAtPoint}
-use Rattle.lra_certificate_spec.specs.CertificateText.{head_text}
-use Rattle.lra_certificate_spec.specs.Certificates.{ListedAssertion}
 use Rattle.lra_certificate_spec.specs.Claims.{IsProgram, program_of, IsCertificate}
+use Rattle.lra_certificate_spec.specs.{CertificateText.head_text, Certificates.ListedAssertion, Judged.RowsAtPoint}
+use Rattle.lra_certify.specs.Certified.{IsCertified, StopsAt}
 use Rattle.lra_certify.specs.declared.failures.StrainedAt.{StrainedAt}
 use Rattle.lra_certify.specs.declared.failures.StrainedAt.TheVariants.{Edge, Assertion}
-use Rattle.lra_certify.specs.Certified.{IsCertified, StopsAt}
 use Rattle.lra_analyse_source.specs.SourceReports.{IsAnalysisReport}
-use Rattle.lra_certify_source.specs.declared.refusals.CertifyRefusal.{CertifyRefusal}
-use Rattle.lra_certify_source.specs.declared.refusals.CertifyRefusal.TheVariants.{Source, Paths, Strained}
 use Rattle.lra_certify_source.specs.Settings.{certify_options}
-use Rattle.lra_certify_source.specs.Assertions.{proved_numbers}
+use Rattle.lra_certify_source.specs.declared.refusals.CertifyRefusal.TheVariants.{Source, Paths, Strained}
+use Rattle.lra_certify_source.specs.{Assertions.proved_numbers, declared.refusals.CertifyRefusal.CertifyRefusal}
 
 -- what a report shows ----------------------------------------------------------------------------------------------
 

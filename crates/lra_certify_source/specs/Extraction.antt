@@ -1,10 +1,8 @@
 -- What is taken of an analysis into a certificate: the rows of each value, none where it has no point, and the points of
 -- the assertions that are proved.
-use Rattle.std.specs.Prelude.{ℕ, Bool, List, [], ◌∷◌, map, Option, None, Some, option_map}
 use Rattle.std.specs.List.{filter}
-use Rattle.lra_linear_spec.specs.Descriptions.{LinearRow}
-use Rattle.lra_linear_spec.specs.Polyhedra.{Polyhedron}
-use Rattle.lra_linear_spec.specs.declared.ConKind.{ConKind}
+use Rattle.std.specs.Prelude.{ℕ, Bool, List, [], ◌∷◌, map, Option, None, Some, option_map}
+use Rattle.lra_linear_spec.specs.{Descriptions.LinearRow, Polyhedra.Polyhedron, declared.ConKind.ConKind}
 use Rattle.lra_systems.specs.LinearSystems.{LinearSystem}
 use Rattle.lra_certificate_spec.specs.Judged.{RowsAtPoint}
 

@@ -4,10 +4,10 @@ use Rattle.lra_base.specs.declared.error.SourceError.{SourceError}
 use Rattle.lra_base.specs.declared.error.SourceError.TheVariants as of_source
 use Rattle.lra_certify.specs.declared.failures.CertifyFailure.{CertifyFailure}
 use Rattle.lra_certify.specs.declared.failures.CertifyFailure.TheVariants as of_paths
-use Rattle.lra_certify_source.specs.declared.refusals.CertifyRefusal.{CertifyRefusal}
-use Rattle.lra_certify_source.specs.declared.refusals.CertifyRefusal.TheVariants.{Source, Paths, Strained}
 use Rattle.lra_certify_source.specs.declared.refusals.CertifyError.{CertifyError}
 use Rattle.lra_certify_source.specs.declared.refusals.CertifyError.TheVariants.{Refused, Memory}
+use Rattle.lra_certify_source.specs.declared.refusals.CertifyRefusal.{CertifyRefusal}
+use Rattle.lra_certify_source.specs.declared.refusals.CertifyRefusal.TheVariants.{Source, Paths, Strained}
 
 abbrev pub source_error : SourceError → CertifyError
 source_error (of_source.Refused r) = Refused (Source r)

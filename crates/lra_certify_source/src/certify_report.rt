@@ -1,9 +1,8 @@
 //! From the bytes of a source to its certificate.
 
-ghost use Rattle.std.specs.Prelude.{◌≡◌, ◌<◌, ◌+◌, ◌++◌, ◌^◌, map, length, codes, IfOk, IfErr, OnOk, string_bytes};
 ghost use Rattle.std.specs.Fmt.{decimal};
-ghost use Rattle.lra_syntax.specs.Views.{tree_view};
-ghost use Rattle.lra_syntax.specs.Labels.{labels_of};
+ghost use Rattle.std.specs.Prelude.{◌≡◌, ◌<◌, ◌+◌, ◌++◌, ◌^◌, map, length, codes, IfOk, IfErr, OnOk, string_bytes};
+ghost use Rattle.lra_syntax.specs.{Labels.labels_of, Views.tree_view};
 ghost use Rattle.lra_resolution_spec.specs.Resolve.{resolve};
 ghost use Rattle.lra_program.specs.ProgramViews.{program_view};
 ghost use Rattle.lra_operations.specs.TreeViews.{node_view, site_view};
@@ -17,10 +16,9 @@ ghost use Rattle.lra_report.specs.View.{report_of, verdict_of};
 ghost use Rattle.lra_front_end.specs.Stages.{HasInlinedTree};
 ghost use Rattle.lra_analyse_source.specs.SourceReports.{IsAnalysisReport};
 ghost use Rattle.lra_certify_source.specs.Settings as settings;
-ghost use Rattle.lra_certify_source.specs.Extraction.{state_by, proved_in};
 ghost use Rattle.lra_certify_source.specs.Assertions.{is_unknown_assertion, unknown_assertions};
 ghost use Rattle.lra_certify_source.specs.Certified.{IsCertificateOf, HasSmallPoint, IsCertifyRefusalOf};
-ghost use Rattle.lra_certify_source.specs.Refusals.{IfRefusal};
+ghost use Rattle.lra_certify_source.specs.{Extraction.state_by, Extraction.proved_in, Refusals.IfRefusal};
 
 use crate::extraction::{proved_of, states_of};
 use crate::refusals::CertifyError;

@@ -1,7 +1,7 @@
 //! What is taken of an analysis into a certificate.
 
-ghost use Rattle.std.specs.Prelude.{◌≡◌, map, IfOk, Some, option_map};
 ghost use Rattle.std.specs.List.{AllByRecursion};
+ghost use Rattle.std.specs.Prelude.{◌≡◌, map, IfOk, Some, option_map};
 ghost use Rattle.lra_linear_spec.specs.Polyhedra.{IsPolyhedron};
 ghost use Rattle.lra_verify.specs.PointViews.{state_view};
 ghost use Rattle.lra_certify_source.specs.Extraction.{state_by, dims_by, dims_in, proved_in};

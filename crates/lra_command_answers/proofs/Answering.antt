@@ -2,8 +2,7 @@
 use Rattle.std.proofs.Common.{◌≡◌, ◌<◌, ◌+◌, ◌^◌, ℕ, List, ◌++◌, length, subst, sym, arith}
 use Rattle.std.specs.Prelude.{Option, Some, None}
 use Rattle.lra_base.specs.Places.{greatest_length}
-use Rattle.lra_command_answers.specs.Statuses.{Ends, refused, source_statuses}
-use Rattle.lra_command_answers.specs.declared.status.Status.{Status}
+use Rattle.lra_command_answers.specs.{Statuses.Ends, Statuses.refused, Statuses.source_statuses, declared.status.Status.Status}
 
 -- with values in their ranges, a limit of bytes, what its input deserves, and the statuses of its answers: all of them,
 -- and by the bytes

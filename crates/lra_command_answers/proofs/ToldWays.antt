@@ -1,23 +1,16 @@
 -- From what a source deserves of which something is told to how a call ends that answers it.
 use Rattle.std.proofs.Common.{◌≡◌, ◌≤◌, ◌<◌, ℕ, List, ◌∷◌, ◌++◌, length, take, subst, sym, arith, inl, inr}
+use Rattle.std.proofs.{lemmas.Grind.common_steps, lemmas.List.take-append-le}
 use Rattle.std.specs.Prelude.{Some}
-use Rattle.std.proofs.lemmas.Grind.{common_steps}
-use Rattle.std.proofs.lemmas.List.{take-append-le}
-use Rattle.lra_base.specs.declared.refusals.Cause.{Cause}
-use Rattle.lra_base.specs.declared.refusals.Cause.TheVariants.{TooLong}
-use Rattle.lra_base.specs.declared.refusals.Place.{Place}
-use Rattle.lra_base.specs.Places.{place_after, greatest_length}
-use Rattle.lra_syntax.specs.Trees.{FileTree}
-use Rattle.lra_syntax.specs.Grammar.{Spells}
+use Rattle.lra_base.specs.{Places.place_after, Places.greatest_length, declared.refusals.Cause.Cause, declared.refusals.Cause.TheVariants.TooLong, declared.refusals.Place.Place}
+use Rattle.lra_syntax.specs.{Grammar.Spells, Trees.FileTree}
 use Rattle.lra_resolution_spec.specs.Refuse.{Refuse, too_long, bad_token, bad_text, bad_tree, Accepts}
 use Rattle.lra_report.specs.RefusalText.{refusal_text}
 use Rattle.lra_front_end.specs.Claims.{HasRefusal}
 use Rattle.lra_front_end.proofs.EachAnswer.{each_answer}
 use Rattle.lra_command_answers.specs.Statuses.{Ends, reported, refused, source_statuses}
-use Rattle.lra_command_answers.specs.SourceAnswers.{AnswersSourceWith, AllowedSourceStatuses}
+use Rattle.lra_command_answers.specs.{SourceAnswers.AnswersSourceWith, SourceAnswers.AllowedSourceStatuses, declared.status.Status.Status, declared.status.Status.TheVariants.Refused}
 use Rattle.lra_command_answers.proofs.Answering.{IsAnswering, small, past}
-use Rattle.lra_command_answers.specs.declared.status.Status.{Status}
-use Rattle.lra_command_answers.specs.declared.status.Status.TheVariants.{Refused}
 
 -- it is told of accepted sources alone, and with these statuses
 pub record IsTelling (Tells : List ℕ → List ℕ → Status → Type 0) (told : List Status) : Type 0 where

@@ -2,8 +2,7 @@
 use Rattle.std.specs.Prelude.{ℕ}
 use Rattle.lra_command_answers.specs.declared.status.Status.{Status}
 use Rattle.lra_command_answers.specs.declared.status.Status.TheVariants.{Proved, Unknown, Refused, Usage, ReadFault}
-use Rattle.lra_command_answers.specs.declared.status.Status.TheVariants.{WriteFault}
-use Rattle.lra_command_answers.specs.declared.status.Status.TheVariants.{Memory}
+use Rattle.lra_command_answers.specs.declared.status.Status.TheVariants.{WriteFault, Memory}
 
 abbrev pub exit_of : Status → ℕ
 exit_of Proved = 0

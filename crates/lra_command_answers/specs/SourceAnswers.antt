@@ -1,15 +1,12 @@
 -- What a source deserves of which a command tells something: the text of its one refusal, or what is told of it.
 use Rattle.std.specs.Prelude.{◌≡◌, ◌⊎◌, ℕ, List}
-use Rattle.lra_base.specs.declared.refusals.Cause.{Cause}
-use Rattle.lra_base.specs.declared.refusals.Place.{Place}
-use Rattle.lra_syntax.specs.Trees.{FileTree}
-use Rattle.lra_syntax.specs.Grammar.{Spells}
+use Rattle.lra_base.specs.{declared.refusals.Cause.Cause, declared.refusals.Place.Place}
+use Rattle.lra_syntax.specs.{Grammar.Spells, Trees.FileTree}
 use Rattle.lra_resolution_spec.specs.Refuse.{Refuse, Accepts}
 use Rattle.lra_report.specs.RefusalText.{refusal_text}
 use Rattle.lra_front_end.specs.Claims.{HasRefusal}
-use Rattle.lra_command_answers.specs.Statuses.{refused}
-use Rattle.lra_command_answers.specs.declared.status.Status.{Status}
 use Rattle.lra_command_answers.specs.declared.status.Status.TheVariants.{Refused}
+use Rattle.lra_command_answers.specs.{Statuses.refused, declared.status.Status.Status}
 
 -- the text is that of the source's refusal
 pub record IsRefusal (bytes text : List ℕ) : Type 0 where

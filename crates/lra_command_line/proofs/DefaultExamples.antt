@@ -4,11 +4,8 @@ use Rattle.std.specs.Borrow.{Bor}
 use Rattle.clap.specs.Words.{Text}
 use Rattle.clap.specs.declared.builder.value_parser.ValueParser.TheVariants as vp
 use Rattle.clap.proofs.OnLiterals.{clap_on_literals}
-use Rattle.lra_options.specs.OptionRows.{best_options}
-use Rattle.lra_options.specs.declared.options.Domain.TheVariants.{Box}
-use Rattle.lra_command_line.specs.ParsedCommand.{Asks, AsksNone, default_options}
-use Rattle.lra_command_line.specs.declared.commands.Command.TheVariants.{Analyse}
-use Rattle.lra_command_line.specs.declared.commands.Format.TheVariants.{Lines}
+use Rattle.lra_options.specs.{OptionRows.best_options, declared.options.Domain.TheVariants.Box}
+use Rattle.lra_command_line.specs.{ParsedCommand.Asks, ParsedCommand.AsksNone, ParsedCommand.default_options, declared.commands.Command.TheVariants.Analyse, declared.commands.Format.TheVariants.Lines}
 
 the_names : Bor (List (Bor Text))
 the_names = record {

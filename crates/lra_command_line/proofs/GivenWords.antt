@@ -1,14 +1,8 @@
 -- Whether words give an option, by the source of its entry.
 use Rattle.std.proofs.Common.{◌≡◌, ◌∙◌, Bool, true, false, Option, Some, None, ap, refl, sym}
-use Rattle.std.specs.Prelude.{is_some, option_and_then}
-use Rattle.std.specs.Option.{option_map_or}
-use Rattle.clap.specs.Facts.{explicit_source}
-use Rattle.clap.specs.Takes.{is_given}
-use Rattle.clap.specs.Words.{Text, matched_of, rows_of}
-use Rattle.clap.specs.declared.parser.matches.MatchedArg.{MatchedArg}
-use Rattle.clap.specs.declared.parser.matches.Found.{Found}
-use Rattle.clap.specs.declared.parser.matches.ValueSource.{ValueSource}
-use Rattle.clap.specs.declared.parser.matches.ValueSource.TheVariants.{DefaultValue, CommandLine}
+use Rattle.std.specs.{Option.option_map_or, Prelude.is_some, Prelude.option_and_then}
+use Rattle.clap.specs.{Facts.explicit_source, Takes.is_given, Words.Text, Words.matched_of, Words.rows_of, declared.parser.matches.Found.Found, declared.parser.matches.MatchedArg.MatchedArg}
+use Rattle.clap.specs.{declared.parser.matches.ValueSource.ValueSource, declared.parser.matches.ValueSource.TheVariants.DefaultValue, declared.parser.matches.ValueSource.TheVariants.CommandLine}
 use Rattle.clap.proofs.TakesLemmas.{present_row}
 
 module _ (f : Found) (id : Text) (source : Option ValueSource) (is : source ≡ option_and_then (λ (a : MatchedArg). a.source) (matched_of f id)) where

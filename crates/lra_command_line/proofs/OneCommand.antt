@@ -1,22 +1,14 @@
 -- Words give one command or are refused, wherever in memory the names of the domains lie.
 use Rattle.std.proofs.Common.{◌≡◌, ◌∙◌, ◌⊎◌, inl, inr, List, [], ◌∷◌, map, Option, Some, ap, refl, sym, drop, codes}
-use Rattle.std.specs.Prelude.{None, unwrap_or}
-use Rattle.std.specs.Borrow.{Bor}
-use Rattle.clap.specs.Faults.{built_fault}
-use Rattle.clap.specs.Simple.{built, entered, names_of}
-use Rattle.clap.specs.Walk.{stop_after}
+use Rattle.std.specs.{Borrow.Bor, Prelude.None, Prelude.unwrap_or}
 use Rattle.clap.specs.Words.{App, Text, fault_of, subcommand_of}
-use Rattle.clap.specs.Walk.{nothing_held}
-use Rattle.clap.specs.declared.builder.value_parser.ValueParser.{ValueParser}
+use Rattle.clap.specs.{Faults.built_fault, Simple.built, Simple.entered, Simple.names_of, Walk.stop_after, Walk.nothing_held, declared.builder.value_parser.ValueParser.ValueParser}
 use Rattle.clap.specs.declared.builder.value_parser.ValueParser.TheVariants as vp
 use Rattle.clap.proofs.OnLiterals.{clap_on_literals}
 use Rattle.lra_command_line.specs.ParsedCommand.{Asks, AsksNone, AsksOver, IsWithinRanges, command_of, named_file}
-use Rattle.lra_command_line.specs.CommandLine.{TakesDomains, command_line}
-use Rattle.lra_command_line.specs.declared.commands.Command.{Command}
+use Rattle.lra_command_line.specs.{CommandLine.TakesDomains, CommandLine.command_line, declared.commands.Command.Command}
 use Rattle.lra_command_line.proofs.SameWalk.{placed, in_app, entered_same, stop_same}
-use Rattle.lra_command_line.proofs.SameFaults.{built_same}
-use Rattle.lra_command_line.proofs.Conflicts.{Gives, no_command, within}
-use Rattle.lra_command_line.proofs.TakenWords.{words_give}
+use Rattle.lra_command_line.proofs.{Conflicts.Gives, Conflicts.no_command, Conflicts.within, SameFaults.built_same, TakenWords.words_give}
 
 -- the parser of these names, each at one place
 named : List Text → ValueParser

@@ -1,13 +1,9 @@
 -- Options are declared and read one after the other.
 use Rattle.std.proofs.Common.{◌≡◌, ◌∙◌, ◌<◌, ◌+◌, ◌^◌, ◌||◌, ℕ, Bool, true, false, List, [], ◌∷◌, Option, Some, length, take, get_or, refl, ap, ap₂, sym, fold}
-use Rattle.std.proofs.lemmas.List.Sums.{fold-append}
-use Rattle.std.proofs.lemmas.Grind.{take_at_read}
-use Rattle.clap.specs.Words.{App, Row, Rule, with_rule, with_subcommand}
-use Rattle.clap.specs.Simple.{Shape}
-use Rattle.lra_options.specs.declared.options.Options.{Options}
-use Rattle.lra_options.specs.declared.options.NumberOption.{NumberOption}
-use Rattle.lra_options.specs.declared.options.FlagOption.{FlagOption}
+use Rattle.std.proofs.{lemmas.Grind.take_at_read, lemmas.List.Sums.fold-append}
+use Rattle.clap.specs.{Simple.Shape, Words.App, Words.Row, Words.Rule, Words.with_rule, Words.with_subcommand}
 use Rattle.lra_options.specs.OptionRows.{number_row, set_number, flag_row, set_flag}
+use Rattle.lra_options.specs.{declared.options.FlagOption.FlagOption, declared.options.NumberOption.NumberOption, declared.options.Options.Options}
 use Rattle.lra_command_line.specs.ParsedCommand.{flag_at, number_at, with_number, with_flag}
 
 -- ---- declared

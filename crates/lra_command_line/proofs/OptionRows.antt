@@ -1,29 +1,19 @@
 -- What a walk without a fault leaves in the rows, where each argument of the command is to be used
 -- once.
 use Rattle.std.proofs.Common.{◌≡◌, ◌∙◌, ◌++◌, ◌&&◌, ℕ, Bool, List, [], ◌∷◌, Option, Some, None, ap, codes, refl, sym, subst, true, false, zero, suc, append-nil, arith}
-use Rattle.std.proofs.lemmas.Bool.{ne_eqb}
-use Rattle.std.specs.Prelude.{find, fold, is_some, length, slice_get, unwrap_or, if◌then◌else◌}
-use Rattle.std.specs.Option.{option_map_or}
-use Rattle.std.specs.Str.{bytes_eq, chars}
-use Rattle.std.proofs.lemmas.Slice.Eq.{bytes_eq-Decides}
-use Rattle.clap.specs.Facts.{parser_of_value, unwrap_or_range}
-use Rattle.clap.specs.Faults.{action_fault, bundle_step_fault, check_fault, default_fault, level_fault, defaults_fault, flags_fault, given_default_fault, long_fault, option_fault, positional_fault, react_fault}
-use Rattle.clap.specs.Faults.{repeat_fault, set_fault, settle_fault, short_fault, stray_fault, bundle_fault, flag_word_fault, other_fault, step_fault, turn_fault, use_fault, values_fault, walk_fault, word_fault}
-use Rattle.clap.specs.Kinds.{Kinds, or_else, range_kinds}
-use Rattle.clap.specs.Lexer.{long_of, short_of}
-use Rattle.clap.specs.Simple.{Shape}
-use Rattle.clap.specs.Takes.{is_given}
-use Rattle.clap.specs.ValueTests.{accepts}
-use Rattle.clap.specs.Values.{read_as}
+use Rattle.std.proofs.{lemmas.Bool.ne_eqb, lemmas.Slice.Eq.bytes_eq-Decides}
+use Rattle.std.specs.{Option.option_map_or, Prelude.find, Prelude.fold, Prelude.is_some, Prelude.length, Prelude.slice_get, Prelude.unwrap_or, Prelude.if◌then◌else◌, Str.bytes_eq, Str.chars}
+use Rattle.clap.specs.Faults.{action_fault, bundle_step_fault, check_fault, default_fault, level_fault, defaults_fault, flags_fault, given_default_fault, long_fault, option_fault, positional_fault}
+use Rattle.clap.specs.Faults.{react_fault, repeat_fault, set_fault, settle_fault, short_fault, stray_fault, bundle_fault, flag_word_fault, other_fault, step_fault, turn_fault, use_fault, values_fault}
 use Rattle.clap.specs.Walk.{Held, Names, Outcome, Row, Rule, Step, Text, Waiting, Walk, action_of, after_flag, after_step, arg_by_id, arg_by_index, arg_by_long, arg_by_short, at_row, attached_value}
-use Rattle.clap.specs.Walk.{bundle, bundle_met, bundle_step, done, finished, first_of, has_row, idle, is_empty, is_pending, long_met, long_or_other, more_values, most_values, next, nothing_held, rows_after}
-use Rattle.clap.specs.Walk.{short_or_plain, subcommand_or_other, to_positional, one_of, option, option_met, option_word, plain, plain_word, positional, reacted, reading_by, refused, settled}
-use Rattle.clap.specs.Walk.{settled_rows, short_met, subcommand, subcommand_met, takes_several, takes_values, trailing, used, value, values_or_missing, waits, walk, walk_from, walked, walked_from, with_default}
-use Rattle.clap.specs.Walk.{with_values, without, word_met}
+use Rattle.clap.specs.Walk.{bundle, bundle_met, bundle_step, done, finished, first_of, has_row, idle, is_empty, is_pending, long_met, long_or_other, more_values, most_values, next, nothing_held}
+use Rattle.clap.specs.Walk.{rows_after, short_or_plain, subcommand_or_other, to_positional, one_of, option, option_met, option_word, plain, plain_word, positional, reacted, reading_by, refused}
+use Rattle.clap.specs.Walk.{settled, settled_rows, short_met, subcommand, subcommand_met, takes_several, takes_values, trailing, used, value, values_or_missing, waits, walk, walk_from, walked}
 use Rattle.clap.specs.declared.builder.action.ArgAction.TheVariants.{Help, Set, SetTrue}
+use Rattle.clap.specs.{Facts.parser_of_value, Facts.unwrap_or_range, Faults.walk_fault, Faults.word_fault, Kinds.Kinds, Kinds.or_else, Kinds.range_kinds, Lexer.long_of, Lexer.short_of, Simple.Shape}
+use Rattle.clap.specs.{Takes.is_given, ValueTests.accepts, Values.read_as, Walk.walked_from, Walk.with_default, Walk.with_values, Walk.without, Walk.word_met}
+use Rattle.clap.specs.{declared.parser.matches.ValueSource.ValueSource, declared.parser.matches.ValueSource.TheVariants.CommandLine, declared.parser.matches.ValueSource.TheVariants.DefaultValue}
 use Rattle.clap.specs.declared.error.kind.ErrorKind.TheVariants as kind
-use Rattle.clap.specs.declared.parser.matches.ValueSource.{ValueSource}
-use Rattle.clap.specs.declared.parser.matches.ValueSource.TheVariants.{CommandLine, DefaultValue}
 
 pub or_both : (k n : Kinds) → or_else k n ≡ [] → (k ≡ []) × (n ≡ [])
 or_both [] n e = (refl, e)

@@ -1,25 +1,16 @@
 -- What the clauses of a parse say of the words.
 use Rattle.std.proofs.Common.{◌≡◌, ◌∙◌, Bool, List, [], ◌∷◌, Option, Some, None, Result, Ok, Err, ap, inl, inr, refl, sym, true, false}
-use Rattle.std.specs.Prelude.{IfErr, IfOk, option_map, unwrap_or, if◌then◌else◌}
-use Rattle.std.specs.Borrow.{Bor}
-use Rattle.clap.specs.Simple.{subcommand_rows}
-use Rattle.clap.specs.Words.{App, FailsBy, HasKind, HasMatchesOf, IsAmong, Row, Text, fault_of, found_of, is_simple, is_simple_and_free, kind_of, rows_of, subcommand_name_of, subcommand_of, subcommand_rows_of, takes}
-use Rattle.clap.specs.declared.builder.value_parser.ValueParser.{ValueParser}
-use Rattle.clap.specs.declared.error.Error.{Error}
-use Rattle.clap.specs.declared.error.kind.ErrorKind.{ErrorKind}
+use Rattle.std.specs.{Borrow.Bor, Prelude.IfErr, Prelude.IfOk, Prelude.option_map, Prelude.unwrap_or, Prelude.if◌then◌else◌}
+use Rattle.clap.specs.Words.{App, FailsBy, HasKind, HasMatchesOf, IsAmong, Row, Text, fault_of, found_of, is_simple, is_simple_and_free, kind_of, rows_of, subcommand_name_of, subcommand_of}
+use Rattle.clap.specs.{Simple.subcommand_rows, Words.subcommand_rows_of, Words.takes, declared.builder.value_parser.ValueParser.ValueParser, declared.error.Error.Error}
+use Rattle.clap.specs.{declared.error.kind.ErrorKind.ErrorKind, declared.parser.matches.ArgMatches.ArgMatches, declared.parser.matches.ArgMatches.TheViews.out-ArgMatches}
 use Rattle.clap.specs.declared.error.kind.ErrorKind.TheVariants as kind
-use Rattle.clap.specs.declared.parser.matches.ArgMatches.{ArgMatches}
-use Rattle.clap.specs.declared.parser.matches.ArgMatches.TheViews.{out-ArgMatches}
 use Rattle.clap.proofs.OnLiterals.{clap_on_literals}
-use Rattle.lra_command_line.specs.ParsedCommand.{AsksNone, AsksOver, IsRejected, IsWithinRanges, command_of, named_file}
-use Rattle.lra_command_line.specs.CommandLine.{DeclaresCommandLine, command_line}
 use Rattle.lra_command_line.specs.Requests.{IsConflict, IsFaulted, IsTakenAs, IsUnasked, is_shown, refusal, unasked_by}
-use Rattle.lra_command_line.specs.declared.commands.Command.{Command}
-use Rattle.lra_command_line.specs.declared.words.Refusal.TheVariants.{Usage}
-use Rattle.lra_command_line.specs.declared.words.Unasked.{Unasked}
+use Rattle.lra_command_line.specs.{CommandLine.DeclaresCommandLine, CommandLine.command_line, ParsedCommand.AsksNone, ParsedCommand.AsksOver, ParsedCommand.IsRejected, ParsedCommand.IsWithinRanges}
+use Rattle.lra_command_line.specs.{ParsedCommand.command_of, ParsedCommand.named_file, declared.commands.Command.Command, declared.words.Refusal.TheVariants.Usage, declared.words.Unasked.Unasked}
 use Rattle.lra_command_line.specs.declared.words.Unasked.TheVariants as unasked
-use Rattle.lra_command_line.proofs.Conflicts.{conflict, within}
-use Rattle.lra_command_line.proofs.TakenWords.{words_give}
+use Rattle.lra_command_line.proofs.{Conflicts.conflict, Conflicts.within, TakenWords.words_give}
 
 line_is_simple_and_free : (domains : ValueParser) → is_simple_and_free (command_line domains) ≡ true
 unfolding clap_on_literals

@@ -1,16 +1,9 @@
 -- What the getters of the matches read, by the rows.
 use Rattle.std.proofs.Common.{◌≡◌, ◌≢◌, ◌∙◌, ◌^◌, ◌&&◌, ℕ, Bool, List, [], ◌∷◌, Option, Some, None, Result, Ok, Err, ap, codes, refl, sym, true, false, nat_lt, length, lt-ltb}
-use Rattle.std.specs.Prelude.{option_and_then, option_map, if◌then◌else◌}
-use Rattle.std.specs.List.{list_all}
-use Rattle.std.specs.Char.{digit_value}
-use Rattle.std.specs.Str.{bytes_eq}
+use Rattle.std.proofs.{lemmas.Bool.ltb-true, lemmas.Slice.Eq.bytes_eq-Decides}
 use Rattle.std.specs.Str.Parse.{AllDigits, ParsesBool, ParsesUnsigned, digits_value, without_leading_plus}
-use Rattle.std.proofs.lemmas.Bool.{ltb-true}
-use Rattle.std.proofs.lemmas.Slice.Eq.{bytes_eq-Decides}
-use Rattle.std.specs.Borrow.{Bor}
-use Rattle.clap.specs.ValueTests.{is_numeral}
-use Rattle.clap.specs.Words.{ReadsOne, Text, first_value, one_text, rows_of}
-use Rattle.clap.specs.declared.parser.matches.Found.{Found}
+use Rattle.std.specs.{Borrow.Bor, Char.digit_value, List.list_all, Prelude.option_and_then, Prelude.option_map, Prelude.if◌then◌else◌, Str.bytes_eq}
+use Rattle.clap.specs.{ValueTests.is_numeral, Words.ReadsOne, Words.Text, Words.first_value, Words.one_text, Words.rows_of, declared.parser.matches.Found.Found}
 use Rattle.clap.proofs.WalkLemmas.{both, first_value-rows, one_text-rows}
 use Rattle.lra_command_line.specs.ParsedCommand.{domain_at, domain_named, file_of, flag_at, number_at, number_below, truth_of}
 

@@ -1,32 +1,22 @@
 -- Where in memory the names of the domains lie decides nothing: the faults of the words.
 use Rattle.std.proofs.Common.{◌≡◌, ◌∙◌, ◌+◌, ◌&&◌, ◌||◌, ℕ, Bool, List, [], ◌∷◌, map, length, Option, Some, None, ap, refl, sym, false, not, zero, suc, drop, min}
 use Rattle.std.specs.Prelude.{find, is_some, option_map, slice_get, if◌then◌else◌, encode_utf8}
-use Rattle.std.specs.List.{list_any}
-use Rattle.std.specs.Option.{option_map_or}
-use Rattle.std.specs.Str.{bytes_eq, chars}
-use Rattle.std.specs.Borrow.{Bor}
-use Rattle.clap.specs.Facts.{explicit_source, parser_of_value, unwrap_or_range}
+use Rattle.std.specs.{Borrow.Bor, List.list_any, Option.option_map_or, Str.bytes_eq, Str.chars}
 use Rattle.clap.specs.Faults.{action_fault, bundle_fault, bundle_step_fault, built_fault, check_fault, count_fault, default_fault, defaults_fault, entered_fault, flag_word_fault, flags_fault}
 use Rattle.clap.specs.Faults.{level_fault, long_fault, option_fault, other_fault, positional_fault, react_fault, repeat_fault, set_fault, settle_fault, short_fault, step_fault, stray_fault}
 use Rattle.clap.specs.Faults.{turn_fault, use_fault, values_fault, walk_fault, word_fault}
 use Rattle.clap.specs.Kinds.{Kinds, check_kinds, or_else, range_kinds, request_kinds, value_kinds, values_kinds}
-use Rattle.clap.specs.Lexer.{long_of, short_of}
-use Rattle.clap.specs.Matches.{count_text}
-use Rattle.clap.specs.Simple.{App, Shape, entered, label_of, names_of}
-use Rattle.clap.specs.Takes.{is_given}
-use Rattle.clap.specs.Values.{same_text}
 use Rattle.clap.specs.Walk.{Held, Names, Row, Rule, Step, Text, Waiting, Walk, action_of, answers_to, arg_by_id, arg_by_index, arg_by_long, arg_by_short, attached_value, count_of, finished, has_row}
 use Rattle.clap.specs.Walk.{is_empty, is_pending, most_values, next, nothing_held, reacted, settled, subcommand, subcommand_met, takes_several, takes_values, trailing, value, values_or_missing, walk}
 use Rattle.clap.specs.Walk.{walk_from, walked, with_default, word_met}
-use Rattle.clap.specs.declared.builder.action.ArgAction.{ArgAction}
 use Rattle.clap.specs.declared.builder.action.ArgAction.TheVariants.{Set, Append, SetTrue, SetFalse, Count, Help, HelpShort, HelpLong, Version}
+use Rattle.clap.specs.{Facts.explicit_source, Facts.parser_of_value, Facts.unwrap_or_range, Lexer.long_of, Lexer.short_of, Matches.count_text, Simple.App, Simple.Shape, Simple.entered}
+use Rattle.clap.specs.{Simple.label_of, Simple.names_of, Takes.is_given, Values.same_text, declared.builder.action.ArgAction.ArgAction, declared.builder.value_parser.ValueParser.ValueParser}
 use Rattle.clap.specs.declared.error.kind.ErrorKind.TheVariants as kind
-use Rattle.clap.specs.declared.builder.value_parser.ValueParser.{ValueParser}
 use Rattle.clap.specs.declared.builder.value_parser.ValueParser.TheVariants as vp
 use Rattle.clap.proofs.WalkLemmas.{list_any-map}
 use Rattle.lra_command_line.proofs.SameWalk.{placed, placed_in, in_rule, in_shape, in_app, if_same, by_id, by_long, by_short, by_index, missing_same, settled_same, reacted_same, word_met_same}
-use Rattle.lra_command_line.proofs.SameWalk.{walked_same}
-use Rattle.lra_command_line.proofs.SameWalk.{walk_same, with_default_same, finished_same, label_found, names_same, entered_same, stop_same}
+use Rattle.lra_command_line.proofs.SameWalk.{walked_same, walk_same, with_default_same, finished_same, label_found, names_same, entered_same, stop_same}
 
 or_same : (k l m n : Kinds) → k ≡ l → m ≡ n → or_else k m ≡ or_else l n
 or_same k l m n p q = ap (λ (x : Kinds). or_else x m) p ∙ ap (λ (x : Kinds). or_else l x) q

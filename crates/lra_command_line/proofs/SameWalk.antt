@@ -1,18 +1,13 @@
 -- Where in memory the names of the domains lie decides nothing: the matches of the words.
 use Rattle.std.proofs.Common.{◌≡◌, ◌∙◌, ◌&&◌, ◌||◌, ℕ, Bool, List, [], ◌∷◌, map, length, Option, Some, None, ap, refl, sym, true, false, zero, suc, drop}
-use Rattle.std.specs.Prelude.{find, fold, option_map, slice_get, if◌then◌else◌, encode_utf8}
-use Rattle.std.specs.Str.{bytes_eq, chars}
-use Rattle.std.specs.Borrow.{Bor}
-use Rattle.clap.specs.Facts.{parser_of_value}
-use Rattle.clap.specs.Lexer.{long_of, short_of}
+use Rattle.std.specs.{Borrow.Bor, Prelude.find, Prelude.fold, Prelude.option_map, Prelude.slice_get, Prelude.if◌then◌else◌, Prelude.encode_utf8, Str.bytes_eq, Str.chars}
 use Rattle.clap.specs.Simple.{App, Shape, entered, label_of, names_of, rows_at}
-use Rattle.clap.specs.Values.{reading_of}
 use Rattle.clap.specs.Walk.{Held, Names, Outcome, Row, Rule, Step, Text, Waiting, Walk, action_of, after_flag, after_step, answers_to, arg_by_id, arg_by_index, arg_by_long, arg_by_short}
 use Rattle.clap.specs.Walk.{attached_value, bundle, bundle_met, bundle_step, done, finished, flag_met, has_row, idle, is_multiple, is_pending, long_met, long_or_other, long_word, default_rows, next}
 use Rattle.clap.specs.Walk.{next_position, nothing_held, rows_after, short_or_plain, short_word, subcommand_or_other, to_positional, option, option_met, option_word, plain, plain_word, positional}
 use Rattle.clap.specs.Walk.{pushed, reacted, reading_by, refused, settled, settled_rows, short_met, subcommand, subcommand_met, takes_several, takes_values, trailing, used, used_as, used_by_id, value}
 use Rattle.clap.specs.Walk.{values_or_missing, waits, walk, walk_from, walked, walked_from, with_default, word_met}
-use Rattle.clap.specs.declared.builder.value_parser.ValueParser.{ValueParser}
+use Rattle.clap.specs.{Facts.parser_of_value, Lexer.long_of, Lexer.short_of, Values.reading_of, declared.builder.value_parser.ValueParser.ValueParser}
 use Rattle.clap.specs.declared.builder.value_parser.ValueParser.TheVariants as vp
 use Rattle.clap.proofs.WalkLemmas.{find-map}
 

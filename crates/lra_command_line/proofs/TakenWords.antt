@@ -1,42 +1,26 @@
 -- Words without a fault give a command, each value of which lies in its option's range, or their options conflict.
-use Rattle.std.proofs.Common.{◌≡◌, ◌∙◌, ◌<◌, ◌≤◌, ◌^◌, ◌&&◌, ◌||◌, ℕ, Bool, List, [], ◌∷◌, Option, Some, None, ap, arith, codes, inl, inr, lit<, map, not, refl, sym}
-use Rattle.std.proofs.Common.{◌+◌, ◌++◌, length, subst, true, false, lt-ltb, nat_le, nat_lt}
+use Rattle.std.proofs.Common.{◌≡◌, ◌∙◌, ◌<◌, ◌≤◌, ◌^◌, ◌&&◌, ◌||◌, ℕ, Bool, List, [], ◌∷◌, Option, Some, None, ap, arith, codes, inl, inr, lit<, map, not, refl, sym, ◌+◌, ◌++◌, length, subst, true}
+use Rattle.std.proofs.{Common.false, Common.lt-ltb, Common.nat_le, Common.nat_lt, lemmas.Bool.leb-true, lemmas.Slice.Eq.bytes_eq-Decides}
 use Rattle.std.specs.Prelude.{find, is_some, option_and_then, option_map}
-use Rattle.std.specs.List.{AllByRecursion, list_any}
-use Rattle.std.specs.Option.{option_map_or}
-use Rattle.std.specs.Str.{bytes_eq}
-use Rattle.std.specs.Str.Parse.{digits_value, without_leading_plus}
-use Rattle.std.proofs.lemmas.Bool.{leb-true}
-use Rattle.std.proofs.lemmas.Slice.Eq.{bytes_eq-Decides}
-use Rattle.clap.specs.Facts.{explicit_source}
+use Rattle.std.specs.{List.AllByRecursion, List.list_any, Option.option_map_or, Str.bytes_eq, Str.Parse.digits_value, Str.Parse.without_leading_plus}
 use Rattle.clap.specs.Faults.{check_fault, entered_fault, fault_of, level_fault}
-use Rattle.clap.specs.Kinds.{check_kinds}
-use Rattle.clap.specs.Simple.{built_leaf, inherited, marked_built, with_leaf_noted}
-use Rattle.clap.specs.Simple.{Shape, argument_words, built, entered, filled, label_of, names_of, help_rule, new_shape, rows_at, subcommand_of, with_index}
-use Rattle.clap.specs.Takes.{is_given}
-use Rattle.clap.specs.ValueTests.{accepts, is_numeral}
+use Rattle.clap.specs.Simple.{built_leaf, inherited, marked_built, with_leaf_noted, Shape, argument_words, built, entered, filled, label_of, names_of, help_rule, new_shape, rows_at, subcommand_of}
 use Rattle.clap.specs.Walk.{Row, Rule, Text, answers_to, finished, nothing_held, one_of, rows_after, walk, walk_from}
-use Rattle.clap.specs.declared.builder.value_parser.ValueParser.{ValueParser}
+use Rattle.clap.specs.{Facts.explicit_source, Kinds.check_kinds, Simple.with_index, Takes.is_given, ValueTests.accepts, ValueTests.is_numeral, declared.builder.value_parser.ValueParser.ValueParser}
 use Rattle.clap.specs.declared.builder.value_parser.ValueParser.TheVariants as vp
 use Rattle.clap.proofs.WalkLemmas.{both, list_any-map}
-use Rattle.lra_command_line.specs.ParsedCommand.{HasInRange, IsWithinRanges, best_of, domain_at, domain_named, flag_at, format_of, gives_any, number_at}
-use Rattle.lra_command_line.specs.ParsedCommand.{number_below}
-use Rattle.lra_command_line.specs.ParsedCommand.{back_of, options_of, sample_of, threads_of, truth_of}
-use Rattle.lra_command_line.specs.CommandLine.{TakesDomains, best_rule, command_line, domain_rule, file_rule, json_rule, flag, named_plain, number_rule, plain_commands}
-use Rattle.lra_command_line.specs.CommandLine.{point_option, seed_option, size_option, subcommand_app}
-use Rattle.lra_command_line.specs.declared.command_line.Subcommand.TheVariants as sub
-use Rattle.lra_options.specs.declared.options.NumberOption.TheVariants.{Parts, Delay, Narrow}
-use Rattle.lra_options.specs.declared.options.FlagOption.TheVariants.{Limited, Thresholds, Fits}
-use Rattle.lra_options.specs.OptionRows.{NumberRow, IsInRange, are_compatible, best_options, number_options, number_row, flag_row, default_options}
-use Rattle.lra_options.specs.declared.options.Options.{Options}
-use Rattle.lra_command_line.specs.declared.commands.Command.{Command}
-use Rattle.lra_command_line.specs.declared.commands.PlainCommand.{PlainCommand}
+use Rattle.lra_command_line.specs.CommandLine.{TakesDomains, best_rule, command_line, domain_rule, file_rule, json_rule, flag, named_plain, number_rule, plain_commands, point_option, seed_option}
+use Rattle.lra_command_line.specs.ParsedCommand.{HasInRange, IsWithinRanges, best_of, domain_at, domain_named, flag_at, format_of, gives_any, number_at, number_below, back_of, options_of, sample_of}
+use Rattle.lra_command_line.specs.ParsedCommand.{threads_of, truth_of}
 use Rattle.lra_command_line.specs.declared.commands.Command.TheVariants.{Analyse, Back, Plain, Sample, Threads}
-use Rattle.lra_options.specs.declared.options.Domain.{Domain}
-use Rattle.lra_options.specs.Domains.{domains, domain_name}
-use Rattle.lra_command_line.proofs.Conflicts.{Gives}
-use Rattle.lra_command_line.proofs.OptionLists.{number_read, flag_read}
+use Rattle.lra_command_line.specs.{CommandLine.size_option, CommandLine.subcommand_app, declared.commands.Command.Command, declared.commands.PlainCommand.PlainCommand}
+use Rattle.lra_command_line.specs.declared.command_line.Subcommand.TheVariants as sub
+use Rattle.lra_options.specs.OptionRows.{NumberRow, IsInRange, are_compatible, best_options, number_options, number_row, flag_row, default_options}
+use Rattle.lra_options.specs.declared.options.FlagOption.TheVariants.{Limited, Thresholds, Fits}
+use Rattle.lra_options.specs.declared.options.NumberOption.TheVariants.{Parts, Delay, Narrow}
+use Rattle.lra_options.specs.{Domains.domains, Domains.domain_name, declared.options.Domain.Domain, declared.options.Options.Options}
 use Rattle.lra_command_line.proofs.OptionRows.{AllOwn, IsNoHelp, defaulted_value, flag_adds, given_there, help_adds, level_parts, level_rows, option_adds, value_there, walk_stop}
+use Rattle.lra_command_line.proofs.{Conflicts.Gives, OptionLists.number_read, OptionLists.flag_read}
 
 -- ---- values
 

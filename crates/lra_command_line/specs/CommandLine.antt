@@ -1,19 +1,17 @@
 -- The command line, as a parse reads it.
-use Rattle.std.specs.Prelude.{◌≡◌, ◌++◌, refl, ◌^◌, ◌-◌, ℕ, map, fold, find, codes, Option, None, Some, List, [], ◌∷◌, true}
-use Rattle.std.specs.Borrow.{Bor}
-use Rattle.std.specs.Str.{bytes_eq}
+use Rattle.std.specs.Prelude.{◌≡◌, ◌++◌, refl, ◌^◌, ◌-◌, ℕ, map, fold, find, codes, Option, None, Some, List, [], ◌∷◌}
+use Rattle.std.specs.{Borrow.Bor, Prelude.true, Str.bytes_eq}
 use Rattle.clap.specs.Words.{App, Rule, Text, new_app, new_rule, with_rule, with_subcommand}
+use Rattle.clap.specs.declared.builder.action.ArgAction.TheVariants.{SetTrue}
 use Rattle.clap.specs.declared.builder.value_parser.ValueParser.{ValueParser}
 use Rattle.clap.specs.declared.builder.value_parser.ValueParser.TheVariants as vp
 use Rattle.lra_options.specs.Domains.{domains, domain_name}
 use Rattle.lra_options.specs.OptionRows.{NumberRow, number_row, number_options, flag_row, flag_options, default_options}
-use Rattle.clap.specs.declared.builder.action.ArgAction.TheVariants.{SetTrue}
 use Rattle.lra_options.specs.declared.options.NumberOption.TheVariants.{Delay, Narrow}
 use Rattle.lra_command_line.specs.declared.commands.PlainCommand.{PlainCommand}
 use Rattle.lra_command_line.specs.declared.commands.PlainCommand.TheVariants.{Calc, Verify, Certify}
-use Rattle.lra_command_line.specs.declared.command_line.Argument.{Argument}
+use Rattle.lra_command_line.specs.{declared.command_line.Argument.Argument, declared.command_line.Subcommand.Subcommand}
 use Rattle.lra_command_line.specs.declared.command_line.Argument.TheVariants as arg
-use Rattle.lra_command_line.specs.declared.command_line.Subcommand.{Subcommand}
 use Rattle.lra_command_line.specs.declared.command_line.Subcommand.TheVariants as sub
 
 -- `--name VALUE` with this parser; help has one name for the value

@@ -1,30 +1,23 @@
 -- The command that the matches of the command line are.
-use Rattle.std.specs.Prelude.{◌≡◌, ◌^◌, ◌&&◌, ◌||◌, ◌⊎◌, ℕ, Bool, true, false, List, [], fold, Option, Some}
-use Rattle.std.specs.Prelude.{not, None, codes, if◌then◌else◌, find, nat_lt, option_and_then, option_map, ⊤}
-use Rattle.std.specs.List.{AllByRecursion, list_any}
-use Rattle.std.specs.Str.{bytes_eq}
+use Rattle.std.specs.Prelude.{◌≡◌, ◌^◌, ◌&&◌, ◌||◌, ◌⊎◌, ℕ, Bool, true, false, List, [], fold, Option, Some, not, None}
+use Rattle.std.specs.Prelude.{codes, if◌then◌else◌, find, nat_lt, option_and_then, option_map, ⊤}
 use Rattle.std.specs.Str.Parse.{digits_value, without_leading_plus}
-use Rattle.clap.specs.Takes.{is_given}
-use Rattle.clap.specs.ValueTests.{is_numeral}
+use Rattle.std.specs.{List.AllByRecursion, List.list_any, Str.bytes_eq}
 use Rattle.clap.specs.Words.{Row, Text, fault_of, first_of, one_of, subcommand_of, takes}
-use Rattle.clap.specs.declared.builder.value_parser.ValueParser.{ValueParser}
+use Rattle.clap.specs.{Takes.is_given, ValueTests.is_numeral, declared.builder.value_parser.ValueParser.ValueParser}
 use Rattle.lra_options.specs.Domains.{domains, domain_name}
-use Rattle.lra_options.specs.declared.options.NumberOption.{NumberOption}
+use Rattle.lra_options.specs.OptionRows.{IsInRange, number_row, number_value, set_number, number_options, flag_row}
+use Rattle.lra_options.specs.OptionRows.{set_flag, flag_options, are_compatible, best_options}
 use Rattle.lra_options.specs.declared.options.NumberOption.TheVariants.{Delay, Narrow}
-use Rattle.lra_options.specs.declared.options.FlagOption.{FlagOption}
-use Rattle.lra_options.specs.OptionRows.{IsInRange, number_row, number_value, set_number, number_options}
-use Rattle.lra_options.specs.OptionRows.{flag_row, set_flag, flag_options}
-use Rattle.lra_options.specs.OptionRows.{are_compatible, best_options}
+use Rattle.lra_options.specs.{declared.options.Domain.Domain, declared.options.FlagOption.FlagOption}
+use Rattle.lra_options.specs.{declared.options.NumberOption.NumberOption, declared.options.Options.Options}
 pub use Rattle.lra_options.specs.OptionRows.{default_options}
-use Rattle.lra_options.specs.declared.options.Domain.{Domain}
-use Rattle.lra_options.specs.declared.options.Options.{Options}
 use Rattle.lra_command_line.specs.CommandLine.{TakesDomains, command_line, plain_named, point_option, seed_option}
 use Rattle.lra_command_line.specs.CommandLine.{size_option}
-use Rattle.lra_command_line.specs.declared.commands.Command.{Command}
-use Rattle.lra_command_line.specs.declared.commands.PlainCommand.{PlainCommand}
-use Rattle.lra_command_line.specs.declared.commands.Format.{Format}
-use Rattle.lra_command_line.specs.declared.commands.Format.TheVariants.{Lines, Json}
 use Rattle.lra_command_line.specs.declared.commands.Command.TheVariants.{Analyse, Sample, Back, Threads, Plain}
+use Rattle.lra_command_line.specs.declared.commands.Format.TheVariants.{Lines, Json}
+use Rattle.lra_command_line.specs.declared.commands.PlainCommand.{PlainCommand}
+use Rattle.lra_command_line.specs.{declared.commands.Command.Command, declared.commands.Format.Format}
 
 -- the number that a text writes, by decimal digits after at most one plus, where it is below
 -- `limit`

@@ -1,20 +1,15 @@
 -- What the words ask of the program: a command over a file, a text that is shown, or nothing that it takes.
 use Rattle.std.specs.Prelude.{◌≡◌, ◌⊎◌, Bool, true, false, List, [], option_map}
-use Rattle.clap.specs.Simple.{subcommand_rows_of}
-use Rattle.clap.specs.Words.{IsAmong, Text, fault_of, subcommand_of, takes}
-use Rattle.clap.specs.declared.builder.value_parser.ValueParser.{ValueParser}
-use Rattle.clap.specs.declared.error.Error.{Error}
-use Rattle.clap.specs.declared.error.kind.ErrorKind.{ErrorKind}
+use Rattle.clap.specs.{Simple.subcommand_rows_of, Words.IsAmong, Words.Text, Words.fault_of, Words.subcommand_of}
+use Rattle.clap.specs.{Words.takes, declared.builder.value_parser.ValueParser.ValueParser, declared.error.Error.Error}
+use Rattle.clap.specs.{declared.error.kind.ErrorKind.ErrorKind, declared.parser.matches.ArgMatches.ArgMatches}
 use Rattle.clap.specs.declared.error.kind.ErrorKind.TheVariants as kind
-use Rattle.clap.specs.declared.parser.matches.ArgMatches.{ArgMatches}
-use Rattle.lra_command_line.specs.ParsedCommand.{AsksOver, Conflicting}
 use Rattle.lra_command_line.specs.CommandLine.{TakesDomains, command_line}
-use Rattle.lra_command_line.specs.declared.commands.Command.{Command}
-use Rattle.lra_command_line.specs.declared.requests.Request.{Request}
-use Rattle.lra_command_line.specs.declared.requests.Request.TheVariants as request
-use Rattle.lra_command_line.specs.declared.words.Refusal.{Refusal}
+use Rattle.lra_command_line.specs.ParsedCommand.{AsksOver, Conflicting}
 use Rattle.lra_command_line.specs.declared.words.Refusal.TheVariants.{Usage, Memory}
-use Rattle.lra_command_line.specs.declared.words.Unasked.{Unasked}
+use Rattle.lra_command_line.specs.{declared.commands.Command.Command, declared.requests.Request.Request}
+use Rattle.lra_command_line.specs.{declared.words.Refusal.Refusal, declared.words.Unasked.Unasked}
+use Rattle.lra_command_line.specs.declared.requests.Request.TheVariants as request
 use Rattle.lra_command_line.specs.declared.words.Unasked.TheVariants as unasked
 
 -- an error of the parse that is no mistake: its text is help, or the version

@@ -6,13 +6,10 @@
 //! stands in `texts`.
 ghost use Rattle.std.specs.Prelude.{◌≡◌, IfOk, false};
 ghost use Rattle.lra_options.specs.OptionRows.{flag_row, number_row};
-ghost use Rattle.clap.specs.Words.{app_of, rule_of};
-ghost use Rattle.clap.specs.declared.builder.command.Command.TheViews.{out-Command};
+ghost use Rattle.clap.specs.{Words.app_of, Words.rule_of, declared.builder.command.Command.TheViews.out-Command};
 ghost use Rattle.lra_command_line.specs.CommandLine.{DeclaresCommandLine, TakesDomains, argument_rule, arguments_of};
-ghost use Rattle.lra_command_line.specs.CommandLine.{begun};
-ghost use Rattle.lra_command_line.specs.CommandLine.{flag, number, number_rule, subcommand_app, subcommand_name};
-ghost use Rattle.lra_command_line.specs.CommandLine.{valued};
-ghost use Rattle.lra_command_line.specs.CommandLine.{with_arguments};
+ghost use Rattle.lra_command_line.specs.CommandLine.{begun, flag, number, number_rule, subcommand_app, subcommand_name};
+ghost use Rattle.lra_command_line.specs.CommandLine.{valued, with_arguments};
 
 use crate::commands::PlainCommand;
 use crate::texts::{ABOUT, AFTER_HELP, VERSION};

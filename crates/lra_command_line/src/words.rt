@@ -1,19 +1,16 @@
 //! The command that a list of words gives.
-ghost use Rattle.std.specs.Prelude.{◌≡◌, ◌^◌, Err, IfErr, IfOk, IfSome, Some, codes, fold, map, option_map, string_bytes};
-ghost use Rattle.clap.specs.Simple.{subcommand_rows_of};
-ghost use Rattle.clap.specs.Takes.{is_given};
-ghost use Rattle.clap.specs.Words.{found_of, kind_of, rows_of};
-ghost use Rattle.lra_command_line.specs.ParsedCommand.{Asks, AsksFor, AsksNone, AsksOver, IsRejected, IsWithinRanges, command_of, domain_at};
-ghost use Rattle.lra_command_line.specs.ParsedCommand.{agreeing, analyse_of, back_of, best_of, chosen_options};
-ghost use Rattle.lra_command_line.specs.ParsedCommand.{domain_named, flag_at};
-ghost use Rattle.lra_command_line.specs.ParsedCommand.{format_at, format_of, gives_any, gives_flag, gives_number};
-ghost use Rattle.lra_command_line.specs.ParsedCommand.{gives_settled};
-ghost use Rattle.lra_command_line.specs.ParsedCommand.{number_at, optioned_command, options_of, sample_of, with_beside};
-ghost use Rattle.lra_command_line.specs.ParsedCommand.{with_domain};
-ghost use Rattle.lra_command_line.specs.ParsedCommand.{file_of, named_file, threads_of, with_flag, with_number};
-ghost use Rattle.lra_options.specs.OptionRows.{best_options, number_options, flag_options};
-ghost use Rattle.lra_command_line.specs.CommandLine.{plain_named};
+ghost use Rattle.std.specs.Prelude.{◌≡◌, ◌^◌, Err, IfErr, IfOk, IfSome, Some, codes, fold, map, option_map};
+ghost use Rattle.std.specs.Prelude.{string_bytes};
+ghost use Rattle.clap.specs.{Simple.subcommand_rows_of, Takes.is_given, Words.found_of, Words.kind_of, Words.rows_of};
+ghost use Rattle.lra_command_line.specs.ParsedCommand.{Asks, AsksFor, AsksNone, AsksOver, IsRejected, IsWithinRanges};
+ghost use Rattle.lra_command_line.specs.ParsedCommand.{command_of, domain_at, agreeing, analyse_of, back_of, best_of};
+ghost use Rattle.lra_command_line.specs.ParsedCommand.{chosen_options, domain_named, flag_at, format_at, format_of};
+ghost use Rattle.lra_command_line.specs.ParsedCommand.{gives_any, gives_flag, gives_number, gives_settled, number_at};
+ghost use Rattle.lra_command_line.specs.ParsedCommand.{optioned_command, options_of, sample_of, with_beside};
+ghost use Rattle.lra_command_line.specs.ParsedCommand.{with_domain, file_of, named_file, threads_of, with_flag};
 ghost use Rattle.lra_command_line.specs.Requests.{IsTakenAs, IsUnasked, refusal, unasked_by};
+ghost use Rattle.lra_command_line.specs.{CommandLine.plain_named, ParsedCommand.with_number};
+ghost use Rattle.lra_options.specs.OptionRows.{best_options, number_options, flag_options};
 
 use crate::command_line::declare;
 use crate::commands::{Command, Format, PLAIN_COMMANDS, PlainCommand};

@@ -1,20 +1,12 @@
 -- From what a source deserves that is gone back over to what is claimed of its report.
 use Rattle.std.proofs.Common.{◌≡◌, ℕ, suc, List, subst, inl, inr}
-use Rattle.std.specs.Prelude.{Option}
-use Rattle.std.specs.Io.KnownBytes.{Appends}
+use Rattle.std.specs.{Io.KnownBytes.Appends, Prelude.Option}
 use Rattle.lra_certificate_spec.proofs.OneProgram.{accepted_of}
-use Rattle.lra_back_source.proofs.Showing.{backs_same_points}
-use Rattle.lra_back_source.proofs.Sound.{backs_sound, proved_at_first}
-use Rattle.lra_back_source.proofs.Strained.{unflagged_defined, flagged_strain}
-use Rattle.lra_command_line.specs.ParsedCommand.{Asks}
-use Rattle.lra_command_line.specs.declared.commands.Command.TheVariants.{Back}
-use Rattle.lra_command_answers.specs.Statuses.{Ends, reported}
-use Rattle.lra_commands.specs.BackAnswer.{AnswersBack, IsBackAnswer}
-use Rattle.lra_commands.specs.Run.{IsInput, WritesAnswer}
-use Rattle.lra_commands.specs.OutputClaims.{WritesBack}
-use Rattle.lra_commands.proofs.Certified.{not_refused}
-use Rattle.lra_commands.proofs.Ways.{asked_input}
-use Rattle.lra_command_answers.specs.declared.status.Status.{Status}
+use Rattle.lra_back_source.proofs.{Showing.backs_same_points, Sound.backs_sound, Sound.proved_at_first, Strained.unflagged_defined, Strained.flagged_strain}
+use Rattle.lra_command_line.specs.{ParsedCommand.Asks, declared.commands.Command.TheVariants.Back}
+use Rattle.lra_command_answers.specs.{Statuses.Ends, Statuses.reported, declared.status.Status.Status}
+use Rattle.lra_commands.specs.{BackAnswer.AnswersBack, BackAnswer.IsBackAnswer, OutputClaims.WritesBack, Run.IsInput, Run.WritesAnswer}
+use Rattle.lra_commands.proofs.{Certified.not_refused, Ways.asked_input}
 
 of_back : (number : ℕ) (left held_old held_new : Option (List ℕ)) (bytes text : List ℕ) (status : Status) (point : ℕ) → IsInput left bytes
     → number ≡ suc point → IsBackAnswer point bytes text status → Appends held_old held_new text → WritesBack number left held_old held_new status

@@ -3,19 +3,15 @@ use Rattle.std.proofs.Common.{◌≡◌, ◌≤◌, ◌<◌, ℕ, suc, ◌-◌, 
 use Rattle.std.specs.Prelude.{Some, Result, Ok, Err, IfOk}
 use Rattle.lra_base.specs.Places.{greatest_length}
 use Rattle.lra_report.specs.BackText.{BackReport, back_text}
-use Rattle.lra_back_source.specs.declared.refusals.BackRefusal.{BackRefusal}
 use Rattle.lra_back_source.specs.declared.refusals.BackRefusal.TheVariants.{Source, NoAssertion, Paths}
-use Rattle.lra_back_source.specs.BackReports.{CanGoBack, IsBackReportOf, IsBackRefusalOf}
+use Rattle.lra_back_source.specs.{BackReports.CanGoBack, BackReports.IsBackReportOf, BackReports.IsBackRefusalOf, declared.refusals.BackRefusal.BackRefusal}
 use Rattle.lra_back_source.proofs.OneAnswer.{back_or_refused}
 use Rattle.lra_command_line.specs.CommandLine.{point_option}
 use Rattle.lra_options.specs.OptionRows.{IsInRange}
 use Rattle.lra_command_answers.specs.Statuses.{Ends, reported, refused, source_statuses}
-use Rattle.lra_command_answers.proofs.Answering.{IsAnswering, small, past}
-use Rattle.lra_command_answers.proofs.ToldWays.{not_past, longer_refused}
+use Rattle.lra_command_answers.specs.{declared.answer.Answer.Answer, declared.status.Status.Status, declared.status.Status.TheVariants.Refused}
+use Rattle.lra_command_answers.proofs.{Answering.IsAnswering, Answering.small, Answering.past, ToldWays.not_past, ToldWays.longer_refused}
 use Rattle.lra_commands.specs.BackAnswer.{back_refused_text, back_status, AllowedBackStatuses, AnswersBack, IsBackAnswer}
-use Rattle.lra_command_answers.specs.declared.answer.Answer.{Answer}
-use Rattle.lra_command_answers.specs.declared.status.Status.{Status}
-use Rattle.lra_command_answers.specs.declared.status.Status.TheVariants.{Refused}
 
 -- answers ------------------------------------------------------------------------
 

@@ -1,27 +1,16 @@
 -- From what a source deserves that is to be certified to what is claimed of its certificate.
 use Rattle.std.proofs.Common.{◌≡◌, ◌∙◌, ◌≤◌, ℕ, suc, List, [], ◌∷◌, length, refl, ap, sym, inl, inr}
-use Rattle.std.specs.Prelude.{Option}
-use Rattle.std.specs.Io.KnownBytes.{Appends}
 use Rattle.std.proofs.lemmas.List.{length-map}
+use Rattle.std.specs.{Io.KnownBytes.Appends, Prelude.Option}
 use Rattle.lra_program.specs.Sites.{Site, sites_of}
-use Rattle.lra_certificate_spec.specs.Certificates.{ListedAssertion, AreStates}
-use Rattle.lra_certificate_spec.specs.Claims.{program_of, verified, greatest_certificate}
-use Rattle.lra_certificate_spec.specs.Judged.{RowsAtPoint}
-use Rattle.lra_certify_source.specs.Settings.{certify_options}
-use Rattle.lra_certify_source.specs.Certified.{IsCertificateWith}
+use Rattle.lra_certificate_spec.specs.{Certificates.ListedAssertion, Certificates.AreStates, Claims.program_of, Claims.verified, Claims.greatest_certificate, Judged.RowsAtPoint}
+use Rattle.lra_certify_source.specs.{Certified.IsCertificateWith, Settings.certify_options}
 use Rattle.lra_certify_source.proofs.Written.{certificates}
-use Rattle.lra_command_line.specs.ParsedCommand.{Asks}
-use Rattle.lra_command_line.specs.declared.commands.Command.TheVariants.{Plain}
-use Rattle.lra_command_line.specs.declared.commands.PlainCommand.TheVariants.{Certify}
-use Rattle.lra_command_answers.specs.Statuses.{Ends, reported}
+use Rattle.lra_command_line.specs.{ParsedCommand.Asks, declared.commands.Command.TheVariants.Plain, declared.commands.PlainCommand.TheVariants.Certify}
+use Rattle.lra_command_answers.specs.{Statuses.Ends, Statuses.reported, declared.status.Status.Status, declared.status.Status.TheVariants.Proved, declared.status.Status.TheVariants.Refused}
 use Rattle.lra_commands.specs.CertificateAnswer.{verified_text, AnswersCertificate}
-use Rattle.lra_commands.specs.CertifyAnswer.{IsCertifyAnswer, AnswersCertify}
-use Rattle.lra_commands.specs.Run.{IsInput, WritesAnswer}
-use Rattle.lra_commands.specs.OutputClaims.{WritesCertificate}
-use Rattle.lra_commands.proofs.Headline.{holds, is_written, same_points, tells_accesses, tells_fits}
-use Rattle.lra_commands.proofs.Ways.{asked_input}
-use Rattle.lra_command_answers.specs.declared.status.Status.{Status}
-use Rattle.lra_command_answers.specs.declared.status.Status.TheVariants.{Proved, Refused}
+use Rattle.lra_commands.specs.{CertifyAnswer.IsCertifyAnswer, CertifyAnswer.AnswersCertify, OutputClaims.WritesCertificate, Run.IsInput, Run.WritesAnswer}
+use Rattle.lra_commands.proofs.{Headline.holds, Headline.is_written, Headline.same_points, Headline.tells_accesses, Headline.tells_fits, Ways.asked_input}
 
 -- a state for each point
 states_many : (sites : List Site) (states : List RowsAtPoint) → AreStates sites states → length states ≡ length sites

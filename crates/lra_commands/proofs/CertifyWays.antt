@@ -5,20 +5,13 @@ use Rattle.lra_base.specs.Places.{greatest_length}
 use Rattle.lra_report.specs.Report.{Report}
 use Rattle.lra_front_end.proofs.EachAnswer.{each_answer}
 use Rattle.lra_analyse_source.specs.SourceReports.{IsAnalysisReport}
-use Rattle.lra_certify_source.specs.declared.refusals.CertifyRefusal.{CertifyRefusal}
 use Rattle.lra_certify_source.specs.declared.refusals.CertifyRefusal.TheVariants.{Source, Paths, Strained}
-use Rattle.lra_certify_source.specs.Settings.{certify_options}
-use Rattle.lra_certify_source.specs.Assertions.{unknown_assertions}
-use Rattle.lra_certify_source.specs.Certified.{IsCertificateOf, IsCertifyRefusalOf}
+use Rattle.lra_certify_source.specs.{Assertions.unknown_assertions, Certified.IsCertificateOf, Certified.IsCertifyRefusalOf, Settings.certify_options, declared.refusals.CertifyRefusal.CertifyRefusal}
 use Rattle.lra_certify_source.proofs.OneRefusal.{many_refused}
-use Rattle.lra_command_answers.specs.Statuses.{Ends, reported, refused, source_statuses}
-use Rattle.lra_command_answers.proofs.Answering.{IsAnswering, small, past}
-use Rattle.lra_command_answers.proofs.ToldWays.{not_past, longer_refused}
-use Rattle.lra_commands.specs.SourceAnswer.{report_status}
-use Rattle.lra_commands.specs.CertifyAnswer.{refused_text, IsCertifyAnswer, AnswersCertify, AllowedCertifyStatuses}
+use Rattle.lra_command_answers.specs.{Statuses.Ends, Statuses.reported, Statuses.refused, Statuses.source_statuses, declared.status.Status.Status, declared.status.Status.TheVariants.Refused}
+use Rattle.lra_command_answers.proofs.{Answering.IsAnswering, Answering.small, Answering.past, ToldWays.not_past, ToldWays.longer_refused}
+use Rattle.lra_commands.specs.{CertifyAnswer.refused_text, CertifyAnswer.IsCertifyAnswer, CertifyAnswer.AnswersCertify, CertifyAnswer.AllowedCertifyStatuses, SourceAnswer.report_status}
 use Rattle.lra_commands.proofs.SourceWays.{report_ends}
-use Rattle.lra_command_answers.specs.declared.status.Status.{Status}
-use Rattle.lra_command_answers.specs.declared.status.Status.TheVariants.{Refused}
 
 -- answers ------------------------------------------------------------------------
 

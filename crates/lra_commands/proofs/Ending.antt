@@ -1,34 +1,20 @@
 -- From the parts of a call of `run` to the record that tells the whole, and from that to each of its clauses.
 use Rattle.std.proofs.Common.{◌≡◌, ◌≢◌, ◌≤◌, ◌<◌, ℕ, List, length, refl, sym, ap, subst, inl, inr, ◌⊎◌, arith}
-use Rattle.std.specs.Prelude.{Option, Some, None, Result, Ok, Err, IfOk, IsOk}
-use Rattle.std.specs.Io.KnownBytes.{Appends, Keeps}
+use Rattle.std.specs.{Io.KnownBytes.Appends, Io.KnownBytes.Keeps, Prelude.Option, Prelude.Some, Prelude.None, Prelude.Result, Prelude.Ok, Prelude.Err, Prelude.IfOk, Prelude.IsOk}
 use Rattle.lra_io.specs.Causes.{AppendsPart, Rose}
 use Rattle.lra_options.specs.declared.options.Options.{Options}
-use Rattle.lra_command_line.specs.ParsedCommand.{Asks, AsksNone, IsRejected}
-use Rattle.lra_command_line.specs.declared.commands.Command.{Command}
-use Rattle.lra_command_line.specs.declared.commands.Format.{Format}
 use Rattle.lra_command_line.specs.declared.commands.Command.TheVariants.{Analyse, Sample, Back, Threads, Plain}
 use Rattle.lra_command_line.specs.declared.commands.PlainCommand.TheVariants.{Certify, Verify}
-use Rattle.lra_command_answers.specs.Exit.{exit_of}
-use Rattle.lra_command_answers.specs.Statuses.{Ends, reported, answered, silent, faults}
-use Rattle.lra_commands.specs.SourceAnswer.{written_report}
-use Rattle.lra_commands.specs.Commands.{asked_limit, AllowedStatuses}
-use Rattle.lra_commands.specs.Run.{IsAsked, IsAnswerToWords, WritesAnswer, WritesPrefix, IsRead, RisesAtFault}
-use Rattle.lra_commands.specs.OutputClaims.{WritesReport, HoldsInAllRuns, IsWrittenUnlessFlagged, ReportsAccesses, ReportsFits, ReportsSamePoints}
-use Rattle.lra_commands.specs.OutputClaims.{WritesCertificate}
-use Rattle.lra_commands.specs.OutputClaims.{WritesBack, WritesSummary, WritesThreads, WritesVerified}
-use Rattle.lra_commands.specs.Prepared.{IsReadBy, PrepareCause, World, IsWritten, Ending}
-use Rattle.lra_commands.proofs.Reading.{read_as}
-use Rattle.lra_commands.proofs.Ways.{asked_ends, answered_status, usage_status}
-use Rattle.lra_commands.proofs.Headline.{holds, is_written, same_points, tells_accesses, tells_fits, writes_report, writes_summary}
-use Rattle.lra_commands.proofs.Back.{writes_back}
-use Rattle.lra_commands.proofs.Threads.{writes_threads}
-use Rattle.lra_commands.proofs.Certified.{writes_certificate}
-use Rattle.lra_commands.proofs.Verified.{writes_verified}
-use Rattle.lra_command_answers.specs.declared.status.Status.{Status}
+use Rattle.lra_command_line.specs.{ParsedCommand.Asks, ParsedCommand.AsksNone, ParsedCommand.IsRejected, declared.commands.Command.Command, declared.commands.Format.Format}
 use Rattle.lra_command_answers.specs.declared.status.Status.TheVariants.{Proved, Usage, ReadFault, WriteFault, Memory}
-use Rattle.lra_command_answers.specs.declared.answer.Answer.{Answer}
-use Rattle.lra_commands.specs.declared.top_call.NoAnswer.{NoAnswer}
+use Rattle.lra_command_answers.specs.{Exit.exit_of, Statuses.Ends, Statuses.reported, Statuses.answered, Statuses.silent, Statuses.faults, declared.answer.Answer.Answer, declared.status.Status.Status}
+use Rattle.lra_commands.specs.OutputClaims.{WritesReport, HoldsInAllRuns, IsWrittenUnlessFlagged, ReportsAccesses, ReportsFits, ReportsSamePoints, WritesCertificate, WritesBack, WritesSummary}
+use Rattle.lra_commands.specs.OutputClaims.{WritesThreads, WritesVerified}
+use Rattle.lra_commands.specs.{Commands.asked_limit, Commands.AllowedStatuses, Prepared.IsReadBy, Prepared.PrepareCause, Prepared.World, Prepared.IsWritten, Prepared.Ending, Run.IsAsked}
+use Rattle.lra_commands.specs.{Run.IsAnswerToWords, Run.WritesAnswer, Run.WritesPrefix, Run.IsRead, Run.RisesAtFault, SourceAnswer.written_report, declared.top_call.NoAnswer.NoAnswer}
+use Rattle.lra_commands.proofs.Headline.{holds, is_written, same_points, tells_accesses, tells_fits, writes_report, writes_summary}
+use Rattle.lra_commands.proofs.Ways.{asked_ends, answered_status, usage_status}
+use Rattle.lra_commands.proofs.{Back.writes_back, Certified.writes_certificate, Reading.read_as, Threads.writes_threads, Verified.writes_verified}
 use Rattle.lra_commands.specs.declared.top_call.NoAnswer.TheVariants as none
 
 -- statuses ------------------------------------------------------------------------

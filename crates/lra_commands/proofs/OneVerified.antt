@@ -1,19 +1,16 @@
 -- An input that is to be a certificate deserves one answer: its head is one, and a source has one tree, one tree of operations, or one refusal.
 use Rattle.std.proofs.Common.{◌≡◌, ◌∙◌, ◌≤◌, ◌<◌, ℕ, List, length, None, Ok, Err, ap, sym, subst, arith, inl, inr}
 use Rattle.std.proofs.lemmas.Option.{same_Some, none-some}
-use Rattle.lra_base.specs.declared.refusals.Cause.{Cause}
-use Rattle.lra_base.specs.declared.refusals.Place.{Place}
+use Rattle.lra_base.specs.{declared.refusals.Cause.Cause, declared.refusals.Place.Place}
 use Rattle.lra_syntax.specs.Grammar.{Spells}
 use Rattle.lra_resolution_spec.specs.Refuse.{Refuse}
 use Rattle.lra_program.specs.Sites.{sites_of}
 use Rattle.lra_front_end.proofs.EachAnswer.{each_answer}
 use Rattle.lra_paths.specs.Paths.{AreFewPaths, HasTooManyPaths}
 use Rattle.lra_paths.proofs.ManyPaths.{not_both}
+use Rattle.lra_certificate_spec.specs.Claims.{IsProgram, program_of, VerifyAnswer, verified, source_refused, paths_refused, line_refused, VerifiesTo, HasHead, greatest_certificate}
 use Rattle.lra_certificate_spec.specs.Judged.{Judged, Head, too_long, bad_line, judged, head_of}
-use Rattle.lra_certificate_spec.specs.Claims.{IsProgram, program_of, VerifyAnswer, verified, source_refused, paths_refused, line_refused, VerifiesTo, HasHead}
-use Rattle.lra_certificate_spec.specs.Claims.{greatest_certificate}
-use Rattle.lra_certificate_spec.proofs.JudgedBothWays.{judged_exactly}
-use Rattle.lra_certificate_spec.proofs.OneProgram.{accepted_of, as_said}
+use Rattle.lra_certificate_spec.proofs.{JudgedBothWays.judged_exactly, OneProgram.accepted_of, OneProgram.as_said}
 use Rattle.lra_certify_source.proofs.OneRefusal.{one_source}
 
 -- answers ------------------------------------------------------------------------

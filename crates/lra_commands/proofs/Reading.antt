@@ -1,14 +1,10 @@
 -- From what is read of an input to what that tells of it.
 use Rattle.std.proofs.Common.{◌≡◌, ◌∙◌, ◌<◌, ◌+◌, ◌^◌, ℕ, List, [], ◌++◌, length, refl, sym, arith, append-nil, subst, inl, inr}
-use Rattle.std.specs.Prelude.{Option, Some, None, Result, Ok, Err, IfOk}
-use Rattle.std.specs.Io.KnownBytes.{Consumes, IsAtEnd}
+use Rattle.std.specs.{Io.KnownBytes.Consumes, Io.KnownBytes.IsAtEnd, Prelude.Option, Prelude.Some, Prelude.None, Prelude.Result, Prelude.Ok, Prelude.Err, Prelude.IfOk}
 use Rattle.lra_io.specs.ReadErrors.{LosesPrefix, IsWhole, IsPastLimit}
 use Rattle.lra_command_line.specs.declared.commands.Command.{Command}
-use Rattle.lra_commands.specs.Commands.{limit_of}
-use Rattle.lra_commands.specs.Run.{IsInput, IsRead, TakesBytes}
-use Rattle.lra_commands.specs.Prepared.{IsTaken, IsReadBy}
+use Rattle.lra_commands.specs.{Commands.limit_of, Prepared.IsTaken, Prepared.IsReadBy, Run.IsInput, Run.IsRead, Run.TakesBytes, declared.top_call.NoAnswer.NoAnswer}
 use Rattle.lra_commands.proofs.Rows.{answering}
-use Rattle.lra_commands.specs.declared.top_call.NoAnswer.{NoAnswer}
 
 -- within a limit --------------------------------------------------------------------
 

@@ -1,19 +1,11 @@
 -- A row for each command.
-use Rattle.lra_command_line.specs.ParsedCommand.{IsWithinRanges}
-use Rattle.lra_command_line.specs.declared.commands.Command.{Command}
 use Rattle.lra_command_line.specs.declared.commands.Command.TheVariants.{Analyse, Sample, Back, Threads, Plain}
 use Rattle.lra_command_line.specs.declared.commands.PlainCommand.TheVariants.{Calc, Verify, Certify}
-use Rattle.lra_commands.specs.SourceAnswer.{written_report}
-use Rattle.lra_commands.specs.Commands.{limit_of, AnswersInput, statuses_of, AllowedInputStatuses}
-use Rattle.lra_command_answers.proofs.Answering.{IsAnswering}
-use Rattle.lra_command_answers.proofs.ToldWays.{told_answering}
-use Rattle.lra_commands.proofs.SourceWays.{report_telling}
-use Rattle.lra_commands.proofs.SampleWays.{sample_answering}
-use Rattle.lra_commands.proofs.BackWays.{back_answering}
-use Rattle.lra_commands.proofs.ThreadsWays.{threads_answering}
-use Rattle.lra_commands.proofs.ScriptWays.{script_answering}
-use Rattle.lra_commands.proofs.CertificateWays.{certificate_answering}
-use Rattle.lra_commands.proofs.CertifyWays.{certified_answering}
+use Rattle.lra_command_line.specs.{ParsedCommand.IsWithinRanges, declared.commands.Command.Command}
+use Rattle.lra_commands.specs.{Commands.limit_of, Commands.AnswersInput, Commands.statuses_of, Commands.AllowedInputStatuses, SourceAnswer.written_report}
+use Rattle.lra_command_answers.proofs.{Answering.IsAnswering, ToldWays.told_answering}
+use Rattle.lra_commands.proofs.{BackWays.back_answering, CertificateWays.certificate_answering, CertifyWays.certified_answering, SampleWays.sample_answering, ScriptWays.script_answering}
+use Rattle.lra_commands.proofs.{SourceWays.report_telling, ThreadsWays.threads_answering}
 
 pub answering : (c : Command) → IsAnswering (IsWithinRanges c) (limit_of c) (λ bytes text status. AnswersInput c bytes text status) (statuses_of c) (λ bytes among. AllowedInputStatuses c bytes among)
 answering (Analyse options format) = told_answering (report_telling options (written_report format)) _

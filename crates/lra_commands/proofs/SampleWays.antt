@@ -1,31 +1,19 @@
 -- From the answer to a sample source to what the sample deserves, and from that to how a call ends.
 use Rattle.std.proofs.Common.{◌≡◌, ℕ, List, subst, inr}
 use Rattle.std.specs.Prelude.{None, Result, Ok, Err, IfOk}
-use Rattle.lra_base.specs.declared.refusals.Cause.{Cause}
-use Rattle.lra_base.specs.declared.refusals.Place.{Place}
-use Rattle.lra_base.specs.declared.refusals.Refusal.{Refusal}
-use Rattle.lra_options.specs.declared.options.Options.{Options}
-use Rattle.lra_report.specs.Report.{Report}
-use Rattle.lra_report.specs.ReportText.{unknown_count}
-use Rattle.lra_report.specs.RefusalText.{refusal_text}
+use Rattle.lra_base.specs.{declared.refusals.Cause.Cause, declared.refusals.Place.Place, declared.refusals.Refusal.Refusal}
+use Rattle.lra_options.specs.{OptionRows.IsInRange, declared.options.Options.Options}
+use Rattle.lra_report.specs.{RefusalText.refusal_text, Report.Report, ReportText.unknown_count}
 use Rattle.lra_syntax.specs.Grammar.{Spells}
 use Rattle.lra_resolution_spec.specs.Refuse.{Refuse}
-use Rattle.lra_sample.specs.Sample.{sample_source}
-use Rattle.lra_sample.specs.Summary.{summary_text}
+use Rattle.lra_sample.specs.{Sample.sample_source, Summary.summary_text}
 use Rattle.lra_sample.proofs.Samples.{accepted}
 use Rattle.lra_analyse_source.specs.SourceReports.{IsAnalysisReport}
-use Rattle.lra_options.specs.OptionRows.{IsInRange}
-use Rattle.lra_command_line.specs.CommandLine.{seed_option, size_option}
-use Rattle.lra_command_line.specs.ParsedCommand.{default_options}
-use Rattle.lra_command_answers.specs.Statuses.{reported}
-use Rattle.lra_commands.specs.SourceAnswer.{report_status}
-use Rattle.lra_commands.specs.SampleAnswer.{AnswersSample}
-use Rattle.lra_command_answers.proofs.Answering.{IsAnswering}
-use Rattle.lra_command_answers.proofs.ToldWays.{accepted_ends}
+use Rattle.lra_command_line.specs.{CommandLine.seed_option, CommandLine.size_option, ParsedCommand.default_options}
+use Rattle.lra_command_answers.specs.{Statuses.reported, declared.answer.Answer.Answer, declared.status.Status.Status, declared.status.Status.TheVariants.Refused}
+use Rattle.lra_commands.specs.{SampleAnswer.AnswersSample, SourceAnswer.report_status}
+use Rattle.lra_command_answers.proofs.{Answering.IsAnswering, ToldWays.accepted_ends}
 use Rattle.lra_commands.proofs.SourceWays.{deserves_report, deserves_refusal, report_telling}
-use Rattle.lra_command_answers.specs.declared.answer.Answer.{Answer}
-use Rattle.lra_command_answers.specs.declared.status.Status.{Status}
-use Rattle.lra_command_answers.specs.declared.status.Status.TheVariants.{Refused}
 
 deserves_summary : (seed size : ℕ) (o : Options) (source : List ℕ) (r : Report) (text : List ℕ) (status : Status) → o ≡ default_options → source ≡ sample_source seed size
     → IsAnalysisReport o source r → text ≡ summary_text seed size r → status ≡ report_status (unknown_count r.verdicts) → AnswersSample seed size text status

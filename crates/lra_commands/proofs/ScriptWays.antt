@@ -1,16 +1,14 @@
 -- From what a script deserves to how a call ends that answers it.
 use Rattle.std.proofs.Common.{◌≡◌, ◌∙◌, ◌≤◌, ◌<◌, ℕ, List, ◌++◌, length, take, refl, ap, sym, subst, arith, inl, inr}
+use Rattle.std.proofs.{lemmas.Grind.common_steps, lemmas.List.take-append-le}
 use Rattle.std.specs.Prelude.{Some, Result, Ok, Err}
-use Rattle.std.proofs.lemmas.Grind.{common_steps}
-use Rattle.std.proofs.lemmas.List.{take-append-le}
 use Rattle.lra_base.specs.Places.{greatest_length, place_after}
 use Rattle.lra_calc.specs.Script as script
 use Rattle.lra_calc.proofs.Limit.{answer_too_long, long_answer}
 use Rattle.lra_command_answers.specs.Statuses.{Ends, refused, source_statuses}
+use Rattle.lra_command_answers.specs.{declared.status.Status.Status, declared.status.Status.TheVariants.Proved, declared.status.Status.TheVariants.Refused}
 use Rattle.lra_commands.specs.ScriptAnswer.{AnswersScript, AllowedScriptStatuses, script_statuses}
 use Rattle.lra_command_answers.proofs.Answering.{IsAnswering, small, past}
-use Rattle.lra_command_answers.specs.declared.status.Status.{Status}
-use Rattle.lra_command_answers.specs.declared.status.Status.TheVariants.{Proved, Refused}
 
 -- answers ------------------------------------------------------------------------
 

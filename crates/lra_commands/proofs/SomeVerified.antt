@@ -1,31 +1,21 @@
 -- Each input that is to be a certificate deserves an answer: its source has one, the paths of its program are few or the least source is found from
 -- which more than are taken lead to one goal, and its lines are judged.
-use Rattle.std.proofs.Common.{◌≡◌, ◌∙◌, ◌≤◌, ◌<◌, ◌⊎◌, ℕ, zero, suc, List, [], ◌∷◌, length, map, Option, None, Some, Ok, Err, Bool, true, false, cond, refl, ap, sym, subst, arith}
-use Rattle.std.proofs.Common.{inl, inr, slice_get}
-use Rattle.std.specs.Prelude.{if◌then◌else◌, nat_lt, nat_eq, ◌&&◌}
-use Rattle.std.specs.List.{filter, flat_map}
-use Rattle.std.proofs.lemmas.Bool.{cases_lt, eqb-true}
-use Rattle.std.proofs.lemmas.Bool.Decides.{nat_tests}
-use Rattle.std.proofs.lemmas.Option.{same_Some, none-some}
+use Rattle.std.proofs.Common.{◌≡◌, ◌∙◌, ◌≤◌, ◌<◌, ◌⊎◌, ℕ, zero, suc, List, [], ◌∷◌, length, map, Option, None, Some, Ok, Err, Bool, true, false, cond, refl, ap, sym, subst, arith, inl, inr, slice_get}
+use Rattle.std.proofs.{lemmas.Bool.cases_lt, lemmas.Bool.eqb-true, lemmas.Bool.Decides.nat_tests, lemmas.Option.same_Some, lemmas.Option.none-some}
+use Rattle.std.specs.{List.filter, List.flat_map, Prelude.if◌then◌else◌, Prelude.nat_lt, Prelude.nat_eq, Prelude.◌&&◌}
 use Rattle.lra_base.specs.declared.refusals.Refusal.{Refusal}
 use Rattle.lra_syntax.specs.Labels.{Labelled, labels_of}
 use Rattle.lra_syntax.proofs.LexedByTest.{and_second}
-use Rattle.lra_resolution_spec.specs.Refuse.{greatest_live, greatest_points, limit_fault}
-use Rattle.lra_resolution_spec.specs.Resolve.{resolve}
-use Rattle.lra_program.specs.Program.{Program}
-use Rattle.lra_program.specs.Sites.{Site, Event, comes, one_call_more, event_sites, events_of, sites_of}
+use Rattle.lra_resolution_spec.specs.{Refuse.greatest_live, Refuse.greatest_points, Refuse.limit_fault, Resolve.resolve}
+use Rattle.lra_program.specs.{Program.Program, Sites.Site, Sites.Event, Sites.comes, Sites.one_call_more, Sites.event_sites, Sites.events_of, Sites.sites_of}
 use Rattle.lra_operations.specs.Tree.{Node}
-use Rattle.lra_front_end.specs.Claims.{IsAccepted}
-use Rattle.lra_front_end.specs.Stages.{HasTree}
-use Rattle.lra_front_end.proofs.SomeAnswer.{some_answer}
-use Rattle.lra_front_end.proofs.StageSteps.{well}
+use Rattle.lra_front_end.specs.{Claims.IsAccepted, Stages.HasTree}
+use Rattle.lra_front_end.proofs.{SomeAnswer.some_answer, StageSteps.well}
 use Rattle.lra_path_segments.specs.Segments.{Goal, comes_to, violates, GoalSegment, Segment, enter, inside}
-use Rattle.lra_path_disjuncts.specs.Disjuncts.{written}
+use Rattle.lra_path_disjuncts.specs.Disjuncts.{written, greatest_paths}
 use Rattle.lra_paths.specs.Paths.{same_goal, live_at, started, actions_between, AreFewFrom, AreFewPaths, HasTooManyPaths}
-use Rattle.lra_path_disjuncts.specs.Disjuncts.{greatest_paths}
+use Rattle.lra_certificate_spec.specs.Claims.{IsProgram, program_of, VerifyAnswer, verified, source_refused, paths_refused, line_refused, VerifiesTo, HasHead, greatest_certificate, EachVerified}
 use Rattle.lra_certificate_spec.specs.Judged.{Judged, Head, too_long, bad_line, judged, head_of}
-use Rattle.lra_certificate_spec.specs.Claims.{IsProgram, program_of, VerifyAnswer, verified, source_refused, paths_refused, line_refused, VerifiesTo, HasHead}
-use Rattle.lra_certificate_spec.specs.Claims.{greatest_certificate, EachVerified}
 use Rattle.lra_certificate_spec.proofs.JudgedBothWays.{judged_exactly}
 use Rattle.lra_commands.proofs.OneVerified.{one_verified}
 

@@ -1,20 +1,16 @@
 -- From a report that a source deserves to how a call ends that answers it.
 use Rattle.std.proofs.Common.{◌≡◌, ◌<◌, ℕ, zero, suc, List, refl, sym, subst, arith, inl, inr}
-use Rattle.lra_base.specs.declared.refusals.Cause.{Cause}
-use Rattle.lra_base.specs.declared.refusals.Place.{Place}
+use Rattle.lra_base.specs.{declared.refusals.Cause.Cause, declared.refusals.Place.Place}
 use Rattle.lra_options.specs.declared.options.Options.{Options}
-use Rattle.lra_report.specs.Report.{Report}
-use Rattle.lra_report.specs.ReportText.{unknown_count}
+use Rattle.lra_report.specs.{RefusalText.refusal_text, Report.Report, ReportText.unknown_count}
 use Rattle.lra_syntax.specs.Grammar.{Spells}
 use Rattle.lra_resolution_spec.specs.Refuse.{Refuse}
-use Rattle.lra_report.specs.RefusalText.{refusal_text}
 use Rattle.lra_analyse_source.specs.SourceReports.{IsAnalysisReport}
-use Rattle.lra_command_answers.specs.Statuses.{Ends, reported}
+use Rattle.lra_command_answers.specs.declared.status.Status.TheVariants.{Proved, Unknown, Refused}
+use Rattle.lra_command_answers.specs.{Statuses.Ends, Statuses.reported, declared.status.Status.Status}
 use Rattle.lra_command_answers.proofs.ToldWays.{IsTelling}
 use Rattle.lra_command_answers.proofs.ToldWays as told
 use Rattle.lra_commands.specs.SourceAnswer.{IsReport, report_status, AnswersSource}
-use Rattle.lra_command_answers.specs.declared.status.Status.{Status}
-use Rattle.lra_command_answers.specs.declared.status.Status.TheVariants.{Proved, Unknown, Refused}
 
 -- answers ------------------------------------------------------------------------
 

@@ -1,21 +1,14 @@
 -- From what a source of several threads deserves to what is claimed of its report.
 use Rattle.std.proofs.Common.{ℕ, List, length, subst, inl, inr}
-use Rattle.std.specs.Prelude.{Option}
-use Rattle.std.specs.Io.KnownBytes.{Appends}
+use Rattle.std.specs.{Io.KnownBytes.Appends, Prelude.Option}
 use Rattle.lra_threads_fixpoint.proofs.FlagLemmas.{settles}
 use Rattle.lra_threads_analysis.specs.Found.{IsThreadResultOf, thread_finding}
 use Rattle.lra_threads_source.specs.ThreadsReports.{shared_program, threads_plan}
-use Rattle.lra_threads_source.proofs.Sound.{threads_sound}
-use Rattle.lra_threads_source.proofs.Strained.{unflagged_defined, flagged_strain}
-use Rattle.lra_command_line.specs.ParsedCommand.{Asks}
-use Rattle.lra_command_line.specs.declared.commands.Command.TheVariants.{Threads}
-use Rattle.lra_command_answers.specs.Statuses.{Ends, reported}
-use Rattle.lra_commands.specs.ThreadsAnswer.{AnswersThreads, IsThreadsAnswer}
-use Rattle.lra_commands.specs.Run.{IsInput, WritesAnswer}
-use Rattle.lra_commands.specs.OutputClaims.{WritesThreads}
-use Rattle.lra_commands.proofs.Certified.{not_refused}
-use Rattle.lra_commands.proofs.Ways.{asked_input}
-use Rattle.lra_command_answers.specs.declared.status.Status.{Status}
+use Rattle.lra_threads_source.proofs.{Sound.threads_sound, Strained.unflagged_defined, Strained.flagged_strain}
+use Rattle.lra_command_line.specs.{ParsedCommand.Asks, declared.commands.Command.TheVariants.Threads}
+use Rattle.lra_command_answers.specs.{Statuses.Ends, Statuses.reported, declared.status.Status.Status}
+use Rattle.lra_commands.specs.{OutputClaims.WritesThreads, Run.IsInput, Run.WritesAnswer, ThreadsAnswer.AnswersThreads, ThreadsAnswer.IsThreadsAnswer}
+use Rattle.lra_commands.proofs.{Certified.not_refused, Ways.asked_input}
 
 module _ (delay narrow : ℕ) where
   of_threads : (left held_old held_new : Option (List ℕ)) (bytes text : List ℕ) (status : Status) → IsInput left bytes

@@ -1,28 +1,17 @@
 -- From what a source of several threads deserves to how a call ends that answers it.
 use Rattle.std.proofs.Common.{◌≡◌, ◌≤◌, ◌<◌, ℕ, List, ◌++◌, length, take, subst, sym, arith, inl, inr}
+use Rattle.std.proofs.{lemmas.Grind.common_steps, lemmas.List.take-append-le}
 use Rattle.std.specs.Prelude.{Some}
-use Rattle.std.proofs.lemmas.Grind.{common_steps}
-use Rattle.std.proofs.lemmas.List.{take-append-le}
-use Rattle.lra_base.specs.declared.refusals.Cause.{Cause}
-use Rattle.lra_base.specs.declared.refusals.Cause.TheVariants.{TooLong}
-use Rattle.lra_base.specs.declared.refusals.Place.{Place}
-use Rattle.lra_base.specs.Places.{place_after, greatest_length}
-use Rattle.lra_syntax.specs.Trees.{FileTree}
-use Rattle.lra_syntax.specs.Grammar.{Spells}
+use Rattle.lra_base.specs.{Places.place_after, Places.greatest_length, declared.refusals.Cause.Cause, declared.refusals.Cause.TheVariants.TooLong, declared.refusals.Place.Place}
+use Rattle.lra_syntax.specs.{Grammar.Spells, Trees.FileTree}
 use Rattle.lra_resolution_spec.specs.RefuseThreads.{RefuseThreads, AcceptsThreads, NotParsed, too_long, bad_token, bad_text, unread, bad_tree}
-use Rattle.lra_report.specs.RefusalText.{refusal_text}
-use Rattle.lra_report.specs.ReportText.{unknown_count}
+use Rattle.lra_report.specs.{RefusalText.refusal_text, ReportText.unknown_count}
 use Rattle.lra_front_end.specs.ThreadsClaims.{HasThreadsRefusal}
 use Rattle.lra_front_end.proofs.ThreadsEachAnswer.{each_answer}
-use Rattle.lra_threads_source.specs.ThreadsText.{ThreadsReport, threads_text}
-use Rattle.lra_threads_source.specs.ThreadsReports.{IsThreadsReportOf}
-use Rattle.lra_command_answers.specs.Statuses.{Ends, reported, refused, source_statuses}
-use Rattle.lra_command_answers.proofs.Answering.{IsAnswering, small, past}
-use Rattle.lra_command_answers.proofs.ToldWays.{not_past}
-use Rattle.lra_command_answers.specs.declared.status.Status.{Status}
-use Rattle.lra_command_answers.specs.declared.status.Status.TheVariants.{Refused}
-use Rattle.lra_commands.specs.SourceAnswer.{report_status}
-use Rattle.lra_commands.specs.ThreadsAnswer.{IsThreadsAnswer, AnswersThreads, AllowedThreadsStatuses}
+use Rattle.lra_threads_source.specs.{ThreadsReports.IsThreadsReportOf, ThreadsText.ThreadsReport, ThreadsText.threads_text}
+use Rattle.lra_command_answers.specs.{Statuses.Ends, Statuses.reported, Statuses.refused, Statuses.source_statuses, declared.status.Status.Status, declared.status.Status.TheVariants.Refused}
+use Rattle.lra_command_answers.proofs.{Answering.IsAnswering, Answering.small, Answering.past, ToldWays.not_past}
+use Rattle.lra_commands.specs.{SourceAnswer.report_status, ThreadsAnswer.IsThreadsAnswer, ThreadsAnswer.AnswersThreads, ThreadsAnswer.AllowedThreadsStatuses}
 use Rattle.lra_commands.proofs.SourceWays.{report_ends}
 
 -- answers ------------------------------------------------------------------------

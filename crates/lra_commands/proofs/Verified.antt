@@ -1,27 +1,18 @@
 -- From what an input deserves that is verified to what is claimed of it.
 use Rattle.std.proofs.Common.{◌≡◌, ◌∙◌, ℕ, ℤ, List, length, subst, sym}
-use Rattle.std.specs.Prelude.{Option, None, Some, slice_get}
-use Rattle.std.specs.Io.KnownBytes.{Appends}
+use Rattle.std.specs.{Io.KnownBytes.Appends, Prelude.Option, Prelude.None, Prelude.Some, Prelude.slice_get}
 use Rattle.lra_linear_spec.specs.Descriptions.{LinearRow}
 use Rattle.lra_resolution_spec.specs.Resolve.{resolve}
-use Rattle.lra_program.specs.Program.{Program}
-use Rattle.lra_program.specs.Run.{At}
-use Rattle.lra_program.specs.Sites.{Site, sites_of}
+use Rattle.lra_program.specs.{Program.Program, Run.At, Sites.Site, Sites.sites_of}
 use Rattle.lra_operations.specs.Agree.{point_of}
 use Rattle.lra_certificate_spec.specs.Certificates.{Certificate, state_or_empty}
-use Rattle.lra_certificate_spec.specs.Claims.{VerifyAnswer, verified, source_refused, paths_refused, line_refused, VerifiesTo}
-use Rattle.lra_certificate_spec.specs.Claims.{IsVerified, RowsHoldAt, RowsHold}
-use Rattle.lra_certificate_spec.proofs.CertificatesHold.{certificates_hold}
-use Rattle.lra_command_line.specs.ParsedCommand.{Asks}
-use Rattle.lra_command_line.specs.declared.commands.Command.TheVariants.{Plain}
-use Rattle.lra_command_line.specs.declared.commands.PlainCommand.TheVariants.{Verify}
+use Rattle.lra_certificate_spec.specs.Claims.{VerifyAnswer, verified, source_refused, paths_refused, line_refused, VerifiesTo, IsVerified, RowsHoldAt, RowsHold}
+use Rattle.lra_certificate_spec.proofs.{CertificatesHold.certificates_hold, OneProgram.accepted_of}
+use Rattle.lra_command_line.specs.{ParsedCommand.Asks, declared.commands.Command.TheVariants.Plain, declared.commands.PlainCommand.TheVariants.Verify}
 use Rattle.lra_commands.specs.CertificateAnswer.{AnswersCertificate, verify_answer_text, answer_status, verified_text}
-use Rattle.lra_commands.specs.Run.{IsInput, WritesAnswer}
-use Rattle.lra_commands.specs.OutputClaims.{IsVerifiedInAllRuns, WritesVerified}
-use Rattle.lra_certificate_spec.proofs.OneProgram.{accepted_of}
+use Rattle.lra_commands.specs.{OutputClaims.IsVerifiedInAllRuns, OutputClaims.WritesVerified, Run.IsInput, Run.WritesAnswer}
 use Rattle.lra_commands.proofs.Ways.{asked_input}
-use Rattle.lra_command_answers.specs.declared.status.Status.{Status}
-use Rattle.lra_command_answers.specs.declared.status.Status.TheVariants.{Proved}
+use Rattle.lra_command_answers.specs.{declared.status.Status.Status, declared.status.Status.TheVariants.Proved}
 
 -- what holds in all runs --------------------------------------------------------------
 

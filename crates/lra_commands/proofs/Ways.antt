@@ -1,18 +1,13 @@
 -- From what words and their input deserve to what is made of them before the writing, and to the statuses of an answer.
 use Rattle.std.proofs.Common.{◌≡◌, ◌<◌, ℕ, List, ◌++◌, length, refl, sym, subst, inl, inr, ◌⊎◌, arith}
 use Rattle.std.specs.Prelude.{Option, Some, None, Result, Ok, Err}
-use Rattle.lra_command_line.specs.ParsedCommand.{Asks, AsksNone, AsksFor, IsRejected}
-use Rattle.lra_command_line.specs.declared.commands.Command.{Command}
+use Rattle.lra_command_line.specs.{ParsedCommand.Asks, ParsedCommand.AsksNone, ParsedCommand.AsksFor, ParsedCommand.IsRejected, declared.commands.Command.Command}
 use Rattle.lra_command_line.proofs.OneCommand.{one_asked, asks_not_none, asks_within}
-use Rattle.lra_command_answers.specs.Statuses.{Ends, refused, answered, source_statuses}
+use Rattle.lra_command_answers.specs.{Statuses.Ends, Statuses.refused, Statuses.answered, Statuses.source_statuses, declared.status.Status.Status, declared.status.Status.TheVariants.Usage}
 use Rattle.lra_commands.specs.Commands.{limit_of, AnswersInput, AllowedInputStatuses, IsTooLong, IsKnown, asked_limit, AllowedStatuses}
 use Rattle.lra_commands.specs.Run.{IsInput, IsAsked, usage_text, AnswersCommand, IsAnswerToWords, TakesBytes}
-use Rattle.lra_commands.specs.Prepared.{IsInputText, IsTaken, IsReadBy}
-use Rattle.lra_commands.proofs.Rows.{answering}
-use Rattle.lra_commands.proofs.Reading.{unread, read_as, whole_input, begun_input, some_input}
-use Rattle.lra_command_answers.specs.declared.status.Status.{Status}
-use Rattle.lra_command_answers.specs.declared.status.Status.TheVariants.{Usage}
-use Rattle.lra_commands.specs.declared.top_call.NoAnswer.{NoAnswer}
+use Rattle.lra_commands.specs.{Prepared.IsInputText, Prepared.IsTaken, Prepared.IsReadBy, declared.top_call.NoAnswer.NoAnswer}
+use Rattle.lra_commands.proofs.{Reading.unread, Reading.read_as, Reading.whole_input, Reading.begun_input, Reading.some_input, Rows.answering}
 use Rattle.lra_commands.specs.declared.top_call.NoAnswer.TheVariants as none
 
 -- a command's answer ------------------------------------------------------------------

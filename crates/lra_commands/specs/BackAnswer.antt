@@ -1,16 +1,14 @@
 -- What a source deserves that is gone back over from one of its assertions: what is left at each point of the stores
 -- from which that may fail, or its refusal. Assertions are asked for by the number of their point, from 1.
-use Rattle.std.specs.Prelude.{◌≡◌, ◌⊎◌, ℕ, suc, List, ◌++◌, codes, Bool, true, false}
 use Rattle.std.specs.Fmt.{decimal}
+use Rattle.std.specs.Prelude.{◌≡◌, ◌⊎◌, ℕ, suc, List, ◌++◌, codes, Bool, true, false}
 use Rattle.lra_row_text.specs.Texts.{text_line}
-use Rattle.lra_report.specs.BackText.{BackReport, back_text}
-use Rattle.lra_report.specs.RefusalText.{refusal_text}
+use Rattle.lra_report.specs.{BackText.BackReport, BackText.back_text, RefusalText.refusal_text}
+use Rattle.lra_back_source.specs.BackReports.{CanGoBack, IsBackReportOf, IsBackRefusalOf}
 use Rattle.lra_back_source.specs.declared.refusals.BackRefusal.{BackRefusal}
 use Rattle.lra_back_source.specs.declared.refusals.BackRefusal.TheVariants.{Source, NoAssertion, Paths}
-use Rattle.lra_back_source.specs.BackReports.{CanGoBack, IsBackReportOf, IsBackRefusalOf}
-use Rattle.lra_command_answers.specs.Statuses.{refused, reported}
-use Rattle.lra_command_answers.specs.declared.status.Status.{Status}
 use Rattle.lra_command_answers.specs.declared.status.Status.TheVariants.{Proved, Unknown, Refused}
+use Rattle.lra_command_answers.specs.{Statuses.refused, Statuses.reported, declared.status.Status.Status}
 
 -- the start is 0 among the sources of paths
 abbrev pub back_refused_text : ℕ → BackRefusal → List ℕ

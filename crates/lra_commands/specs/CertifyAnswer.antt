@@ -1,22 +1,19 @@
 -- What a source deserves that is to be certified: its certificate, or its refusal.
-use Rattle.std.specs.Prelude.{◌≡◌, ◌⊎◌, ℕ, suc, List, ◌++◌, codes}
 use Rattle.std.specs.Fmt.{decimal}
+use Rattle.std.specs.Prelude.{◌≡◌, ◌⊎◌, ℕ, suc, List, ◌++◌, codes}
 use Rattle.lra_row_text.specs.Texts.{text_line}
-use Rattle.lra_report.specs.Report.{Report}
-use Rattle.lra_report.specs.RefusalText.{refusal_text}
+use Rattle.lra_report.specs.{RefusalText.refusal_text, Report.Report}
 use Rattle.lra_front_end.specs.Claims.{HasRefusal}
 use Rattle.lra_paths.specs.Paths.{HasTooManyPaths}
 use Rattle.lra_certificate_spec.specs.Claims.{IsProgram, program_of}
 use Rattle.lra_certify.specs.declared.failures.StrainedAt.TheVariants.{Edge, Assertion}
 use Rattle.lra_analyse_source.specs.SourceReports.{IsAnalysisReport}
-use Rattle.lra_certify_source.specs.declared.refusals.CertifyRefusal.{CertifyRefusal}
-use Rattle.lra_certify_source.specs.declared.refusals.CertifyRefusal.TheVariants.{Source, Paths, Strained}
-use Rattle.lra_certify_source.specs.Settings.{certify_options}
 use Rattle.lra_certify_source.specs.Assertions.{unknown_assertions}
 use Rattle.lra_certify_source.specs.Certified.{IsCertificateOf, IsCertifyRefusalOf}
-use Rattle.lra_command_answers.specs.Statuses.{refused}
-use Rattle.lra_command_answers.specs.declared.status.Status.{Status}
+use Rattle.lra_certify_source.specs.declared.refusals.CertifyRefusal.TheVariants.{Source, Paths, Strained}
+use Rattle.lra_certify_source.specs.{Settings.certify_options, declared.refusals.CertifyRefusal.CertifyRefusal}
 use Rattle.lra_command_answers.specs.declared.status.Status.TheVariants.{Refused}
+use Rattle.lra_command_answers.specs.{Statuses.refused, declared.status.Status.Status}
 use Rattle.lra_commands.specs.SourceAnswer.{report_status}
 
 -- points are numbered from 1, and the start is 0 among the sources of paths

@@ -4,18 +4,16 @@ use Rattle.lra_base.specs.Places.{greatest_length}
 use Rattle.lra_command_line.specs.declared.commands.Command.{Command}
 use Rattle.lra_command_line.specs.declared.commands.Command.TheVariants.{Analyse, Sample, Back, Threads, Plain}
 use Rattle.lra_command_line.specs.declared.commands.PlainCommand.TheVariants.{Calc, Verify, Certify}
-use Rattle.lra_command_answers.specs.Statuses.{reported, refused, source_statuses}
 use Rattle.lra_command_answers.specs.SourceAnswers.{AllowedSourceStatuses}
-use Rattle.lra_commands.specs.SourceAnswer.{AnswersSource, written_report}
-use Rattle.lra_commands.specs.SampleAnswer.{AnswersSample}
-use Rattle.lra_commands.specs.ScriptAnswer.{AnswersScript, AllowedScriptStatuses, script_statuses}
-use Rattle.lra_certificate_spec.specs.Claims.{greatest_certificate}
+use Rattle.lra_command_answers.specs.Statuses.{reported, refused, source_statuses}
+use Rattle.lra_command_answers.specs.{declared.status.Status.Status, declared.status.Status.TheVariants.Usage}
+use Rattle.lra_commands.specs.BackAnswer.{AnswersBack, AllowedBackStatuses}
 use Rattle.lra_commands.specs.CertificateAnswer.{AnswersCertificate, AllowedCertificateStatuses, certificate_statuses}
 use Rattle.lra_commands.specs.CertifyAnswer.{AnswersCertify, AllowedCertifyStatuses}
-use Rattle.lra_commands.specs.BackAnswer.{AnswersBack, AllowedBackStatuses}
+use Rattle.lra_commands.specs.ScriptAnswer.{AnswersScript, AllowedScriptStatuses, script_statuses}
 use Rattle.lra_commands.specs.ThreadsAnswer.{AnswersThreads, AllowedThreadsStatuses}
-use Rattle.lra_command_answers.specs.declared.status.Status.{Status}
-use Rattle.lra_command_answers.specs.declared.status.Status.TheVariants.{Usage}
+use Rattle.lra_commands.specs.{SampleAnswer.AnswersSample, SourceAnswer.AnswersSource, SourceAnswer.written_report}
+use Rattle.lra_certificate_spec.specs.Claims.{greatest_certificate}
 
 -- the most bytes that a command takes of its input, where it reads it
 abbrev pub limit_of : Command → Option ℕ

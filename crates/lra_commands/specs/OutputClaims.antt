@@ -1,60 +1,40 @@
 -- What is claimed of the report that a call writes, and of what it says is verified.
-use Rattle.std.specs.Prelude.{◌≡◌, ◌≤◌, ℕ, suc, ℤ, List, [], length, map, Bool, false, IsTrue, Option, None, Some}
-use Rattle.std.specs.Prelude.{◌∷◌, pos, option_map, slice_get, Contains}
-use Rattle.std.specs.List.{AllByRecursion}
-use Rattle.std.specs.Io.KnownBytes.{Appends}
+use Rattle.std.specs.Prelude.{◌≡◌, ◌≤◌, ℕ, suc, ℤ, List, [], length, map, Bool, false, IsTrue, Option, None, Some, ◌∷◌}
+use Rattle.std.specs.Prelude.{pos, option_map, slice_get, Contains}
+use Rattle.std.specs.{Io.KnownBytes.Appends, List.AllByRecursion}
 use Rattle.lra_base.specs.declared.refusals.Place.{Place}
-use Rattle.lra_options.specs.declared.options.Domain.TheVariants.{Poly}
-use Rattle.lra_options.specs.declared.options.Options.{Options}
-use Rattle.lra_syntax.specs.Trees.{FileTree}
-use Rattle.lra_syntax.specs.Grammar.{Spells}
-use Rattle.lra_resolution_spec.specs.Refuse.{Accepts}
-use Rattle.lra_resolution_spec.specs.RefuseThreads.{AcceptsThreads}
-use Rattle.lra_resolution_spec.specs.Resolve.{resolve}
-use Rattle.lra_program.specs.Program.{Program}
-use Rattle.lra_program.specs.Run.{At, Fails}
-use Rattle.lra_program.specs.Sites.{Site, sites_of}
-use Rattle.lra_operations.specs.Tree.{Node}
-use Rattle.lra_operations.specs.Agree.{IsInlinedTree, point_of}
+use Rattle.lra_options.specs.{declared.options.Domain.TheVariants.Poly, declared.options.Options.Options}
+use Rattle.lra_syntax.specs.{Grammar.Spells, Trees.FileTree}
+use Rattle.lra_resolution_spec.specs.{Refuse.Accepts, RefuseThreads.AcceptsThreads, Resolve.resolve}
+use Rattle.lra_program.specs.{Program.Program, Run.At, Run.Fails, Sites.Site, Sites.sites_of}
+use Rattle.lra_operations.specs.{Agree.IsInlinedTree, Agree.point_of, Tree.Node}
 use Rattle.lra_linear_spec.specs.Descriptions.{LinearRow, Con}
 use Rattle.lra_domain.specs.Abstraction.{Abstraction}
 use Rattle.lra_front_end.specs.Stages.{HasConstants}
-use Rattle.lra_analysis_spec.specs.Plan.{plan_of}
-use Rattle.lra_analysis_spec.specs.Pass.{PassResult}
 use Rattle.lra_analysis_spec.specs.Analysis.{ExactIteration, IsSolution}
 use Rattle.lra_analysis_spec.specs.Operations.{exact_operations, lossy_operations}
-use Rattle.lra_analysis_spec.specs.Fits.{Judges, JudgesIf}
-use Rattle.lra_analysis_spec.specs.Accesses.{JudgesAccesses}
-use Rattle.lra_report.specs.Report.{Invariant, PointReport, Report, IsRight, IsSound}
-use Rattle.lra_report.specs.Parts.{HasSamePoints}
-use Rattle.lra_report.specs.ReportText.{unknown_count}
+use Rattle.lra_analysis_spec.specs.{Accesses.JudgesAccesses, Fits.Judges, Fits.JudgesIf, Pass.PassResult, Plan.plan_of}
 use Rattle.lra_report.specs.BackText.{BackReport, back_text}
-use Rattle.lra_report.specs.Listing.{Lists}
-use Rattle.lra_report_build.specs.AnalysisResults.{reported_all, reported_of}
-use Rattle.lra_sample.specs.Sample.{sample_source}
-use Rattle.lra_sample.specs.Summary.{summary_text}
+use Rattle.lra_report.specs.Report.{Invariant, PointReport, Report, IsRight, IsSound}
+use Rattle.lra_report.specs.{Listing.Lists, Parts.HasSamePoints, ReportText.unknown_count}
+use Rattle.lra_report_build.specs.{AnalysisResults.reported_all, AnalysisResults.reported_of, Shown.AreShown}
+use Rattle.lra_sample.specs.{Sample.sample_source, Summary.summary_text}
 use Rattle.lra_analyse_source.specs.SourceReports.{ForOptions, IsAnalysisReport}
 use Rattle.lra_certificate_spec.specs.Certificates.{ListedAssertion, Certificate}
 use Rattle.lra_certificate_spec.specs.Claims.{IsCertificate, greatest_certificate, program_of}
-use Rattle.lra_certify_source.specs.Settings.{certify_options}
-use Rattle.lra_certify_source.specs.Assertions.{unknown_assertions}
 use Rattle.lra_certify_source.specs.Certified.{IsCertificateOf, IsCertificateWith}
+use Rattle.lra_certify_source.specs.{Assertions.unknown_assertions, Settings.certify_options}
 use Rattle.lra_back_source.specs.BackReports.{ReportCoversFailingRuns, IsBackReportOf, IsDefinedBack, IsProvedAtFirst}
 use Rattle.lra_back_source.specs.BackReports.{StrainsAt}
-use Rattle.lra_report_build.specs.Shown.{AreShown}
-use Rattle.lra_threads_source.specs.ThreadsText.{ThreadsReport, threads_text}
 use Rattle.lra_threads_source.specs.ThreadsReports.{AreDefinedThreads, HoldsInInterleavings, IsThreadsReportOf}
-use Rattle.lra_threads_source.specs.ThreadsReports.{StrainsAtNumber}
-use Rattle.lra_threads_source.specs.ThreadsReports.{shared_program, threads_plan}
+use Rattle.lra_threads_source.specs.ThreadsReports.{StrainsAtNumber, shared_program, threads_plan}
+use Rattle.lra_threads_source.specs.ThreadsText.{ThreadsReport, threads_text}
 use Rattle.lra_threads_fixpoint.specs.Rounds.{AreThreadResults}
 use Rattle.lra_threads_analysis.specs.Found.{IsThreadResultOf}
 use Rattle.lra_command_line.specs.ParsedCommand.{default_options}
-use Rattle.lra_command_answers.specs.declared.status.Status.{Status}
-use Rattle.lra_command_answers.specs.declared.status.Status.TheVariants.{Proved}
-use Rattle.lra_commands.specs.SourceAnswer.{report_status}
+use Rattle.lra_command_answers.specs.{declared.status.Status.Status, declared.status.Status.TheVariants.Proved}
 use Rattle.lra_commands.specs.CertificateAnswer.{verified_text, AnswersCertificate}
-use Rattle.lra_commands.specs.BackAnswer.{back_status}
-use Rattle.lra_commands.specs.Run.{IsInput}
+use Rattle.lra_commands.specs.{BackAnswer.back_status, Run.IsInput, SourceAnswer.report_status}
 
 -- What `write` makes of a report that the input deserves under the options is written whole, and so it is with the
 -- input's bytes and this report.

@@ -1,14 +1,12 @@
 -- What the parts of `run` do: the one before the writing, and the whole.
-use Rattle.std.specs.Prelude.{◌≡◌, ◌⊎◌, ◌<◌, ℕ, List, length, Option, None, Some, Result, Ok, Err, IfOk, IsOk, IsErrOf}
 use Rattle.std.specs.Io.KnownBytes.{Appends, Keeps}
+use Rattle.std.specs.Prelude.{◌≡◌, ◌⊎◌, ◌<◌, ℕ, List, length, Option, None, Some, Result, Ok, Err, IfOk, IsOk, IsErrOf}
 use Rattle.lra_io.specs.Causes.{AppendsPart, Rose}
 use Rattle.lra_command_line.specs.declared.commands.Command.{Command}
-use Rattle.lra_commands.specs.Commands.{AnswersInput, asked_limit}
 use Rattle.lra_commands.specs.Run.{IsInput, IsAsked, IsAnswerToWords, IsRead, TakesBytes}
-use Rattle.lra_command_answers.specs.declared.status.Status.{Status}
+use Rattle.lra_commands.specs.{Commands.AnswersInput, Commands.asked_limit, declared.top_call.NoAnswer.NoAnswer}
 use Rattle.lra_command_answers.specs.declared.status.Status.TheVariants.{ReadFault, WriteFault, Memory}
-use Rattle.lra_command_answers.specs.declared.answer.Answer.{Answer}
-use Rattle.lra_commands.specs.declared.top_call.NoAnswer.{NoAnswer}
+use Rattle.lra_command_answers.specs.{declared.answer.Answer.Answer, declared.status.Status.Status}
 use Rattle.lra_commands.specs.declared.top_call.NoAnswer.TheVariants as none
 
 -- a text that the input of a command deserves with some status

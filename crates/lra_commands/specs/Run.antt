@@ -1,14 +1,12 @@
 -- What a call of `run` does, by its status.
-use Rattle.std.specs.Prelude.{◌≡◌, ◌≢◌, ◌≤◌, ◌<◌, ◌⊎◌, ◌+◌, ℕ, List, length, codes, Option, None, Some}
 use Rattle.std.specs.Io.KnownBytes.{Appends, Consumes, IsAtEnd}
-use Rattle.lra_io.specs.Causes.{AppendsPart, Rose}
-use Rattle.lra_io.specs.ReadErrors.{LosesPrefix}
+use Rattle.std.specs.Prelude.{◌≡◌, ◌≢◌, ◌≤◌, ◌<◌, ◌⊎◌, ◌+◌, ℕ, List, length, codes, Option, None, Some}
+use Rattle.lra_io.specs.{Causes.AppendsPart, Causes.Rose, ReadErrors.LosesPrefix}
 use Rattle.lra_row_text.specs.Texts.{text_line}
 use Rattle.lra_command_line.specs.ParsedCommand.{Asks, AsksFor, AsksNone}
 use Rattle.lra_command_line.specs.declared.commands.Command.{Command}
 use Rattle.lra_commands.specs.Commands.{AnswersInput}
-use Rattle.lra_command_answers.specs.declared.status.Status.{Status}
-use Rattle.lra_command_answers.specs.declared.status.Status.TheVariants.{Usage}
+use Rattle.lra_command_answers.specs.{declared.status.Status.Status, declared.status.Status.TheVariants.Usage}
 
 -- all bytes that are left of an input, where it tells them
 abbrev pub IsInput : Option (List ℕ) → List ℕ → Type 0

@@ -1,7 +1,6 @@
 -- What a sample deserves: what its source does, its report told in five lines.
 use Rattle.std.specs.Prelude.{ℕ, List}
-use Rattle.lra_sample.specs.Sample.{sample_source}
-use Rattle.lra_sample.specs.Summary.{summary_text}
+use Rattle.lra_sample.specs.{Sample.sample_source, Summary.summary_text}
 use Rattle.lra_command_line.specs.ParsedCommand.{default_options}
 use Rattle.lra_commands.specs.SourceAnswer.{AnswersSource}
 use Rattle.lra_command_answers.specs.declared.status.Status.{Status}

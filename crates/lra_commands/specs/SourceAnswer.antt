@@ -1,8 +1,7 @@
 -- What a source deserves: the text of its one refusal, or what is written of a report of it that tells an analysis.
 use Rattle.std.specs.Prelude.{◌≡◌, ℕ, zero, suc, List}
 use Rattle.lra_options.specs.declared.options.Options.{Options}
-use Rattle.lra_report.specs.Report.{Report}
-use Rattle.lra_report.specs.ReportText.{report_text, unknown_count}
+use Rattle.lra_report.specs.{Report.Report, ReportText.report_text, ReportText.unknown_count}
 use Rattle.lra_report_json.specs.ReportJson.{report_json}
 use Rattle.lra_analyse_source.specs.SourceReports.{IsAnalysisReport}
 use Rattle.lra_command_line.specs.declared.commands.Format.{Format}

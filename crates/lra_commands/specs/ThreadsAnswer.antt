@@ -1,19 +1,15 @@
 -- What a source of several threads deserves: the text of its one refusal, or of a report of what is found of them, by
 -- these two options of the iteration.
 use Rattle.std.specs.Prelude.{◌≡◌, ◌⊎◌, ℕ, List}
-use Rattle.lra_base.specs.declared.refusals.Cause.{Cause}
-use Rattle.lra_base.specs.declared.refusals.Place.{Place}
-use Rattle.lra_syntax.specs.Trees.{FileTree}
-use Rattle.lra_syntax.specs.Grammar.{Spells}
+use Rattle.lra_base.specs.{declared.refusals.Cause.Cause, declared.refusals.Place.Place}
+use Rattle.lra_syntax.specs.{Grammar.Spells, Trees.FileTree}
 use Rattle.lra_resolution_spec.specs.RefuseThreads.{RefuseThreads, AcceptsThreads}
-use Rattle.lra_report.specs.RefusalText.{refusal_text}
-use Rattle.lra_report.specs.ReportText.{unknown_count}
+use Rattle.lra_report.specs.{RefusalText.refusal_text, ReportText.unknown_count}
 use Rattle.lra_front_end.specs.ThreadsClaims.{HasThreadsRefusal}
-use Rattle.lra_threads_source.specs.ThreadsText.{ThreadsReport, threads_text}
 use Rattle.lra_threads_source.specs.ThreadsReports.{IsThreadsReportOf}
+use Rattle.lra_threads_source.specs.ThreadsText.{ThreadsReport, threads_text}
 use Rattle.lra_command_answers.specs.Statuses.{refused, reported}
-use Rattle.lra_command_answers.specs.declared.status.Status.{Status}
-use Rattle.lra_command_answers.specs.declared.status.Status.TheVariants.{Refused}
+use Rattle.lra_command_answers.specs.{declared.status.Status.Status, declared.status.Status.TheVariants.Refused}
 use Rattle.lra_commands.specs.SourceAnswer.{report_status}
 
 -- the text is that of the source's refusal as a program of several threads

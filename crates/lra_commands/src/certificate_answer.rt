@@ -1,6 +1,6 @@
 // What an input deserves that is to be a certificate.
-ghost use Rattle.std.specs.Prelude.{◌≡◌, ◌++◌, codes, IfOk, OnOk, string_bytes};
 ghost use Rattle.std.specs.Fmt.{decimal};
+ghost use Rattle.std.specs.Prelude.{◌≡◌, ◌++◌, codes, IfOk, OnOk, string_bytes};
 ghost use Rattle.lra_row_text.specs.Texts.{text_line};
 ghost use Rattle.lra_verify.specs.RefusalViews.{refusal_view};
 ghost use Rattle.lra_commands.specs.CertificateAnswer.{AnswersCertificate, verify_answer_text, verified_text};

@@ -1,8 +1,7 @@
 // One text or JSON, one report; one answer for each input that is to be a certificate; one refusal of a source that is
 // to be gone back over.
-ghost use Rattle.lra_commands.specs.BackAnswer.{OneBackRefusal};
 ghost use Rattle.lra_commands.specs.CertificateAnswer.{EachCertificateAnswer};
-ghost use Rattle.lra_commands.specs.SourceAnswer.{OneWrittenReport};
+ghost use Rattle.lra_commands.specs.{BackAnswer.OneBackRefusal, SourceAnswer.OneWrittenReport};
 
 /// Two reports that a source deserves under one list of options and that are written alike, in one format, are the
 /// same report.

@@ -2,10 +2,8 @@
 ghost use Rattle.std.specs.Prelude.{◌≡◌, ◌≤◌, IfOk};
 ghost use Rattle.lra_report.specs.ReportText.{unknown_count};
 ghost use Rattle.lra_report.specs.View as view;
-ghost use Rattle.lra_sample.specs.Sample.{sample_source};
-ghost use Rattle.lra_sample.specs.Summary.{summary_text};
-ghost use Rattle.lra_commands.specs.SourceAnswer.{report_status};
-ghost use Rattle.lra_commands.specs.SampleAnswer.{AnswersSample};
+ghost use Rattle.lra_sample.specs.{Sample.sample_source, Summary.summary_text};
+ghost use Rattle.lra_commands.specs.{SampleAnswer.AnswersSample, SourceAnswer.report_status};
 
 use crate::source_answer::status_of;
 use lra_analyse_source::analyse_source;

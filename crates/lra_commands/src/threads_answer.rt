@@ -3,8 +3,7 @@ ghost use Rattle.std.specs.Prelude.{◌≡◌, ◌<◌, ◌+◌, ◌^◌, length
 ghost use Rattle.lra_report.specs.ReportText.{unknown_count};
 ghost use Rattle.lra_threads_source.specs.ThreadsText as told;
 ghost use Rattle.lra_threads_source.specs.ThreadsView.{threads_report_of};
-ghost use Rattle.lra_commands.specs.SourceAnswer.{report_status};
-ghost use Rattle.lra_commands.specs.ThreadsAnswer.{AnswersThreads};
+ghost use Rattle.lra_commands.specs.{SourceAnswer.report_status, ThreadsAnswer.AnswersThreads};
 
 use crate::source_answer::status_by;
 use lra_base::SourceError;

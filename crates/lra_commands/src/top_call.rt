@@ -1,24 +1,20 @@
 // The top call.
 ghost use Rattle.std.specs.Prelude.{◌≡◌, ◌≢◌, ◌≤◌, ◌<◌, ◌+◌, ◌^◌, ◌⊎◌, ℕ, List, Option, length, map, string_bytes};
-ghost use Rattle.std.specs.Prelude.{IfOk, Some};
-ghost use Rattle.std.specs.Io.KnownBytes.{Keeps};
+ghost use Rattle.std.specs.{Io.KnownBytes.Keeps, Prelude.IfOk, Prelude.Some};
 ghost use Rattle.lra_io.specs.Causes.{AppendsPart, Rose};
-ghost use Rattle.lra_command_line.specs.declared.commands.Command.{Command};
+ghost use Rattle.lra_command_line.specs.ParsedCommand.{Asks, AsksNone, IsRejected, IsWithinRanges};
 ghost use Rattle.lra_command_line.specs.declared.commands.Command.TheVariants.{Analyse, Sample, Back, Threads, Plain};
 ghost use Rattle.lra_command_line.specs.declared.commands.PlainCommand.TheVariants.{Certify, Verify};
-ghost use Rattle.lra_command_line.specs.declared.commands.Format.{Format};
-ghost use Rattle.lra_command_line.specs.ParsedCommand.{Asks, AsksNone, IsRejected, IsWithinRanges};
+ghost use Rattle.lra_command_line.specs.{declared.commands.Command.Command, declared.commands.Format.Format};
 ghost use Rattle.lra_options.specs.declared.options.Options.{Options};
 ghost use Rattle.lra_command_answers.specs.Statuses.{Ends, reported, answered, silent, faults};
-ghost use Rattle.lra_commands.specs.SourceAnswer.{written_report};
 ghost use Rattle.lra_commands.specs.Commands.{limit_of, asked_limit, AllowedStatuses};
-ghost use Rattle.lra_commands.specs.Run.{usage_text, IsAsked, IsAnswerToWords, WritesAnswer, WritesPrefix, IsRead};
-ghost use Rattle.lra_commands.specs.Run.{RisesAtFault};
 ghost use Rattle.lra_commands.specs.OutputClaims.{WritesReport, HoldsInAllRuns, IsWrittenUnlessFlagged};
-ghost use Rattle.lra_commands.specs.OutputClaims.{ReportsAccesses, ReportsFits, ReportsSamePoints};
-ghost use Rattle.lra_commands.specs.OutputClaims.{WritesBack, WritesCertificate, WritesSummary, WritesThreads};
-ghost use Rattle.lra_commands.specs.OutputClaims.{WritesVerified};
+ghost use Rattle.lra_commands.specs.OutputClaims.{ReportsAccesses, ReportsFits, ReportsSamePoints, WritesBack};
+ghost use Rattle.lra_commands.specs.OutputClaims.{WritesCertificate, WritesSummary, WritesThreads, WritesVerified};
 ghost use Rattle.lra_commands.specs.Prepared.{IsInputText, IsTaken, IsReadBy, PrepareCause, Ending};
+ghost use Rattle.lra_commands.specs.Run.{usage_text, IsAsked, IsAnswerToWords, WritesAnswer, WritesPrefix, IsRead};
+ghost use Rattle.lra_commands.specs.{Run.RisesAtFault, SourceAnswer.written_report};
 
 use crate::commands::{answer_command, limit_of};
 use lra_command_answers::{Answer, Status};

@@ -1,31 +1,19 @@
 -- The step without a line across, from the pairs and their combinations to the new rays.
-use Rattle.std.proofs.Common.{◌≡◌, ℕ, zero, suc, ◌<◌, Bool, true, false, cond, not, List, [], ◌∷◌, ◌++◌, length, get_or, map, replicate, refl, ap, sym, ◌∙◌, subst, arith, pos, ℤ, neg_ℤ, ◌<ℤ◌}
-use Rattle.std.proofs.Common.{inl, inr}
-use Rattle.std.specs.List.{Contains, filter}
-use Rattle.std.specs.Ordering.{int_eq}
-use Rattle.std.specs.Prelude.{◌&&◌}
-use Rattle.std.proofs.lemmas.Bool.Decides.{Decides-int_eq}
-use Rattle.std.proofs.lemmas.List.{get_or-map, length-map, get_or_default}
+use Rattle.std.proofs.Common.{◌≡◌, ℕ, zero, suc, ◌<◌, Bool, true, false, cond, not, List, [], ◌∷◌, ◌++◌, length, get_or, map, replicate, refl, ap, sym, ◌∙◌, subst, arith, pos, ℤ, neg_ℤ, ◌<ℤ◌, inl}
 use Rattle.std.proofs.lemmas.List.Elements.{Contains-append_cases, Contains-append_left, Contains-append_right, Contains-get_or}
-use Rattle.lra_bits.specs.Matrix.{unmarked}
-use Rattle.lra_bits.specs.TruthValues.{IsSubset, both}
+use Rattle.std.proofs.{Common.inr, lemmas.Bool.Decides.Decides-int_eq, lemmas.List.get_or-map, lemmas.List.length-map, lemmas.List.get_or_default}
+use Rattle.std.specs.{List.Contains, List.filter, Ordering.int_eq, Prelude.◌&&◌}
+use Rattle.lra_bits.specs.{Matrix.unmarked, TruthValues.IsSubset, TruthValues.both}
 use Rattle.lra_linear_spec.specs.Vectors.{entry, dot, product, blend}
-use Rattle.lra_linear_spec.specs.Cones.{all_rows, AreDual}
-use Rattle.lra_linear_spec.specs.LowestTerms.{IsLowest}
-use Rattle.lra_linear_spec.specs.Canonical.{IsCanonical}
-use Rattle.lra_linear_spec.proofs.DoubleDescription.{pair}
-use Rattle.lra_linear_spec.specs.Descriptions.{LinearRow, system_of}
-use Rattle.lra_linear_spec.proofs.Saturation.{NotAdjacent}
-use Rattle.lra_linear_spec.proofs.CanonicalForms.{no_repeat}
+use Rattle.lra_linear_spec.specs.{Canonical.IsCanonical, Cones.all_rows, Cones.AreDual, Descriptions.LinearRow, Descriptions.system_of, LowestTerms.IsLowest}
 use Rattle.lra_linear_spec.proofs.Membership.{NoRepeat, contains_none, contains_cases, contains_head, contains_tail, filter_has, filter_from}
-use Rattle.lra_double_description.specs.declared.pairs.Pair.{Pair}
-use Rattle.lra_cone.specs.Cones.{tight_values, saturation_rows}
-use Rattle.lra_double_description.specs.Steps.{is_inside, outside_marks}
+use Rattle.lra_linear_spec.proofs.{CanonicalForms.no_repeat, DoubleDescription.pair, Saturation.NotAdjacent}
 use Rattle.lra_double_description.specs.Pairs.{HasThird, both_tight, IsAdjacentPair, AreApart, ArePairs, pair_sum, AreCombined, pair_tight_rows}
-use Rattle.lra_double_description.proofs.PairLists.{inside_yes, inside_said}
-use Rattle.lra_double_description.proofs.Cuts.{above_inside, below_inside}
-use Rattle.lra_cone.proofs.TightRows.{subset_said, subset_from, row_at, rows_length, with_has, with_later, values_end}
+use Rattle.lra_double_description.specs.{Steps.is_inside, Steps.outside_marks, declared.pairs.Pair.Pair}
+use Rattle.lra_cone.specs.Cones.{tight_values, saturation_rows}
+use Rattle.lra_double_description.proofs.{Cuts.above_inside, Cuts.below_inside, PairLists.inside_yes, PairLists.inside_said}
 use Rattle.lra_cone.proofs.RayCase.{IsAdjacentSum, RayCase, none_between, same_two, sum_flat, sum_tight, tight_sum_of}
+use Rattle.lra_cone.proofs.TightRows.{subset_said, subset_from, row_at, rows_length, with_has, with_later, values_end}
 
 -- ---- the rays that are not marked
 none_marked : {A : Type 0} (n : ℕ) (xs : List A) → unmarked (replicate n false) xs ≡ xs

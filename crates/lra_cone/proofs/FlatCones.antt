@@ -1,15 +1,11 @@
 -- What is told of a cone's lists with a line across.
 use Rattle.std.proofs.Common.{◌≡◌, ℕ, ◌<◌, Bool, List, [], length, get_or, map, take, refl, pos, ℤ, inl, inr}
 use Rattle.lra_linear_spec.specs.Vectors.{product}
-use Rattle.lra_double_description.specs.declared.line_step.Across.{Across}
-use Rattle.lra_double_description.specs.declared.strained.Family.TheVariants.{Lines, Rays}
+use Rattle.lra_double_description.specs.Strains.{IsFlatteningError}
+use Rattle.lra_double_description.specs.{Steps.IsTurned, declared.line_step.Across.Across, declared.strained.Family.TheVariants.Lines, declared.strained.Family.TheVariants.Rays}
 use Rattle.lra_double_description.specs.declared.strained.ConeError as C
 use Rattle.lra_double_description.specs.declared.strained.ConeError.TheVariants as of_cone
-use Rattle.lra_cone.specs.Cones.{ConeContent, IsCone}
-use Rattle.lra_double_description.specs.Steps.{IsTurned}
-use Rattle.lra_double_description.specs.Strains.{IsFlatteningError}
-use Rattle.lra_cone.specs.Strains.{IsConeError}
-use Rattle.lra_cone.specs.Flat.{IsFlatError}
+use Rattle.lra_cone.specs.{Cones.ConeContent, Cones.IsCone, Flat.IsFlatError, Strains.IsConeError}
 use Rattle.lra_cone.proofs.StrainLemmas.{turned_at, flat_front_error, flat_rays_error}
 
 pub flat_lines_told : (s : ConeContent) (place : ℕ) (of_lines of_rays : List ℤ) (line : Across) (e : C.ConeError) → IsTurned (get_or s.lines place []) place (get_or of_lines place (pos 0)) line →

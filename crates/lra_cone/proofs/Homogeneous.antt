@@ -3,11 +3,7 @@
 use Rattle.std.proofs.Common.{List, [], ap, arith, inl, inr, length, neg_ℤ, negsuc, pos, refl, suc, zero, ℕ, ℤ, ◌*ℤ◌, ◌+ℤ◌, ◌<◌, ◌∙◌, ◌∷◌, ◌≡◌, ◌⊎◌, sym}
 use Rattle.std.proofs.lemmas.Int.{ints}
 use Rattle.lra_linear_spec.specs.Vectors.{dot, entry, zeros}
-use Rattle.lra_linear_spec.proofs.Lines.{zeros_length}
-use Rattle.lra_linear_spec.proofs.OneSpelling.{dot_zeros}
-use Rattle.lra_linear_spec.proofs.Products.{dot_linear}
-use Rattle.lra_linear_spec.proofs.Ring.{ring, v, ⊖, ◌⊕◌, ◌⊗◌}
-use Rattle.lra_linear_spec.proofs.Signs.{no_product, not_both}
+use Rattle.lra_linear_spec.proofs.{Lines.zeros_length, OneSpelling.dot_zeros, Products.dot_linear, Ring.ring, Ring.v, Ring.⊖, Ring.◌⊕◌, Ring.◌⊗◌, Signs.no_product, Signs.not_both}
 
 -- ---- numbers other than 0
 pub zero_or : (z : ℤ) → (z ≡ pos 0) ⊎ ¬ (z ≡ pos 0)

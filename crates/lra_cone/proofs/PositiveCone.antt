@@ -1,35 +1,16 @@
 -- The positivity row is taken into the whole space without a strain.
 use Rattle.std.proofs.Common.{◌≡◌, ◌∙◌, ℕ, zero, suc, ◌+◌, ◌<◌, ◌≤◌, ◌⊎◌, inl, inr, ℤ, pos, neg_ℤ, ◌+ℤ◌, ◌*ℤ◌, ◌<ℤ◌, Bool, true, false, cond, List, [], ◌∷◌, ◌++◌, map, ap, refl, subst, sym, arith}
-use Rattle.std.proofs.Common.{Result, Ok, Err, unsigned_abs}
+use Rattle.std.proofs.{Common.Result, Common.Ok, Common.Err, Common.unsigned_abs, lemmas.Int.ints, lemmas.List.append-nil}
 use Rattle.std.specs.List.{Contains}
-use Rattle.std.proofs.lemmas.Int.{ints}
-use Rattle.std.proofs.lemmas.List.{append-nil}
-use Rattle.lra_linear_spec.specs.declared.Excess.{Excess}
-use Rattle.lra_linear_spec.specs.CheckedArithmetic.{checked_product, checked_product_from}
-use Rattle.lra_linear_spec.specs.ConeStrain.{row_limit}
-use Rattle.lra_linear_spec.specs.Cones.{both_ways}
-use Rattle.lra_linear_spec.specs.Descriptions.{LinearRow}
-use Rattle.lra_linear_spec.specs.OperationStrain.{unit_row}
-use Rattle.lra_linear_spec.specs.Range.{InRange, in_range}
-use Rattle.lra_linear_spec.specs.Vectors.{dot, entry, negated, product, zeros}
-use Rattle.lra_linear_spec.proofs.CanonicalForms.{too_many}
-use Rattle.lra_linear_spec.proofs.CheckedArithmetic.{in_range_yes}
-use Rattle.lra_linear_spec.proofs.DoubleDescription.{Flat, Flats, LineCase}
-use Rattle.lra_linear_spec.proofs.Lines.{signed_from}
-use Rattle.lra_linear_spec.proofs.LowestTerms.{primitive_at}
-use Rattle.lra_linear_spec.proofs.Membership.{contains_none, map_from}
-use Rattle.lra_linear_spec.proofs.Products.{entry_negated, negated_twice}
-use Rattle.lra_linear_spec.proofs.Ring.{ring, v, ◌⊕◌, ◌⊗◌}
-use Rattle.lra_double_description.specs.declared.strained.Family.TheVariants.{Lines, Rays}
-use Rattle.lra_double_description.specs.declared.strained.Family.{Family}
-use Rattle.lra_double_description.specs.declared.strained.Strained.{Strained}
-use Rattle.lra_double_description.specs.declared.strained.Strained.TheVariants.{Product, Pair, TooMany}
+use Rattle.lra_linear_spec.specs.{CheckedArithmetic.checked_product, CheckedArithmetic.checked_product_from, ConeStrain.row_limit, Cones.both_ways, Descriptions.LinearRow, OperationStrain.unit_row}
+use Rattle.lra_linear_spec.specs.{Range.InRange, Range.in_range, Vectors.dot, Vectors.entry, Vectors.negated, Vectors.product, Vectors.zeros, declared.Excess.Excess}
 use Rattle.lra_linear_spec.proofs.UnitRows.{unit_here, unit_length, unit_other}
-use Rattle.lra_cone.specs.Cones.{columns_from, unit_lines, whole_space}
-use Rattle.lra_cone.specs.Strains.{IsMember, IsStrain}
-use Rattle.lra_cone.proofs.StrainLemmas.{place_in}
-use Rattle.lra_cone.proofs.Stepped.{line_canonical, line_met}
-use Rattle.lra_cone.proofs.WholeSpace.{dot_unit, whole_cone}
+use Rattle.lra_linear_spec.proofs.{CanonicalForms.too_many, CheckedArithmetic.in_range_yes, DoubleDescription.Flat, DoubleDescription.Flats, DoubleDescription.LineCase, Lines.signed_from}
+use Rattle.lra_linear_spec.proofs.{LowestTerms.primitive_at, Membership.contains_none, Membership.map_from, Products.entry_negated, Products.negated_twice, Ring.ring, Ring.v, Ring.◌⊕◌, Ring.◌⊗◌}
+use Rattle.lra_double_description.specs.declared.strained.Strained.TheVariants.{Product, Pair, TooMany}
+use Rattle.lra_double_description.specs.{declared.strained.Family.Family, declared.strained.Family.TheVariants.Lines, declared.strained.Family.TheVariants.Rays, declared.strained.Strained.Strained}
+use Rattle.lra_cone.specs.{Cones.columns_from, Cones.unit_lines, Cones.whole_space, Strains.IsMember, Strains.IsStrain}
+use Rattle.lra_cone.proofs.{Stepped.line_canonical, Stepped.line_met, StrainLemmas.place_in, WholeSpace.dot_unit, WholeSpace.whole_cone}
 
 -- ---- products
 both_in : (a b : Bool) (r : Result ℤ Excess) (e f : Excess) → a ≡ true → b ≡ true → cond {A = Result ℤ Excess} a (cond {A = Result ℤ Excess} b r (Err e)) (Err f) ≡ r

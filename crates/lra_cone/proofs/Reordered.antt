@@ -1,13 +1,10 @@
 -- Canonical descriptions whose rays stand in another order.
 use Rattle.std.proofs.Common.{ℕ, List, ◌∷◌, ◌++◌, neg_ℤ, sym, subst, ℤ, inl, inr}
-use Rattle.std.specs.List.{Contains}
 use Rattle.std.proofs.lemmas.List.Elements.{Contains-append_cases, Contains-append_left, Contains-append_right}
-use Rattle.lra_linear_spec.specs.Vectors.{entry}
-use Rattle.lra_linear_spec.specs.Cones.{both_ways, all_rows, AreDual}
-use Rattle.lra_linear_spec.specs.Canonical.{IsCanonical}
-use Rattle.lra_linear_spec.proofs.Combinations.{generated_row}
-use Rattle.lra_linear_spec.proofs.LinearMaps.{generated_through}
+use Rattle.std.specs.List.{Contains}
+use Rattle.lra_linear_spec.specs.{Canonical.IsCanonical, Cones.both_ways, Cones.all_rows, Cones.AreDual, Vectors.entry}
 use Rattle.lra_linear_spec.proofs.Membership.{NoRepeat, Split, contains_head, contains_tail, contains_split}
+use Rattle.lra_linear_spec.proofs.{Combinations.generated_row, LinearMaps.generated_through}
 use Rattle.lra_cone.proofs.RayCase.{other_place, beside_place, rows_same}
 
 pub same_rows : (lines rays others : List (List ℤ)) → ((t : List ℤ) → Contains rays t → Contains others t) → (t : List ℤ) → Contains (all_rows lines rays) t → Contains (all_rows lines others) t

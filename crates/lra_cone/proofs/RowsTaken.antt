@@ -1,21 +1,14 @@
 -- Rows taken in one by one: what is told of the losses stays so as further rows come.
 use Rattle.std.proofs.Common.{◌≡◌, ℕ, suc, ◌<◌, ◌+◌, List, [], ◌∷◌, ◌++◌, length, get_or, take, refl, ap, sym, ◌∙◌, subst, ℤ, Bool, inl, inr}
-use Rattle.std.specs.List.{Contains}
 use Rattle.std.proofs.lemmas.List.{append_assoc, append-nil}
 use Rattle.std.proofs.lemmas.List.Elements.{Contains-append_cases, Contains-append_left, Contains-append_right}
-use Rattle.lra_linear_spec.specs.declared.Cause.{Cause}
+use Rattle.std.specs.List.{Contains}
 use Rattle.lra_linear_spec.specs.declared.Cause.TheVariants.{Excess, TooMany}
-use Rattle.lra_linear_spec.specs.Descriptions.{LinearRow, system_of}
-use Rattle.lra_linear_spec.specs.Strain.{Loss, Strains, IsStrained}
-use Rattle.lra_linear_spec.specs.Cones.{AreDual, all_rows}
+use Rattle.lra_linear_spec.specs.{Cones.AreDual, Cones.all_rows, Descriptions.LinearRow, Descriptions.system_of, Strain.Loss, Strain.Strains, Strain.IsStrained, declared.Cause.Cause}
 use Rattle.lra_systems.specs.LinearSystems.{rows_by_kind}
-use Rattle.lra_double_description.specs.declared.strained.Strained.{Strained}
+use Rattle.lra_double_description.specs.{Strains.cause_of, declared.strained.Strained.Strained}
 use Rattle.lra_double_description.specs.declared.strained.ConeError.TheVariants as of_cone
-use Rattle.lra_cone.specs.Cones.{ConeContent, IsCone}
-use Rattle.lra_double_description.specs.Strains.{cause_of}
-use Rattle.lra_cone.specs.Strains.{IsConeError}
-use Rattle.lra_cone.specs.Losses.{IfLost}
-use Rattle.lra_cone.specs.Conversions.{AreTried, IsConversion}
+use Rattle.lra_cone.specs.{Cones.ConeContent, Cones.IsCone, Conversions.AreTried, Conversions.IsConversion, Losses.IfLost, Strains.IsConeError}
 use Rattle.lra_cone.proofs.StrainLemmas.{ConeStrains, strain_cause}
 use Rattle.lra_systems.proofs.LinearRows.{given_pushed}
 

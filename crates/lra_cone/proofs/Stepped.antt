@@ -1,38 +1,22 @@
 -- The cone after a step: both cases give the canonical description of the rows with the one taken in, and its matrix.
 use Rattle.std.proofs.Common.{◌≡◌, ℕ, suc, ◌<◌, ◌≤◌, Bool, true, false, cond, not, List, [], ◌∷◌, ◌++◌, length, get_or, map, replicate, refl, ap, sym, ◌∙◌, subst, arith, pos, ℤ, neg_ℤ, ◌<ℤ◌, ◌≤ℤ◌}
-use Rattle.std.proofs.Common.{inl, inr, ◌⊎◌}
-use Rattle.std.specs.Ordering.{int_eq}
-use Rattle.std.specs.List.{Contains, All}
-use Rattle.std.specs.Prelude.{Some, None}
 use Rattle.std.proofs.lemmas.List.{get_or-map, length-map, get_or_default, length-append, length-replicate}
-use Rattle.std.proofs.lemmas.Bool.Decides.{Decides-int_eq}
-use Rattle.std.proofs.lemmas.Int.{ints}
 use Rattle.std.proofs.lemmas.List.Elements.{Contains-append_cases, Contains-append_left, Contains-append_right, Contains-get_or}
+use Rattle.std.proofs.{Common.inl, Common.inr, Common.◌⊎◌, lemmas.Bool.Decides.Decides-int_eq, lemmas.Int.ints}
+use Rattle.std.specs.{List.Contains, List.All, Ordering.int_eq, Prelude.Some, Prelude.None}
 use Rattle.lra_bits.specs.Matrix.{Matrix, unmarked}
-use Rattle.lra_linear_spec.specs.Vectors.{product, negated}
 use Rattle.lra_linear_spec.specs.Cones.{all_rows, both_ways, with_row}
-use Rattle.lra_linear_spec.specs.Canonical.{IsCanonical}
-use Rattle.lra_linear_spec.specs.ConeStrain.{IsIntersection, row_limit}
-use Rattle.lra_linear_spec.proofs.DoubleDescription.{LineCase}
-use Rattle.lra_linear_spec.specs.Descriptions.{LinearRow, system_of}
-use Rattle.lra_linear_spec.proofs.FlatRows.{flats_from, member_primitive}
-use Rattle.lra_linear_spec.proofs.LineCase.{line_case_kept, line_case_dual}
-use Rattle.lra_linear_spec.proofs.Lines.{signed_from, in_lines, in_lines_negated}
+use Rattle.lra_linear_spec.specs.{Canonical.IsCanonical, ConeStrain.IsIntersection, ConeStrain.row_limit, Descriptions.LinearRow, Descriptions.system_of, Vectors.product, Vectors.negated}
 use Rattle.lra_linear_spec.proofs.Membership.{contains_cases, contains_head, contains_tail}
-use Rattle.lra_linear_spec.proofs.Products.{negated_length, dot_negated, negated_twice}
-use Rattle.lra_linear_spec.proofs.Signs.{between_opposites}
-use Rattle.lra_cone.specs.Cones.{ConeContent, IsCone, tight_values, saturation_rows, cone_saturation}
-use Rattle.lra_double_description.specs.declared.line_step.Across.{Across}
-use Rattle.lra_double_description.specs.declared.pairs.Pair.{Pair}
-use Rattle.lra_double_description.specs.declared.ray_step.Cut.{Cut}
-use Rattle.lra_double_description.specs.Steps.{IsLastAcross, IsTurned, AreFlatLines, AreFlatRays, lengthened_rows, flat_matrix, outside_marks, is_inside}
-use Rattle.lra_double_description.specs.Steps.{inside_count}
+use Rattle.lra_linear_spec.proofs.{DoubleDescription.LineCase, FlatRows.flats_from, FlatRows.member_primitive, LineCase.line_case_kept, LineCase.line_case_dual, Lines.signed_from, Lines.in_lines}
+use Rattle.lra_linear_spec.proofs.{Lines.in_lines_negated, Products.negated_length, Products.dot_negated, Products.negated_twice, Signs.between_opposites}
+use Rattle.lra_cone.specs.{Cones.ConeContent, Cones.IsCone, Cones.tight_values, Cones.saturation_rows, Cones.cone_saturation, Strains.TooManyRays}
 use Rattle.lra_double_description.specs.Pairs.{HaveOneWidth, IsAdjacentPair, ArePairs, AreCombined, pair_tight_rows, IsCut}
-use Rattle.lra_cone.specs.Strains.{TooManyRays}
-use Rattle.lra_cone.proofs.RayCase.{RayCase, system_same, new_canonical, new_met}
-use Rattle.lra_cone.proofs.TightRows.{values_end, rows_length, rows_append, rows_unmarked, row_at, values_length}
-use Rattle.lra_cone.proofs.Cutting.{inside_rays, unmarked_are, cut_case, pair_rows}
+use Rattle.lra_double_description.specs.Steps.{IsLastAcross, IsTurned, AreFlatLines, AreFlatRays, lengthened_rows, flat_matrix, outside_marks, is_inside, inside_count}
+use Rattle.lra_double_description.specs.{declared.line_step.Across.Across, declared.pairs.Pair.Pair, declared.ray_step.Cut.Cut}
 use Rattle.lra_cone.proofs.Taking.{to_end, from_end, line_case, flat_rows, values_line, kept_rows}
+use Rattle.lra_cone.proofs.TightRows.{values_end, rows_length, rows_append, rows_unmarked, row_at, values_length}
+use Rattle.lra_cone.proofs.{Cutting.inside_rays, Cutting.unmarked_are, Cutting.cut_case, Cutting.pair_rows, RayCase.RayCase, RayCase.system_same, RayCase.new_canonical, RayCase.new_met}
 
 abbrev pub taken_last : ConeContent → LinearRow → List (List ℤ) → List (List ℤ) → ConeContent
 taken_last s g lines rays = record { dims = s.dims; taken = s.taken ++ g ∷ []; lines = lines; rays = rays }

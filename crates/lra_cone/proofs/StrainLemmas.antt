@@ -1,44 +1,26 @@
 -- What is told of a row that is not taken in, from what the parts of a step tell.
 use Rattle.std.proofs.Common.{◌≡◌, ◌≢◌, ℕ, zero, suc, ◌+◌, ◌<◌, ◌≤◌, Bool, true, false, cond, List, [], ◌∷◌, ◌++◌, length, get_or, map, take, refl, ap, sym, ◌∙◌, subst, arith, pos, ℤ, neg_ℤ, ◌<ℤ◌}
-use Rattle.std.proofs.Common.{inl, inr, ◌⊎◌, int_lt, Ok, Err}
+use Rattle.std.proofs.{Common.inl, Common.inr, Common.◌⊎◌, Common.int_lt, Common.Ok, Common.Err, lemmas.Int.ints, lemmas.List.get_or-map, lemmas.List.get_or-take, lemmas.List.length-map}
+use Rattle.std.proofs.{lemmas.List.length-append, lemmas.List.Elements.Contains-append_left, lemmas.List.Elements.Contains-append_right, lemmas.List.Elements.Contains-get_or}
 use Rattle.std.specs.List.{Contains}
-use Rattle.std.proofs.lemmas.Int.{ints}
-use Rattle.std.proofs.lemmas.List.{get_or-map, get_or-take, length-map, length-append}
-use Rattle.std.proofs.lemmas.List.Elements.{Contains-append_left, Contains-append_right, Contains-get_or}
 use Rattle.lra_bits.specs.Matrix.{Matrix}
 use Rattle.lra_linear_spec.specs.declared.Excess as E
-use Rattle.lra_linear_spec.specs.Vectors.{entry, product, negated}
-use Rattle.lra_linear_spec.specs.CheckedArithmetic.{checked_blend}
-use Rattle.lra_linear_spec.specs.Cones.{all_rows, both_ways}
-use Rattle.lra_linear_spec.specs.ConeStrain.{HasTooMany, PairPasses, ProductPasses}
-use Rattle.lra_linear_spec.specs.declared.Cause.{Cause}
+use Rattle.lra_linear_spec.specs.{CheckedArithmetic.checked_blend, ConeStrain.HasTooMany, ConeStrain.PairPasses, ConeStrain.ProductPasses, Cones.all_rows, Cones.both_ways, Descriptions.LinearRow}
+use Rattle.lra_linear_spec.specs.{Echelon.IsEchelon, Vectors.entry, Vectors.product, Vectors.negated, declared.Cause.Cause}
 use Rattle.lra_linear_spec.specs.declared.Cause.TheVariants as cause
-use Rattle.lra_linear_spec.specs.Descriptions.{LinearRow}
-use Rattle.lra_linear_spec.specs.Echelon.{IsEchelon}
-use Rattle.lra_linear_spec.proofs.Combinations.{generated_row, generated_same}
-use Rattle.lra_linear_spec.proofs.LinearMaps.{generated_right}
-use Rattle.lra_linear_spec.proofs.Lines.{in_lines, in_lines_negated}
-use Rattle.lra_linear_spec.proofs.LowestTerms.{lowest_exists}
-use Rattle.lra_linear_spec.proofs.Membership.{contains_split}
-use Rattle.lra_linear_spec.proofs.Products.{entry_negated, dot_negated, negated_twice}
-use Rattle.lra_linear_spec.proofs.Signs.{not_both}
-use Rattle.lra_double_description.specs.declared.line_step.Across.{Across}
-use Rattle.lra_double_description.specs.declared.pairs.Pair as Q
-use Rattle.lra_double_description.specs.declared.strained.Family.{Family}
-use Rattle.lra_double_description.specs.declared.strained.Family.TheVariants.{Lines, Rays}
-use Rattle.lra_double_description.specs.declared.strained.Strained.{Strained}
-use Rattle.lra_double_description.specs.declared.strained.Strained.TheVariants.{Product, Pair, TooMany}
-use Rattle.lra_double_description.specs.declared.strained.ConeError as C
-use Rattle.lra_double_description.specs.declared.strained.ConeError.TheVariants as of_cone
-use Rattle.lra_cone.specs.Cones.{ConeContent, IsCone, saturation_rows, cone_saturation}
-use Rattle.lra_double_description.specs.Steps.{IsTurned, flattening, inside_count}
+use Rattle.lra_linear_spec.proofs.{Combinations.generated_row, Combinations.generated_same, LinearMaps.generated_right, Lines.in_lines, Lines.in_lines_negated, LowestTerms.lowest_exists}
+use Rattle.lra_linear_spec.proofs.{Membership.contains_split, Products.entry_negated, Products.dot_negated, Products.negated_twice, Signs.not_both}
 use Rattle.lra_double_description.specs.Pairs.{IsAdjacentPair, ArePairs, pair_sum, AreCombined}
 use Rattle.lra_double_description.specs.Strains.{cause_of, StandsAt, IsProductError, strained_pair, IsFlatteningError, NamesPair, IsCutError}
-use Rattle.lra_cone.specs.Strains.{IsMember, IsSignedMember, IsStrain, IsConeError}
-use Rattle.lra_double_description.proofs.Cuts.{above_inside, below_inside}
-use Rattle.lra_cone.proofs.Cutting.{inside_rays, cut_case}
-use Rattle.lra_double_description.proofs.PairLists.{less_said}
-use Rattle.lra_cone.proofs.Stepped.{turned_down, ray_met, ray_canonical, inside_length, combined_length}
+use Rattle.lra_double_description.specs.declared.strained.Family.TheVariants.{Lines, Rays}
+use Rattle.lra_double_description.specs.declared.strained.Strained.TheVariants.{Product, Pair, TooMany}
+use Rattle.lra_double_description.specs.{Steps.IsTurned, Steps.flattening, Steps.inside_count, declared.line_step.Across.Across, declared.strained.Family.Family, declared.strained.Strained.Strained}
+use Rattle.lra_double_description.specs.declared.pairs.Pair as Q
+use Rattle.lra_double_description.specs.declared.strained.ConeError as C
+use Rattle.lra_double_description.specs.declared.strained.ConeError.TheVariants as of_cone
+use Rattle.lra_cone.specs.{Cones.ConeContent, Cones.IsCone, Cones.saturation_rows, Cones.cone_saturation, Strains.IsMember, Strains.IsSignedMember, Strains.IsStrain, Strains.IsConeError}
+use Rattle.lra_double_description.proofs.{Cuts.above_inside, Cuts.below_inside, PairLists.less_said}
+use Rattle.lra_cone.proofs.{Cutting.inside_rays, Cutting.cut_case, Stepped.turned_down, Stepped.ray_met, Stepped.ray_canonical, Stepped.inside_length, Stepped.combined_length}
 
 -- ---- products
 pub product_lines : (s : ConeContent) (equal : Bool) (c : List ℤ) (rows : List (List ℤ)) (e : C.ConeError) → rows ≡ s.lines → IsProductError c rows Lines e → IsConeError s equal c e

@@ -1,7 +1,6 @@
 -- A row that was taken in, and is taken out again.
 use Rattle.std.proofs.Common.{◌≡◌, ◌∙◌, ◌-◌, ◌++◌, ◌∷◌, [], ℕ, ℤ, List, ap, arith, length, subst, sym, take}
-use Rattle.std.proofs.lemmas.List.{length-append}
-use Rattle.std.proofs.Math.Seq.{take-append_seam}
+use Rattle.std.proofs.{Math.Seq.take-append_seam, lemmas.List.length-append}
 use Rattle.lra_bits.specs.Matrix.{Matrix}
 use Rattle.lra_linear_spec.specs.declared.ConKind.{ConKind}
 use Rattle.lra_systems.specs.LinearSystems.{LinearSystem, constraints}

@@ -1,9 +1,7 @@
 -- What holds of a cone once a row was to be taken in, by what came of it.
 use Rattle.std.proofs.Common.{◌≡◌, ◌++◌, ◌∷◌, [], suc, ap, Result, Ok, Err}
 use Rattle.std.specs.Result.{OnErr, OnOk}
-use Rattle.lra_linear_spec.specs.Descriptions.{LinearRow}
-use Rattle.lra_linear_spec.specs.Cones.{all_rows}
-use Rattle.lra_linear_spec.specs.ConeStrain.{IsIntersection}
+use Rattle.lra_linear_spec.specs.{ConeStrain.IsIntersection, Cones.all_rows, Descriptions.LinearRow}
 use Rattle.lra_double_description.specs.declared.strained.ConeError.{ConeError}
 use Rattle.lra_cone.specs.Cones.{ConeContent, IsTakenIn}
 

@@ -1,24 +1,14 @@
 -- A row is taken in last: the system, the matrix, and the case of a line as the code makes it.
 use Rattle.std.proofs.Common.{◌≡◌, ℕ, zero, suc, ◌+◌, ◌<◌, ◌≤◌, Bool, true, false, List, [], ◌∷◌, ◌++◌, length, get_or, map, take, drop, replicate, refl, ap, sym, ◌∙◌, subst, arith, pos, ℤ, ◌+ℤ◌}
 use Rattle.std.proofs.Common.{◌*ℤ◌, neg_ℤ, ◌<ℤ◌, inl, inr, ◌⊎◌}
-use Rattle.std.specs.Ordering.{int_eq}
-use Rattle.std.specs.List.{Contains}
-use Rattle.std.proofs.lemmas.Bool.Decides.{Decides-int_eq}
-use Rattle.std.proofs.lemmas.List.{take-map, get_or_default}
-use Rattle.std.proofs.lemmas.List.Elements.{Contains-append_cases, Contains-append_left}
-use Rattle.lra_linear_spec.specs.Vectors.{entry, product, negated}
-use Rattle.lra_linear_spec.specs.LowestTerms.{IsPrimitive}
-use Rattle.lra_linear_spec.specs.Cones.{with_row}
-use Rattle.lra_linear_spec.proofs.DoubleDescription.{Flat, Flats, LineCase}
-use Rattle.lra_linear_spec.specs.Descriptions.{LinearRow, system_of}
-use Rattle.lra_linear_spec.proofs.FlatRows.{flat_dot}
-use Rattle.lra_linear_spec.proofs.Membership.{contains_none, contains_cases, contains_head, contains_tail}
-use Rattle.lra_linear_spec.proofs.Products.{dot_negated, dot_linear, dot_same, dot_scale}
-use Rattle.lra_linear_spec.proofs.Ring.{ring, v, ⊖, ◌⊕◌, ◌⊗◌}
-use Rattle.lra_linear_spec.proofs.Signs.{as_nat, positive_nat, no_product, no_factor, positive_is_nonnegative}
-use Rattle.lra_double_description.specs.declared.line_step.Across.{Across}
+use Rattle.std.proofs.{lemmas.Bool.Decides.Decides-int_eq, lemmas.List.take-map, lemmas.List.get_or_default, lemmas.List.Elements.Contains-append_cases, lemmas.List.Elements.Contains-append_left}
+use Rattle.std.specs.{List.Contains, Ordering.int_eq}
+use Rattle.lra_linear_spec.specs.{Cones.with_row, Descriptions.LinearRow, Descriptions.system_of, LowestTerms.IsPrimitive, Vectors.entry, Vectors.product, Vectors.negated}
+use Rattle.lra_linear_spec.proofs.{DoubleDescription.Flat, DoubleDescription.Flats, DoubleDescription.LineCase, FlatRows.flat_dot, Membership.contains_none, Membership.contains_cases}
+use Rattle.lra_linear_spec.proofs.{Membership.contains_head, Membership.contains_tail, Products.dot_negated, Products.dot_linear, Products.dot_same, Products.dot_scale, Ring.ring, Ring.v, Ring.⊖}
+use Rattle.lra_linear_spec.proofs.{Ring.◌⊕◌, Ring.◌⊗◌, Signs.as_nat, Signs.positive_nat, Signs.no_product, Signs.no_factor, Signs.positive_is_nonnegative}
+use Rattle.lra_double_description.specs.{Steps.IsTurned, Steps.IsFlattened, Steps.AreFlattened, Steps.AreFlatLines, Steps.AreFlatRays, Steps.lengthened_rows, declared.line_step.Across.Across}
 use Rattle.lra_cone.specs.Cones.{tight_values, saturation_rows}
-use Rattle.lra_double_description.specs.Steps.{IsTurned, IsFlattened, AreFlattened, AreFlatLines, AreFlatRays, lengthened_rows}
 use Rattle.lra_cone.proofs.TightRows.{with_has, with_later, values_end}
 
 -- ---- the system with the row at its end

@@ -1,19 +1,10 @@
 -- Which rows are tight at a ray, as truth values.
 use Rattle.std.proofs.Common.{◌≡◌, ℕ, zero, suc, ◌<◌, Bool, true, false, List, [], ◌∷◌, ◌++◌, length, get_or, refl, ap, sym, ◌∙◌, arith, pos, ℤ, neg_ℤ, inl, inr, ◌⊎◌}
-use Rattle.std.specs.Prelude.{◌&&◌}
-use Rattle.std.specs.Ordering.{int_eq}
-use Rattle.std.specs.List.{Contains}
-use Rattle.std.proofs.lemmas.Bool.Decides.{Decides-int_eq}
-use Rattle.std.proofs.lemmas.Int.{ints}
-use Rattle.lra_bits.specs.Matrix.{unmarked}
-use Rattle.lra_bits.specs.TruthValues.{IsSubset, both}
-use Rattle.lra_linear_spec.specs.Vectors.{entry, dot, product, negated}
-use Rattle.lra_linear_spec.specs.Cones.{with_row}
-use Rattle.lra_linear_spec.specs.Descriptions.{LinearRow, system_of}
-use Rattle.lra_linear_spec.proofs.Membership.{contains_cases, contains_head, contains_tail, contains_none}
-use Rattle.lra_linear_spec.proofs.Products.{negated_dot}
-use Rattle.lra_linear_spec.proofs.Widening.{zero_said}
-use Rattle.std.proofs.lemmas.Bool.{and_parts}
+use Rattle.std.proofs.{lemmas.Bool.and_parts, lemmas.Bool.Decides.Decides-int_eq, lemmas.Int.ints}
+use Rattle.std.specs.{List.Contains, Ordering.int_eq, Prelude.◌&&◌}
+use Rattle.lra_bits.specs.{Matrix.unmarked, TruthValues.IsSubset, TruthValues.both}
+use Rattle.lra_linear_spec.specs.{Cones.with_row, Descriptions.LinearRow, Descriptions.system_of, Vectors.entry, Vectors.dot, Vectors.product, Vectors.negated}
+use Rattle.lra_linear_spec.proofs.{Membership.contains_cases, Membership.contains_head, Membership.contains_tail, Membership.contains_none, Products.negated_dot, Widening.zero_said}
 use Rattle.lra_cone.specs.Cones.{tight_values, saturation_rows}
 
 pub zero_yes : (z : ℤ) → z ≡ pos 0 → int_eq z (pos 0) ≡ true

@@ -1,27 +1,14 @@
 -- The whole space, with the unit rows as its lines.
-use Rattle.std.proofs.Common.{◌≡◌, ℕ, zero, suc, ◌+◌, ◌-◌, ◌<◌, ◌≤◌, List, [], ◌∷◌, ◌++◌, length, map, slice_set, refl, ap, sym, ◌∙◌, subst, arith, pos, ℤ, ◌+ℤ◌, ◌*ℤ◌, ◌≤ℤ◌, ◌<ℤ◌}
-use Rattle.std.proofs.Common.{unsigned_abs, inl, inr, ◌⊎◌}
+use Rattle.std.proofs.Common.{◌≡◌, ℕ, zero, suc, ◌+◌, ◌-◌, ◌<◌, ◌≤◌, List, [], ◌∷◌, ◌++◌, length, map, slice_set, refl, ap, sym, ◌∙◌, subst, arith, pos, ℤ, ◌+ℤ◌, ◌*ℤ◌, ◌≤ℤ◌, ◌<ℤ◌, unsigned_abs, inl}
+use Rattle.std.proofs.{Common.inr, Common.◌⊎◌, lemmas.Bool.cases_lt, lemmas.Int.ints, lemmas.List.append_assoc}
 use Rattle.std.specs.List.{Contains}
-use Rattle.std.proofs.lemmas.Bool.{cases_lt}
-use Rattle.std.proofs.lemmas.Int.{ints}
-use Rattle.std.proofs.lemmas.List.{append_assoc}
-use Rattle.lra_linear_spec.specs.Vectors.{entry, dot, negated, zeros, behind_zero, units}
-use Rattle.lra_linear_spec.specs.Cones.{Generated, both_ways, all_rows, AreDual}
-use Rattle.lra_linear_spec.specs.Canonical.{IsCanonical}
-use Rattle.lra_linear_spec.specs.Descriptions.{LinearRow}
-use Rattle.lra_linear_spec.specs.Echelon.{Before, IsEchelon}
-use Rattle.lra_linear_spec.specs.OperationStrain.{unit_row}
-use Rattle.lra_linear_spec.proofs.Combinations.{generated_row}
-use Rattle.lra_linear_spec.proofs.LinearMaps.{generated_through}
+use Rattle.lra_linear_spec.specs.{Canonical.IsCanonical, Cones.Generated, Cones.both_ways, Cones.all_rows, Cones.AreDual, Descriptions.LinearRow, Echelon.Before, Echelon.IsEchelon}
+use Rattle.lra_linear_spec.specs.{OperationStrain.unit_row, Vectors.entry, Vectors.dot, Vectors.negated, Vectors.zeros, Vectors.behind_zero, Vectors.units}
 use Rattle.lra_linear_spec.proofs.Lines.{signed_from, in_lines, in_lines_negated, generated_described, whole_described}
-use Rattle.lra_linear_spec.proofs.LowestTerms.{primitive_at}
 use Rattle.lra_linear_spec.proofs.Membership.{contains_none, contains_cases, contains_head, contains_tail, split_none, map_has, map_from}
-use Rattle.lra_linear_spec.proofs.Products.{negated_dot, negated_length, entry_past}
-use Rattle.lra_linear_spec.proofs.Ring.{ring, v, ◌⊕◌, ◌⊗◌}
-use Rattle.lra_linear_spec.proofs.Signs.{between_opposites}
-use Rattle.lra_linear_spec.proofs.OneSpelling.{dot_zeros}
+use Rattle.lra_linear_spec.proofs.{Combinations.generated_row, LinearMaps.generated_through, LowestTerms.primitive_at, OneSpelling.dot_zeros, Products.negated_dot, Products.negated_length}
+use Rattle.lra_linear_spec.proofs.{Products.entry_past, Ring.ring, Ring.v, Ring.◌⊕◌, Ring.◌⊗◌, Signs.between_opposites, UnitRows.unit_here, UnitRows.unit_length, UnitRows.unit_other}
 use Rattle.lra_canonical.proofs.Solutions.{behind_zero_from}
-use Rattle.lra_linear_spec.proofs.UnitRows.{unit_here, unit_length, unit_other}
 use Rattle.lra_cone.specs.Cones.{IsCone, columns_from, unit_lines, whole_space}
 
 -- ---- unit rows

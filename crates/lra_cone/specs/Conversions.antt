@@ -1,10 +1,8 @@
 -- Conversions of lists: the cone of the rows that were taken in one by one.
-use Rattle.std.specs.Prelude.{◌≡◌, ◌⊎◌, ℕ, suc, List, [], ◌∷◌, ◌++◌}
 use Rattle.std.specs.List.{Contains}
-use Rattle.lra_linear_spec.specs.Strain.{Loss, Strains}
-use Rattle.lra_linear_spec.specs.Descriptions.{LinearRow}
-use Rattle.lra_cone.specs.Cones.{ConeContent}
-use Rattle.lra_cone.specs.Losses.{IfLost}
+use Rattle.std.specs.Prelude.{◌≡◌, ◌⊎◌, ℕ, suc, List, [], ◌∷◌, ◌++◌}
+use Rattle.lra_linear_spec.specs.{Descriptions.LinearRow, Strain.Loss, Strain.Strains}
+use Rattle.lra_cone.specs.{Cones.ConeContent, Losses.IfLost}
 
 -- Behind those taken in all these were tried in their order. Each was taken in, and is kept; or it was left out behind
 -- those that were taken in until then, which strain with it: so the next loss tells.

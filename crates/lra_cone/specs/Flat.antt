@@ -1,14 +1,13 @@
 -- What comes of a cone's lists with a line across: each other row is combined with that line.
 use Rattle.std.specs.Prelude.{◌≡◌, ◌⊎◌, ℕ, ℤ, pos, Bool, List, [], take, slice_index_or}
 use Rattle.lra_bits.specs.Matrix.{Matrix}
-use Rattle.lra_double_description.specs.declared.line_step.Across.{Across}
+use Rattle.lra_double_description.specs.Steps.{IsTurned, AreFlatLines, AreFlatRays, flat_matrix}
+use Rattle.lra_double_description.specs.Strains.{NamesFlattening}
 use Rattle.lra_double_description.specs.declared.strained.Family.TheVariants.{Lines, Rays}
-use Rattle.lra_double_description.specs.declared.strained.Strained.{Strained}
+use Rattle.lra_double_description.specs.{declared.line_step.Across.Across, declared.strained.Strained.Strained}
 use Rattle.lra_double_description.specs.declared.strained.ConeError as C
 use Rattle.lra_double_description.specs.declared.strained.ConeError.TheVariants as of_cone
 use Rattle.lra_cone.specs.Cones.{ConeContent, cone_saturation}
-use Rattle.lra_double_description.specs.Steps.{IsTurned, AreFlatLines, AreFlatRays, flat_matrix}
-use Rattle.lra_double_description.specs.Strains.{NamesFlattening}
 
 -- the lists and the matrix, by the products of a row with the lines and rays
 pub record AreFlat (equal : Bool) (s : ConeContent) (place : ℕ) (of_lines of_rays : List ℤ) (lines rays : List (List ℤ))

@@ -2,18 +2,15 @@
 -- many rays there would be.
 use Rattle.std.specs.Prelude.{◌≡◌, ℕ, suc, ◌⊎◌, neg_ℤ, ℤ, Bool, List, Err}
 use Rattle.lra_linear_spec.specs.declared.Excess as E
-use Rattle.lra_linear_spec.specs.Vectors.{product, negated}
-use Rattle.lra_linear_spec.specs.Cones.{all_rows}
 use Rattle.lra_linear_spec.specs.CheckedArithmetic.{checked_product, checked_blend}
 use Rattle.lra_linear_spec.specs.ConeStrain.{PairAcross, HasTooMany}
-use Rattle.lra_double_description.specs.declared.strained.Family.{Family}
+use Rattle.lra_linear_spec.specs.{Cones.all_rows, Vectors.product, Vectors.negated}
 use Rattle.lra_double_description.specs.declared.strained.Family.TheVariants.{Lines, Rays}
-use Rattle.lra_double_description.specs.declared.strained.Member.{Member}
-use Rattle.lra_double_description.specs.declared.strained.Strained.{Strained}
 use Rattle.lra_double_description.specs.declared.strained.Strained.TheVariants.{Product, Pair, TooMany}
+use Rattle.lra_double_description.specs.{Strains.StandsAt, declared.strained.Family.Family}
+use Rattle.lra_double_description.specs.{declared.strained.Member.Member, declared.strained.Strained.Strained}
 use Rattle.lra_double_description.specs.declared.strained.ConeError as C
 use Rattle.lra_double_description.specs.declared.strained.ConeError.TheVariants as of_cone
-use Rattle.lra_double_description.specs.Strains.{StandsAt}
 use Rattle.lra_cone.specs.Cones.{ConeContent}
 
 -- ---- places

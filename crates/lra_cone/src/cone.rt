@@ -1,23 +1,13 @@
 //! Cones.
 
-ghost use Rattle.std.specs.Prelude.{◌≡◌, ◌≢◌, ◌++◌, ◌∷◌, [], suc, pos, ◌<◌, ◌≤◌, slice_index_or};
-ghost use Rattle.std.specs.Prelude.{Some, length, map, IfOk, IfErr, OnOk, OnErr};
-ghost use Rattle.std.specs.List.{All};
-ghost use Rattle.lra_linear_spec.specs.Range.{InRange};
-ghost use Rattle.lra_linear_spec.specs.Vectors.{product};
-ghost use Rattle.lra_linear_spec.specs.Cones.{all_rows};
-ghost use Rattle.lra_linear_spec.specs.Descriptions.{inequality};
-ghost use Rattle.lra_linear_spec.specs.Polyhedra.{positivity};
-ghost use Rattle.lra_linear_spec.specs.ConeStrain.{IsIntersection};
-ghost use Rattle.lra_systems.specs.Dimensions.{too_many_dimensions};
-ghost use Rattle.lra_systems.specs.LinearSystems.{constraints};
-ghost use Rattle.lra_linear_spec.specs.Kinds.{is_equality};
+ghost use Rattle.std.specs.Prelude.{◌≡◌, ◌≢◌, ◌++◌, ◌∷◌, [], suc, pos, ◌<◌, ◌≤◌, slice_index_or, Some, length, map};
+ghost use Rattle.std.specs.{List.All, Prelude.IfOk, Prelude.IfErr, Prelude.OnOk, Prelude.OnErr};
+ghost use Rattle.lra_linear_spec.specs.{ConeStrain.IsIntersection, Cones.all_rows, Descriptions.inequality};
+ghost use Rattle.lra_linear_spec.specs.{Kinds.is_equality, Polyhedra.positivity, Range.InRange, Vectors.product};
+ghost use Rattle.lra_systems.specs.{Dimensions.too_many_dimensions, LinearSystems.constraints};
 ghost use Rattle.lra_cone.specs.Cones.{ConeContent, IsCone, IsTakenIn, cone_saturation, saturation_rows, whole_space};
-ghost use Rattle.lra_double_description.specs.Pairs.{IsCut};
-ghost use Rattle.lra_double_description.specs.Steps.{IsLastAcross};
-ghost use Rattle.lra_double_description.specs.Thirds.{FewHaveThird};
-ghost use Rattle.lra_cone.specs.Strains.{IsConeError};
-ghost use Rattle.lra_cone.specs.Flat.{AreFlat, IsFlatError};
+ghost use Rattle.lra_cone.specs.{Flat.AreFlat, Flat.IsFlatError, Strains.IsConeError};
+ghost use Rattle.lra_double_description.specs.{Pairs.IsCut, Steps.IsLastAcross, Thirds.FewHaveThird};
 
 use lra_bits::SatMatrix;
 use lra_canonical::remove_marked;

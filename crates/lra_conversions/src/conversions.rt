@@ -1,17 +1,14 @@
 //! Conversions of lists of constraints and of generators.
 
-ghost use Rattle.std.specs.Prelude.{◌≡◌, ◌≢◌, [], suc, map, ◌<◌, IfOk};
 ghost use Rattle.std.specs.List.{Contains};
+ghost use Rattle.std.specs.Prelude.{◌≡◌, ◌≢◌, [], suc, map, ◌<◌, IfOk};
 ghost use Rattle.lra_linear_spec.specs.Descriptions.{LinearRow, Con, Gen};
-ghost use Rattle.lra_linear_spec.specs.OperationStrain.{with_positivity};
 ghost use Rattle.lra_linear_spec.specs.Points.{IsWithin, SameSet};
-ghost use Rattle.lra_linear_spec.specs.Strain.{Strains};
+ghost use Rattle.lra_linear_spec.specs.{OperationStrain.with_positivity, Strain.Strains};
 ghost use Rattle.lra_systems.specs.Dimensions.{too_many_dimensions};
 ghost use Rattle.lra_systems.specs.LinearSystems.{constraints, generators, FitKinds};
 ghost use Rattle.lra_descriptions.specs.ShownLists.{AreGeneratorsOf, AreConstraintsOf, dual_kind};
-ghost use Rattle.lra_cone.specs.Cones.{ConeContent};
-ghost use Rattle.lra_cone.specs.Conversions.{AreTried, IsConversion};
-ghost use Rattle.lra_cone.specs.Losses.{IfLost};
+ghost use Rattle.lra_cone.specs.{Cones.ConeContent, Conversions.AreTried, Conversions.IsConversion, Losses.IfLost};
 ghost use Rattle.lra_description_pair.specs.TakenPoints.{AreTaken};
 
 use lra_cone::{Cone, Conversion, Loss, positive_cone, take_rows};

@@ -1,16 +1,10 @@
 -- What writing an entry does to a matrix.
 use Rattle.std.proofs.Common.{◌≡◌, ℕ, zero, suc, ◌+◌, ◌*◌, ◌-◌, ◌/◌, ◌%◌, ◌<◌, ◌≤◌, ◌⊎◌, inl, inr, ℤ, length, Option, None, refl, sym, ap, ◌∙◌, arith, get_or, cond}
-use Rattle.std.proofs.Math.ListN.{set, length-set}
-use Rattle.std.specs.Prelude.{nat_lt, slice_set}
 use Rattle.std.proofs.lemmas.List.{get_or-set_same, get_or-set_other}
-use Rattle.std.proofs.lemmas.Grind.{get_or-set_at}
-use Rattle.std.proofs.lemmas.Nat.{div-mul-add}
-use Rattle.std.proofs.lemmas.Bool.{lt-ltb}
-use Rattle.std.proofs.lemmas.Bool.Decides.{eqb_tells, leb_tells}
-use Rattle.lra_dbm.specs.Tight.{opposite}
-use Rattle.lra_dbm.specs.Cells.{Cells, size, row_place, place, cell, outside, entries, written}
-use Rattle.lra_dbm.proofs.Strong.{opposite_twice}
-use Rattle.lra_dbm.proofs.Stores.{parity_of}
+use Rattle.std.proofs.{Math.ListN.set, Math.ListN.length-set, lemmas.Bool.lt-ltb, lemmas.Bool.Decides.eqb_tells, lemmas.Bool.Decides.leb_tells, lemmas.Grind.get_or-set_at, lemmas.Nat.div-mul-add}
+use Rattle.std.specs.Prelude.{nat_lt, slice_set}
+use Rattle.lra_dbm.specs.{Cells.Cells, Cells.size, Cells.row_place, Cells.place, Cells.cell, Cells.outside, Cells.entries, Cells.written, Tight.opposite}
+use Rattle.lra_dbm.proofs.{Stores.parity_of, Strong.opposite_twice}
 
 pub opposite_below : (n i : ℕ) → i < 2 * n → opposite i < 2 * n
 unfolding opposite

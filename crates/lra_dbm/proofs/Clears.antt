@@ -1,15 +1,10 @@
 -- Clearing a row entry by entry, and the two rows of a variable.
 use Rattle.std.proofs.Common.{◌≡◌, ◌≢◌, ℕ, ◌+◌, ◌*◌, ◌/◌, ◌%◌, ◌<◌, ◌⊎◌, inl, inr, ℤ, pos, length, Option, None, Some, refl, sym, ap, ◌∙◌, subst, arith, cond}
-use Rattle.std.specs.Prelude.{◌==◌, ◌||◌}
 use Rattle.std.proofs.lemmas.Bool.Decides.{eqb_tells}
-use Rattle.lra_dbm.specs.Entry.{EntryInRange}
-use Rattle.lra_dbm.specs.Tight.{Entries, opposite}
-use Rattle.lra_dbm.specs.Cells.{Cells, size, entries, written, IsMatrix, forgotten}
-use Rattle.lra_dbm.specs.Clearing.{RowCleared}
-use Rattle.lra_dbm.proofs.EntryLemmas.{le_same, le_trans}
-use Rattle.lra_dbm.proofs.Strong.{opposite_twice}
-use Rattle.lra_dbm.proofs.Stores.{parity_of}
+use Rattle.std.specs.Prelude.{◌==◌, ◌||◌}
+use Rattle.lra_dbm.specs.{Cells.Cells, Cells.size, Cells.entries, Cells.written, Cells.IsMatrix, Cells.forgotten, Clearing.RowCleared, Entry.EntryInRange, Tight.Entries, Tight.opposite}
 use Rattle.lra_dbm.proofs.CellLemmas.{opposite_below, inside_or_out, length-written, written_twin, written_same, written_cases}
+use Rattle.lra_dbm.proofs.{EntryLemmas.le_same, EntryLemmas.le_trans, Stores.parity_of, Strong.opposite_twice}
 
 pub starts : (n i : ℕ) (cells : Cells) → length cells ≡ size n → RowCleared n i 0 (entries n cells) cells
 starts n i cells full = record {

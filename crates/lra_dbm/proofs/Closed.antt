@@ -1,21 +1,15 @@
 -- The five steps close.
 use Rattle.std.proofs.Common.{◌≡◌, ℕ, ◌+◌, ◌*◌, ◌-◌, ◌/◌, ◌%◌, ◌<◌, ◌≤◌, inl, inr, ℤ, pos, List, length, Option, None, Some, refl, sym, ap, ◌∙◌, arith, false}
+use Rattle.std.proofs.{lemmas.Bool.Decides.eqb_tells, lemmas.Int.ints}
 use Rattle.std.specs.Prelude.{◌+ℤ◌, ◌-ℤ◌, neg_ℤ}
-use Rattle.std.proofs.lemmas.Int.{ints}
-use Rattle.std.proofs.lemmas.Bool.Decides.{eqb_tells}
 use Rattle.lra_linear_spec.specs.Vectors.{entry}
-use Rattle.lra_dbm.specs.Entry.{◌⊑◌, ◌⊞◌, half_of, within_range, passes_range}
-use Rattle.lra_dbm.specs.Tight.{Entries, opposite, signed_value, with_sign, IsStore}
-use Rattle.lra_dbm.proofs.Ways.{IsTightlyClosed, Below}
-use Rattle.lra_dbm.specs.Cells.{Cells, cell, outside, entries, IsMatrix}
 use Rattle.lra_dbm.specs.Steps.{Progress, shortest, rounded, all_rounded, strengthened_at, row_strengthened, all_strengthened}
-use Rattle.lra_dbm.proofs.EntryLemmas.{le_same, le_none, le_trans, sum_grows}
-use Rattle.lra_dbm.proofs.Strong.{opposite_twice, half_bounds, halves_grow}
-use Rattle.lra_dbm.proofs.Stores.{parity_of}
-use Rattle.lra_dbm.proofs.CellLemmas.{opposite_below, entries_inside, inside_or_out}
-use Rattle.lra_dbm.proofs.Lowering.{Comes, comes_here, comes_on, lowered_comes, lowered_at, lowered_kept, in_turn_keeps, in_turn_each}
-use Rattle.lra_dbm.proofs.Lowering.{enter_matrix, enter_lowers, enter_at, enter_kept, half_fits, within_range_fits, le_within_range, within_range_same, or_false}
-use Rattle.lra_dbm.proofs.Paths.{shortest_kept}
+use Rattle.lra_dbm.specs.Tight.{Entries, opposite, signed_value, with_sign, IsStore}
+use Rattle.lra_dbm.specs.{Cells.Cells, Cells.cell, Cells.outside, Cells.entries, Cells.IsMatrix, Entry.◌⊑◌, Entry.◌⊞◌, Entry.half_of, Entry.within_range, Entry.passes_range}
+use Rattle.lra_dbm.proofs.Lowering.{Comes, comes_here, comes_on, lowered_comes, lowered_at, lowered_kept, in_turn_keeps, in_turn_each, enter_matrix, enter_lowers, enter_at, enter_kept, half_fits}
+use Rattle.lra_dbm.proofs.Lowering.{within_range_fits, le_within_range, within_range_same, or_false}
+use Rattle.lra_dbm.proofs.{CellLemmas.opposite_below, CellLemmas.entries_inside, CellLemmas.inside_or_out, EntryLemmas.le_same, EntryLemmas.le_none, EntryLemmas.le_trans, EntryLemmas.sum_grows}
+use Rattle.lra_dbm.proofs.{Paths.shortest_kept, Stores.parity_of, Strong.opposite_twice, Strong.half_bounds, Strong.halves_grow, Ways.IsTightlyClosed, Ways.Below}
 
 -- ---- a store as a tightly closed matrix
 

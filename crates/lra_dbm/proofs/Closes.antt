@@ -1,8 +1,6 @@
 -- What closing gives, from what its steps are.
 use Rattle.std.proofs.Common.{◌≡◌, ℕ, Bool, subst}
-use Rattle.lra_dbm.specs.Cells.{Cells, IsMatrix}
-use Rattle.lra_dbm.specs.Steps.{progress}
-use Rattle.lra_dbm.specs.Closing.{AfterClosing, closing, Closes}
+use Rattle.lra_dbm.specs.{Cells.Cells, Cells.IsMatrix, Closing.AfterClosing, Closing.closing, Closing.Closes, Steps.progress}
 use Rattle.lra_dbm.proofs.Theorem.{closing_closes}
 
 pub closes_by : (n : ℕ) (old new : Cells) (empty flagged : Bool) → IsMatrix n old

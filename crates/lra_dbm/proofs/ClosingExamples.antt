@@ -1,9 +1,6 @@
 -- Worked examples of closing.
 use Rattle.std.proofs.Common.{◌≡◌, [], ◌∷◌, None, Some, pos, negsuc, refl, true}
-use Rattle.lra_dbm.specs.Tight.{opposite}
-use Rattle.lra_dbm.specs.Cells.{Cells, place, cell}
-use Rattle.lra_dbm.specs.Steps.{shortest, all_rounded, all_strengthened}
-use Rattle.lra_dbm.specs.Closing.{closing}
+use Rattle.lra_dbm.specs.{Cells.Cells, Cells.place, Cells.cell, Closing.closing, Steps.shortest, Steps.all_rounded, Steps.all_strengthened, Tight.opposite}
 
 -- 2*x <= 1 and -2*x <= -1: each bound is rounded, and then they cross
 abbrev odd_double : Cells

@@ -1,13 +1,9 @@
 -- Closures: there is one, and it lies below each matrix that has its stores.
 use Rattle.std.proofs.Common.{◌≡◌, ℕ, zero, suc, ◌*◌, ◌<◌, inl, inr, ℤ, pos, List, [], length, Option, None, Some, refl, sym, ap, arith}
+use Rattle.std.proofs.{lemmas.Bool.Decides.eqb_tells, lemmas.Int.ints}
 use Rattle.std.specs.Prelude.{◌-ℤ◌}
-use Rattle.std.proofs.lemmas.Int.{ints}
-use Rattle.std.proofs.lemmas.Bool.Decides.{eqb_tells}
-use Rattle.lra_dbm.specs.Entry.{◌⊑◌}
 use Rattle.lra_dbm.specs.Tight.{Entries, IsStore, IsTight, signed_value}
-use Rattle.lra_dbm.specs.Cells.{Cells, size, outside, entries, IsMatrix}
-use Rattle.lra_dbm.specs.Pointwise.{CellsWithin}
-use Rattle.lra_dbm.specs.Closure.{IsTightWith, IsClosure}
+use Rattle.lra_dbm.specs.{Cells.Cells, Cells.size, Cells.outside, Cells.entries, Cells.IsMatrix, Closure.IsTightWith, Closure.IsClosure, Entry.◌⊑◌, Pointwise.CellsWithin}
 use Rattle.lra_dbm.proofs.EntryLemmas.{le_refl, le_same, le_none, le_trans}
 use Rattle.lra_dbm.proofs.PointwiseLemmas.{within_both, within_entries, entries_within, tight_least}
 

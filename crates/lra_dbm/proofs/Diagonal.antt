@@ -1,17 +1,12 @@
 -- Closing leaves the diagonal at 0.
 use Rattle.std.proofs.Common.{◌≡◌, ℕ, ◌*◌, ◌<◌, ◌≤◌, inl, inr, ℤ, pos, Option, None, Some, refl, sym, ap, ◌∙◌, arith, Bool, true, false, cond}
-use Rattle.std.specs.Prelude.{◌+ℤ◌}
 use Rattle.std.proofs.lemmas.Int.{ints, clamps}
+use Rattle.std.specs.Prelude.{◌+ℤ◌}
 use Rattle.lra_linear_spec.specs.Range.{in_range}
-use Rattle.lra_dbm.specs.Entry.{◌⊑◌, ◌⊞◌, lesser, half_of, within_range}
-use Rattle.lra_dbm.specs.Tight.{opposite}
-use Rattle.lra_dbm.specs.Cells.{cell, entries, IsMatrix}
 use Rattle.lra_dbm.specs.Steps.{Progress, rounded, all_rounded, bounds_sum, strengthened_at, row_strengthened, all_strengthened}
-use Rattle.lra_dbm.proofs.EntryLemmas.{le_same, le_trans, le_lesser}
-use Rattle.lra_dbm.proofs.Strong.{opposite_twice, half_bounds, halves_grow}
-use Rattle.lra_dbm.proofs.CellLemmas.{opposite_below, entries_inside, written_cases}
-use Rattle.lra_dbm.proofs.Lowering.{Comes, comes_here, comes_on, in_turn_keeps}
-use Rattle.lra_dbm.proofs.Closed.{rounded_comes, strengthened_comes}
+use Rattle.lra_dbm.specs.{Cells.cell, Cells.entries, Cells.IsMatrix, Entry.◌⊑◌, Entry.◌⊞◌, Entry.lesser, Entry.half_of, Entry.within_range, Tight.opposite}
+use Rattle.lra_dbm.proofs.{CellLemmas.opposite_below, CellLemmas.entries_inside, CellLemmas.written_cases, Closed.rounded_comes, Closed.strengthened_comes, EntryLemmas.le_same, EntryLemmas.le_trans}
+use Rattle.lra_dbm.proofs.{EntryLemmas.le_lesser, Lowering.Comes, Lowering.comes_here, Lowering.comes_on, Lowering.in_turn_keeps, Strong.opposite_twice, Strong.half_bounds, Strong.halves_grow}
 
 opposite_apart : (i : ℕ) → i ≡ opposite i → ⊥
 unfolding opposite

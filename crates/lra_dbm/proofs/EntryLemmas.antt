@@ -1,7 +1,7 @@
 -- The order and the sum of entries.
 use Rattle.std.proofs.Common.{◌≡◌, ◌⊎◌, inl, inr, ℤ, pos, Option, None, Some, refl, ap, arith}
-use Rattle.std.specs.Prelude.{int_lt, cond, true, false}
 use Rattle.std.proofs.lemmas.Int.{ints, clamps}
+use Rattle.std.specs.Prelude.{int_lt, cond, true, false}
 use Rattle.lra_dbm.specs.Entry.{◌⊑◌, ◌⊞◌, lesser}
 
 pub le_refl : (b : Option ℤ) → b ⊑ b

@@ -1,20 +1,12 @@
 -- Variables that come last or go, and the diagonal of those that come.
-use Rattle.std.proofs.Common.{◌≡◌, ◌≢◌, ℕ, zero, suc, ◌+◌, ◌*◌, ◌-◌, ◌/◌, ◌<◌, ◌≤◌, ◌⊎◌, inl, inr, ℤ, pos, [], ◌∷◌}
-use Rattle.std.proofs.Common.{◌++◌, length, take, drop, replicate, Option, None, Some, refl, sym, ap, ◌∙◌, subst, arith, true, false, cond, get_or}
+use Rattle.std.proofs.Common.{◌≡◌, ◌≢◌, ℕ, zero, suc, ◌+◌, ◌*◌, ◌-◌, ◌/◌, ◌<◌, ◌≤◌, ◌⊎◌, inl, inr, ℤ, pos, [], ◌∷◌, ◌++◌, length, take, drop, replicate, Option, None, Some, refl, sym, ap, ◌∙◌, subst}
+use Rattle.std.proofs.{Common.arith, Common.true, Common.false, Common.cond, Common.get_or, Math.ListN.get_or-append, Math.Seq.take-append_seam, lemmas.Bool.Decides.eqb_tells}
+use Rattle.std.proofs.{lemmas.Bool.Decides.leb_tells, lemmas.List.get_or-append_right, lemmas.List.get_or-take, lemmas.List.get_or-replicate}
 use Rattle.std.specs.Prelude.{◌==◌, nat_lt}
-use Rattle.std.proofs.lemmas.Bool.Decides.{eqb_tells, leb_tells}
-use Rattle.std.proofs.Math.ListN.{get_or-append}
-use Rattle.std.proofs.Math.Seq.{take-append_seam}
-use Rattle.std.proofs.lemmas.List.{get_or-append_right, get_or-take, get_or-replicate}
-use Rattle.lra_dbm.specs.Entry.{EntryInRange}
-use Rattle.lra_dbm.specs.Tight.{opposite}
 use Rattle.lra_dbm.specs.Cells.{Cells, size, place, cell, outside, entries, written, first_entries, IsMatrix}
-use Rattle.lra_dbm.specs.Clearing.{Settled}
-use Rattle.lra_dbm.proofs.EntryLemmas.{le_same, le_trans}
-use Rattle.lra_dbm.proofs.Strong.{opposite_twice}
+use Rattle.lra_dbm.specs.{Clearing.Settled, Entry.EntryInRange, Tight.opposite}
 use Rattle.lra_dbm.proofs.CellLemmas.{opposite_below, opposite_far, place_below, place_far, entries_inside, inside_or_out, length-written, written_twin, written_same, written_cases}
-use Rattle.lra_dbm.proofs.Clears.{in_pair, opposite_plus}
-use Rattle.lra_dbm.proofs.Paths.{beyond, beyond_self}
+use Rattle.lra_dbm.proofs.{Clears.in_pair, Clears.opposite_plus, EntryLemmas.le_same, EntryLemmas.le_trans, Paths.beyond, Paths.beyond_self, Strong.opposite_twice}
 
 -- ---- the diagonal
 

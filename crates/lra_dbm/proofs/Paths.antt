@@ -1,21 +1,13 @@
 -- The loops over pivots, rows and columns, with coherent writes, give shortest paths.
-use Rattle.std.proofs.Common.{◌≡◌, ◌≢◌, ℕ, zero, suc, ◌*◌, ◌<◌, ◌≤◌, ◌⊎◌, inl, inr, ℤ, pos, Option, None, Some, refl, sym, ap, ◌∙◌, arith}
-use Rattle.std.proofs.Common.{Bool, true, false, cond, subst}
+use Rattle.std.proofs.Common.{◌≡◌, ◌≢◌, ℕ, zero, suc, ◌*◌, ◌<◌, ◌≤◌, ◌⊎◌, inl, inr, ℤ, pos, Option, None, Some, refl, sym, ap, ◌∙◌, arith, Bool, true, false, cond, subst}
+use Rattle.std.proofs.{lemmas.Bool.cases_Bool, lemmas.Bool.Decides.eqb_tells, lemmas.Bool.Decides.leb_tells, lemmas.Int.ints}
 use Rattle.std.specs.Prelude.{◌||◌}
-use Rattle.std.proofs.lemmas.Bool.{cases_Bool}
-use Rattle.std.proofs.lemmas.Int.{ints}
-use Rattle.std.proofs.lemmas.Bool.Decides.{eqb_tells, leb_tells}
-use Rattle.lra_dbm.specs.Entry.{◌⊑◌, ◌⊞◌}
-use Rattle.lra_dbm.specs.Tight.{Entries, opposite}
-use Rattle.lra_dbm.proofs.Ways.{Below, HasTriangles, by_way_of, IsClosed}
-use Rattle.lra_dbm.specs.Cells.{Cells, cell, outside, entries, IsMatrix}
-use Rattle.lra_dbm.specs.Steps.{Progress, in_turn, any_below, relaxed, row_relaxed, pivot_relaxed, shortest}
-use Rattle.lra_dbm.specs.Steps.{is_negative, negative_diagonal, relaxed_unless_negative}
+use Rattle.lra_dbm.specs.Steps.{Progress, in_turn, any_below, relaxed, row_relaxed, pivot_relaxed, shortest, is_negative, negative_diagonal, relaxed_unless_negative}
+use Rattle.lra_dbm.specs.{Cells.Cells, Cells.cell, Cells.outside, Cells.entries, Cells.IsMatrix, Entry.◌⊑◌, Entry.◌⊞◌, Tight.Entries, Tight.opposite}
 use Rattle.lra_dbm.proofs.EntryLemmas.{le_same, le_none, le_trans, le_antisym, sum_grows, sum_swap, lesser_left, lesser_right, le_lesser}
-use Rattle.lra_dbm.proofs.Pivots.{way_closes, way_keeps, way_lowers}
-use Rattle.lra_dbm.proofs.Strong.{opposite_twice}
-use Rattle.lra_dbm.proofs.CellLemmas.{entries_inside, inside_or_out}
 use Rattle.lra_dbm.proofs.Lowering.{Comes, comes_here, comes_on, lowered_comes, lowered_at, lowered_kept, in_turn_keeps, in_turn_each}
+use Rattle.lra_dbm.proofs.Ways.{Below, HasTriangles, by_way_of, IsClosed}
+use Rattle.lra_dbm.proofs.{CellLemmas.entries_inside, CellLemmas.inside_or_out, Pivots.way_closes, Pivots.way_keeps, Pivots.way_lowers, Strong.opposite_twice}
 
 -- ---- beyond the matrix
 

@@ -1,10 +1,8 @@
 -- Shortest paths by pivots: each closes its triangles and keeps those of the pivots before.
-use Rattle.std.proofs.Common.{ℕ, ℤ, pos, Option, None, Some, sym, arith}
-use Rattle.std.proofs.lemmas.Int.{ints}
-use Rattle.lra_dbm.specs.Entry.{◌⊑◌, ◌⊞◌}
-use Rattle.lra_dbm.specs.Tight.{Entries}
-use Rattle.lra_dbm.proofs.Ways.{by_way_of, HasTriangles, Below}
+use Rattle.std.proofs.{Common.ℕ, Common.ℤ, Common.pos, Common.Option, Common.None, Common.Some, Common.sym, Common.arith, lemmas.Int.ints}
+use Rattle.lra_dbm.specs.{Entry.◌⊑◌, Entry.◌⊞◌, Tight.Entries}
 use Rattle.lra_dbm.proofs.EntryLemmas.{le_refl, le_same, le_trans, sum_grows, sum_assoc, lesser_left, lesser_right, le_lesser, le_sums, around}
+use Rattle.lra_dbm.proofs.Ways.{by_way_of, HasTriangles, Below}
 
 -- an entry at the pivot is as it was
 at_column : (p : ℕ) (m : Entries) (i : ℕ) → Some (pos 0) ⊑ m p p → m i p ⊑ m i p ⊞ m p p

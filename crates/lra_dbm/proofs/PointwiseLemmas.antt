@@ -1,15 +1,11 @@
 -- Joins, widenings and inclusions cell by cell, seen as entries.
-use Rattle.std.proofs.Common.{◌≡◌, ℕ, zero, suc, ◌*◌, ◌<◌, ◌≤◌, ◌⊎◌, inl, inr, ℤ, pos, List}
-use Rattle.std.proofs.Common.{[], ◌∷◌, length, Option, None, Some, refl, sym, ap, ◌∙◌, subst, arith, Bool, true, false, cond, get_or}
-use Rattle.std.specs.Prelude.{◌≤ℤ◌, ◌<ℤ◌, int_lt, ◌+ℤ◌}
+use Rattle.std.proofs.Common.{◌≡◌, ℕ, zero, suc, ◌*◌, ◌<◌, ◌≤◌, ◌⊎◌, inl, inr, ℤ, pos, List, [], ◌∷◌, length, Option, None, Some, refl, sym, ap, ◌∙◌, subst, arith, Bool, true, false, cond, get_or}
 use Rattle.std.proofs.lemmas.Int.{ints, clamps, by_lt_z}
-use Rattle.lra_dbm.specs.Entry.{◌⊑◌, EntryInRange}
-use Rattle.lra_dbm.specs.Tight.{Entries, opposite, IsStore, IsTight}
-use Rattle.lra_dbm.specs.Cells.{Cells, size, place, outside, entries, IsMatrix, DbmContent, entry_at}
-use Rattle.lra_dbm.specs.Pointwise.{greater_cells, stable_cells, CellsWithin, finite_cells}
-use Rattle.lra_dbm.specs.Closure.{LeastJoin}
-use Rattle.lra_dbm.proofs.EntryLemmas.{le_refl, le_same, le_none, le_trans, le_antisym}
+use Rattle.std.specs.Prelude.{◌≤ℤ◌, ◌<ℤ◌, int_lt, ◌+ℤ◌}
+use Rattle.lra_dbm.specs.{Cells.Cells, Cells.size, Cells.place, Cells.outside, Cells.entries, Cells.IsMatrix, Cells.DbmContent, Cells.entry_at, Closure.LeastJoin, Entry.◌⊑◌, Entry.EntryInRange}
+use Rattle.lra_dbm.specs.{Pointwise.greater_cells, Pointwise.stable_cells, Pointwise.CellsWithin, Pointwise.finite_cells, Tight.Entries, Tight.opposite, Tight.IsStore, Tight.IsTight}
 use Rattle.lra_dbm.proofs.CellLemmas.{place_there, entries_inside, inside_or_out}
+use Rattle.lra_dbm.proofs.EntryLemmas.{le_refl, le_same, le_none, le_trans, le_antisym}
 use Rattle.lra_domain.specs.Bounds.{finite, greater, stable}
 
 -- ---- single entries

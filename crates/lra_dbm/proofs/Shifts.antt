@@ -1,21 +1,13 @@
 -- Rewriting the two rows of a variable to which a number is added.
-use Rattle.std.proofs.Common.{◌≡◌, ◌≢◌, ℕ, zero, suc, ◌+◌, ◌*◌, ◌/◌, ◌<◌, ◌^◌, ◌⊎◌, inl, inr, ℤ, pos, length, Option}
-use Rattle.std.proofs.Common.{None, Some, refl, sym, ap, ◌∙◌, subst, arith, cond, Bool, true, false}
+use Rattle.std.proofs.Common.{◌≡◌, ◌≢◌, ℕ, zero, suc, ◌+◌, ◌*◌, ◌/◌, ◌<◌, ◌^◌, ◌⊎◌, inl, inr, ℤ, pos, length, Option, None, Some, refl, sym, ap, ◌∙◌, subst, arith, cond, Bool, true, false}
+use Rattle.std.proofs.{lemmas.Bool.Decides.eqb_tells, lemmas.Bool.Decides.leb_tells, lemmas.Int.ints}
 use Rattle.std.specs.Prelude.{◌==◌, ◌&&◌, ◌||◌, ◌-ℤ◌, neg_ℤ, unsigned_abs}
-use Rattle.std.proofs.lemmas.Int.{ints}
-use Rattle.std.proofs.lemmas.Bool.Decides.{eqb_tells, leb_tells}
 use Rattle.lra_dbm.specs.Entry.{◌⊞◌, EntryInRange, within_range, passes_range}
-use Rattle.lra_dbm.specs.Tight.{Entries, opposite}
-use Rattle.lra_dbm.specs.Cells.{Cells, size, entries, written, IsMatrix}
-use Rattle.lra_dbm.specs.Steps.{any_below}
-use Rattle.lra_dbm.specs.Shifting.{added_to, origin, shifted, shifted_within, passes_at, ShiftPasses, ShiftedTo}
-use Rattle.lra_dbm.specs.Shifting.{RowGiven}
-use Rattle.lra_dbm.proofs.EntryLemmas.{le_same, le_trans}
-use Rattle.lra_dbm.proofs.Strong.{opposite_twice}
-use Rattle.lra_dbm.proofs.Lowering.{within_range_fits, within_range_same, or_false}
+use Rattle.lra_dbm.specs.Shifting.{added_to, origin, shifted, shifted_within, passes_at, ShiftPasses, ShiftedTo, RowGiven}
+use Rattle.lra_dbm.specs.{Cells.Cells, Cells.size, Cells.entries, Cells.written, Cells.IsMatrix, Steps.any_below, Tight.Entries, Tight.opposite}
+use Rattle.lra_dbm.proofs.CellLemmas.{opposite_below, inside_or_out, length-written, written_twin, written_same, written_cases}
 use Rattle.lra_dbm.proofs.Clears.{in_pair, half_opposite, opposite_plus, opposite_minus}
-use Rattle.lra_dbm.proofs.CellLemmas.{opposite_below, inside_or_out, length-written, written_twin, written_same}
-use Rattle.lra_dbm.proofs.CellLemmas.{written_cases}
+use Rattle.lra_dbm.proofs.{EntryLemmas.le_same, EntryLemmas.le_trans, Lowering.within_range_fits, Lowering.within_range_same, Lowering.or_false, Strong.opposite_twice}
 
 -- ---- one more entry of a row
 

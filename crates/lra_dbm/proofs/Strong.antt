@@ -1,12 +1,10 @@
 -- A closed matrix, with its unary entries rounded and each entry strengthened, is tightly closed.
 use Rattle.std.proofs.Common.{◌≡◌, ℕ, ℤ, pos, negsuc, Option, None, Some, refl, sym, ap, ◌∙◌, arith}
-use Rattle.std.specs.Prelude.{◌+ℤ◌, ◌≤ℤ◌}
-use Rattle.std.specs.Int.{int_div_euclid}
 use Rattle.std.proofs.lemmas.Int.{ints}
-use Rattle.lra_dbm.specs.Entry.{◌⊑◌, ◌⊞◌, half_of}
-use Rattle.lra_dbm.specs.Tight.{Entries, opposite}
-use Rattle.lra_dbm.proofs.Ways.{IsTightlyClosed, IsClosed, strengthened}
+use Rattle.std.specs.{Int.int_div_euclid, Prelude.◌+ℤ◌, Prelude.◌≤ℤ◌}
+use Rattle.lra_dbm.specs.{Entry.◌⊑◌, Entry.◌⊞◌, Entry.half_of, Tight.Entries, Tight.opposite}
 use Rattle.lra_dbm.proofs.EntryLemmas.{le_refl, le_same, le_trans, le_antisym, sum_grows, sum_swap, sum_assoc, lesser_left, lesser_right, le_lesser, le_sums, around}
+use Rattle.lra_dbm.proofs.Ways.{IsTightlyClosed, IsClosed, strengthened}
 
 pub opposite_twice : (i : ℕ) → opposite (opposite i) ≡ i
 unfolding opposite

@@ -1,26 +1,17 @@
 -- Closing gives the tight matrix with the same stores.
-use Rattle.std.proofs.Common.{◌≡◌, ℕ, zero, suc, ◌*◌, ◌<◌, ◌≤◌, inl, inr, ℤ, pos, List, Option, None, Some, refl, sym, ap, ◌∙◌, arith, Bool, true, false, cond}
+use Rattle.std.proofs.Common.{◌≡◌, ℕ, zero, suc, ◌*◌, ◌<◌, ◌≤◌, inl, inr, ℤ, pos, List, Option, None, Some, refl, sym, ap, ◌∙◌, arith, Bool, true, false, cond, subst}
+use Rattle.std.proofs.{Math.Path.fun_ext, lemmas.Bool.Decides.leb_tells, lemmas.Int.ints}
 use Rattle.std.specs.Prelude.{neg_ℤ}
-use Rattle.std.proofs.lemmas.Int.{ints}
-use Rattle.std.proofs.lemmas.Bool.Decides.{leb_tells}
 use borrow.Author.Count.{below_more}
-use Rattle.lra_dbm.specs.Entry.{◌⊑◌, ◌⊞◌, half_of, within_range, passes_range}
-use Rattle.lra_dbm.specs.Tight.{Entries, opposite, signed_value, IsStore, IsTight}
-use Rattle.lra_dbm.proofs.Ways.{IsTightlyClosed, Below, IsClosed, strengthened}
-use Rattle.lra_dbm.specs.Cells.{Cells, cell, entries, IsMatrix}
 use Rattle.lra_dbm.specs.Steps.{Progress, shortest, any_below, is_negative, negative_diagonal, all_rounded, bounds_sum, crossed, crossing_passes, all_strengthened}
-use Rattle.lra_dbm.specs.Closing.{AfterClosing, after_crossing, found_empty, from_rounded, closing, Closes}
+use Rattle.lra_dbm.specs.{Cells.Cells, Cells.cell, Cells.entries, Cells.IsMatrix, Closing.AfterClosing, Closing.after_crossing, Closing.found_empty, Closing.from_rounded, Closing.closing}
+use Rattle.lra_dbm.specs.{Closing.Closes, Entry.◌⊑◌, Entry.◌⊞◌, Entry.half_of, Entry.within_range, Entry.passes_range, Tight.Entries, Tight.opposite, Tight.signed_value, Tight.IsStore, Tight.IsTight}
+use Rattle.lra_dbm.proofs.Closed.{difference, difference_closed, store_below, below_store, half_room, all_rounded_comes, all_rounded_at, all_rounded_kept, all_strengthened_comes}
+use Rattle.lra_dbm.proofs.Closed.{all_strengthened_kept, all_upper, shortest_below}
 use Rattle.lra_dbm.proofs.EntryLemmas.{le_same, le_none, le_trans, le_antisym, sum_grows, sum_swap, lesser_left, le_lesser}
-use Rattle.lra_dbm.proofs.Strong.{opposite_twice, strengthened_closed}
-use Rattle.lra_dbm.proofs.Stores.{tightly_closed_is_tight}
-use Rattle.lra_dbm.proofs.CellLemmas.{opposite_below, entries_inside}
-use Rattle.lra_dbm.proofs.Lowering.{Comes, comes_on, le_within_range, within_range_same, or_false}
-use Rattle.lra_dbm.proofs.Diagonal.{all_rounded_diagonal, strengthened_diagonal}
-use Rattle.lra_dbm.proofs.Paths.{beyond, beyond_self, any_true, negative_absurd, shortest_comes, shortest_closed}
-use Rattle.std.proofs.Common.{subst}
-use Rattle.std.proofs.Math.Path.{fun_ext}
-use Rattle.lra_dbm.proofs.Closed.{difference, difference_closed, store_below, below_store, half_room, all_rounded_comes}
-use Rattle.lra_dbm.proofs.Closed.{all_rounded_at, all_rounded_kept, all_strengthened_comes, all_strengthened_kept, all_upper, shortest_below}
+use Rattle.lra_dbm.proofs.{CellLemmas.opposite_below, CellLemmas.entries_inside, Diagonal.all_rounded_diagonal, Diagonal.strengthened_diagonal, Lowering.Comes, Lowering.comes_on}
+use Rattle.lra_dbm.proofs.{Lowering.le_within_range, Lowering.within_range_same, Lowering.or_false, Paths.beyond, Paths.beyond_self, Paths.any_true, Paths.negative_absurd, Paths.shortest_comes}
+use Rattle.lra_dbm.proofs.{Paths.shortest_closed, Stores.tightly_closed_is_tight, Strong.opposite_twice, Strong.strengthened_closed, Ways.IsTightlyClosed, Ways.Below, Ways.IsClosed, Ways.strengthened}
 
 any_false : (f : ℕ → Bool) (k : ℕ) → any_below f k ≡ false → (i : ℕ) → i < k → f i ≡ false
 any_false f zero h i l = absurd (omega arith)

@@ -1,7 +1,6 @@
 -- Matrices that are closed, in the words of the proof: paths by way of a signed variable, triangles, strengthening.
 use Rattle.std.specs.Prelude.{◌≡◌, ℕ, ℤ, pos, Option, Some}
-use Rattle.lra_dbm.specs.Entry.{◌⊑◌, ◌⊞◌, lesser, half_of}
-use Rattle.lra_dbm.specs.Tight.{Entries, opposite}
+use Rattle.lra_dbm.specs.{Entry.◌⊑◌, Entry.◌⊞◌, Entry.lesser, Entry.half_of, Tight.Entries, Tight.opposite}
 
 -- each entry as the lesser of itself and of the sum by way of p
 abbrev pub by_way_of : ℕ → Entries → Entries

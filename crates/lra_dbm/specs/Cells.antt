@@ -2,8 +2,7 @@
 -- i; so row i holds only the columns up to those of its own variable. Row by row: 2, 2, 4, 4, 6, 6, .. cells.
 use Rattle.std.specs.Prelude.{◌≡◌, ℕ, ◌+◌, ◌*◌, ◌/◌, ◌==◌, ◌||◌, cond, nat_lt, ℤ, pos, Option, None, Some, List, length}
 use Rattle.std.specs.Prelude.{slice_index_or, slice_set}
-use Rattle.lra_dbm.specs.Entry.{◌⊑◌, lesser, EntryInRange}
-use Rattle.lra_dbm.specs.Tight.{Entries, opposite}
+use Rattle.lra_dbm.specs.{Entry.◌⊑◌, Entry.lesser, Entry.EntryInRange, Tight.Entries, Tight.opposite}
 
 abbrev pub Cells : Type 0
 Cells = List (Option ℤ)

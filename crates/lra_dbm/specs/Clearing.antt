@@ -1,7 +1,6 @@
 -- What forgetting, embedding and removal keep of the entries, on the way and at the end.
 use Rattle.std.specs.Prelude.{◌≡◌, ◌≢◌, ℕ, ◌*◌, ◌/◌, ◌<◌, ◌≤◌, None, Some, pos, length, ◌⊎◌}
-use Rattle.lra_dbm.specs.Tight.{Entries, opposite}
-use Rattle.lra_dbm.specs.Cells.{Cells, size, entries}
+use Rattle.lra_dbm.specs.{Cells.Cells, Cells.size, Cells.entries, Tight.Entries, Tight.opposite}
 
 -- the columns below j of row i are infinite, and their twins; the diagonal and all other entries are as before
 pub record RowCleared (n i j : ℕ) (old : Entries) (cells : Cells) : Type 0 where

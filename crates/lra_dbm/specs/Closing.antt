@@ -1,9 +1,7 @@
 -- The five steps together, and what they are to give.
 use Rattle.std.specs.Prelude.{◌≡◌, ℕ, ◌*◌, ◌||◌, Bool, true, false, cond, ℤ, pos, Some, List}
-use Rattle.lra_dbm.specs.Tight.{IsStore, IsTight}
-use Rattle.lra_dbm.specs.Cells.{Cells, entries}
 use Rattle.lra_dbm.specs.Steps.{Progress, shortest, negative_diagonal, all_rounded, crossed, crossing_passes}
-use Rattle.lra_dbm.specs.Steps.{all_strengthened}
+use Rattle.lra_dbm.specs.{Cells.Cells, Cells.entries, Steps.all_strengthened, Tight.IsStore, Tight.IsTight}
 
 -- whether closing found the matrix empty, and how far it came
 pub record AfterClosing : Type 0 where

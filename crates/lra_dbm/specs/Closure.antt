@@ -1,8 +1,7 @@
 -- The closure of a matrix, and what is least among the matrices that have some stores.
 use Rattle.std.specs.Prelude.{ℕ, ◌*◌, ◌<◌, ℤ, Option, None, Some, List}
-use Rattle.lra_dbm.specs.Entry.{◌⊑◌}
 use Rattle.lra_dbm.specs.Tight.{Entries, IsStore, IsTight}
-use Rattle.lra_dbm.specs.Cells.{Cells, entries, IsMatrix}
+use Rattle.lra_dbm.specs.{Cells.Cells, Cells.entries, Cells.IsMatrix, Entry.◌⊑◌}
 
 -- the tight matrix with the same stores, or none where there is no store
 pub record IsTightWith (n : ℕ) (m : Entries) (cells : Cells) : Type 0 where

@@ -1,6 +1,6 @@
 -- Entries of a matrix: a whole number, or none where the entry is infinite.
-use Rattle.std.specs.Prelude.{ℤ, pos, ◌+ℤ◌, Option, None, Some, Bool, false, not, cond, IfSome}
 use Rattle.std.specs.Int.{int_min, int_div_euclid}
+use Rattle.std.specs.Prelude.{ℤ, pos, ◌+ℤ◌, Option, None, Some, Bool, false, not, cond, IfSome}
 use Rattle.lra_linear_spec.specs.Range.{InRange, in_range}
 use Rattle.lra_domain.specs.Bounds.{AtMost}
 

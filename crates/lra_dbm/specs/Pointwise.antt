@@ -1,7 +1,6 @@
 -- Two matrices of the same variables, cell by cell.
 use Rattle.std.specs.Prelude.{ℕ, ◌+◌, ◌<◌, ◌^◌, ℤ, unsigned_abs, Option, None, Some, [], ◌∷◌}
-use Rattle.lra_dbm.specs.Entry.{◌⊑◌}
-use Rattle.lra_dbm.specs.Cells.{Cells}
+use Rattle.lra_dbm.specs.{Cells.Cells, Entry.◌⊑◌}
 use Rattle.lra_domain.specs.Bounds.{finite, greater, stable}
 
 -- the greater entries; infinite where one of the two is

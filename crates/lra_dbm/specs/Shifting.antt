@@ -1,10 +1,8 @@
 -- What becomes of the entries where a number is added to a variable or to its opposite.
 use Rattle.std.specs.Prelude.{◌≡◌, ℕ, ◌+◌, ◌*◌, ◌/◌, ◌<◌, ◌==◌, ◌&&◌, Bool, true, false, cond, ℤ, pos, neg_ℤ, ◌-ℤ◌}
-use Rattle.std.specs.Prelude.{Some, length}
-use Rattle.std.specs.Prelude.{◌⊎◌}
+use Rattle.std.specs.Prelude.{Some, length, ◌⊎◌}
 use Rattle.lra_dbm.specs.Entry.{◌⊞◌, within_range, passes_range}
-use Rattle.lra_dbm.specs.Tight.{Entries, opposite}
-use Rattle.lra_dbm.specs.Cells.{Cells, size, entries, IsMatrix}
+use Rattle.lra_dbm.specs.{Cells.Cells, Cells.size, Cells.entries, Cells.IsMatrix, Tight.Entries, Tight.opposite}
 
 -- what is added to a signed variable where c is added to x
 abbrev pub added_to : ℕ → ℤ → ℕ → ℤ

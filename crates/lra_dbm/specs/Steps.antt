@@ -1,8 +1,7 @@
 -- The numbered steps of closing (Bagnara, Hill and Zaffanella, 2008), as a fold over indices.
 use Rattle.std.specs.Prelude.{ℕ, zero, suc, ◌*◌, ◌||◌, Bool, false, cond, ℤ, pos, int_lt, Option, None, Some}
 use Rattle.lra_dbm.specs.Entry.{◌⊞◌, half_of, within_range, passes_range}
-use Rattle.lra_dbm.specs.Tight.{opposite}
-use Rattle.lra_dbm.specs.Cells.{Cells, cell, entered}
+use Rattle.lra_dbm.specs.{Cells.Cells, Cells.cell, Cells.entered, Tight.opposite}
 
 -- the cells so far, and whether a number passed the range
 pub record Progress : Type 0 where

@@ -1,7 +1,7 @@
 -- Matrices over signed variables, their stores, and when a matrix is tight (Miné, 2006).
 -- A variable x_k stands twice: signed variable 2k is +x_k, and 2k + 1 is -x_k.
-use Rattle.std.specs.Prelude.{◌≡◌, ℕ, zero, suc, ◌+◌, ◌*◌, ◌-◌, ◌<◌, ◌%◌, ◌/◌, ℤ, neg_ℤ, ◌-ℤ◌, ◌≤ℤ◌, Option, Some}
-use Rattle.std.specs.Prelude.{List, length}
+use Rattle.std.specs.Prelude.{◌≡◌, ℕ, zero, suc, ◌+◌, ◌*◌, ◌-◌, ◌<◌, ◌%◌, ◌/◌, ℤ, neg_ℤ, ◌-ℤ◌, ◌≤ℤ◌, Option, Some, List}
+use Rattle.std.specs.Prelude.{length}
 use Rattle.lra_linear_spec.specs.Vectors.{entry}
 use Rattle.lra_dbm.specs.Entry.{◌⊑◌}
 

@@ -1,10 +1,9 @@
 //! The cells of a matrix, and single entries.
 
 ghost use Rattle.std.specs.Prelude.{◌≡◌, ◌≤◌, ◌<◌, ◌^◌, ◌*◌, length, Option, Some, ℤ};
-ghost use Rattle.lra_dbm.specs.Entry.{◌⊞◌, lesser, half_of, within_range, passes_range};
-ghost use Rattle.lra_dbm.specs.Tight.{opposite};
-ghost use Rattle.lra_dbm.specs.Steps.{is_negative};
 ghost use Rattle.lra_dbm.specs.Cells.{size, row_place, place, cell, entries, written, entered, IsMatrix};
+ghost use Rattle.lra_dbm.specs.Entry.{◌⊞◌, lesser, half_of, within_range, passes_range};
+ghost use Rattle.lra_dbm.specs.{Steps.is_negative, Tight.opposite};
 ghost use Rattle.lra_linear_spec.specs.Range.{InRange};
 
 use lra_row::add;

@@ -3,13 +3,10 @@
 ghost use Rattle.std.specs.Prelude.{◌≡◌, ◌≤◌, ◌<◌, ◌+◌, ◌-◌, ◌^◌, ◌*◌, ◌↔◌, pos, Some, ℕ, IsTrue, IfOk, OnOk, OnErr};
 ghost use Rattle.std.specs.Prelude.{unsigned_abs};
 ghost use Rattle.lra_linear_spec.specs.Range.{InRange};
-ghost use Rattle.lra_dbm.specs.Cells.{IsMatrix, entered, entry_at, outside, forgotten, first_entries, size};
-ghost use Rattle.lra_dbm.specs.Steps.{progress};
-ghost use Rattle.lra_dbm.specs.Closing.{Closes, closing};
-ghost use Rattle.lra_dbm.specs.Pointwise.{AreSmall, CellsWithin, greater_cells, stable_cells, finite_cells};
-ghost use Rattle.lra_dbm.specs.Closure.{LeastJoin};
 ghost use Rattle.lra_dbm.specs.Answers.{is_empty, is_flagged};
-ghost use Rattle.lra_dbm.specs.Shifting.{ShiftedTo};
+ghost use Rattle.lra_dbm.specs.Cells.{IsMatrix, entered, entry_at, outside, forgotten, first_entries, size};
+ghost use Rattle.lra_dbm.specs.Pointwise.{AreSmall, CellsWithin, greater_cells, stable_cells, finite_cells};
+ghost use Rattle.lra_dbm.specs.{Closing.Closes, Closing.closing, Closure.LeastJoin, Shifting.ShiftedTo, Steps.progress};
 
 use crate::cells::{enter, entry};
 use crate::clearing::{clear, grow, shrink};

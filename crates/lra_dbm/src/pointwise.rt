@@ -1,10 +1,8 @@
 //! Two matrices of the same variables, cell by cell.
 
 ghost use Rattle.std.specs.Prelude.{◌≡◌, ◌≤◌, ◌^◌, ◌*◌, ◌↔◌, ℕ, pos, Some, length, IsTrue, IfOk};
-ghost use Rattle.lra_dbm.specs.Cells.{size, entries, IsMatrix};
-ghost use Rattle.lra_dbm.specs.Pointwise.{greater_cells, stable_cells};
-ghost use Rattle.lra_dbm.specs.Pointwise.{AreSmall, CellsWithin, IsSmall, finite_cells};
-ghost use Rattle.lra_dbm.specs.Closure.{LeastJoin};
+ghost use Rattle.lra_dbm.specs.Pointwise.{greater_cells, stable_cells, AreSmall, CellsWithin, IsSmall, finite_cells};
+ghost use Rattle.lra_dbm.specs.{Cells.size, Cells.entries, Cells.IsMatrix, Closure.LeastJoin};
 
 use lra_domain::bounds::{count_bound, is_at_most, join_highs, widen_highs};
 use std::alloc::{AllocError, Global};

@@ -1,9 +1,8 @@
 //! A number is added to a variable, or to its opposite.
 
 ghost use Rattle.std.specs.Prelude.{◌≡◌, ◌≤◌, ◌<◌, ◌^◌, ◌*◌, length, unsigned_abs};
-ghost use Rattle.lra_dbm.specs.Cells.{size, entries, IsMatrix};
-ghost use Rattle.lra_dbm.specs.Steps.{any_below};
 ghost use Rattle.lra_dbm.specs.Shifting.{added_to, origin, shifted_within, passes_at, ShiftedTo, RowGiven};
+ghost use Rattle.lra_dbm.specs.{Cells.size, Cells.entries, Cells.IsMatrix, Steps.any_below};
 
 use crate::cells::{Sum, add_entries, entry, opposite, write};
 

@@ -1,11 +1,10 @@
 //! The numbered steps of closing. Each gives whether a number passed the range so far.
 
 ghost use Rattle.std.specs.Prelude.{◌≡◌, ◌≤◌, ◌<◌, ◌^◌, ◌*◌, false, length};
-ghost use Rattle.lra_dbm.specs.Cells.{size, IsMatrix};
 ghost use Rattle.lra_dbm.specs.Steps.{progress, relaxed, row_relaxed, pivot_relaxed, relaxed_unless_negative, shortest};
 ghost use Rattle.lra_dbm.specs.Steps.{negative_diagonal, rounded, all_rounded, crossed, crossing_passes};
 ghost use Rattle.lra_dbm.specs.Steps.{strengthened_at, row_strengthened, all_strengthened};
-ghost use Rattle.lra_dbm.specs.Closing.{closing, Closes};
+ghost use Rattle.lra_dbm.specs.{Cells.size, Cells.IsMatrix, Closing.closing, Closing.Closes};
 
 use crate::cells::{add_entries, entry, half, is_negative, lower, opposite};
 

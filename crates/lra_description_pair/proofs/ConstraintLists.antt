@@ -1,45 +1,27 @@
 -- The constraints that are shown of a cone are the canonical ones of its rows, which are generators.
-use Rattle.std.proofs.Common.{◌≡◌, ◌≢◌, ℕ, suc, ◌≤◌, Bool, true, false, List, [], ◌∷◌, ◌++◌, length, replicate, map, refl, ap, sym, ◌∙◌, subst, arith, pos, negsuc, ℤ}
-use Rattle.std.proofs.Common.{neg_ℤ, ◌<ℤ◌, ◌≤ℤ◌, inl, inr, ◌⊎◌, zero, ◌↔◌, Result, Ok, Err, IfOk}
-use Rattle.std.specs.List.{Contains}
-use Rattle.std.proofs.lemmas.Int.{ints}
-use Rattle.std.proofs.lemmas.List.{length-replicate}
+use Rattle.std.proofs.Common.{◌≡◌, ◌≢◌, ℕ, suc, ◌≤◌, Bool, true, false, List, [], ◌∷◌, ◌++◌, length, replicate, map, refl, ap, sym, ◌∙◌, subst, arith, pos, negsuc, ℤ, neg_ℤ, ◌<ℤ◌, ◌≤ℤ◌, inl, inr, ◌⊎◌}
+use Rattle.std.proofs.Common.{zero, ◌↔◌, Result, Ok, Err, IfOk}
 use Rattle.std.proofs.lemmas.List.Elements.{Contains-append_cases, Contains-append_left, Contains-append_right}
-use Rattle.std.proofs.lemmas.List.Sorted.{Contains-permutation, IsPermutation-sym, length_permutation}
-use Rattle.lra_linear_spec.specs.Vectors.{entry, dot, product, negated, zeros}
-use Rattle.lra_linear_spec.specs.Cones.{both_ways, all_rows, AreDual}
+use Rattle.std.proofs.{lemmas.Int.ints, lemmas.List.length-replicate, lemmas.List.Sorted.Contains-permutation, lemmas.List.Sorted.IsPermutation-sym, lemmas.List.Sorted.length_permutation}
+use Rattle.std.specs.List.{Contains}
 use Rattle.lra_linear_spec.specs.Descriptions.{LinearRow, Con, Gen, inequality, rows_as, system_of, HoldsWith}
-use Rattle.lra_linear_spec.specs.OperationStrain.{unit_row}
-use Rattle.lra_linear_spec.specs.Points.{IsWithin, SameSet, IsEmptySet}
-use Rattle.lra_linear_spec.specs.Polyhedra.{positivity, falsity}
-use Rattle.lra_linear_spec.specs.Canonical.{IsCanonical}
-use Rattle.lra_linear_spec.proofs.CanonicalForms.{no_repeat}
+use Rattle.lra_linear_spec.specs.Vectors.{entry, dot, product, negated, zeros}
+use Rattle.lra_linear_spec.specs.{Canonical.IsCanonical, Cones.both_ways, Cones.all_rows, Cones.AreDual, Kinds.is_equality, Kinds.is_line, OperationStrain.unit_row, Points.IsWithin, Points.SameSet}
+use Rattle.lra_linear_spec.specs.{Points.IsEmptySet, Polyhedra.positivity, Polyhedra.falsity, Strain.Loss, Strain.Strains, declared.ConKind.ConKind, declared.ConKind.TheVariants.Ge}
+use Rattle.lra_linear_spec.specs.{declared.ConKind.TheVariants.Eq, declared.GenKind.GenKind, declared.GenKind.TheVariants.Point, declared.GenKind.TheVariants.Ray, declared.GenKind.TheVariants.Line}
 use Rattle.lra_linear_spec.proofs.Descriptions.{system_from, system_has, gen_generated, generated_gen, dual_same_points, dual_flipped}
-use Rattle.lra_linear_spec.proofs.Combinations.{generated_row}
-use Rattle.lra_linear_spec.proofs.LinearMaps.{generated_nonneg}
 use Rattle.lra_linear_spec.proofs.Membership.{contains_head, contains_tail, contains_none, contains_cases}
-use Rattle.lra_linear_spec.proofs.OneSpelling.{given_from, falsity_never, given_has}
-use Rattle.lra_linear_spec.proofs.Lines.{signed_zero}
-use Rattle.lra_linear_spec.proofs.Products.{negated_dot, dot_negated}
-use Rattle.lra_linear_spec.proofs.Signs.{between_opposites}
+use Rattle.lra_linear_spec.proofs.{CanonicalForms.no_repeat, Combinations.generated_row, LinearMaps.generated_nonneg, Lines.signed_zero, OneSpelling.given_from, OneSpelling.falsity_never}
+use Rattle.lra_linear_spec.proofs.{OneSpelling.given_has, Products.negated_dot, Products.dot_negated, Signs.between_opposites}
 use Rattle.lra_canonical.proofs.Orders.{ascends}
 use Rattle.lra_canonical.specs.declared.order.Order.TheVariants.{Inequalities}
 use Rattle.lra_systems.specs.LinearSystems.{LinearSystem, generators, constraints, rows_by_kind, FitsKind, FitKinds}
-use Rattle.lra_linear_spec.specs.Kinds.{is_equality, is_line}
-use Rattle.lra_linear_spec.specs.declared.ConKind.{ConKind}
-use Rattle.lra_linear_spec.specs.declared.ConKind.TheVariants.{Ge, Eq}
-use Rattle.lra_linear_spec.specs.declared.GenKind.{GenKind}
-use Rattle.lra_linear_spec.specs.declared.GenKind.TheVariants.{Point, Ray, Line}
-use Rattle.lra_linear_spec.specs.Strain.{Loss, Strains}
-use Rattle.lra_cone.specs.Cones.{ConeContent, IsCone}
-use Rattle.lra_cone.specs.Losses.{IfLost}
+use Rattle.lra_cone.specs.{Cones.ConeContent, Cones.IsCone, Conversions.IsConversion, Losses.IfLost}
 use Rattle.lra_descriptions.specs.ShownLists.{without, ShowsConstraints, HasConstraints, AreConstraintsOf, dual_kind, IsSeenValid, IsValid, ShowsValid}
-use Rattle.lra_cone.specs.Conversions.{IsConversion}
 use Rattle.lra_cone.proofs.RayCase.{system_same}
-use Rattle.lra_description_pair.proofs.PartedRays.{once_too, without_once}
-use Rattle.lra_descriptions.proofs.SeveralKinds.{dual_given, system_append, system_rays, system_lines, given_append, given_same}
+use Rattle.lra_description_pair.proofs.{GeneratorLists.nothing_generated, GeneratorLists.at_points, PartedRays.once_too, PartedRays.without_once}
 use Rattle.lra_descriptions.proofs.Parted.{without_from, without_has}
-use Rattle.lra_description_pair.proofs.GeneratorLists.{nothing_generated, at_points}
+use Rattle.lra_descriptions.proofs.SeveralKinds.{dual_given, system_append, system_rays, system_lines, given_append, given_same}
 
 -- ---- the list
 pub listed_constraints : (n : ℕ) (lines rays : List (List ℤ)) (list : LinearSystem ConKind) (h : ShowsConstraints n lines rays list) →

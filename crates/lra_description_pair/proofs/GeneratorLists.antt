@@ -1,35 +1,24 @@
 -- The generators that are shown of a cone are the canonical ones of its rows.
 use Rattle.std.proofs.Common.{◌≡◌, ℕ, suc, ◌+◌, true, false, List, [], ◌∷◌, ◌++◌, length, replicate, refl, ap, sym, ◌∙◌, subst, arith, pos, ℤ, neg_ℤ, ◌<ℤ◌, ◌≤ℤ◌, inl, inr, ◌⊎◌}
-use Rattle.std.specs.List.{Contains}
-use Rattle.std.proofs.lemmas.Int.{ints}
-use Rattle.std.proofs.lemmas.List.{length-append, length-replicate}
 use Rattle.std.proofs.lemmas.List.Elements.{Contains-append_cases, Contains-append_left, Contains-append_right}
-use Rattle.lra_linear_spec.specs.Vectors.{entry, dot, product, negated}
-use Rattle.lra_linear_spec.specs.Canonical.{IsCanonical}
+use Rattle.std.proofs.{lemmas.Int.ints, lemmas.List.length-append, lemmas.List.length-replicate}
+use Rattle.std.specs.List.{Contains}
 use Rattle.lra_linear_spec.specs.Cones.{Generated, both_ways, all_rows, AreDual}
 use Rattle.lra_linear_spec.specs.Descriptions.{LinearRow, Con, Gen, inequality, rows_as, system_of}
-use Rattle.lra_linear_spec.specs.Points.{IsPoint, SameSet, IsEmptySet}
-use Rattle.lra_linear_spec.specs.Polyhedra.{positivity, falsity}
+use Rattle.lra_linear_spec.specs.{Canonical.IsCanonical, Kinds.is_line, Points.IsPoint, Points.SameSet, Points.IsEmptySet, Polyhedra.positivity, Polyhedra.falsity, Vectors.entry, Vectors.dot}
+use Rattle.lra_linear_spec.specs.{Vectors.product, Vectors.negated, declared.GenKind.GenKind, declared.GenKind.TheVariants.Point, declared.GenKind.TheVariants.Ray, declared.GenKind.TheVariants.Line}
 use Rattle.lra_linear_spec.proofs.Descriptions.{con_solves, con_cons, con_tail, dual_same_points}
-use Rattle.lra_linear_spec.proofs.LinearMaps.{generated_nonneg}
-use Rattle.lra_linear_spec.proofs.Lines.{signed_from, signed_zero, in_lines, in_lines_negated}
-use Rattle.lra_linear_spec.proofs.Membership.{contains_head, contains_none}
-use Rattle.lra_linear_spec.proofs.OneSpelling.{positivity_product, falsity_never}
-use Rattle.lra_linear_spec.proofs.Polyhedra.{con_gen}
-use Rattle.lra_linear_spec.proofs.Products.{entry_negated, negated_dot}
-use Rattle.lra_linear_spec.proofs.Signs.{between_opposites}
+use Rattle.lra_linear_spec.proofs.{LinearMaps.generated_nonneg, Lines.signed_from, Lines.signed_zero, Lines.in_lines, Lines.in_lines_negated, Membership.contains_head, Membership.contains_none}
+use Rattle.lra_linear_spec.proofs.{OneSpelling.positivity_product, OneSpelling.falsity_never, Polyhedra.con_gen, Products.entry_negated, Products.negated_dot, Signs.between_opposites}
 use Rattle.lra_canonical.proofs.Orders.{ascends}
 use Rattle.lra_canonical.specs.declared.order.Order.TheVariants.{Generators}
-use Rattle.lra_linear_spec.specs.Kinds.{is_line}
 use Rattle.lra_systems.specs.LinearSystems.{LinearSystem, generators, rows_by_kind, FitKinds}
-use Rattle.lra_linear_spec.specs.declared.GenKind.{GenKind}
-use Rattle.lra_linear_spec.specs.declared.GenKind.TheVariants.{Point, Ray, Line}
 use Rattle.lra_cone.specs.Cones.{ConeContent, IsCone}
 use Rattle.lra_descriptions.specs.ShownLists.{points_of, ListsGenerators, ShowsGenerators, HasGenerators, AreGeneratorsOf}
 use Rattle.lra_cone.proofs.Reordered.{dual_again, canonical_again}
 use Rattle.lra_description_pair.proofs.PartedRays.{InParts, in_parts, parts_once, once_left, once_right}
-use Rattle.lra_descriptions.proofs.SeveralKinds.{system_append, system_rays, system_lines, given_append, given_same, fit_append, fit_same}
 use Rattle.lra_descriptions.proofs.Parted.{parted, directions_from}
+use Rattle.lra_descriptions.proofs.SeveralKinds.{system_append, system_rays, system_lines, given_append, given_same, fit_append, fit_same}
 
 -- ---- points, then rays, then lines
 as_many : {K : Type 0} (xs ys : List (List ℤ)) (j k : K) → length (xs ++ ys) ≡ length (replicate (length xs) j ++ replicate (length ys) k)

@@ -1,35 +1,20 @@
 -- What is known once generators have been taken in.
 use Rattle.std.proofs.Common.{◌≡◌, ◌≢◌, ℕ, zero, suc, ◌<◌, ◌≤◌, Bool, take, Result, Ok, Err, IfOk, List, [], ◌∷◌, ◌++◌, length, map, refl, ap, sym, ◌∙◌, subst, arith, ℤ, inl, inr}
+use Rattle.std.proofs.{lemmas.List.take_all, lemmas.List.Elements.Contains-append_cases}
 use Rattle.std.specs.List.{Contains}
-use Rattle.std.proofs.lemmas.List.{take_all}
-use Rattle.std.proofs.lemmas.List.Elements.{Contains-append_cases}
-use Rattle.lra_linear_spec.specs.declared.Cause.{Cause}
 use Rattle.lra_linear_spec.specs.Descriptions.{LinearRow, AreGenerators, Gen, system_of}
-use Rattle.lra_linear_spec.specs.OperationStrain.{FromGeneratorsStrains, with_positivity}
-use Rattle.lra_linear_spec.specs.Points.{IsEmptySet}
-use Rattle.lra_linear_spec.specs.Polyhedra.{Polyhedron}
-use Rattle.lra_linear_spec.specs.Strain.{Loss, Strains}
+use Rattle.lra_linear_spec.specs.{Kinds.is_equality, OperationStrain.FromGeneratorsStrains, OperationStrain.with_positivity, Points.IsEmptySet, Polyhedra.Polyhedron, Strain.Loss, Strain.Strains}
+use Rattle.lra_linear_spec.specs.{Vectors.entry, declared.Cause.Cause, declared.ConKind.ConKind, declared.GenKind.GenKind, declared.GenKind.TheVariants.Point}
 use Rattle.lra_systems.specs.LinearSystems.{LinearSystem, constraints, generators, rows_by_kind, FitKinds}
-use Rattle.lra_linear_spec.specs.Kinds.{is_equality}
-use Rattle.lra_linear_spec.specs.declared.ConKind.{ConKind}
-use Rattle.lra_linear_spec.specs.declared.GenKind.{GenKind}
-use Rattle.lra_linear_spec.specs.declared.GenKind.TheVariants.{Point}
 use Rattle.lra_systems.proofs.Generators.{fitting_are_generators}
-use Rattle.lra_cone.specs.Cones.{ConeContent, IsCone, whole_space}
-use Rattle.lra_cone.specs.Conversions.{IsConversion}
+use Rattle.lra_cone.specs.{Cones.ConeContent, Cones.IsCone, Cones.whole_space, Conversions.IsConversion, Losses.IfLost}
 use Rattle.lra_descriptions.specs.ShownLists.{ShowsConstraints, ShowsValid, dual_kind}
-use Rattle.lra_linear_spec.specs.Vectors.{entry}
-use Rattle.lra_linear_spec.proofs.Descriptions.{gen_generated}
-use Rattle.lra_linear_spec.proofs.Membership.{contains_none}
-use Rattle.lra_description_pair.proofs.GeneratorLists.{nothing_generated}
-use Rattle.lra_cone.specs.Losses.{IfLost}
-use Rattle.lra_description_pair.proofs.ConstraintLists.{constrained, some_point}
-use Rattle.lra_descriptions.proofs.SeveralKinds.{dual_given}
-use Rattle.lra_description_pair.specs.OwnLists.{IsOwnCause, TellsOwnLoss}
-use Rattle.lra_description_pair.specs.TakenPoints.{AreTaken, IsMadeOfPoints, IsOfFirst, IsOfPoints, most_kept}
-use Rattle.lra_description_pair.specs.TriedRows.{IsOfTried}
-use Rattle.lra_description_pair.proofs.OwnRows.{given_length}
+use Rattle.lra_linear_spec.proofs.{Descriptions.gen_generated, Membership.contains_none}
 use Rattle.lra_description_pair.proofs.PairLosses.{own_strain, from_generators_strain}
+use Rattle.lra_description_pair.proofs.{ConstraintLists.constrained, ConstraintLists.some_point, GeneratorLists.nothing_generated, OwnRows.given_length}
+use Rattle.lra_descriptions.proofs.SeveralKinds.{dual_given}
+use Rattle.lra_description_pair.specs.TakenPoints.{AreTaken, IsMadeOfPoints, IsOfFirst, IsOfPoints, most_kept}
+use Rattle.lra_description_pair.specs.{OwnLists.IsOwnCause, OwnLists.TellsOwnLoss, TriedRows.IsOfTried}
 
 pub taken : (n : ℕ) (given : LinearSystem GenKind) (rows list : LinearSystem ConKind) (start cone : ConeContent) (kept : List LinearRow) (losses : List Loss) → length given.kinds ≡ length given.rows →
     FitKinds given.rows given.kinds → Contains given.kinds Point →

@@ -1,28 +1,17 @@
 -- Which constraints of a pair are tight at which generators: the matrix of the own list, turned to the lists that are shown.
 use Rattle.std.proofs.Common.{◌≡◌, ◌∙◌, ◌≤◌, ℕ, ℤ, suc, pos, ◌≤ℤ◌, false, List, [], ◌∷◌, ◌++◌, ap, arith, inl, inr, length, replicate, subst, sym}
-use Rattle.std.specs.Prelude.{Result, Ok, Err, IfOk, Bool}
-use Rattle.std.specs.List.{All, Contains}
-use Rattle.std.proofs.lemmas.List.{length-map}
 use Rattle.std.proofs.lemmas.List.Elements.{Contains-append_cases, Contains-append_left, Contains-append_right}
-use Rattle.std.proofs.lemmas.List.Sorted.{Contains-permutation, IsPermutation-sym}
-use Rattle.lra_bits.specs.Matrix.{Matrix}
-use Rattle.lra_bits.specs.Transposed.{AreColumns}
+use Rattle.std.proofs.{lemmas.List.length-map, lemmas.List.Sorted.Contains-permutation, lemmas.List.Sorted.IsPermutation-sym}
+use Rattle.std.specs.{List.All, List.Contains, Prelude.Result, Prelude.Ok, Prelude.Err, Prelude.IfOk, Prelude.Bool}
+use Rattle.lra_bits.specs.{Matrix.Matrix, Transposed.AreColumns}
 use Rattle.lra_linear_spec.specs.Cones.{AreDual, all_rows, both_ways}
-use Rattle.lra_linear_spec.specs.Descriptions.{system_of}
-use Rattle.lra_linear_spec.specs.Polyhedra.{positivity}
-use Rattle.lra_linear_spec.specs.Vectors.{entry, negated, product}
-use Rattle.lra_linear_spec.specs.declared.ConKind.{ConKind}
-use Rattle.lra_linear_spec.specs.declared.GenKind.{GenKind}
-use Rattle.lra_linear_spec.proofs.Lines.{in_lines, in_lines_negated}
-use Rattle.lra_linear_spec.proofs.Membership.{contains_none}
-use Rattle.lra_linear_spec.proofs.Products.{negated_dot, product_comm}
-use Rattle.lra_linear_spec.proofs.Signs.{between_opposites}
+use Rattle.lra_linear_spec.specs.{Descriptions.system_of, Polyhedra.positivity, Vectors.entry, Vectors.negated, Vectors.product, declared.ConKind.ConKind, declared.GenKind.GenKind}
+use Rattle.lra_linear_spec.proofs.{Lines.in_lines, Lines.in_lines_negated, Membership.contains_none, Products.negated_dot, Products.product_comm, Signs.between_opposites}
 use Rattle.lra_systems.specs.LinearSystems.{LinearSystem, constraints, generators}
 use Rattle.lra_cone.specs.Cones.{ConeContent, IsCone}
 use Rattle.lra_descriptions.specs.ShownLists.{ShowsConstraints, ShowsGenerators, directions_of, points_of, without}
 use Rattle.lra_descriptions.specs.Tightness.{GoesWith, saturation_of, tight_at, tight_matrix}
-use Rattle.lra_descriptions.proofs.Parted.{directions_from, points_from, without_from}
-use Rattle.lra_descriptions.proofs.TightLemmas.{goes_all, goes_on, known_saturation, turned_tight}
+use Rattle.lra_descriptions.proofs.{Parted.directions_from, Parted.points_from, Parted.without_from, TightLemmas.goes_all, TightLemmas.goes_on, TightLemmas.known_saturation, TightLemmas.turned_tight}
 use Rattle.lra_description_pair.specs.OwnLists.{IsOwnList, TurnsTo, columns_of}
 use Rattle.lra_description_pair.proofs.PairLists.{own_dual}
 

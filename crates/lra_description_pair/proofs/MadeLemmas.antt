@@ -1,22 +1,13 @@
 -- What rows and generators that were tried tell of the polyhedron that is made of them.
 use Rattle.std.proofs.Common.{◌≡◌, ◌∙◌, ℕ, zero, suc, List, [], ◌∷◌, ◌++◌, ap, drop, inl, inr, refl, subst, sym, take}
 use Rattle.std.specs.List.{Contains}
-use Rattle.lra_linear_spec.specs.Descriptions.{Con, Gen, LinearRow}
-use Rattle.lra_linear_spec.specs.OperationStrain.{FromGeneratorsStrains, FromRowsStrains, with_positivity}
-use Rattle.lra_linear_spec.specs.Points.{IsWithin, PointSet}
-use Rattle.lra_linear_spec.specs.Polyhedra.{IsPolyhedron, IsPolyhedronOf, Polyhedron}
-use Rattle.lra_linear_spec.specs.Strain.{Loss, Strains}
-use Rattle.lra_linear_spec.specs.declared.ConKind.{ConKind}
+use Rattle.lra_linear_spec.specs.{Descriptions.Con, Descriptions.Gen, Descriptions.LinearRow, OperationStrain.FromGeneratorsStrains, OperationStrain.FromRowsStrains, OperationStrain.with_positivity}
+use Rattle.lra_linear_spec.specs.{Points.IsWithin, Points.PointSet, Polyhedra.IsPolyhedron, Polyhedra.IsPolyhedronOf, Polyhedra.Polyhedron, Strain.Loss, Strain.Strains, declared.ConKind.ConKind}
 use Rattle.lra_linear_spec.proofs.Membership.{contains_cases, contains_head, contains_none, contains_tail}
 use Rattle.lra_systems.specs.LinearSystems.{LinearSystem, constraints}
-use Rattle.lra_cone.specs.Cones.{ConeContent}
-use Rattle.lra_cone.specs.Conversions.{IsConversion}
-use Rattle.lra_cone.specs.Losses.{IfLost}
-use Rattle.lra_description_pair.specs.KeptRows.{IsOfSome}
-use Rattle.lra_description_pair.specs.Made.{IsMadeFor, IsMadeOfGenerators, IsMadeOfRows}
-use Rattle.lra_description_pair.specs.OwnLists.{IsPositive}
+use Rattle.lra_cone.specs.{Cones.ConeContent, Conversions.IsConversion, Losses.IfLost}
 use Rattle.lra_description_pair.specs.TakenPoints.{AreTaken, IsMadeOfPoints, IsOfFirst, IsOfPoints, most_kept}
-use Rattle.lra_description_pair.specs.TriedRows.{IsMadeOf, IsOfTried}
+use Rattle.lra_description_pair.specs.{KeptRows.IsOfSome, Made.IsMadeFor, Made.IsMadeOfGenerators, Made.IsMadeOfRows, OwnLists.IsPositive, TriedRows.IsMadeOf, TriedRows.IsOfTried}
 use Rattle.lra_description_pair.proofs.GeneratorPairs.{lost_strain, own_lost_strain, taken_strain}
 use Rattle.lra_description_pair.proofs.PairLosses.{all_of, first_within, from_strain, later_strain, none_of, same_strain, some_loss, still_among, taken_behind, universe_within}
 

@@ -2,11 +2,8 @@
 use Rattle.std.proofs.Common.{◌≡◌, ◌∙◌, ◌+◌, ◌<◌, ◌++◌, ◌∷◌, ℕ, zero, suc, Bool, true, false, List, [], ap, arith, get_or, length, map, refl, subst, sym, ℤ}
 use Rattle.std.proofs.lemmas.List.{ext_get_or, get_or-map, length-append, length-map}
 use Rattle.lra_bits.specs.Matrix.{Matrix, unmarked}
-use Rattle.lra_linear_spec.specs.Descriptions.{LinearRow, rows_as, rows_of}
-use Rattle.lra_linear_spec.specs.Echelon.{IsEchelonOf}
-use Rattle.lra_linear_spec.specs.Vectors.{product}
-use Rattle.lra_canonical.specs.Echelons.{HaveWidth, SameEqualities}
-use Rattle.lra_canonical.specs.Irredundant.{AreKept, IsSaturation, WithoutRedundant}
+use Rattle.lra_linear_spec.specs.{Descriptions.LinearRow, Descriptions.rows_as, Descriptions.rows_of, Echelon.IsEchelonOf, Vectors.product}
+use Rattle.lra_canonical.specs.{Echelons.HaveWidth, Echelons.SameEqualities, Irredundant.AreKept, Irredundant.IsSaturation, Irredundant.WithoutRedundant}
 use Rattle.lra_cone.specs.Cones.{ConeContent, IsCone}
 use Rattle.lra_descriptions.specs.Tightness.{tight_at, tight_matrix}
 use Rattle.lra_descriptions.proofs.TightLemmas.{tight_values_are}

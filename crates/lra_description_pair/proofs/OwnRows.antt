@@ -1,33 +1,19 @@
 -- The rows of a cone as the code goes through them, and the numbers that pass as they are reduced.
-use Rattle.std.specs.Prelude.{◌≢◌}
+use Rattle.std.specs.{List.Contains, Ordering.int_eq, Prelude.◌≢◌}
 use Rattle.std.proofs.Common.{◌≡◌, ℕ, zero, suc, ◌+◌, ◌<◌, ◌≤◌, Bool, true, false, cond, nat_lt, ◌==◌, List, [], ◌∷◌, ◌++◌, length, get_or, take, refl, ap, sym, ◌∙◌, subst, arith, pos, ℤ, inl, inr}
-use Rattle.std.specs.List.{Contains}
-use Rattle.std.specs.Ordering.{int_eq}
-use Rattle.std.proofs.lemmas.Bool.{eqb-true}
-use Rattle.std.proofs.lemmas.Bool.Decides.{Decides-int_eq}
-use Rattle.std.proofs.lemmas.List.{take_all, take_more, get_or_default}
 use Rattle.std.proofs.lemmas.List.Elements.{All-contains, All-from_get_or, Contains-get_or, Contains-append_cases}
-use Rattle.lra_linear_spec.specs.Vectors.{product}
-use Rattle.lra_linear_spec.specs.Descriptions.{LinearRow, rows_of}
-use Rattle.lra_linear_spec.specs.Echelon.{IsEchelonOf}
-use Rattle.lra_linear_spec.specs.Reduction.{ReductionPasses}
-use Rattle.lra_linear_spec.specs.Strain.{tight_rows, IsOwnForm}
-use Rattle.lra_linear_spec.proofs.Descriptions.{system_has}
-use Rattle.lra_linear_spec.proofs.Spans.{echelon_rows_at_most}
-use Rattle.lra_bits.specs.TruthValues.{value_at}
-use Rattle.lra_canonical.specs.Reduced.{IsReductionExcess}
-use Rattle.lra_canonical.specs.Echelons.{HaveWidth, IsEchelonExcess}
-use Rattle.lra_row.specs.declared.error.RowError.{RowError}
-use Rattle.lra_row.specs.declared.error.RowError.TheVariants.{Excess, Memory}
+use Rattle.std.proofs.{lemmas.Bool.eqb-true, lemmas.Bool.Decides.Decides-int_eq, lemmas.List.take_all, lemmas.List.take_more, lemmas.List.get_or_default}
+use Rattle.lra_linear_spec.specs.{Descriptions.LinearRow, Descriptions.rows_of, Echelon.IsEchelonOf, Reduction.ReductionPasses, Strain.tight_rows, Strain.IsOwnForm, Vectors.product}
+use Rattle.lra_linear_spec.proofs.{Descriptions.system_has, Membership.contains_none, Membership.contains_cases, Membership.contains_head, Membership.contains_tail, Spans.echelon_rows_at_most}
+use Rattle.lra_bits.specs.{Matrix.Matrix, Matrix.unmarked, TruthValues.value_at}
+use Rattle.lra_canonical.specs.{Echelons.HaveWidth, Echelons.IsEchelonExcess, Reduced.IsReductionExcess, Reduced.IsReducedBy}
+use Rattle.lra_row.specs.{declared.error.RowError.RowError, declared.error.RowError.TheVariants.Excess, declared.error.RowError.TheVariants.Memory}
 use Rattle.lra_systems.specs.LinearSystems.{rows_by_kind}
 use Rattle.lra_cone.specs.Cones.{ConeContent, IsCone, tight_values, saturation_rows, cone_saturation}
 use Rattle.lra_double_description.specs.Steps.{IsFilled}
 use Rattle.lra_cone.proofs.TightRows.{rows_length, row_at}
 use Rattle.lra_description_pair.specs.OwnLists.{loose_rows, TellsTight, AllTellTight, AreReducedBy, AreParts, AnyReductionExcess, IsOwnExcess, tight_value}
 use Rattle.lra_description_pair.proofs.TightRows.{tight_in, loose_in, rows_from, reduced_append}
-use Rattle.lra_bits.specs.Matrix.{Matrix, unmarked}
-use Rattle.lra_linear_spec.proofs.Membership.{contains_none, contains_cases, contains_head, contains_tail}
-use Rattle.lra_canonical.specs.Reduced.{IsReducedBy}
 
 pub filled_end : (f : ℕ → Bool) (n k : ℕ) (bits : List Bool) → k ≡ n → IsFilled f n k bits → IsFilled f n n bits
 filled_end f n k bits e h = subst (λ (i : ℕ). IsFilled f n i bits) e h

@@ -1,34 +1,24 @@
 -- The canonical list of the own kind: the form of the tight rows and the others, reduced by it, have the solutions of the rows, and
 -- without the redundant ones they are the canonical description of what the rows generate.
 use Rattle.std.proofs.Common.{◌≡◌, ℕ, zero, suc, ◌+◌, ◌<◌, ◌≤◌, Bool, true, false, List, [], ◌∷◌, ◌++◌, length, get_or, refl, ap, sym, ◌∙◌, subst, arith, pos, ℤ, ◌+ℤ◌, ◌*ℤ◌, neg_ℤ, ◌≤ℤ◌, inl, inr}
-use Rattle.std.proofs.Common.{◌⊎◌}
-use Rattle.std.specs.List.{Contains}
-use Rattle.std.proofs.lemmas.Int.{ints}
-use Rattle.std.proofs.lemmas.List.{length-append}
 use Rattle.std.proofs.lemmas.List.Elements.{Contains-append_cases, Contains-append_left, Contains-append_right, Contains-get_or, All-contains}
-use Rattle.lra_linear_spec.specs.Vectors.{entry, dot, product, negated}
-use Rattle.lra_linear_spec.specs.Cones.{Generated, Solves, both_ways, all_rows}
+use Rattle.std.proofs.{Common.◌⊎◌, lemmas.Int.ints, lemmas.List.length-append}
+use Rattle.std.specs.List.{Contains}
 use Rattle.lra_linear_spec.specs.Descriptions.{LinearRow, Gen, rows_as, rows_of, system_of}
-use Rattle.lra_linear_spec.specs.Strain.{is_tight_at, tight_rows}
+use Rattle.lra_linear_spec.specs.{Cones.Generated, Cones.Solves, Cones.both_ways, Cones.all_rows, Strain.is_tight_at, Strain.tight_rows, Vectors.entry, Vectors.dot, Vectors.product, Vectors.negated}
 use Rattle.lra_linear_spec.proofs.Descriptions.{FromGiven, system_from, system_has, system_has_negated, gen_generated, generated_gen}
-use Rattle.lra_linear_spec.proofs.LinearMaps.{generated_nonneg, generated_through}
-use Rattle.lra_linear_spec.proofs.Lines.{in_lines, signed_from}
-use Rattle.lra_linear_spec.proofs.Products.{negated_dot, product_comm, dot_same, dot_scale, dot_plus}
 use Rattle.lra_linear_spec.proofs.Membership.{contains_none, contains_cases, contains_head, contains_tail}
-use Rattle.lra_linear_spec.proofs.OneSpelling.{given_from}
-use Rattle.lra_linear_spec.proofs.Ring.{ring, v, ◌⊕◌, ◌⊗◌}
-use Rattle.lra_linear_spec.proofs.Signs.{between_opposites, no_product}
+use Rattle.lra_linear_spec.proofs.{LinearMaps.generated_nonneg, LinearMaps.generated_through, Lines.in_lines, Lines.signed_from, OneSpelling.given_from, Products.negated_dot, Products.product_comm}
+use Rattle.lra_linear_spec.proofs.{Products.dot_same, Products.dot_scale, Products.dot_plus, Ring.ring, Ring.v, Ring.◌⊕◌, Ring.◌⊗◌, Signs.between_opposites, Signs.no_product}
 use Rattle.lra_bits.specs.Matrix.{Matrix}
-use Rattle.lra_canonical.specs.Echelons.{HaveWidth, SameEqualities}
 use Rattle.lra_canonical.specs.Irredundant.{IsSaturation, IsIrredundant, Solutions}
-use Rattle.lra_canonical.specs.Reduced.{IsEchelonForm, SolvesAll, IsReducedBy}
+use Rattle.lra_canonical.specs.{Echelons.HaveWidth, Echelons.SameEqualities, Reduced.IsEchelonForm, Reduced.SolvesAll, Reduced.IsReducedBy}
 use Rattle.lra_canonical.proofs.Solutions.{farkas, all_widths, solves_all, spanned_solved, reduced_same}
 use Rattle.lra_cone.specs.Cones.{ConeContent, IsCone}
 use Rattle.lra_descriptions.proofs.SeveralKinds.{system_append, system_rays, system_lines}
 use Rattle.lra_cone.proofs.Stepped.{line_tight}
 use Rattle.lra_description_pair.specs.OwnLists.{loose_rows, TellsTight, AllTellTight, AreReducedBy, IsOwnList}
-use Rattle.lra_description_pair.proofs.TightRows.{tight_said, tight_from, tight_in, loose_in, either_row, rows_has, rows_from, reduced_from, reduced_has}
-use Rattle.lra_description_pair.proofs.TightRows.{reduced_at}
+use Rattle.lra_description_pair.proofs.TightRows.{tight_said, tight_from, tight_in, loose_in, either_row, rows_has, rows_from, reduced_from, reduced_has, reduced_at}
 
 -- the generators of the cone
 abbrev pub cone_generators : ConeContent → List LinearRow

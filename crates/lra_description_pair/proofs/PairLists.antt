@@ -1,37 +1,21 @@
 -- Canonical constraints and canonical generators of one cone are a polyhedron's.
 use Rattle.std.proofs.Common.{◌≡◌, ◌≢◌, ◌≤◌, ℕ, suc, Bool, true, false, List, [], ◌∷◌, ◌++◌, length, drop, refl, ap, sym, ◌∙◌, subst, arith, pos, ℤ, neg_ℤ, ◌<ℤ◌, ◌≤ℤ◌, inl, inr}
+use Rattle.std.proofs.{lemmas.Int.ints, lemmas.List.Elements.Contains-append_left, lemmas.List.Elements.Contains-append_right}
 use Rattle.std.specs.List.{Contains, All}
-use Rattle.std.proofs.lemmas.Int.{ints}
-use Rattle.std.proofs.lemmas.List.Elements.{Contains-append_left, Contains-append_right}
-use Rattle.lra_linear_spec.specs.Vectors.{entry, dot, product, negated}
-use Rattle.lra_linear_spec.specs.Canonical.{IsCanonical, IsCanonicalOf}
-use Rattle.lra_linear_spec.specs.LowestTerms.{IsPrimitive}
-use Rattle.lra_linear_spec.specs.ConeStrain.{row_limit}
-use Rattle.lra_linear_spec.specs.Representable.{KeepsLimit}
-use Rattle.lra_linear_spec.specs.Cones.{AreDual, Generated, both_ways, all_rows}
 use Rattle.lra_linear_spec.specs.Descriptions.{LinearRow, AreGenerators, Con, Gen, inequality, rows_as, system_of}
-use Rattle.lra_linear_spec.specs.Points.{PointSet, IsPoint, SameSet, IsEmptySet}
 use Rattle.lra_linear_spec.specs.Polyhedra.{Polyhedron, HasPoint, IsPolyhedron, IsPolyhedronOf, IsWithoutPoint, positivity, falsity}
-use Rattle.lra_linear_spec.proofs.Combinations.{generated_row}
+use Rattle.lra_linear_spec.specs.{Canonical.IsCanonical, Canonical.IsCanonicalOf, ConeStrain.row_limit, Cones.AreDual, Cones.Generated, Cones.both_ways, Cones.all_rows, Kinds.is_equality}
+use Rattle.lra_linear_spec.specs.{Kinds.is_line, LowestTerms.IsPrimitive, OperationStrain.unit_row, Points.PointSet, Points.IsPoint, Points.SameSet, Points.IsEmptySet, Representable.KeepsLimit}
+use Rattle.lra_linear_spec.specs.{Vectors.entry, Vectors.dot, Vectors.product, Vectors.negated, declared.ConKind.ConKind, declared.ConKind.TheVariants.Ge, declared.GenKind.GenKind}
 use Rattle.lra_linear_spec.proofs.Descriptions.{con_none, dual_flipped, system_from, gen_generated}
-use Rattle.lra_linear_spec.proofs.LinearMaps.{separated, generated_nonneg}
-use Rattle.lra_linear_spec.proofs.LowestTerms.{primitive_at}
-use Rattle.lra_linear_spec.proofs.Membership.{contains_head, contains_none, each_one, split_one}
-use Rattle.lra_linear_spec.proofs.OneSpelling.{dual_same_cone, falsity_never, positivity_product}
-use Rattle.lra_linear_spec.proofs.Polyhedra.{con_gen}
-use Rattle.lra_linear_spec.proofs.Products.{dot_minus, entry_negated, negated_dot}
+use Rattle.lra_linear_spec.proofs.{Combinations.generated_row, LinearMaps.separated, LinearMaps.generated_nonneg, Lines.in_lines, Lines.zeros_length, LowestTerms.primitive_at}
+use Rattle.lra_linear_spec.proofs.{Membership.contains_head, Membership.contains_none, Membership.each_one, Membership.split_one, OneSpelling.dual_same_cone, OneSpelling.falsity_never}
+use Rattle.lra_linear_spec.proofs.{OneSpelling.positivity_product, Polyhedra.con_gen, Products.dot_minus, Products.entry_negated, Products.negated_dot}
 use Rattle.lra_systems.specs.LinearSystems.{LinearSystem, constraints, generators, rows_by_kind, FitKinds}
-use Rattle.lra_linear_spec.specs.Kinds.{is_equality, is_line}
-use Rattle.lra_linear_spec.specs.declared.ConKind.{ConKind}
-use Rattle.lra_linear_spec.specs.declared.ConKind.TheVariants.{Ge}
-use Rattle.lra_linear_spec.specs.OperationStrain.{unit_row}
-use Rattle.lra_linear_spec.proofs.Lines.{in_lines, zeros_length}
-use Rattle.lra_description_pair.proofs.OwnRows.{all_width}
-use Rattle.lra_linear_spec.specs.declared.GenKind.{GenKind}
+use Rattle.lra_description_pair.proofs.GeneratorLists.{at_least_zero, generators_shown, listed_counted, listed_generators, listed_have, flat_rows, nothing_generated, same_points}
+use Rattle.lra_description_pair.proofs.{ConstraintLists.listed_facets, ConstraintLists.listed_hold, ConstraintLists.nothing_is, ConstraintLists.same_constraints, OwnRows.all_width}
 use Rattle.lra_cone.specs.Cones.{ConeContent, IsCone}
 use Rattle.lra_descriptions.specs.ShownLists.{HasGenerators, AreGeneratorsOf, HasConstraints, ListsGenerators, ShowsGenerators, ShowsConstraints}
-use Rattle.lra_description_pair.proofs.ConstraintLists.{listed_facets, listed_hold, nothing_is, same_constraints}
-use Rattle.lra_description_pair.proofs.GeneratorLists.{at_least_zero, generators_shown, listed_counted, listed_generators, listed_have, flat_rows, nothing_generated, same_points}
 use Rattle.lra_description_pair.specs.OwnLists.{IsOwnList, IsPositive}
 
 -- ---- both lists

@@ -1,31 +1,19 @@
 -- What is told of lost rows.
 use Rattle.std.proofs.Common.{◌≡◌, ◌≢◌, ℕ, zero, suc, ◌<◌, Bool, true, false, List, [], ◌∷◌, ◌++◌, length, get_or, drop, refl, ap, sym, ◌∙◌, subst, arith, ℤ, inl, inr, Option, Some, None}
-use Rattle.std.specs.Option.{IfNone}
-use Rattle.std.specs.List.{Contains}
 use Rattle.std.proofs.lemmas.List.{append-nil, get_or_default}
 use Rattle.std.proofs.lemmas.List.Elements.{Contains-append_cases, Contains-append_left, Contains-append_right}
-use Rattle.lra_linear_spec.specs.declared.Cause.{Cause}
-use Rattle.lra_linear_spec.specs.declared.Cause.TheVariants.{Excess, TooMany}
-use Rattle.lra_linear_spec.specs.Canonical.{IsCanonicalOf}
-use Rattle.lra_linear_spec.specs.Descriptions.{LinearRow, Con, inequality, system_of}
-use Rattle.lra_linear_spec.specs.Cones.{with_row, AreDual, all_rows}
-use Rattle.lra_linear_spec.specs.Vectors.{negated}
-use Rattle.lra_linear_spec.proofs.Combinations.{generated_row}
-use Rattle.lra_linear_spec.proofs.Descriptions.{con_none, system_has, system_has_negated}
-use Rattle.lra_linear_spec.proofs.LinearMaps.{generated_through}
-use Rattle.lra_linear_spec.specs.OperationStrain.{with_positivity, FromRowsStrains, FromGeneratorsStrains}
-use Rattle.lra_linear_spec.specs.Points.{PointSet, IsWithin}
-use Rattle.lra_linear_spec.specs.Polyhedra.{Polyhedron, IsPolyhedronOf, positivity}
+use Rattle.std.specs.{List.Contains, Option.IfNone}
 use Rattle.lra_linear_spec.specs.Strain.{Loss, Strains, IsStrained, OwnReductionPasses, OwnTooMany}
+use Rattle.lra_linear_spec.specs.{Canonical.IsCanonicalOf, Cones.with_row, Cones.AreDual, Cones.all_rows, Descriptions.LinearRow, Descriptions.Con, Descriptions.inequality, Descriptions.system_of}
+use Rattle.lra_linear_spec.specs.{OperationStrain.with_positivity, OperationStrain.FromRowsStrains, OperationStrain.FromGeneratorsStrains, Points.PointSet, Points.IsWithin, Polyhedra.Polyhedron}
+use Rattle.lra_linear_spec.specs.{Polyhedra.IsPolyhedronOf, Polyhedra.positivity, Vectors.negated, declared.Cause.Cause, declared.Cause.TheVariants.Excess, declared.Cause.TheVariants.TooMany}
 use Rattle.lra_linear_spec.proofs.Membership.{contains_head, contains_tail, contains_none, contains_cases}
+use Rattle.lra_linear_spec.proofs.{Combinations.generated_row, Descriptions.con_none, Descriptions.system_has, Descriptions.system_has_negated, LinearMaps.generated_through}
 use Rattle.lra_systems.specs.LinearSystems.{rows_by_kind}
-use Rattle.lra_cone.specs.Cones.{ConeContent, IsCone}
-use Rattle.lra_cone.specs.Conversions.{IsConversion}
-use Rattle.lra_cone.specs.Losses.{IfLost}
+use Rattle.lra_cone.specs.{Cones.ConeContent, Cones.IsCone, Conversions.IsConversion, Losses.IfLost}
 use Rattle.lra_cone.proofs.TightRows.{with_later}
-use Rattle.lra_description_pair.specs.KeptRows.{IsOfSome}
 use Rattle.lra_description_pair.specs.OwnLists.{IsOwnLoss, IsOwnCause, IsPositive, TellsOwnLoss}
-use Rattle.lra_description_pair.specs.TriedRows.{IsMadeOf, IsOfTried, StrainsWhenTried}
+use Rattle.lra_description_pair.specs.{KeptRows.IsOfSome, TriedRows.IsMadeOf, TriedRows.IsOfTried, TriedRows.StrainsWhenTried}
 
 -- ---- a row of a list once more
 row_again : (list : List LinearRow) (g : LinearRow) → Contains list g → (t : List ℤ) → Contains (with_row g.equal g.row (system_of list)) t → Contains (system_of list) t

@@ -1,14 +1,9 @@
 -- The rays of a canonical description, none of them twice, in two sorted parts.
 use Rattle.std.proofs.Common.{◌≡◌, ℕ, suc, ◌+◌, ◌≤◌, Bool, true, false, cond, List, [], ◌∷◌, ◌++◌, length, refl, ap, sym, ◌∙◌, subst, arith, pos, ℤ, ◌<ℤ◌, ◌≤ℤ◌, inl, inr}
-use Rattle.std.specs.List.{Contains}
-use Rattle.std.specs.List.Sorted.{IsPermutation}
-use Rattle.std.specs.Ordering.{is_eq}
-use Rattle.std.proofs.lemmas.List.{length-append}
 use Rattle.std.proofs.lemmas.List.Elements.{Contains-append_cases, Contains-append_left, Contains-append_right}
-use Rattle.std.proofs.lemmas.List.Sorted.{Contains-permutation, IsPermutation-sym, length_permutation}
-use Rattle.lra_linear_spec.specs.Vectors.{entry}
-use Rattle.lra_linear_spec.specs.Canonical.{IsCanonical}
-use Rattle.lra_linear_spec.specs.RowOrder.{row_cmp}
+use Rattle.std.proofs.{lemmas.List.length-append, lemmas.List.Sorted.Contains-permutation, lemmas.List.Sorted.IsPermutation-sym, lemmas.List.Sorted.length_permutation}
+use Rattle.std.specs.{List.Contains, List.Sorted.IsPermutation, Ordering.is_eq}
+use Rattle.lra_linear_spec.specs.{Canonical.IsCanonical, RowOrder.row_cmp, Vectors.entry}
 use Rattle.lra_linear_spec.proofs.CanonicalForms.{no_repeat}
 use Rattle.lra_linear_spec.proofs.Membership.{NoRepeat, Split, at_most, contains_cases, contains_head, contains_tail, contains_split}
 use Rattle.lra_descriptions.specs.ShownLists.{points_of, directions_of, without}

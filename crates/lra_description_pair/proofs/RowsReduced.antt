@@ -1,10 +1,8 @@
 -- Rows that are reduced one after the other, where they stand.
 use Rattle.std.proofs.Common.{◌≡◌, ℕ, suc, ◌+◌, ◌<◌, ◌≤◌, List, [], ◌∷◌, ◌++◌, length, get_or, set, take, refl, sym, ◌∙◌, subst, arith, ℤ}
 use Rattle.std.proofs.lemmas.List.{get_or_default, get_or-set_other, length-set, take_all}
-use Rattle.std.proofs.lemmas.List.Elements.{All-contains}
-use Rattle.std.proofs.Math.Seq.{take-append_seam, take-suc-set}
-use Rattle.lra_canonical.specs.Echelons.{HaveWidth}
-use Rattle.lra_canonical.specs.Reduced.{IsReducedBy, IsReductionExcess}
+use Rattle.std.proofs.{Math.Seq.take-append_seam, Math.Seq.take-suc-set, lemmas.List.Elements.All-contains}
+use Rattle.lra_canonical.specs.{Echelons.HaveWidth, Reduced.IsReducedBy, Reduced.IsReductionExcess}
 use Rattle.lra_row.specs.declared.error.RowError.{RowError}
 use Rattle.lra_description_pair.specs.OwnLists.{AreReducedBy, AnyReductionExcess}
 use Rattle.lra_description_pair.proofs.OwnRows.{reduced_more, some_excess, width_more}

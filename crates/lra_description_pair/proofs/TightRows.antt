@@ -1,14 +1,8 @@
 -- Rows that are tight at all rays of a cone, and the others.
 use Rattle.std.proofs.Common.{◌≡◌, ℕ, zero, suc, ◌<◌, Bool, true, false, cond, List, [], ◌∷◌, ◌++◌, length, get_or, refl, ap, sym, ◌∙◌, subst, arith, pos, ℤ, inl, inr, ◌⊎◌}
-use Rattle.std.specs.List.{Contains}
-use Rattle.std.specs.Ordering.{int_eq}
-use Rattle.std.proofs.lemmas.Bool.Decides.{Decides-int_eq}
-use Rattle.std.proofs.lemmas.Bool.{cases_lt}
-use Rattle.std.proofs.lemmas.List.{append-nil, get_or_default}
-use Rattle.std.proofs.lemmas.List.Elements.{Contains-get_or}
-use Rattle.lra_linear_spec.specs.Vectors.{product}
-use Rattle.lra_linear_spec.specs.Descriptions.{LinearRow, rows_of}
-use Rattle.lra_linear_spec.specs.Strain.{is_tight_at, tight_rows}
+use Rattle.std.proofs.{lemmas.Bool.cases_lt, lemmas.Bool.Decides.Decides-int_eq, lemmas.List.append-nil, lemmas.List.get_or_default, lemmas.List.Elements.Contains-get_or}
+use Rattle.std.specs.{List.Contains, Ordering.int_eq}
+use Rattle.lra_linear_spec.specs.{Descriptions.LinearRow, Descriptions.rows_of, Strain.is_tight_at, Strain.tight_rows, Vectors.product}
 use Rattle.lra_linear_spec.proofs.Membership.{contains_none, contains_cases, contains_head, contains_tail}
 use Rattle.lra_canonical.specs.Reduced.{IsReducedBy}
 use Rattle.lra_bits.specs.TruthValues.{value_at}

@@ -1,6 +1,5 @@
 -- What is left of a list of constraints.
-use Rattle.std.specs.Prelude.{ℕ, List}
-use Rattle.std.specs.List.{Contains}
+use Rattle.std.specs.{List.Contains, Prelude.ℕ, Prelude.List}
 use Rattle.lra_linear_spec.specs.Descriptions.{Con, LinearRow}
 use Rattle.lra_linear_spec.specs.Polyhedra.{IsPolyhedronOf, Polyhedron}
 

@@ -2,9 +2,8 @@
 use Rattle.std.specs.Prelude.{◌≡◌, ℕ, List, []}
 use Rattle.lra_linear_spec.specs.Descriptions.{Con, Gen, LinearRow}
 use Rattle.lra_linear_spec.specs.OperationStrain.{FromGeneratorsStrains, FromRowsStrains}
-use Rattle.lra_linear_spec.specs.Points.{IsWithin, PointSet}
 use Rattle.lra_linear_spec.specs.Polyhedra.{IsPolyhedron, IsPolyhedronOf, Polyhedron}
-use Rattle.lra_linear_spec.specs.Strain.{Loss}
+use Rattle.lra_linear_spec.specs.{Points.IsWithin, Points.PointSet, Strain.Loss}
 use Rattle.lra_cone.specs.Losses.{IfLost}
 
 -- P is made for the set of n dimensions. Whatever was lost, it has all points of the set; without a loss it has no

@@ -1,20 +1,15 @@
 -- The canonical list of the own kind: of constraints that were taken into a cone the canonical constraints, of
 -- generators the canonical generators. Rows that are tight at all rays of the cone come into an echelon form; the
 -- others are reduced by it.
-use Rattle.std.specs.Prelude.{◌≡◌, ◌↔◌, ℕ, suc, ◌+◌, ◌<◌, ◌≤◌, ℤ, pos, Bool, true, cond}
-use Rattle.std.specs.Prelude.{List, [], ◌∷◌, ◌++◌, length, slice_index_or, nat_lt}
-use Rattle.std.specs.List.{Contains}
-use Rattle.lra_linear_spec.specs.Vectors.{product}
-use Rattle.lra_linear_spec.specs.Canonical.{IsCanonicalOf}
+use Rattle.std.specs.Prelude.{◌≡◌, ◌↔◌, ℕ, suc, ◌+◌, ◌<◌, ◌≤◌, ℤ, pos, Bool, true, cond, List, [], ◌∷◌, ◌++◌, length}
+use Rattle.std.specs.{List.Contains, Prelude.slice_index_or, Prelude.nat_lt}
 use Rattle.lra_linear_spec.specs.Descriptions.{LinearRow, inequality, system_of}
-use Rattle.lra_linear_spec.specs.Polyhedra.{positivity}
-use Rattle.lra_linear_spec.specs.declared.Cause.{Cause}
-use Rattle.lra_linear_spec.specs.declared.Cause.TheVariants as of_cause
-use Rattle.lra_linear_spec.specs.Strain.{Loss, is_tight_at, tight_rows, OwnReductionPasses, OwnTooMany}
-use Rattle.lra_bits.specs.Matrix.{Matrix}
-use Rattle.lra_bits.specs.TruthValues.{value_at}
-use Rattle.lra_descriptions.specs.Tightness.{tight_matrix}
 use Rattle.lra_linear_spec.specs.Reduction.{ReductionPasses}
+use Rattle.lra_linear_spec.specs.Strain.{Loss, is_tight_at, tight_rows, OwnReductionPasses, OwnTooMany}
+use Rattle.lra_linear_spec.specs.{Canonical.IsCanonicalOf, Polyhedra.positivity, Vectors.product, declared.Cause.Cause}
+use Rattle.lra_linear_spec.specs.declared.Cause.TheVariants as of_cause
+use Rattle.lra_bits.specs.{Matrix.Matrix, TruthValues.value_at}
+use Rattle.lra_descriptions.specs.Tightness.{tight_matrix}
 use Rattle.lra_canonical.specs.Reduced.{IsReducedBy}
 use Rattle.lra_row.specs.declared.error.RowError.{RowError}
 use Rattle.lra_row.specs.declared.error.RowError.TheVariants.{Excess, Memory}

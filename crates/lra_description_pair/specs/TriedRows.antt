@@ -1,12 +1,9 @@
 -- What becomes of rows that are tried behind others: those that strain are left out, and the polyhedron is that of all
 -- others; but where the canonical list of these strains it is that of all points.
 use Rattle.std.specs.Prelude.{◌≡◌, ◌≢◌, ◌⊎◌, ℕ, List, [], drop}
-use Rattle.lra_linear_spec.specs.Descriptions.{Con, LinearRow}
 use Rattle.lra_linear_spec.specs.Polyhedra.{IsPolyhedronOf, Polyhedron}
-use Rattle.lra_linear_spec.specs.Strain.{Loss}
-use Rattle.lra_linear_spec.specs.declared.Cause.{Cause}
-use Rattle.lra_cone.specs.Cones.{ConeContent, IsCone}
-use Rattle.lra_cone.specs.Conversions.{IsConversion}
+use Rattle.lra_linear_spec.specs.{Descriptions.Con, Descriptions.LinearRow, Strain.Loss, declared.Cause.Cause}
+use Rattle.lra_cone.specs.{Cones.ConeContent, Cones.IsCone, Conversions.IsConversion}
 use Rattle.lra_description_pair.specs.OwnLists.{IsOwnCause, TellsOwnLoss}
 
 -- the polyhedron of the rows that were taken into the cone, and nothing more is lost

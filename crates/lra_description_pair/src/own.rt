@@ -1,13 +1,11 @@
 //! The canonical list of a list's own kind, from the cone that its rows were taken into.
 
-ghost use Rattle.std.specs.Prelude.{◌≡◌, ◌++◌, ◌∷◌, [], ℕ, List, ℤ, ◌+◌, ◌<◌, ◌≤◌, length};
-ghost use Rattle.std.specs.Prelude.{IfOk, IfErr, OnOk, slice_index_or};
+ghost use Rattle.std.specs.Prelude.{◌≡◌, ◌++◌, ◌∷◌, [], ℕ, List, ℤ, ◌+◌, ◌<◌, ◌≤◌, length, IfOk, IfErr, OnOk};
+ghost use Rattle.std.specs.Prelude.{slice_index_or};
 ghost use Rattle.lra_cone.specs.Cones.{IsCone};
 ghost use Rattle.lra_double_description.specs.Steps.{IsFilled};
-ghost use Rattle.lra_linear_spec.specs.ConeStrain.{row_limit};
-ghost use Rattle.lra_linear_spec.specs.Descriptions.{rows_of};
-ghost use Rattle.lra_canonical.specs.Reduced.{IsEchelonForm};
-ghost use Rattle.lra_canonical.specs.Echelons.{HaveWidth};
+ghost use Rattle.lra_linear_spec.specs.{ConeStrain.row_limit, Descriptions.rows_of};
+ghost use Rattle.lra_canonical.specs.{Echelons.HaveWidth, Reduced.IsEchelonForm};
 ghost use Rattle.lra_description_pair.specs.OwnLists.{TellsTight, AreParts, AreReducedBy, AnyReductionExcess};
 ghost use Rattle.lra_description_pair.specs.OwnLists.{IsOwnCause, IsOwnList, IsOwnExcess, columns_of, tight_value};
 ghost use Rattle.lra_descriptions.specs.Tightness.{tight_matrix};

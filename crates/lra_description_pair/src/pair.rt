@@ -1,27 +1,23 @@
 //! Both canonical lists of a polyhedron.
 
-ghost use Rattle.std.specs.Prelude.{◌≡◌, ◌∷◌, ◌++◌, ◌<◌, ◌≤◌, [], length, drop, IfOk, IfSome, IfNone};
-ghost use Rattle.std.specs.Prelude.{◌≢◌, take, OnOk};
 ghost use Rattle.std.specs.List.{Contains};
+ghost use Rattle.std.specs.Prelude.{◌≡◌, ◌∷◌, ◌++◌, ◌<◌, ◌≤◌, [], length, drop, IfOk, IfSome, IfNone, ◌≢◌, take, OnOk};
 ghost use Rattle.lra_linear_spec.specs.Descriptions.{AreGenerators, Con, Gen, inequality};
-ghost use Rattle.lra_linear_spec.specs.ConeStrain.{row_limit};
-ghost use Rattle.lra_linear_spec.specs.Representable.{KeepsLimit};
 ghost use Rattle.lra_linear_spec.specs.OperationStrain.{with_positivity};
-ghost use Rattle.lra_linear_spec.specs.Points.{IsEmptySet};
 ghost use Rattle.lra_linear_spec.specs.Polyhedra.{IsPolyhedron, IsPolyhedronOf, falsity};
+ghost use Rattle.lra_linear_spec.specs.{ConeStrain.row_limit, Points.IsEmptySet, Representable.KeepsLimit};
 ghost use Rattle.lra_systems.specs.Dimensions.{too_many_dimensions};
 ghost use Rattle.lra_systems.specs.LinearSystems.{constraints, generators, FitKinds};
 ghost use Rattle.lra_cone.specs.Cones.{IsCone};
 ghost use Rattle.lra_linear_spec.specs.declared.Cause as told;
 ghost use Rattle.lra_linear_spec.specs.declared.GenKind.TheVariants.{Point};
-ghost use Rattle.lra_description_pair.specs.KeptRows.{IsOfSome};
-ghost use Rattle.lra_description_pair.specs.Made.{IsMadeOfGenerators, IsMadeOfRows};
-ghost use Rattle.lra_descriptions.specs.ShownLists.{ShowsConstraints, ShowsGenerators};
-ghost use Rattle.lra_descriptions.specs.Tightness.{saturation_of, tight_matrix};
 ghost use Rattle.lra_description_pair.specs.OwnLists.{IsOwnCause, IsOwnList, IsOwnLoss, IsPositive, TellsOwnLoss};
 ghost use Rattle.lra_description_pair.specs.OwnLists.{TurnsTo, columns_of};
 ghost use Rattle.lra_description_pair.specs.TakenPoints.{AreTaken, IsMadeOfPoints, IsOfFirst, IsOfPoints, most_kept};
 ghost use Rattle.lra_description_pair.specs.TriedRows.{IsMadeOf, IsOfTried, StrainsWhenTried};
+ghost use Rattle.lra_description_pair.specs.{KeptRows.IsOfSome, Made.IsMadeOfGenerators, Made.IsMadeOfRows};
+ghost use Rattle.lra_descriptions.specs.ShownLists.{ShowsConstraints, ShowsGenerators};
+ghost use Rattle.lra_descriptions.specs.Tightness.{saturation_of, tight_matrix};
 
 use crate::own::{MarkedOwn, limit_own_list};
 use crate::valid::valid_list;
@@ -56,8 +52,7 @@ impl Drop for DescriptionPair {
 
 impl Model for DescriptionPair {
     ghost use Rattle.std.specs.Prelude.{◌≡◌};
-    ghost use Rattle.lra_linear_spec.specs.Representable.{KeepsLimit};
-    ghost use Rattle.lra_linear_spec.specs.Polyhedra.{Polyhedron, IsPolyhedron};
+    ghost use Rattle.lra_linear_spec.specs.{Polyhedra.Polyhedron, Polyhedra.IsPolyhedron, Representable.KeepsLimit};
     ghost use Rattle.lra_systems.specs.LinearSystems.{constraints, generators, FitKinds};
     ghost use Rattle.lra_descriptions.specs.Tightness.{saturation_of};
 

@@ -1,23 +1,16 @@
 -- Marked rows put in lists, and what goes with them in a matrix.
-use Rattle.std.proofs.Common.{◌≡◌, ◌≢◌, ◌∙◌, ℕ, ◌+◌, ◌<◌, ◌≤◌, ℤ, Bool, true, false, cond, List, [], ◌∷◌, ◌++◌, ap, arith, get_or, inr, length}
-use Rattle.std.proofs.Common.{map, refl, replicate, subst, sym, take}
-use Rattle.std.specs.Prelude.{Result, Ok, Err, IfOk}
-use Rattle.std.specs.List.{All, Contains}
-use Rattle.std.specs.List.Sorted.{IsPermutation, IsSorted}
-use Rattle.std.proofs.lemmas.List.{append-nil, append_assoc, get_or-map, get_or-take, get_or_append_left, length-append, length-map, length-take-le, map-append}
-use Rattle.std.proofs.lemmas.List.{map-id, replicate-append-replicate, take_all, take_more}
+use Rattle.std.proofs.Common.{◌≡◌, ◌≢◌, ◌∙◌, ℕ, ◌+◌, ◌<◌, ◌≤◌, ℤ, Bool, true, false, cond, List, [], ◌∷◌, ◌++◌, ap, arith, get_or, inr, length, map, refl, replicate, subst, sym, take}
+use Rattle.std.proofs.lemmas.List.{append-nil, append_assoc, get_or-map, get_or-take, get_or_append_left, length-append, length-map, length-take-le, map-append, map-id, replicate-append-replicate}
+use Rattle.std.proofs.lemmas.List.{take_all, take_more}
 use Rattle.std.proofs.lemmas.List.Elements.{All-contains, All-from_get_or, All-push, All-take, Contains-append_right}
 use Rattle.std.proofs.lemmas.List.Sorted.{All-permutation, length_permutation}
+use Rattle.std.specs.{List.All, List.Contains, List.Sorted.IsPermutation, List.Sorted.IsSorted, Prelude.Result, Prelude.Ok, Prelude.Err, Prelude.IfOk}
 use Rattle.lra_bits.specs.Matrix.{Matrix}
-use Rattle.lra_linear_spec.specs.RowOrder.{row_cmp}
-use Rattle.lra_linear_spec.specs.declared.GenKind.TheVariants.{Point, Ray, Line}
+use Rattle.lra_linear_spec.specs.{RowOrder.row_cmp, declared.GenKind.TheVariants.Point, declared.GenKind.TheVariants.Ray, declared.GenKind.TheVariants.Line}
 use Rattle.lra_linear_spec.proofs.Membership.{contains_head, contains_tail}
-use Rattle.lra_canonical.specs.MarkedRows.{AreToldBy, bits_in, rows_in}
-use Rattle.lra_canonical.specs.declared.order.Marked.{Marked}
+use Rattle.lra_canonical.specs.{MarkedRows.AreToldBy, MarkedRows.bits_in, MarkedRows.rows_in, declared.order.Marked.Marked}
 use Rattle.lra_canonical.proofs.MarkedOrder.{row_at, rows_length, rows_shuffled, told_bits, told_shuffled}
-use Rattle.lra_descriptions.specs.ShownLists.{directions_of, points_of, ShowsGenerators}
-use Rattle.lra_descriptions.specs.Tightness.{GoesWith, TellsFirst}
-use Rattle.lra_descriptions.specs.declared.known.KnownGenerators.{KnownGenerators}
+use Rattle.lra_descriptions.specs.{ShownLists.directions_of, ShownLists.points_of, ShownLists.ShowsGenerators, Tightness.GoesWith, Tightness.TellsFirst, declared.known.KnownGenerators.KnownGenerators}
 
 -- ---- marked one after the other
 pub mark_more : (rows : List (List ℤ)) (taken : List (List Bool)) (bits : List Bool) (k : ℕ) (r : List ℤ) (x : Marked) (xs new : List Marked) → k ≡ length

@@ -1,27 +1,14 @@
 -- The rays of a cone, parted, and the lists that are made of them.
-use Rattle.std.proofs.Common.{◌≡◌, ◌≢◌, ℕ, suc, ◌+◌, ◌<◌, Bool, true, false, cond, List, [], ◌∷◌, ◌++◌, length, replicate, take, get_or, refl, ap, sym, ◌∙◌, subst, arith, pos, ℤ, ◌<ℤ◌}
-use Rattle.std.proofs.Common.{◌≤ℤ◌, int_lt, inl, inr, ◌⊎◌}
-use Rattle.std.specs.Prelude.{Result, Ok, Err, IfOk}
-use Rattle.std.specs.List.{Contains, All}
-use Rattle.std.specs.List.Sorted.{IsPermutation, IsSorted}
-use Rattle.std.specs.Ordering.{is_eq}
-use Rattle.std.specs.declared.cmp.Ordering.{Ordering}
-use Rattle.std.specs.declared.cmp.Ordering.TheVariants.{Less, Equal, Greater}
-use Rattle.std.proofs.lemmas.Int.{ints}
-use Rattle.std.proofs.lemmas.List.{append-nil, take_more}
+use Rattle.std.proofs.Common.{◌≡◌, ◌≢◌, ℕ, suc, ◌+◌, ◌<◌, Bool, true, false, cond, List, [], ◌∷◌, ◌++◌, length, replicate, take, get_or, refl, ap, sym, ◌∙◌, subst, arith, pos, ℤ, ◌<ℤ◌, ◌≤ℤ◌, int_lt}
 use Rattle.std.proofs.lemmas.List.Elements.{All-contains, All-from_get_or, Contains-get_or}
-use Rattle.std.proofs.lemmas.List.Sorted.{Contains-permutation, All-permutation}
-use Rattle.lra_linear_spec.specs.Vectors.{entry}
-use Rattle.lra_linear_spec.specs.RowOrder.{row_cmp, inequality_cmp}
-use Rattle.lra_linear_spec.specs.Polyhedra.{positivity}
+use Rattle.std.proofs.{Common.inl, Common.inr, Common.◌⊎◌, lemmas.Int.ints, lemmas.List.append-nil, lemmas.List.take_more, lemmas.List.Sorted.Contains-permutation, lemmas.List.Sorted.All-permutation}
+use Rattle.std.specs.declared.cmp.Ordering.TheVariants.{Less, Equal, Greater}
+use Rattle.std.specs.{List.Contains, List.All, List.Sorted.IsPermutation, List.Sorted.IsSorted, Ordering.is_eq, Prelude.Result, Prelude.Ok, Prelude.Err, Prelude.IfOk, declared.cmp.Ordering.Ordering}
+use Rattle.lra_linear_spec.specs.{Polyhedra.positivity, RowOrder.row_cmp, RowOrder.inequality_cmp, Vectors.entry, declared.ConKind.ConKind, declared.ConKind.TheVariants.Ge}
+use Rattle.lra_linear_spec.specs.{declared.ConKind.TheVariants.Eq, declared.GenKind.GenKind, declared.GenKind.TheVariants.Point, declared.GenKind.TheVariants.Ray, declared.GenKind.TheVariants.Line}
 use Rattle.lra_systems.specs.LinearSystems.{LinearSystem}
-use Rattle.lra_linear_spec.specs.declared.ConKind.{ConKind}
-use Rattle.lra_linear_spec.specs.declared.ConKind.TheVariants.{Ge, Eq}
-use Rattle.lra_linear_spec.specs.declared.GenKind.{GenKind}
-use Rattle.lra_linear_spec.specs.declared.GenKind.TheVariants.{Point, Ray, Line}
-use Rattle.lra_linear_spec.proofs.Membership.{contains_none, contains_cases, contains_head, contains_tail}
+use Rattle.lra_linear_spec.proofs.{Membership.contains_none, Membership.contains_cases, Membership.contains_head, Membership.contains_tail, RowOrder.row_cmp_total}
 use Rattle.lra_row.proofs.OrderLemmas.{row_cmp_ties}
-use Rattle.lra_linear_spec.proofs.RowOrder.{row_cmp_total}
 use Rattle.lra_canonical.proofs.Orders.{tied_itself}
 use Rattle.lra_descriptions.specs.ShownLists.{points_of, directions_of, without, ShowsGenerators, ShowsConstraints}
 

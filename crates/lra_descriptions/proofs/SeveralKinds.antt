@@ -1,14 +1,10 @@
 -- Lists whose rows are of several kinds.
 use Rattle.std.proofs.Common.{◌≡◌, Bool, true, false, List, [], ◌∷◌, ◌++◌, length, map, replicate, refl, ap, ◌∙◌, arith, ℤ}
 use Rattle.std.specs.List.{Contains}
-use Rattle.lra_linear_spec.specs.Vectors.{negated}
-use Rattle.lra_linear_spec.specs.Cones.{both_ways, with_row}
-use Rattle.lra_linear_spec.specs.Descriptions.{LinearRow, rows_as, system_of}
+use Rattle.lra_linear_spec.specs.{Cones.both_ways, Cones.with_row, Descriptions.LinearRow, Descriptions.rows_as, Descriptions.system_of, Kinds.is_equality, Kinds.is_line, Vectors.negated}
+use Rattle.lra_linear_spec.specs.{declared.GenKind.GenKind, declared.GenKind.TheVariants.Point, declared.GenKind.TheVariants.Ray, declared.GenKind.TheVariants.Line}
 use Rattle.lra_linear_spec.proofs.Membership.{contains_head, contains_tail}
-use Rattle.lra_linear_spec.specs.Kinds.{is_equality, is_line}
 use Rattle.lra_systems.specs.LinearSystems.{rows_by_kind, FitsKind, FitKinds}
-use Rattle.lra_linear_spec.specs.declared.GenKind.{GenKind}
-use Rattle.lra_linear_spec.specs.declared.GenKind.TheVariants.{Point, Ray, Line}
 use Rattle.lra_descriptions.specs.ShownLists.{dual_kind}
 
 pub system_append : (xs ys : List LinearRow) → system_of (xs ++ ys) ≡ system_of xs ++ system_of ys

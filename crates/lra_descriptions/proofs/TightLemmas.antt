@@ -1,19 +1,11 @@
 -- Matrices that say which rows are tight at which others: turned, and put in the order of lists.
 use Rattle.std.proofs.Common.{◌≡◌, ◌∙◌, ℕ, ◌<◌, ◌+◌, ℤ, pos, Bool, true, false, List, [], ◌∷◌, ◌++◌, ap, arith, get_or, length, map, refl, replicate, suc, sym}
-use Rattle.std.specs.List.{All, Contains}
-use Rattle.std.specs.Ordering.{int_eq}
 use Rattle.std.proofs.lemmas.Bool.Decides.{Decides-int_eq}
 use Rattle.std.proofs.lemmas.List.{append-nil, ext_get_or, get_or-map, get_or_append_left, length-append, length-map}
-use Rattle.lra_bits.specs.Matrix.{Matrix}
-use Rattle.lra_bits.specs.TruthValues.{value_at}
-use Rattle.lra_bits.specs.Transposed.{AreColumns}
-use Rattle.lra_linear_spec.specs.Descriptions.{LinearRow}
-use Rattle.lra_linear_spec.specs.Kinds.{is_equality, is_line}
-use Rattle.lra_linear_spec.specs.Vectors.{product}
-use Rattle.lra_linear_spec.specs.declared.ConKind.{ConKind}
-use Rattle.lra_linear_spec.specs.declared.GenKind.{GenKind}
-use Rattle.lra_linear_spec.proofs.Membership.{contains_head, contains_tail}
-use Rattle.lra_linear_spec.proofs.Products.{product_comm}
+use Rattle.std.specs.{List.All, List.Contains, Ordering.int_eq}
+use Rattle.lra_bits.specs.{Matrix.Matrix, Transposed.AreColumns, TruthValues.value_at}
+use Rattle.lra_linear_spec.specs.{Descriptions.LinearRow, Kinds.is_equality, Kinds.is_line, Vectors.product, declared.ConKind.ConKind, declared.GenKind.GenKind}
+use Rattle.lra_linear_spec.proofs.{Membership.contains_head, Membership.contains_tail, Products.product_comm}
 use Rattle.lra_systems.specs.LinearSystems.{LinearSystem, constraints, generators, rows_by_kind}
 use Rattle.lra_descriptions.specs.Tightness.{GoesWith, TellsFirst, saturated, saturation_of, tight_at, tight_matrix}
 

@@ -1,16 +1,10 @@
 -- Kinds that are looked through, and rows that are valid, generator by generator.
-use Rattle.std.proofs.Common.{◌≡◌, ◌≢◌, ℕ, zero, suc, ◌+◌, ◌<◌, Bool, IsOk, List, [], ◌∷◌, ◌++◌, length, take, get_or, refl, ap, sym, ◌∙◌, subst, arith, ℤ, inl, inr}
-use Rattle.std.proofs.Common.{◌↔◌, ◌≤◌, true, false, IsTrue, Result, Ok, Err}
-use Rattle.std.specs.List.{All, Contains}
-use Rattle.std.proofs.lemmas.List.{get_or_default}
+use Rattle.std.proofs.Common.{◌≡◌, ◌≢◌, ℕ, zero, suc, ◌+◌, ◌<◌, Bool, IsOk, List, [], ◌∷◌, ◌++◌, length, take, get_or, refl, ap, sym, ◌∙◌, subst, arith, ℤ, inl, inr, ◌↔◌, ◌≤◌, true, false, IsTrue}
 use Rattle.std.proofs.lemmas.List.Elements.{All-contains, Contains-append_cases, Contains-append_left, Contains-append_right}
-use Rattle.std.proofs.Math.Seq.{take_all, take-suc}
-use Rattle.lra_linear_spec.specs.CheckedArithmetic.{checked_product}
-use Rattle.lra_linear_spec.specs.Vectors.{product}
-use Rattle.lra_linear_spec.specs.Descriptions.{LinearRow, HoldsWith}
+use Rattle.std.proofs.{Common.Result, Common.Ok, Common.Err, Math.Seq.take_all, Math.Seq.take-suc, lemmas.List.get_or_default}
+use Rattle.std.specs.List.{All, Contains}
+use Rattle.lra_linear_spec.specs.{CheckedArithmetic.checked_product, Descriptions.LinearRow, Descriptions.HoldsWith, Vectors.product, declared.GenKind.GenKind, declared.GenKind.TheVariants.Point}
 use Rattle.lra_linear_spec.proofs.Membership.{all_from, contains_cases, contains_head, contains_none, contains_tail, each_one}
-use Rattle.lra_linear_spec.specs.declared.GenKind.{GenKind}
-use Rattle.lra_linear_spec.specs.declared.GenKind.TheVariants.{Point}
 use Rattle.lra_systems.specs.LinearSystems.{rows_by_kind}
 use Rattle.lra_systems.proofs.LinearRows.{given_pushed, all_given}
 use Rattle.lra_descriptions.specs.ShownLists.{IsSeenValid}

@@ -1,23 +1,15 @@
 -- The lists that are shown of a cone: its canonical generators, or its canonical constraints.
-use Rattle.std.specs.Prelude.{◌≡◌, ◌≢◌, ◌↔◌, ◌⊎◌, ℕ, suc, ℤ, pos, ◌<ℤ◌, int_lt, Bool, true, false, cond}
-use Rattle.std.specs.Prelude.{List, [], ◌∷◌, ◌++◌}
-use Rattle.std.specs.Prelude.{length, replicate, IsOk}
-use Rattle.std.specs.List.{Contains}
-use Rattle.std.specs.List.Sorted.{IsPermutation, IsSorted}
-use Rattle.std.specs.Ordering.{is_eq}
+use Rattle.std.specs.Prelude.{◌≡◌, ◌≢◌, ◌↔◌, ◌⊎◌, ℕ, suc, ℤ, pos, ◌<ℤ◌, int_lt, Bool, true, false, cond, List, [], ◌∷◌}
+use Rattle.std.specs.Prelude.{◌++◌, length, replicate, IsOk}
+use Rattle.std.specs.{List.Contains, List.Sorted.IsPermutation, List.Sorted.IsSorted, Ordering.is_eq}
 use Rattle.lra_systems.specs.LinearSystems.{LinearSystem}
-use Rattle.lra_linear_spec.specs.declared.ConKind.{ConKind}
-use Rattle.lra_linear_spec.specs.declared.ConKind.TheVariants.{Ge, Eq}
-use Rattle.lra_linear_spec.specs.declared.GenKind.{GenKind}
-use Rattle.lra_linear_spec.specs.declared.GenKind.TheVariants.{Point, Ray, Line}
-use Rattle.lra_linear_spec.specs.CheckedArithmetic.{checked_product}
-use Rattle.lra_linear_spec.specs.Vectors.{entry, product}
-use Rattle.lra_linear_spec.specs.Cones.{all_rows, AreDual}
-use Rattle.lra_linear_spec.specs.Canonical.{IsCanonical}
-use Rattle.lra_linear_spec.specs.RowOrder.{row_cmp, inequality_cmp, Ascends}
-use Rattle.lra_linear_spec.specs.Points.{IsEmptySet}
 use Rattle.lra_linear_spec.specs.Descriptions.{LinearRow, inequality, rows_as, system_of, HoldsWith, Con, Gen}
-use Rattle.lra_linear_spec.specs.Polyhedra.{positivity, falsity}
+use Rattle.lra_linear_spec.specs.RowOrder.{row_cmp, inequality_cmp, Ascends}
+use Rattle.lra_linear_spec.specs.declared.ConKind.TheVariants.{Ge, Eq}
+use Rattle.lra_linear_spec.specs.declared.GenKind.TheVariants.{Point, Ray, Line}
+use Rattle.lra_linear_spec.specs.{Canonical.IsCanonical, CheckedArithmetic.checked_product, Cones.all_rows}
+use Rattle.lra_linear_spec.specs.{Cones.AreDual, Points.IsEmptySet, Polyhedra.positivity, Polyhedra.falsity}
+use Rattle.lra_linear_spec.specs.{Vectors.entry, Vectors.product, declared.ConKind.ConKind, declared.GenKind.GenKind}
 
 -- ---- generators, as they are shown
 -- Points, rays and lines, each in order, that are the canonical description of the solutions of the system; column 0 of

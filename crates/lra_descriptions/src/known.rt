@@ -1,15 +1,13 @@
 //! The lists that are shown of a cone, and the rows of a matrix that go with their rows.
 
-ghost use Rattle.std.specs.Prelude.{◌≡◌, ◌++◌, ◌∷◌, [], ◌<◌, ◌≤◌, suc, length, replicate, IfOk, OnOk};
-ghost use Rattle.std.specs.Prelude.{ℕ, ℤ, Bool, true, cond, List};
-ghost use Rattle.std.specs.List.{All};
+ghost use Rattle.std.specs.Prelude.{◌≡◌, ◌++◌, ◌∷◌, [], ◌<◌, ◌≤◌, suc, length, replicate, IfOk, OnOk, ℕ, ℤ, Bool, true};
+ghost use Rattle.std.specs.{List.All, Prelude.cond, Prelude.List};
 ghost use Rattle.lra_linear_spec.specs.Polyhedra.{positivity};
 ghost use Rattle.lra_linear_spec.specs.declared.GenKind.TheVariants.{Point, Ray, Line};
 ghost use Rattle.lra_systems.specs.Dimensions.{too_many_dimensions};
 ghost use Rattle.lra_canonical.specs.MarkedRows.{bits_in, rows_in, AreToldBy};
-ghost use Rattle.lra_descriptions.specs.ShownLists.{points_of, directions_of, without};
-ghost use Rattle.lra_descriptions.specs.ShownLists.{ShowsConstraints, ShowsGenerators};
-ghost use Rattle.lra_descriptions.specs.Tightness.{GoesWith, TellsFirst};
+ghost use Rattle.lra_descriptions.specs.ShownLists.{points_of, directions_of, without, ShowsConstraints};
+ghost use Rattle.lra_descriptions.specs.{ShownLists.ShowsGenerators, Tightness.GoesWith, Tightness.TellsFirst};
 
 use crate::shown::{are_same, is_point, push_constraints, push_generators};
 use lra_bits::{BitRow, SatMatrix};

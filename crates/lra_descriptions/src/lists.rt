@@ -1,14 +1,10 @@
 //! Lists of constraints and of generators, as they are taken in and told.
 
-ghost use Rattle.std.specs.Prelude.{◌≡◌, ◌↔◌, ◌∷◌, [], ℤ, List, suc, length, map, ◌<◌, IsTrue, IsFalse, IfOk};
 ghost use Rattle.std.specs.List.{All, Contains};
-ghost use Rattle.lra_linear_spec.specs.OperationStrain.{unit_row};
-ghost use Rattle.lra_linear_spec.specs.Vectors.{negated};
-ghost use Rattle.lra_systems.specs.Dimensions.{too_many_dimensions};
-ghost use Rattle.lra_systems.specs.LinearSystems.{constraints};
-ghost use Rattle.lra_linear_spec.specs.Kinds.{is_equality};
-ghost use Rattle.lra_linear_spec.specs.declared.ConKind.TheVariants.{Ge};
-ghost use Rattle.lra_linear_spec.specs.declared.GenKind.TheVariants.{Point};
+ghost use Rattle.std.specs.Prelude.{◌≡◌, ◌↔◌, ◌∷◌, [], ℤ, List, suc, length, map, ◌<◌, IsTrue, IsFalse, IfOk};
+ghost use Rattle.lra_linear_spec.specs.{Kinds.is_equality, OperationStrain.unit_row, Vectors.negated};
+ghost use Rattle.lra_linear_spec.specs.{declared.ConKind.TheVariants.Ge, declared.GenKind.TheVariants.Point};
+ghost use Rattle.lra_systems.specs.{Dimensions.too_many_dimensions, LinearSystems.constraints};
 ghost use Rattle.lra_descriptions.specs.ShownLists.{dual_kind, IsSeenValid};
 
 use lra_row::Row;

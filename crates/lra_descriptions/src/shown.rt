@@ -1,16 +1,12 @@
 //! The lists that are shown of a cone.
 
 ghost use Rattle.std.specs.Prelude.{◌≡◌, ◌++◌, ◌<◌, suc, pos, int_lt, length, replicate, IfOk, OnOk};
-ghost use Rattle.std.specs.List.{All};
-ghost use Rattle.std.specs.List.Sorted.{IsPermutation, IsSorted};
-ghost use Rattle.std.specs.Ordering.{is_eq};
-ghost use Rattle.lra_linear_spec.specs.Vectors.{entry};
-ghost use Rattle.lra_linear_spec.specs.RowOrder.{row_cmp};
-ghost use Rattle.lra_linear_spec.specs.Polyhedra.{positivity};
+ghost use Rattle.std.specs.{List.All, List.Sorted.IsPermutation, List.Sorted.IsSorted, Ordering.is_eq};
+ghost use Rattle.lra_linear_spec.specs.declared.GenKind.TheVariants.{Point, Ray, Line};
+ghost use Rattle.lra_linear_spec.specs.{Polyhedra.positivity, RowOrder.row_cmp, Vectors.entry};
 ghost use Rattle.lra_descriptions.specs.ShownLists.{points_of, directions_of, without, ShowsGenerators};
 ghost use Rattle.lra_descriptions.specs.ShownLists.{ShowsConstraints};
 ghost use Rattle.lra_systems.specs.Dimensions.{too_many_dimensions};
-ghost use Rattle.lra_linear_spec.specs.declared.GenKind.TheVariants.{Point, Ray, Line};
 
 use lra_canonical::{Order, canonical_order};
 use lra_row::Row;

@@ -1,9 +1,7 @@
 -- Moves lead where one of their cases leads.
 use Rattle.std.proofs.Common.{ℤ, List, [], ◌∷◌, ◌++◌, map, inl, inr, refl, sym, subst}
-use Rattle.std.specs.Prelude.{◌↔◌, ◌⊎◌}
-use Rattle.std.specs.List.{flat_map}
-use Rattle.lra_domain.specs.Actions.{Action}
-use Rattle.lra_domain.specs.Moves.{Moves, stay, make, first_then, join_of, MayLead, cases, LeadsAll, SomeLeads}
+use Rattle.std.specs.{List.flat_map, Prelude.◌↔◌, Prelude.◌⊎◌}
+use Rattle.lra_domain.specs.{Actions.Action, Moves.Moves, Moves.stay, Moves.make, Moves.first_then, Moves.join_of, Moves.MayLead, Moves.cases, Moves.LeadsAll, Moves.SomeLeads}
 
 leads_both : (one two : List Action) (s u t : List ℤ) → LeadsAll one s u → LeadsAll two u t → LeadsAll (one ++ two) s t
 leads_both [] two s u t same led = subst (λ (x : List ℤ). LeadsAll two x t) same led

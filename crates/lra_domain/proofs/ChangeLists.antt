@@ -1,12 +1,7 @@
 -- Lists of changes, made one behind the other.
 use Rattle.std.proofs.Common.{◌≡◌, List, ◌∷◌, ℤ, subst, sym}
-use Rattle.lra_domain.specs.Changes.{TransfersAllTo, action_of, actions_of}
-use Rattle.lra_domain.specs.Laws.{Laws}
 use Rattle.lra_domain.specs.Abstraction.{Abstraction, TransfersTo, worse}
-use Rattle.lra_domain.specs.Moves.{LeadsAll}
-use Rattle.lra_domain.specs.Gammas.{InGamma}
-use Rattle.lra_domain.specs.declared.Exactness.{Exactness}
-use Rattle.lra_domain.specs.declared.changes.Change.{Change}
+use Rattle.lra_domain.specs.{Changes.TransfersAllTo, Changes.action_of, Changes.actions_of, Gammas.InGamma, Laws.Laws, Moves.LeadsAll, declared.Exactness.Exactness, declared.changes.Change.Change}
 
 pub all_kept : {V H : Type 0} (m : Abstraction V H) → Laws m → (all : List Change) (first : Change) (later : List Change) (old between new : V) (a : Exactness)
     → all ≡ first ∷ later → TransfersTo m (action_of first) old a between

@@ -1,11 +1,7 @@
 -- What the calls of a domain that never strains owe, from the content that each gives.
-use Rattle.std.proofs.Common.{◌≡◌, ℕ, List, ℤ, subst, sym, ◌∙◌}
-use Rattle.std.proofs.Common.{length, ◌↔◌}
-use Rattle.lra_domain.specs.Actions.{Action, ActionFits}
+use Rattle.std.proofs.Common.{◌≡◌, ℕ, List, ℤ, subst, sym, ◌∙◌, length, ◌↔◌}
 use Rattle.lra_domain.specs.Abstraction.{TransfersTo, Joins, Grew, Values}
-use Rattle.lra_domain.specs.declared.Exactness.TheVariants.{Exact}
-use Rattle.lra_domain.specs.declared.Mode.{Mode}
-use Rattle.lra_domain.specs.ExactDomains.{ExactDomain, Facts, abstraction_of}
+use Rattle.lra_domain.specs.{Actions.Action, Actions.ActionFits, ExactDomains.ExactDomain, ExactDomains.Facts, ExactDomains.abstraction_of, declared.Exactness.TheVariants.Exact, declared.Mode.Mode}
 
 covered_same : {V : Type 0} (u : ExactDomain V) → Facts u → (a b : V) → a ≡ b → u.leq a b
 covered_same u f a b e = subst (λ x. u.leq a x) e (f.reflexive a)

@@ -1,8 +1,7 @@
 -- Where there are no others a store stays, and a value is as it was.
 use Rattle.std.proofs.Common.{◌≡◌, ℤ, List, refl, sym, subst}
-use Rattle.lra_domain.specs.Abstraction.{Abstraction}
-use Rattle.lra_domain.specs.declared.Exactness.TheVariants.{Exact}
 use Rattle.lra_domain.specs.Interference.{RelyClosure, none, more, no_interference, Absorbs}
+use Rattle.lra_domain.specs.{Abstraction.Abstraction, declared.Exactness.TheVariants.Exact}
 
 -- no change, so any number of them is none
 pub none_of_many : (s t : List ℤ) → RelyClosure (λ s t. ⊥) s t → t ≡ s

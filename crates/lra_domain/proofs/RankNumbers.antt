@@ -1,8 +1,6 @@
 -- A rank as one number, so that a falling rank is a measure.
-use Rattle.std.proofs.Common.{◌≡◌, ℕ, ◌+◌, ◌*◌, ◌<◌, ◌^◌, inl, inr, arith}
-use Rattle.std.proofs.lemmas.Nat.{mul-add-lt}
-use Rattle.lra_domain.specs.declared.Rank.{Rank}
-use Rattle.lra_domain.specs.Rank.{RankBelow, RankFits}
+use Rattle.std.proofs.{Common.◌≡◌, Common.ℕ, Common.◌+◌, Common.◌*◌, Common.◌<◌, Common.◌^◌, Common.inl, Common.inr, Common.arith, lemmas.Nat.mul-add-lt}
+use Rattle.lra_domain.specs.{Rank.RankBelow, Rank.RankFits, declared.Rank.Rank}
 
 -- four digits of base b
 abbrev pub digits : ℕ → Rank → ℕ

@@ -5,12 +5,9 @@ use Rattle.lra_linear_forms.specs.Form.{Form}
 use Rattle.lra_systems.specs.LinearSystems.{LinearSystem}
 use Rattle.lra_linear_spec.specs.declared.ConKind.{ConKind}
 use Rattle.lra_domain.specs.Actions.{Action, Within}
-use Rattle.lra_domain.specs.declared.Mode.{Mode}
-use Rattle.lra_domain.specs.declared.Rank.{Rank}
-use Rattle.lra_domain.specs.declared.Exactness.{Exactness}
 use Rattle.lra_domain.specs.declared.Exactness.TheVariants.{Exact, Flagged}
-use Rattle.lra_domain.specs.declared.Included.{Included}
-use Rattle.lra_domain.specs.declared.Included.TheVariants.{No, Wide}
+use Rattle.lra_domain.specs.{declared.Exactness.Exactness, declared.Included.Included, declared.Included.TheVariants.No}
+use Rattle.lra_domain.specs.{declared.Included.TheVariants.Wide, declared.Mode.Mode, declared.Rank.Rank}
 
 -- several answers in a row are flagged where one of them is
 abbrev pub worse : Exactness → Exactness → Exactness

@@ -1,9 +1,7 @@
 -- What a domain does that goes back: from the value behind a change to one before it.
 use Rattle.std.specs.Prelude.{◌≡◌, ℤ, List}
-use Rattle.lra_domain.specs.Actions.{Action, Leads}
-use Rattle.lra_domain.specs.declared.Exactness.{Exactness}
 use Rattle.lra_domain.specs.declared.Exactness.TheVariants.{Exact, Flagged}
-use Rattle.lra_domain.specs.Abstraction.{Abstraction}
+use Rattle.lra_domain.specs.{Abstraction.Abstraction, Actions.Action, Actions.Leads, declared.Exactness.Exactness}
 
 -- V: contents of values
 pub record BackwardAbstraction (V : Type 0) : Type 1 where

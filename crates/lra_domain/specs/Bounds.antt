@@ -1,6 +1,6 @@
 -- Upper bounds, which are whole numbers or none: no bound is above all. Lower ones likewise: no bound is below all.
-use Rattle.std.specs.Prelude.{ℕ, ℤ, ◌≤ℤ◌, int_lt, cond, Option, None, Some, ⊤}
 use Rattle.std.specs.Int.{int_max, int_min}
+use Rattle.std.specs.Prelude.{ℕ, ℤ, ◌≤ℤ◌, int_lt, cond, Option, None, Some, ⊤}
 
 abbrev pub AtMost : Option ℤ → Option ℤ → Type 0
 AtMost a None = Unit {0}

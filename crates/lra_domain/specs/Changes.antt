@@ -1,11 +1,10 @@
 -- Changes that are kept as values: the action that each is, of which values it can be made, and lists of them.
 use Rattle.std.specs.Prelude.{◌≡◌, ◌≤◌, ◌<◌, ◌^◌, ℕ, ◌+◌, List, [], ◌∷◌, length, map}
-use Rattle.lra_domain.specs.Actions.{Action, assign, forget, test, embed, remove_last, dims_after}
 use Rattle.lra_domain.specs.Abstraction.{Abstraction, TransfersTo, worse}
-use Rattle.lra_domain.specs.declared.Exactness.{Exactness}
-use Rattle.lra_domain.specs.declared.Exactness.TheVariants as exactness
-use Rattle.lra_domain.specs.declared.changes.Change.{Change}
+use Rattle.lra_domain.specs.Actions.{Action, assign, forget, test, embed, remove_last, dims_after}
 use Rattle.lra_domain.specs.declared.changes.Change.TheVariants.{Assign, Forget, Test, Embed, RemoveLast}
+use Rattle.lra_domain.specs.{declared.Exactness.Exactness, declared.changes.Change.Change}
+use Rattle.lra_domain.specs.declared.Exactness.TheVariants as exactness
 
 abbrev pub action_of : Change → Action
 action_of (Assign x e) = assign x e

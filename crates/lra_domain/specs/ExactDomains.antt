@@ -6,11 +6,8 @@ use Rattle.lra_linear_forms.specs.Form.{form_value}
 use Rattle.lra_linear_spec.specs.declared.ConKind.{ConKind}
 use Rattle.lra_systems.specs.LinearSystems.{LinearSystem}
 use Rattle.lra_domain.specs.Actions.{Action, ActionFits, Leads, Within, KeepsStores, HoldsStores}
-use Rattle.lra_domain.specs.Bounds.{IsBetween}
-use Rattle.lra_domain.specs.Laws.{Laws}
-use Rattle.lra_domain.specs.Abstraction.{Abstraction}
-use Rattle.lra_domain.specs.declared.Included.{Included}
 use Rattle.lra_domain.specs.declared.Included.TheVariants.{Yes, No, Wide}
+use Rattle.lra_domain.specs.{Abstraction.Abstraction, Bounds.IsBetween, Laws.Laws, declared.Included.Included}
 
 -- of a content: its stores, its dimensions, its parts, and which content covers it; the content of n dimensions with
 -- all stores, and that with none; what a change makes of a content; the join of two; the last number of a head's rank

@@ -1,8 +1,7 @@
 -- What others may do to a store between two steps of a run, and what a value becomes for them.
 use Rattle.std.specs.Prelude.{◌≡◌, ℤ, List, length}
-use Rattle.lra_domain.specs.declared.Exactness.{Exactness}
 use Rattle.lra_domain.specs.declared.Exactness.TheVariants.{Exact, Flagged}
-use Rattle.lra_domain.specs.Abstraction.{Abstraction}
+use Rattle.lra_domain.specs.{Abstraction.Abstraction, declared.Exactness.Exactness}
 
 -- V: contents of values
 pub record Interference (V : Type 0) : Type 1 where

@@ -5,11 +5,8 @@ use Rattle.lra_linear_forms.specs.Form.{Form, form_value}
 use Rattle.lra_systems.specs.LinearSystems.{LinearSystem}
 use Rattle.lra_linear_spec.specs.declared.ConKind.{ConKind}
 use Rattle.lra_domain.specs.Actions.{Action, Leads, Within}
-use Rattle.lra_domain.specs.Bounds.{IsBetween}
-use Rattle.lra_domain.specs.declared.Mode.{Mode}
 use Rattle.lra_domain.specs.declared.Included.TheVariants.{Yes, No}
-use Rattle.lra_domain.specs.Abstraction.{Abstraction}
-use Rattle.lra_domain.specs.Parts.{SomePartHolds}
+use Rattle.lra_domain.specs.{Abstraction.Abstraction, Bounds.IsBetween, Parts.SomePartHolds, declared.Mode.Mode}
 
 pub record Laws {V H : Type 0} (m : Abstraction V H) : Type 0 where
   -- a store has as many numbers as there are dimensions

@@ -1,7 +1,7 @@
 -- What is done to a value: nothing, a least change, one thing behind the other, or what one leaves joined with what
 -- another leaves; and what that may do to stores.
-use Rattle.std.specs.Prelude.{◌≡◌, ◌⊎◌, ℕ, ℤ, List, [], ◌∷◌, ◌++◌, map}
 use Rattle.std.specs.List.{flat_map}
+use Rattle.std.specs.Prelude.{◌≡◌, ◌⊎◌, ℕ, ℤ, List, [], ◌∷◌, ◌++◌, map}
 use Rattle.lra_domain.specs.Actions.{Action, Leads, dims_after}
 
 pub data Moves : Type 0 where

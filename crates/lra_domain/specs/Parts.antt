@@ -1,9 +1,8 @@
 -- Where the rows of a part hold. A store x1, .., xn is the point 1, x1, .., xn of the rows' columns.
 -- And how many parts there may be.
 use Rattle.std.specs.Prelude.{ℕ, ℤ, pos, List, [], ◌∷◌, ◌⊎◌}
-use Rattle.lra_linear_spec.specs.Descriptions.{Con}
+use Rattle.lra_linear_spec.specs.{Descriptions.Con, declared.ConKind.ConKind}
 use Rattle.lra_systems.specs.LinearSystems.{LinearSystem, constraints}
-use Rattle.lra_linear_spec.specs.declared.ConKind.{ConKind}
 
 -- all rows of some part hold at the store
 abbrev pub SomePartHolds : List (LinearSystem ConKind) → List ℤ → Type 0

@@ -1,9 +1,8 @@
 //! Domains that go back.
 
 ghost use Rattle.std.specs.Prelude.{◌≡◌, ◌<◌, length, IfOk, OnErr};
-ghost use Rattle.lra_domain.specs.Actions.{assign, test};
 ghost use Rattle.lra_domain.specs.Backward.{TransfersBackTo, MeetsBoth, BackwardAbstraction};
-ghost use Rattle.lra_domain.specs.Parts.{CapsWithin};
+ghost use Rattle.lra_domain.specs.{Actions.assign, Actions.test, Parts.CapsWithin};
 
 use crate::{Domain, Exactness};
 use lra_linear_forms::{LinExpr, Test};

@@ -2,9 +2,7 @@
 
 ghost use Rattle.std.specs.Prelude.{◌≡◌, ℤ, List, IfOk, OnOk};
 ghost use Rattle.lra_domain.specs.Changes.{AllCanBeMade, TransfersAllTo, actions_of, dims_after_actions};
-ghost use Rattle.lra_domain.specs.Moves.{LeadsAll};
-ghost use Rattle.lra_domain.specs.Parts.{CapsWithin};
-ghost use Rattle.lra_domain.specs.Gammas.{InGamma};
+ghost use Rattle.lra_domain.specs.{Gammas.InGamma, Moves.LeadsAll, Parts.CapsWithin};
 
 use crate::{Domain, Exactness, worse};
 use lra_linear_forms::{LinExpr, Test};

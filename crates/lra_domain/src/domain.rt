@@ -1,11 +1,9 @@
 ghost use Rattle.std.specs.Prelude.{◌≡◌, ◌≢◌, ◌+◌, ◌-◌, ◌^◌, ◌≤◌, ◌<◌, ◌↔◌, ℕ, ℤ, List, [], length, All, IfOk, OnErr};
 ghost use Rattle.std.specs.Prelude.{OnOk, IsTrue};
-ghost use Rattle.lra_domain.specs.Rank.{RankBelow, RankFits};
-ghost use Rattle.lra_domain.specs.Actions.{Within, assign, dims_after, forget, test, embed, remove_last};
-ghost use Rattle.lra_domain.specs.Changes.{CanBeMade, action_of};
-ghost use Rattle.lra_domain.specs.Parts.{SomePartHolds, CapsWithin};
 ghost use Rattle.lra_domain.specs.Abstraction.{Abstraction, TransfersTo, Joins, Starts, Grew, Values};
-ghost use Rattle.lra_domain.specs.Laws.{Laws, PartsAreExact, BaseLaws};
+ghost use Rattle.lra_domain.specs.Actions.{Within, assign, dims_after, forget, test, embed, remove_last};
+ghost use Rattle.lra_domain.specs.{Changes.CanBeMade, Changes.action_of, Laws.Laws, Laws.PartsAreExact, Laws.BaseLaws};
+ghost use Rattle.lra_domain.specs.{Parts.SomePartHolds, Parts.CapsWithin, Rank.RankBelow, Rank.RankFits};
 
 use crate::{Change, Exactness, Grown, Included, Mode, Rank};
 use lra_linear_forms::{LinExpr, Test};

@@ -1,8 +1,8 @@
 //! Flags of results that are taken together.
 
 ghost use Rattle.std.specs.Prelude.{◌≡◌, ◌⊎◌};
-ghost use Rattle.lra_domain.specs.declared.Exactness.TheVariants.{Exact, Flagged};
 ghost use Rattle.lra_domain.specs.Abstraction.{worse};
+ghost use Rattle.lra_domain.specs.declared.Exactness.TheVariants.{Exact, Flagged};
 
 use crate::Exactness;
 

@@ -1,6 +1,6 @@
 ghost use Rattle.std.specs.Prelude.{◌≡◌, IfOk, OnErr};
-ghost use Rattle.lra_domain.specs.Parts.{CapsWithin};
 ghost use Rattle.lra_domain.specs.Interference.{Absorbs, Interference, no_interference};
+ghost use Rattle.lra_domain.specs.Parts.{CapsWithin};
 
 use crate::Exactness;
 use crate::domain::Domain;

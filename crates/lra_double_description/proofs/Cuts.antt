@@ -1,17 +1,10 @@
 -- The step without a line across, as the code goes through it: places of pairs, marks and the matrix.
-use Rattle.std.proofs.Common.{◌≡◌, ℕ, suc, ◌+◌, ◌<◌, Bool, true, false, not, List, [], ◌∷◌, ◌++◌, length, get_or, map, replicate, refl, ap, sym, ◌∙◌, subst}
-use Rattle.std.proofs.Common.{arith, pos, ℤ, ◌<ℤ◌}
-use Rattle.std.proofs.Common.{inl, inr}
-use Rattle.std.specs.List.{All}
-use Rattle.std.specs.Ordering.{int_eq}
-use Rattle.std.proofs.lemmas.Bool.{cases_lt}
-use Rattle.std.proofs.lemmas.Int.{ints}
+use Rattle.std.proofs.Common.{◌≡◌, ℕ, suc, ◌+◌, ◌<◌, Bool, true, false, not, List, [], ◌∷◌, ◌++◌, length, get_or, map, replicate, refl, ap, sym, ◌∙◌, subst, arith, pos, ℤ, ◌<ℤ◌, inl, inr}
 use Rattle.std.proofs.lemmas.List.{length-map, get_or_past, length-append, length-replicate}
-use Rattle.std.proofs.lemmas.List.Elements.{Contains-get_or}
+use Rattle.std.proofs.{lemmas.Bool.cases_lt, lemmas.Int.ints, lemmas.List.Elements.Contains-get_or}
+use Rattle.std.specs.{List.All, Ordering.int_eq}
 use Rattle.lra_bits.specs.Matrix.{Matrix, unmarked}
-use Rattle.lra_double_description.specs.declared.pairs.Pair.{Pair}
-use Rattle.lra_double_description.specs.Steps.{is_inside, outside_marks, lengthened_rows}
-use Rattle.lra_double_description.specs.Pairs.{ArePairs, cut_matrix, pair_tight_rows}
+use Rattle.lra_double_description.specs.{Pairs.ArePairs, Pairs.cut_matrix, Pairs.pair_tight_rows, Steps.is_inside, Steps.outside_marks, Steps.lengthened_rows, declared.pairs.Pair.Pair}
 use Rattle.lra_double_description.proofs.PairLists.{tight_width}
 
 -- ---- places

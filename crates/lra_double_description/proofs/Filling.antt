@@ -1,14 +1,9 @@
 -- Truth values set one after the other, and matrices with a further column.
-use Rattle.std.proofs.Common.{◌≡◌, ℕ, zero, suc, ◌+◌, ◌-◌, not, ◌<◌, ◌≤◌, Bool, true, false, List, [], ◌∷◌, ◌++◌, length, map, replicate, get_or, set, take}
-use Rattle.std.proofs.Common.{refl, ap, sym, ◌∙◌, arith, pos, ℤ, inl}
-use Rattle.std.proofs.Common.{inr}
+use Rattle.std.proofs.Common.{◌≡◌, ℕ, zero, suc, ◌+◌, ◌-◌, not, ◌<◌, ◌≤◌, Bool, true, false, List, [], ◌∷◌, ◌++◌, length, map, replicate, get_or, set, take, refl, ap, sym, ◌∙◌, arith, pos, ℤ, inl}
+use Rattle.std.proofs.lemmas.List.{ext_get_or, get_or-replicate, length-replicate, get_or-map, length-map, length-set, get_or-set_same, get_or-set_other, append_assoc, get_or_append_left}
+use Rattle.std.proofs.{Common.inr, lemmas.Bool.cases_lt, lemmas.List.get_or-append_right, lemmas.List.length-append}
 use Rattle.std.specs.Ordering.{int_eq}
-use Rattle.std.proofs.lemmas.Bool.{cases_lt}
-use Rattle.std.proofs.lemmas.List.{ext_get_or, get_or-replicate, length-replicate, get_or-map, length-map, length-set, get_or-set_same, get_or-set_other}
-use Rattle.std.proofs.lemmas.List.{append_assoc}
-use Rattle.std.proofs.lemmas.List.{get_or_append_left, get_or-append_right, length-append}
-use Rattle.lra_bits.specs.Matrix.{Matrix}
-use Rattle.lra_bits.specs.TruthValues.{value_at}
+use Rattle.lra_bits.specs.{Matrix.Matrix, TruthValues.value_at}
 use Rattle.lra_bits.proofs.Lengthening.{lengthened_more}
 use Rattle.lra_double_description.specs.Steps.{IsFilled, lengthened_rows, is_inside, outside_marks}
 use Rattle.lra_linear_spec.specs.Descriptions.{HoldsWith}

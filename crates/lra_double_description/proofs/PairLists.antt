@@ -1,24 +1,16 @@
 -- Lists of adjacent pairs, place by place, and lists of what pairs give.
 use Rattle.std.proofs.Common.{◌≡◌, ℕ, suc, ◌+◌, ◌<◌, ◌≤◌, Bool, true, false, cond, List, [], ◌∷◌, ◌++◌, length, get_or, take, refl, ap, sym, ◌∙◌, subst, arith, pos, ℤ, ◌<ℤ◌, ◌≤ℤ◌, inl, inr, ◌⊎◌}
-use Rattle.std.proofs.Common.{int_lt, int_le}
-use Rattle.std.specs.List.{Contains}
-use Rattle.std.proofs.lemmas.Bool.{cases_lt}
-use Rattle.std.proofs.lemmas.Bool.Decides.{Decides-int_eq}
-use Rattle.std.proofs.lemmas.Int.{ints}
-use Rattle.std.proofs.lemmas.List.{take_more, get_or_past}
 use Rattle.std.proofs.lemmas.List.Elements.{Contains-append_cases, Contains-append_left, Contains-append_right}
+use Rattle.std.proofs.{Common.int_lt, Common.int_le, lemmas.Bool.cases_lt, lemmas.Bool.Decides.Decides-int_eq, lemmas.Int.ints, lemmas.List.take_more, lemmas.List.get_or_past}
+use Rattle.std.specs.List.{Contains}
 use Rattle.lra_bits.specs.TruthValues.{both}
-use Rattle.lra_linear_spec.specs.Descriptions.{HoldsWith}
-use Rattle.lra_linear_spec.specs.LowestTerms.{IsLowest}
+use Rattle.lra_linear_spec.specs.{Descriptions.HoldsWith, LowestTerms.IsLowest}
 use Rattle.lra_linear_spec.proofs.Membership.{contains_none, contains_cases, contains_head, contains_tail}
 use Rattle.lra_bits.proofs.Pairs.{both_length}
-use Rattle.lra_double_description.specs.declared.pairs.Pair.{Pair}
-use Rattle.lra_double_description.specs.Pairs.{HasThird, NoThird, TellsAdjacent, both_tight, IsAdjacentPair, AreApart, IsBefore, ArePairs, pair_sum}
-use Rattle.lra_double_description.specs.Pairs.{AreCombined}
-use Rattle.lra_double_description.specs.Steps.{is_inside, inside_count}
+use Rattle.lra_double_description.specs.Pairs.{HasThird, NoThird, TellsAdjacent, both_tight, IsAdjacentPair, AreApart, IsBefore, ArePairs, pair_sum, AreCombined}
+use Rattle.lra_double_description.specs.{Steps.is_inside, Steps.inside_count, Strains.IsPairError, Strains.ArePairsError, declared.pairs.Pair.Pair}
 use Rattle.lra_double_description.specs.declared.strained.ConeError as C
 use Rattle.lra_double_description.specs.declared.strained.ConeError.TheVariants as of_cone
-use Rattle.lra_double_description.specs.Strains.{IsPairError, ArePairsError}
 
 pub tight_width : (n : ℕ) (u d t : List Bool) → length u ≡ n → length d ≡ n → t ≡ both u d → length t ≡ n
 tight_width n u d t hu hd e = ap length e ∙ both_length u d (hu ∙ sym hd) ∙ hu

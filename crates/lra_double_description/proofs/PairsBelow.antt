@@ -1,11 +1,8 @@
 -- Pairs whose second ray goes through the places with a product below 0.
 use Rattle.std.proofs.Common.{◌≡◌, ℕ, zero, suc, ◌+◌, ◌-◌, ◌<◌, ◌≤◌, Bool, List, [], ◌∷◌, ◌++◌, length, get_or, drop, sym, subst, arith, pos, ℤ, ◌<ℤ◌, ◌≤ℤ◌, inl, inr}
+use Rattle.std.proofs.{lemmas.Bool.cases_lt, lemmas.List.drop_more, lemmas.List.drop_all}
 use Rattle.std.specs.List.{All}
-use Rattle.std.proofs.lemmas.Bool.{cases_lt}
-use Rattle.std.proofs.lemmas.List.{drop_more, drop_all}
-use Rattle.lra_double_description.specs.declared.pairs.Pair.{Pair}
-use Rattle.lra_double_description.specs.Pairs.{ArePairs}
-use Rattle.lra_double_description.specs.Below.{NoneBelow, AreBelow}
+use Rattle.lra_double_description.specs.{Below.NoneBelow, Below.AreBelow, Pairs.ArePairs, declared.pairs.Pair.Pair}
 use Rattle.lra_double_description.proofs.PairLists.{pairs_skip_side, pairs_next}
 
 -- ---- place by place

@@ -1,15 +1,10 @@
 -- The products of a row with the rows of a cone, as the code goes through them.
 use Rattle.std.proofs.Common.{◌≡◌, ◌∙◌, ℕ, zero, suc, ◌+◌, ◌<◌, refl, arith, List, [], ◌∷◌, ◌++◌, length, get_or, map, take, ap, sym, subst, ℤ, Result, Err}
+use Rattle.std.proofs.{lemmas.List.get_or_default, lemmas.List.map-append, lemmas.List.take_more, lemmas.List.Elements.All-append}
 use Rattle.std.specs.List.{All}
-use Rattle.std.proofs.lemmas.List.{get_or_default, map-append, take_more}
-use Rattle.std.proofs.lemmas.List.Elements.{All-append}
 use Rattle.lra_linear_spec.specs.declared.Excess as E
-use Rattle.lra_linear_spec.specs.CheckedArithmetic.{checked_product}
-use Rattle.lra_linear_spec.specs.Range.{InRange}
-use Rattle.lra_linear_spec.specs.Vectors.{product}
-use Rattle.lra_double_description.specs.declared.strained.Family.{Family}
-use Rattle.lra_double_description.specs.declared.strained.Strained.TheVariants.{Product}
-use Rattle.lra_double_description.specs.Strains.{NamesProduct}
+use Rattle.lra_linear_spec.specs.{CheckedArithmetic.checked_product, Range.InRange, Vectors.product}
+use Rattle.lra_double_description.specs.{Strains.NamesProduct, declared.strained.Family.Family, declared.strained.Strained.TheVariants.Product}
 
 -- those with the first rows, and one more
 pub products_more : (c : List ℤ) (rows : List (List ℤ)) (place : ℕ) (r : List ℤ) (p : ℤ) (old new : List ℤ) → place < length rows → r ≡ get_or rows place r → p ≡ product c r → InRange p →

@@ -1,14 +1,10 @@
 -- Third rays, as rows of the matrix that are true wherever two others are.
 use Rattle.std.proofs.Common.{◌≡◌, ℕ, ◌+◌, ◌-◌, ◌<◌, ◌≤◌, Bool, false, List, [], length, get_or, Option, Some, None, ap, sym, subst, ◌∙◌, arith, inl, inr}
-use Rattle.std.specs.Prelude.{IsTrue}
-use Rattle.std.specs.List.{ReversedBelow}
 use Rattle.std.proofs.lemmas.Bool.{cases_lt}
-use Rattle.lra_bits.specs.Matrix.{Matrix, TellsWithin}
-use Rattle.lra_bits.specs.TruthValues.{value_at, both, true_count, ArePlaces}
+use Rattle.std.specs.{List.ReversedBelow, Prelude.IsTrue}
+use Rattle.lra_bits.specs.{Matrix.Matrix, Matrix.TellsWithin, TruthValues.value_at, TruthValues.both, TruthValues.true_count, TruthValues.ArePlaces}
 use Rattle.lra_bits.proofs.WithinRows.{not_said}
-use Rattle.lra_double_description.specs.Pairs.{HasThird, both_tight}
-use Rattle.lra_double_description.specs.Steps.{IsFilled}
-use Rattle.lra_double_description.specs.Thirds.{TellsThird, FewHaveThird}
+use Rattle.lra_double_description.specs.{Pairs.HasThird, Pairs.both_tight, Steps.IsFilled, Thirds.TellsThird, Thirds.FewHaveThird}
 
 -- ---- a value that stays false
 pub filled_skip : (f : ℕ → Bool) (n k : ℕ) (values : List Bool) (b : Bool) → b ≡ f k → b ≡ false → IsFilled f n k values → IsFilled f n (k + 1) values

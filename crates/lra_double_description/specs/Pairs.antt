@@ -1,17 +1,12 @@
 -- Adjacent pairs of rays on both sides of a row, by their places, judged on the matrix of the rows that are tight at
 -- the rays.
-use Rattle.std.specs.Prelude.{◌≡◌, ◌≢◌, ℕ, ◌<◌, ◌⊎◌, ℤ, pos, neg_ℤ, ◌<ℤ◌, Bool, true}
-use Rattle.std.specs.Prelude.{false, map, replicate, suc, ◌+◌, ◌≤◌, List, [], ◌∷◌, ◌++◌, length, slice_index_or}
-use Rattle.std.specs.List.{Contains}
-use Rattle.std.specs.Ordering.{int_eq}
-use Rattle.lra_bits.specs.Matrix.{Matrix, unmarked}
-use Rattle.lra_bits.specs.TruthValues.{IsSubset, both}
-use Rattle.lra_linear_spec.specs.Vectors.{blend}
-use Rattle.lra_linear_spec.specs.ConeStrain.{row_limit}
-use Rattle.lra_linear_spec.specs.LowestTerms.{IsLowest}
-use Rattle.lra_double_description.specs.declared.pairs.Pair.{Pair}
-use Rattle.lra_double_description.specs.declared.ray_step.Cut.{Cut}
+use Rattle.std.specs.Prelude.{◌≡◌, ◌≢◌, ℕ, ◌<◌, ◌⊎◌, ℤ, pos, neg_ℤ, ◌<ℤ◌, Bool, true, false, map, replicate, suc, ◌+◌}
+use Rattle.std.specs.Prelude.{◌≤◌, List, [], ◌∷◌, ◌++◌, length, slice_index_or}
+use Rattle.std.specs.{List.Contains, Ordering.int_eq}
+use Rattle.lra_bits.specs.{Matrix.Matrix, Matrix.unmarked, TruthValues.IsSubset, TruthValues.both}
+use Rattle.lra_linear_spec.specs.{ConeStrain.row_limit, LowestTerms.IsLowest, Vectors.blend}
 use Rattle.lra_double_description.specs.Steps.{lengthened_rows, outside_marks, inside_count}
+use Rattle.lra_double_description.specs.{declared.pairs.Pair.Pair, declared.ray_step.Cut.Cut}
 
 -- a third ray is tight wherever `tight` is true
 pub record HasThird (rows : List (List Bool)) (up down : ℕ) (tight : List Bool) : Type 0 where

@@ -1,16 +1,13 @@
 -- The parts of a step, as the code goes through them.
-use Rattle.std.specs.Prelude.{◌≡◌, ◌≢◌, ℕ, suc, ◌+◌, ◌<◌, ◌≤◌, ◌⊎◌, ℤ}
-use Rattle.std.specs.Prelude.{pos, ◌+ℤ◌, ◌*ℤ◌, neg_ℤ, ◌<ℤ◌, int_lt, int_le, Bool, true}
-use Rattle.std.specs.Prelude.{false, cond, List, [], ◌∷◌, ◌++◌, length, map, not}
-use Rattle.std.specs.Prelude.{take, drop, replicate, Result, Ok, Option, Some, None, slice_index_or}
 use Rattle.std.specs.Ordering.{int_eq}
-use Rattle.lra_bits.specs.Matrix.{Matrix}
+use Rattle.std.specs.Prelude.{◌≡◌, ◌≢◌, ℕ, suc, ◌+◌, ◌<◌, ◌≤◌, ◌⊎◌, ℤ, pos, ◌+ℤ◌, ◌*ℤ◌, neg_ℤ, ◌<ℤ◌, int_lt, int_le}
+use Rattle.std.specs.Prelude.{Bool, true, false, cond, List, [], ◌∷◌, ◌++◌, length, map, not, take, drop, replicate}
+use Rattle.std.specs.Prelude.{Result, Ok, Option, Some, None, slice_index_or}
+use Rattle.lra_bits.specs.{Matrix.Matrix, TruthValues.value_at}
 pub use Rattle.lra_bits.specs.Matrix.{lengthened_rows}
-use Rattle.lra_bits.specs.TruthValues.{value_at}
 use Rattle.lra_linear_spec.specs.declared.Excess as E
 use Rattle.lra_linear_spec.specs.Vectors.{entry, negated}
-use Rattle.lra_linear_spec.specs.LowestTerms.{IsPrimitive}
-use Rattle.lra_linear_spec.specs.CheckedArithmetic.{checked_blend}
+use Rattle.lra_linear_spec.specs.{CheckedArithmetic.checked_blend, LowestTerms.IsPrimitive}
 use Rattle.lra_double_description.specs.declared.line_step.Across.{Across}
 
 -- of the first n products, the last that isn't 0, if there is one

@@ -1,26 +1,21 @@
 -- What is told where a step passes a limit: the rows with which a number passes the range, or how many rays there would
 -- be.
-use Rattle.std.specs.Prelude.{◌≡◌, ℕ, ◌+◌, ◌<◌, ◌⊎◌, neg_ℤ, ℤ, pos}
-use Rattle.std.specs.Prelude.{int_lt, Bool, cond, List, [], length, Result, Err, slice_index_or}
-use Rattle.std.specs.List.{Contains}
+use Rattle.std.specs.Prelude.{◌≡◌, ℕ, ◌+◌, ◌<◌, ◌⊎◌, neg_ℤ, ℤ, pos, int_lt, Bool, cond, List, [], length, Result, Err}
+use Rattle.std.specs.{List.Contains, Prelude.slice_index_or}
 use Rattle.lra_linear_spec.specs.declared.Excess as E
-use Rattle.lra_linear_spec.specs.declared.Cause.{Cause}
-use Rattle.lra_linear_spec.specs.declared.Cause.TheVariants.{Excess}
-use Rattle.lra_linear_spec.specs.declared.Cause.TheVariants as cause
 use Rattle.lra_linear_spec.specs.CheckedArithmetic.{checked_product, checked_blend}
-use Rattle.lra_linear_spec.specs.ConeStrain.{row_limit}
+use Rattle.lra_linear_spec.specs.{ConeStrain.row_limit, declared.Cause.Cause, declared.Cause.TheVariants.Excess}
+use Rattle.lra_linear_spec.specs.declared.Cause.TheVariants as cause
 use Rattle.lra_bits.specs.Matrix.{Matrix}
-use Rattle.lra_double_description.specs.declared.strained.Family.{Family}
+use Rattle.lra_double_description.specs.Steps.{flattening, inside_count}
 use Rattle.lra_double_description.specs.declared.strained.Family.TheVariants.{Lines, Rays}
-use Rattle.lra_double_description.specs.declared.strained.Member.{Member}
 use Rattle.lra_double_description.specs.declared.strained.Strained.{Strained}
 use Rattle.lra_double_description.specs.declared.strained.Strained.TheVariants.{Product, Pair, TooMany}
+use Rattle.lra_double_description.specs.{Pairs.ArePairs, declared.line_step.Across.Across}
+use Rattle.lra_double_description.specs.{declared.strained.Family.Family, declared.strained.Member.Member}
 use Rattle.lra_double_description.specs.declared.strained.ConeError as C
 use Rattle.lra_double_description.specs.declared.strained.ConeError.TheVariants as of_cone
-use Rattle.lra_double_description.specs.declared.line_step.Across.{Across}
 use Rattle.lra_double_description.specs.declared.pairs.Pair as Q
-use Rattle.lra_double_description.specs.Steps.{flattening, inside_count}
-use Rattle.lra_double_description.specs.Pairs.{ArePairs}
 
 abbrev pub cause_of : Strained → Cause
 cause_of (Product member e) = Excess e

@@ -1,16 +1,13 @@
 //! The step where the product of some line with the row isn't 0: each other row is combined with that line.
 
-ghost use Rattle.std.specs.Prelude.{◌≡◌, ◌≢◌, ◌<◌, ◌++◌, ◌∷◌, [], suc, pos, length, take};
-ghost use Rattle.std.specs.Prelude.{replicate, true, false, IfOk, IfErr, OnOk, slice_index_or};
-ghost use Rattle.std.specs.List.{All};
-ghost use Rattle.lra_linear_spec.specs.Range.{InRange};
-ghost use Rattle.lra_linear_spec.specs.Vectors.{negated};
+ghost use Rattle.std.specs.Prelude.{◌≡◌, ◌≢◌, ◌<◌, ◌++◌, ◌∷◌, [], suc, pos, length, take, replicate, true, false, IfOk};
+ghost use Rattle.std.specs.{List.All, Prelude.IfErr, Prelude.OnOk, Prelude.slice_index_or};
+ghost use Rattle.lra_linear_spec.specs.{Kinds.is_equality, Range.InRange, Vectors.negated};
 ghost use Rattle.lra_row.specs.Rows.{IsExcessOf};
-ghost use Rattle.lra_double_description.specs.Steps.{IsTurned, IsFlattened, flattening};
-ghost use Rattle.lra_double_description.specs.Steps.{PushesFlattened, AreFlatLines, AreFlatRays, flat_matrix};
+ghost use Rattle.lra_double_description.specs.Steps.{IsTurned, IsFlattened, flattening, PushesFlattened, AreFlatLines};
+ghost use Rattle.lra_double_description.specs.Steps.{AreFlatRays, flat_matrix};
 ghost use Rattle.lra_double_description.specs.Strains.{strained_pair, IsFlatteningError};
 ghost use Rattle.lra_double_description.specs.declared.strained.Family.TheVariants.{Lines, Rays};
-ghost use Rattle.lra_linear_spec.specs.Kinds.{is_equality};
 
 use crate::saturation::{lengthen, one_more, push_lengthened};
 use crate::strained::{ConeError, Family, Member, Strained};

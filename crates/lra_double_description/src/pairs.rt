@@ -1,13 +1,10 @@
 //! Pairs of adjacent rays on both sides of the row.
 
-ghost use Rattle.std.specs.Prelude.{◌≡◌, ◌≢◌, ◌<◌, ◌≤◌, ◌+◌, ◌<ℤ◌, ℤ, List, [], pos, length};
-ghost use Rattle.std.specs.Prelude.{IfOk, OnOk, IsTrue, IsFalse, slice_index_or};
-ghost use Rattle.std.specs.List.{All};
-ghost use Rattle.lra_bits.specs.TruthValues.{ArePlaces, IsSubset};
+ghost use Rattle.std.specs.Prelude.{◌≡◌, ◌≢◌, ◌<◌, ◌≤◌, ◌+◌, ◌<ℤ◌, ℤ, List, [], pos, length, IfOk, OnOk, IsTrue};
+ghost use Rattle.std.specs.{List.All, Prelude.IsFalse, Prelude.slice_index_or};
+ghost use Rattle.lra_bits.specs.{Transposed.AreColumns, TruthValues.ArePlaces, TruthValues.IsSubset};
 ghost use Rattle.lra_double_description.specs.Pairs.{TellsAdjacent, HasThird, ArePairs, both_tight};
-ghost use Rattle.lra_double_description.specs.Below.{AreBelow};
-ghost use Rattle.lra_bits.specs.Transposed.{AreColumns};
-ghost use Rattle.lra_double_description.specs.Thirds.{TellsThird, FewHaveThird};
+ghost use Rattle.lra_double_description.specs.{Below.AreBelow, Thirds.TellsThird, Thirds.FewHaveThird};
 
 use crate::columns::find_columns;
 use crate::sides::{count_above, places_below};

@@ -1,11 +1,8 @@
 //! The products of a row with the rows of a cone.
 
-ghost use Rattle.std.specs.Prelude.{◌≡◌, length, map, IfOk, IfErr};
-ghost use Rattle.std.specs.List.{All};
-ghost use Rattle.lra_linear_spec.specs.Range.{InRange};
-ghost use Rattle.lra_linear_spec.specs.Vectors.{product};
-ghost use Rattle.lra_double_description.specs.Steps.{IsLastAcross};
-ghost use Rattle.lra_double_description.specs.Strains.{IsProductError};
+ghost use Rattle.std.specs.{List.All, Prelude.◌≡◌, Prelude.length, Prelude.map, Prelude.IfOk, Prelude.IfErr};
+ghost use Rattle.lra_linear_spec.specs.{Range.InRange, Vectors.product};
+ghost use Rattle.lra_double_description.specs.{Steps.IsLastAcross, Strains.IsProductError};
 
 use crate::strained::{ConeError, Family, Member, Strained};
 use lra_row::Row;

@@ -1,17 +1,13 @@
 //! The step where the product of each line with the row is 0: rays on the wrong side go, and adjacent pairs are
 //! combined.
 
-ghost use Rattle.std.specs.Prelude.{◌≡◌, ◌<◌, ◌≤◌, ◌^◌, ◌+◌, ◌++◌, length, map, replicate, false, IfOk, IfErr};
 ghost use Rattle.std.specs.List.{All};
-ghost use Rattle.lra_linear_spec.specs.LowestTerms.{IsLowest};
-ghost use Rattle.lra_linear_spec.specs.Range.{InRange};
-ghost use Rattle.lra_linear_spec.specs.ConeStrain.{row_limit};
-ghost use Rattle.lra_linear_spec.specs.Kinds.{is_equality};
+ghost use Rattle.std.specs.Prelude.{◌≡◌, ◌<◌, ◌≤◌, ◌^◌, ◌+◌, ◌++◌, length, map, replicate, false, IfOk, IfErr};
+ghost use Rattle.lra_linear_spec.specs.{ConeStrain.row_limit, Kinds.is_equality, LowestTerms.IsLowest, Range.InRange};
 ghost use Rattle.lra_double_description.specs.Pairs.{HaveOneWidth, pair_sum, AreCombined, IsCut};
 ghost use Rattle.lra_double_description.specs.Steps.{outside_marks, inside_count};
-ghost use Rattle.lra_double_description.specs.Thirds.{FewHaveThird};
 ghost use Rattle.lra_double_description.specs.Strains.{IsPairError, ArePairsError, IsCutError};
-ghost use Rattle.lra_double_description.specs.declared.strained.Family.TheVariants.{Rays};
+ghost use Rattle.lra_double_description.specs.{Thirds.FewHaveThird, declared.strained.Family.TheVariants.Rays};
 
 use crate::pairs::{Pair, adjacent_pairs};
 use crate::saturation::mark_tight;

@@ -1,8 +1,7 @@
 //! The matrix of the rows that are tight at the rays, as a row is taken in.
 
-ghost use Rattle.std.specs.Prelude.{◌≡◌, ◌+◌, ◌<◌, ◌^◌, ◌++◌, ◌∷◌, [], pos, suc, true, length, map};
-ghost use Rattle.std.specs.Prelude.{replicate, IfOk, OnOk};
-ghost use Rattle.std.specs.Ordering.{int_eq};
+ghost use Rattle.std.specs.Prelude.{◌≡◌, ◌+◌, ◌<◌, ◌^◌, ◌++◌, ◌∷◌, [], pos, suc, true, length, map, replicate, IfOk};
+ghost use Rattle.std.specs.{Ordering.int_eq, Prelude.OnOk};
 ghost use Rattle.lra_double_description.specs.Steps.{lengthened_rows};
 
 use lra_bits::{BitRow, SatMatrix};

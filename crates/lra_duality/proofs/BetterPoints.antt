@@ -1,12 +1,8 @@
 -- Which of two points has the greater value, as the comparison of two ratios tells it.
 use Rattle.std.proofs.Common.{◌≡◌, ◌∙◌, ℤ, pos, negsuc, ◌*ℤ◌, ◌<ℤ◌, ◌≤ℤ◌, Bool, true, false, ap₂, sym, arith, FitsSigned}
-use Rattle.std.specs.Bool.{◌==◌}
-use Rattle.std.specs.Int.{w128, cast_signed, cast_unsigned}
-use Rattle.std.specs.Ordering.{int_cmp, ordering_index, MatchOrdering}
-use Rattle.std.specs.declared.cmp.Ordering.{Ordering}
+use Rattle.std.proofs.{lemmas.Cmp.int_ranked, lemmas.Int.ints, lemmas.Int.to_z-of_z}
 use Rattle.std.specs.declared.cmp.Ordering.TheVariants.{Less, Equal, Greater}
-use Rattle.std.proofs.lemmas.Cmp.{int_ranked}
-use Rattle.std.proofs.lemmas.Int.{ints, to_z-of_z}
+use Rattle.std.specs.{Bool.◌==◌, Int.w128, Int.cast_signed, Int.cast_unsigned, Ordering.int_cmp, Ordering.ordering_index, Ordering.MatchOrdering, declared.cmp.Ordering.Ordering}
 use Rattle.lra_linear_spec.specs.Range.{InRange}
 
 -- a number as 128 bits hold it

@@ -1,13 +1,11 @@
 -- Worked examples of inclusion, and of the greatest value of a form, in two dimensions, x1 and x2.
 use Rattle.std.proofs.Common.{◌≡◌, All, List, [], ◌∷◌, pos, ℤ, refl, ◌-◌, ◌^◌, false, true, inl, inr, arith}
-use Rattle.std.proofs.lemmas.Int.{ints}
-use Rattle.std.proofs.lemmas.List.Elements.{All-nil, All-cons}
+use Rattle.std.proofs.{lemmas.Int.ints, lemmas.List.Elements.All-nil, lemmas.List.Elements.All-cons}
 use Rattle.lra_linear_spec.specs.Descriptions.{LinearRow, generator, line, inequality, equality}
 use Rattle.lra_linear_spec.proofs.LowestTerms.{primitive_at}
-use Rattle.lra_duality.specs.declared.inclusion.Inclusion.TheVariants.{No, Wide}
-use Rattle.lra_duality.specs.declared.maximum.Maximum.TheVariants.{At, Unbounded}
-use Rattle.lra_duality.specs.Inclusions.{Satisfies, SatisfiesAll, IsInclusion}
 use Rattle.lra_duality.specs.Maxima.{DoesNotImprove, IsAtMost, IsBelow, IsMaximum, OfPoint, StaysInRange}
+use Rattle.lra_duality.specs.declared.inclusion.Inclusion.TheVariants.{No, Wide}
+use Rattle.lra_duality.specs.{Inclusions.Satisfies, Inclusions.SatisfiesAll, Inclusions.IsInclusion, declared.maximum.Maximum.TheVariants.At, declared.maximum.Maximum.TheVariants.Unbounded}
 
 -- the points with x2 from 0 to 1
 abbrev strip_generators : List LinearRow

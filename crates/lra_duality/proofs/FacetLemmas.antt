@@ -1,31 +1,20 @@
 -- The inequalities of a list with the rows of the matrix that tell where they are tight.
 use Rattle.std.proofs.Common.{◌≡◌, ◌≢◌, ◌↔◌, ℕ, zero, suc, ◌+◌, ◌<◌, ◌≤◌, ◌&&◌, Bool, true, false, List, [], ◌∷◌, ◌++◌, length, get_or, map, ap, refl, sym, ◌∙◌, subst, ℤ, pos, arith, IsTrue}
-use Rattle.std.specs.List.{Contains}
-use Rattle.std.specs.Ordering.{int_eq}
 use Rattle.std.proofs.lemmas.List.{get_or-map, length-map, length-append}
-use Rattle.lra_bits.specs.Matrix.{Matrix}
-use Rattle.lra_bits.specs.TruthValues.{both, IsSubset}
-use Rattle.lra_linear_spec.specs.ConeStrain.{row_limit}
+use Rattle.std.specs.{List.Contains, Ordering.int_eq}
+use Rattle.lra_bits.specs.{Matrix.Matrix, TruthValues.both, TruthValues.IsSubset}
 use Rattle.lra_linear_spec.specs.Descriptions.{LinearRow, inequality, lines_of, rays_of, system_of}
-use Rattle.lra_linear_spec.specs.Kinds.{is_equality}
 use Rattle.lra_linear_spec.specs.Polyhedra.{HasPoint, IsPolyhedron, Polyhedron, positivity}
-use Rattle.lra_linear_spec.proofs.Saturation.{TightToo}
-use Rattle.lra_linear_spec.specs.Vectors.{entry, product}
-use Rattle.lra_linear_spec.specs.declared.ConKind.{ConKind}
-use Rattle.lra_linear_spec.specs.declared.ConKind.TheVariants.{Ge}
-use Rattle.lra_linear_spec.proofs.Products.{product_comm}
+use Rattle.lra_linear_spec.specs.{ConeStrain.row_limit, Kinds.is_equality, Vectors.entry, Vectors.product, declared.ConKind.ConKind, declared.ConKind.TheVariants.Ge, declared.GenKind.GenKind}
+use Rattle.lra_linear_spec.proofs.{Products.product_comm, Saturation.TightToo}
 use Rattle.lra_cone.specs.Cones.{IsCone, ConeContent, cone_saturation as by_rays, saturation_rows, tight_values}
 use Rattle.lra_descriptions.specs.ShownLists.{dual_kind}
 use Rattle.lra_descriptions.proofs.SeveralKinds.{dual_given}
 use Rattle.lra_cone.proofs.TightRows.{rows_append, subset_from, subset_said}
 use Rattle.lra_systems.specs.LinearSystems.{LinearSystem, constraints, generators, rows_by_kind}
-use Rattle.lra_linear_spec.specs.declared.GenKind.{GenKind}
 use Rattle.lra_duality.specs.Saturations.{IsCovered, IsCoveredAt, saturated, saturation_of}
 use Rattle.lra_systems.proofs.FirstMembers.{front}
-use Rattle.lra_duality.proofs.KeptCones.{fewer_rays, with_some}
-use Rattle.lra_duality.proofs.KeptFacets.{alone_cone, covered_cone}
-use Rattle.lra_duality.proofs.SaturationLemmas.{given_length}
-use Rattle.lra_duality.proofs.StartLemmas.{rays_more, rays_same}
+use Rattle.lra_duality.proofs.{KeptCones.fewer_rays, KeptCones.with_some, KeptFacets.alone_cone, KeptFacets.covered_cone, SaturationLemmas.given_length, StartLemmas.rays_more, StartLemmas.rays_same}
 
 -- ---- tight rows by values
 values_are : (generators : List LinearRow) (r : List ℤ) → saturated generators r ≡ tight_values generators r

@@ -1,35 +1,19 @@
 -- What the generators tell of the greatest value of a form on a polyhedron.
-use Rattle.std.proofs.Common.{◌≡◌, ◌≢◌, ◌⊎◌, ℕ, zero, suc, ◌<◌, Bool, true, false, List, [], ◌∷◌, ◌++◌, length, ap}
-use Rattle.std.proofs.Common.{get_or, refl, sym, ◌∙◌, subst, ℤ, pos, negsuc, neg_ℤ, ◌+ℤ◌, ◌*ℤ◌, ◌<ℤ◌, ◌≤ℤ◌, inl, inr}
-use Rattle.std.proofs.Common.{arith}
+use Rattle.std.proofs.Common.{◌≡◌, ◌≢◌, ◌⊎◌, ℕ, zero, suc, ◌<◌, Bool, true, false, List, [], ◌∷◌, ◌++◌, length, ap, get_or, refl, sym, ◌∙◌, subst, ℤ, pos, negsuc, neg_ℤ, ◌+ℤ◌, ◌*ℤ◌, ◌<ℤ◌, ◌≤ℤ◌, inl}
+use Rattle.std.proofs.{Common.inr, Common.arith, lemmas.Int.ints, lemmas.List.Elements.All-contains}
 use Rattle.std.specs.List.{All, Contains}
-use Rattle.std.proofs.lemmas.Int.{ints}
-use Rattle.std.proofs.lemmas.List.Elements.{All-contains}
-use Rattle.lra_linear_spec.specs.Descriptions.{LinearRow, rows_as, inequality, system_of}
-use Rattle.lra_linear_spec.specs.Points.{IsPoint}
-use Rattle.lra_linear_spec.specs.Polyhedra.{HasPoint, IsPolyhedron, Polyhedron, positivity}
-use Rattle.lra_linear_spec.specs.Vectors.{blend, entry, negated, product}
-use Rattle.lra_linear_spec.proofs.Combinations.{generated_row}
-use Rattle.lra_linear_spec.proofs.Descriptions.{FromGiven, gen_generated, generated_gen, system_from, system_has}
-use Rattle.lra_linear_spec.proofs.Descriptions.{system_has_negated}
-use Rattle.lra_linear_spec.proofs.LinearMaps.{generated_nonneg}
-use Rattle.lra_linear_spec.proofs.Membership.{contains_head, contains_none}
-use Rattle.lra_linear_spec.proofs.OneSpelling.{positivity_product}
-use Rattle.lra_linear_spec.proofs.Polyhedra.{con_gen, generators_are_generators}
-use Rattle.lra_linear_spec.proofs.Products.{dot_linear, dot_negated, dot_same, entry_blend, entry_negated, product_comm}
-use Rattle.lra_linear_spec.proofs.Ring.{mul_nonnegative, ring, v, ⊖, ◌⊕◌, ◌⊗◌}
-use Rattle.lra_linear_spec.proofs.SetOperations.{has_vertex, valid_on_rows}
-use Rattle.lra_linear_spec.proofs.Lines.{zeros_length}
-use Rattle.lra_linear_spec.specs.Kinds.{is_line}
+use Rattle.lra_linear_spec.specs.{Descriptions.LinearRow, Descriptions.rows_as, Descriptions.inequality, Descriptions.system_of, Kinds.is_line, Points.IsPoint, Polyhedra.HasPoint}
+use Rattle.lra_linear_spec.specs.{Polyhedra.IsPolyhedron, Polyhedra.Polyhedron, Polyhedra.positivity, Vectors.blend, Vectors.entry, Vectors.negated, Vectors.product, declared.GenKind.GenKind}
+use Rattle.lra_linear_spec.proofs.Descriptions.{FromGiven, gen_generated, generated_gen, system_from, system_has, system_has_negated}
+use Rattle.lra_linear_spec.proofs.{Combinations.generated_row, LinearMaps.generated_nonneg, Lines.zeros_length, Membership.contains_head, Membership.contains_none, OneSpelling.positivity_product}
+use Rattle.lra_linear_spec.proofs.{Polyhedra.con_gen, Polyhedra.generators_are_generators, Products.dot_linear, Products.dot_negated, Products.dot_same, Products.entry_blend, Products.entry_negated}
+use Rattle.lra_linear_spec.proofs.{Products.product_comm, Ring.mul_nonnegative, Ring.ring, Ring.v, Ring.⊖, Ring.◌⊕◌, Ring.◌⊗◌, SetOperations.has_vertex, SetOperations.valid_on_rows}
 use Rattle.lra_systems.specs.LinearSystems.{LinearSystem, generators, rows_by_kind}
-use Rattle.lra_linear_spec.specs.declared.GenKind.{GenKind}
-use Rattle.lra_duality.specs.Maxima.{DoesNotImprove, Improves, IsAtMost, IsGreatestValue, IsMaximum, IsUnbounded, OfPoint}
-use Rattle.lra_duality.specs.Maxima.{TellsMaximum}
+use Rattle.lra_duality.specs.Maxima.{DoesNotImprove, Improves, IsAtMost, IsGreatestValue, IsMaximum, IsUnbounded, OfPoint, TellsMaximum}
 use Rattle.lra_duality.specs.declared.maximum.Maximum.{Maximum}
 use Rattle.lra_duality.specs.declared.maximum.Maximum.TheVariants.{Empty, Wide, Unbounded, At}
 use Rattle.lra_systems.proofs.FirstMembers.{err_from}
-use Rattle.lra_duality.proofs.InclusionLemmas.{has_member}
-use Rattle.lra_duality.proofs.PolyhedronLemmas.{empty_where_none}
+use Rattle.lra_duality.proofs.{InclusionLemmas.has_member, PolyhedronLemmas.empty_where_none}
 
 -- ---- the inequality that the form is at most num / den
 abbrev at_most_row : ℕ → List ℤ → ℤ → ℤ → List ℤ

@@ -1,28 +1,15 @@
 -- What the pairs of generators and rows tell of inclusion.
 use Rattle.std.proofs.Common.{◌≡◌, ◌≤ℤ◌, ℕ, Bool, true, false, List, [], ◌∷◌, ap, refl, sym, ◌∙◌, subst, ℤ, inl, inr, arith, pos, cond}
-use Rattle.std.proofs.lemmas.Int.{ints}
-use Rattle.std.specs.Cmp.{signed_Decides}
-use Rattle.std.specs.Prelude.{◌||◌, int_le, ◌↔◌, IsTrue}
-use Rattle.std.specs.List.{All, Contains}
-use Rattle.std.specs.Ordering.{int_eq}
-use Rattle.std.proofs.lemmas.List.Elements.{All-contains, Contains-append_right}
-use Rattle.lra_linear_spec.specs.Descriptions.{LinearRow, Con, HoldsWith}
-use Rattle.lra_linear_spec.specs.Points.{IsWithin}
-use Rattle.lra_linear_spec.specs.Polyhedra.{Polyhedron, IsPolyhedron}
-use Rattle.lra_linear_spec.specs.Vectors.{product}
-use Rattle.lra_linear_spec.specs.Widening.{holds_with}
+use Rattle.std.proofs.{lemmas.Int.ints, lemmas.List.Elements.All-contains, lemmas.List.Elements.Contains-append_right}
+use Rattle.std.specs.{Cmp.signed_Decides, List.All, List.Contains, Ordering.int_eq, Prelude.◌||◌, Prelude.int_le, Prelude.◌↔◌, Prelude.IsTrue}
+use Rattle.lra_linear_spec.specs.{Descriptions.LinearRow, Descriptions.Con, Descriptions.HoldsWith, Kinds.is_equality, Kinds.is_line, Points.IsWithin, Polyhedra.Polyhedron, Polyhedra.IsPolyhedron}
+use Rattle.lra_linear_spec.specs.{Vectors.product, Widening.holds_with, declared.ConKind.ConKind, declared.GenKind.GenKind}
 use Rattle.lra_linear_spec.proofs.Membership.{contains_head, contains_none, list_all_at, list_all_from}
-use Rattle.lra_linear_spec.proofs.Polyhedra.{con_gen}
-use Rattle.lra_linear_spec.proofs.Widening.{holds_on_generators, valid_decides}
-use Rattle.lra_duality.specs.declared.inclusion.Inclusion.{Inclusion}
+use Rattle.lra_linear_spec.proofs.{Polyhedra.con_gen, Widening.holds_on_generators, Widening.valid_decides}
 use Rattle.lra_duality.specs.declared.inclusion.Inclusion.TheVariants.{Yes, No, Wide}
-use Rattle.lra_systems.specs.FirstPlaces.{FirstAt}
-use Rattle.lra_duality.specs.Inclusions.{Satisfies, SatisfiesAll, IsInclusion, IsReply, TellsInclusion}
-use Rattle.lra_linear_spec.specs.Kinds.{is_equality, is_line}
-use Rattle.lra_linear_spec.specs.declared.ConKind.{ConKind}
+use Rattle.lra_duality.specs.{Inclusions.Satisfies, Inclusions.SatisfiesAll, Inclusions.IsInclusion, Inclusions.IsReply, Inclusions.TellsInclusion, declared.inclusion.Inclusion.Inclusion}
+use Rattle.lra_systems.specs.{FirstPlaces.FirstAt, LinearSystems.LinearSystem, LinearSystems.constraints, LinearSystems.generators, LinearSystems.rows_by_kind}
 use Rattle.lra_systems.specs.declared.membership.MembershipAnswer as H
-use Rattle.lra_linear_spec.specs.declared.GenKind.{GenKind}
-use Rattle.lra_systems.specs.LinearSystems.{LinearSystem, constraints, generators, rows_by_kind}
 use Rattle.lra_systems.proofs.FirstMembers.{err_from}
 
 pub has_member : {A : Type 0} (Before Here : A → Type 0) (list : List A) (place : ℕ) (f : FirstAt Before Here list place) → Contains list f.member

@@ -1,23 +1,15 @@
 -- The canonical lists of a polyhedron are the description of a cone, in which the positivity row is taken in first.
 use Rattle.std.proofs.Common.{◌≡◌, ◌≢◌, ◌≤◌, ℕ, suc, Bool, [], true, false, List, ◌∷◌, ◌++◌, length, cond, ap, sym, ◌∙◌, subst, refl, ℤ, pos, ◌≤ℤ◌, ◌<ℤ◌, ◌⊎◌, inl, inr, arith}
+use Rattle.std.proofs.{lemmas.Int.ints, lemmas.List.Elements.Contains-append_cases, lemmas.List.Elements.Contains-append_left, lemmas.List.Elements.Contains-append_right}
 use Rattle.std.specs.List.{Contains}
-use Rattle.std.proofs.lemmas.Int.{ints}
-use Rattle.std.proofs.lemmas.List.Elements.{Contains-append_cases, Contains-append_left, Contains-append_right}
-use Rattle.lra_linear_spec.specs.Canonical.{IsCanonical}
-use Rattle.lra_linear_spec.specs.Cones.{AreDual, Generated, both_ways, all_rows}
-use Rattle.lra_linear_spec.specs.ConeStrain.{row_limit}
 use Rattle.lra_linear_spec.specs.Descriptions.{LinearRow, inequality, rows_as, lines_of, rays_of, system_of}
-use Rattle.lra_linear_spec.specs.Polyhedra.{HasPoint, IsPolyhedron, Polyhedron, positivity}
-use Rattle.lra_linear_spec.specs.declared.ConKind.{ConKind}
+use Rattle.lra_linear_spec.specs.{Canonical.IsCanonical, ConeStrain.row_limit, Cones.AreDual, Cones.Generated, Cones.both_ways, Cones.all_rows, Polyhedra.HasPoint, Polyhedra.IsPolyhedron}
+use Rattle.lra_linear_spec.specs.{Polyhedra.Polyhedron, Polyhedra.positivity, Vectors.entry, Vectors.product, declared.ConKind.ConKind}
 use Rattle.lra_systems.specs.LinearSystems.{LinearSystem, constraints}
-use Rattle.lra_linear_spec.specs.Vectors.{entry, product}
-use Rattle.lra_linear_spec.proofs.Combinations.{generated_row}
-use Rattle.lra_linear_spec.proofs.Descriptions.{dual_flipped, system_from, system_there}
 use Rattle.lra_linear_spec.proofs.Lines.{in_lines, in_lines_negated, signed_from, zeros_length}
-use Rattle.lra_linear_spec.proofs.Membership.{contains_cases, contains_head, contains_tail}
 use Rattle.lra_linear_spec.proofs.OneSpelling.{columns_of, dual_same_cone, given_from, given_has, positivity_product}
-use Rattle.lra_linear_spec.proofs.Polyhedra.{generators_lines, generators_rays}
-use Rattle.lra_linear_spec.proofs.Products.{product_comm}
+use Rattle.lra_linear_spec.proofs.{Combinations.generated_row, Descriptions.dual_flipped, Descriptions.system_from, Descriptions.system_there, Membership.contains_cases, Membership.contains_head}
+use Rattle.lra_linear_spec.proofs.{Membership.contains_tail, Polyhedra.generators_lines, Polyhedra.generators_rays, Products.product_comm}
 use Rattle.lra_cone.specs.Cones.{IsCone, ConeContent}
 use Rattle.lra_duality.proofs.PolyhedronLemmas.{rows_width}
 

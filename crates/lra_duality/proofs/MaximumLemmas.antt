@@ -1,34 +1,17 @@
 -- The passes over the generators that find the greatest value of a form.
-use Rattle.std.proofs.Common.{◌≡◌, ℕ, zero, suc, ◌<◌, ◌≤◌, ◌+◌, ◌*◌, List, [], ◌∷◌, length, get_or, ap, refl, sym, ◌∙◌}
-use Rattle.std.proofs.Common.{subst, ℤ, pos, negsuc, neg_ℤ, ◌+ℤ◌, ◌*ℤ◌, ◌<ℤ◌, ◌≤ℤ◌, arith, Result, Ok, Err, IsErr, IsOk}
-use Rattle.std.proofs.Common.{unsigned_abs, int_div, Bool, true, false, cond}
-use Rattle.std.specs.Int.{◌∣◌, IsGcd}
-use Rattle.std.specs.List.{All}
-use Rattle.std.proofs.lemmas.Int.{ints, unsigned_abs-mul}
-use Rattle.std.proofs.lemmas.List.{get_or_default}
-use Rattle.std.proofs.lemmas.List.Elements.{All-contains}
+use Rattle.std.proofs.Common.{◌≡◌, ℕ, zero, suc, ◌<◌, ◌≤◌, ◌+◌, ◌*◌, List, [], ◌∷◌, length, get_or, ap, refl, sym, ◌∙◌, subst, ℤ, pos, negsuc, neg_ℤ, ◌+ℤ◌, ◌*ℤ◌, ◌<ℤ◌, ◌≤ℤ◌, arith, Result, Ok, Err}
+use Rattle.std.proofs.Common.{IsErr, IsOk, unsigned_abs, int_div, Bool, true, false, cond}
 use Rattle.std.proofs.Math.Nat.{mul-div_cancel', dvd_of_mul-dvd-mul_right, mul-dvd-mul_right, one-dvd}
-use Rattle.std.proofs.lemmas.Nat.Gcd.{dvd_antisymm}
-use Rattle.lra_linear_spec.specs.CheckedArithmetic.{checked_product, checked_product_from}
-use Rattle.lra_linear_spec.specs.Descriptions.{LinearRow}
-use Rattle.lra_linear_spec.specs.LowestTerms.{IsPrimitive}
-use Rattle.lra_linear_spec.specs.Vectors.{entry, negated, product}
-use Rattle.lra_linear_spec.specs.declared.Excess.{Excess}
+use Rattle.std.proofs.{lemmas.Int.ints, lemmas.Int.unsigned_abs-mul, lemmas.List.get_or_default, lemmas.List.Elements.All-contains, lemmas.Nat.Gcd.dvd_antisymm}
+use Rattle.std.specs.{Int.◌∣◌, Int.IsGcd, List.All}
+use Rattle.lra_linear_spec.specs.{CheckedArithmetic.checked_product, CheckedArithmetic.checked_product_from, Descriptions.LinearRow, Kinds.is_line, LowestTerms.IsPrimitive, Range.InRange}
+use Rattle.lra_linear_spec.specs.{Range.in_range, Vectors.entry, Vectors.negated, Vectors.product, declared.Excess.Excess, declared.GenKind.GenKind, declared.GenKind.TheVariants.Point}
 use Rattle.lra_linear_spec.proofs.CheckedArithmetic.{checked_product_value, checked_product_in_range}
-use Rattle.lra_linear_spec.proofs.LowestTerms.{signed_quotient_is}
-use Rattle.lra_linear_spec.proofs.Membership.{all_from}
-use Rattle.lra_linear_spec.proofs.Ring.{mul_nonnegative, ring, v, ⊖, ◌⊕◌, ◌⊗◌}
-use Rattle.lra_linear_spec.proofs.Signs.{as_nat, cancel_same, divide_nonnegative, positive_is_nonnegative, positive_nat, positive_part}
-use Rattle.lra_linear_spec.proofs.Signs.{times_positive}
-use Rattle.lra_linear_spec.specs.Range.{InRange, in_range}
-use Rattle.lra_row.proofs.Ratio.{apart}
-use Rattle.lra_row.proofs.RowLemmas.{quotient_signed}
-use Rattle.lra_linear_spec.specs.Kinds.{is_line}
+use Rattle.lra_linear_spec.proofs.Signs.{as_nat, cancel_same, divide_nonnegative, positive_is_nonnegative, positive_nat, positive_part, times_positive}
+use Rattle.lra_linear_spec.proofs.{LowestTerms.signed_quotient_is, Membership.all_from, Ring.mul_nonnegative, Ring.ring, Ring.v, Ring.⊖, Ring.◌⊕◌, Ring.◌⊗◌}
+use Rattle.lra_row.proofs.{Ratio.apart, RowLemmas.quotient_signed}
 use Rattle.lra_systems.specs.LinearSystems.{LinearSystem, generators, rows_by_kind}
-use Rattle.lra_linear_spec.specs.declared.GenKind.{GenKind}
-use Rattle.lra_linear_spec.specs.declared.GenKind.TheVariants.{Point}
-use Rattle.lra_duality.specs.Maxima.{OfPoint, IsAtMost, IsBelow, HasValue, IsGreatest, IsMaximum, StaysInRange}
-use Rattle.lra_duality.specs.Maxima.{DoesNotImprove}
+use Rattle.lra_duality.specs.Maxima.{OfPoint, IsAtMost, IsBelow, HasValue, IsGreatest, IsMaximum, StaysInRange, DoesNotImprove}
 use Rattle.lra_duality.specs.declared.maximum.Maximum.TheVariants.{At}
 use Rattle.lra_systems.proofs.FirstMembers.{front, first_at, one_more, none_yet, all_gone_through}
 

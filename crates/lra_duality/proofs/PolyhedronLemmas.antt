@@ -1,20 +1,12 @@
 -- Polyhedra with a point and without one, and the width of their rows.
 use Rattle.std.proofs.Common.{◌≡◌, ◌≢◌, ℕ, suc, true, false, List, [], ◌∷◌, length, ap, sym, ◌∙◌, subst, ℤ, inl, inr}
-use Rattle.std.specs.List.{Contains}
 use Rattle.std.proofs.lemmas.List.Elements.{Contains-append_cases, Contains-append_left, Contains-append_right}
-use Rattle.lra_linear_spec.specs.Cones.{both_ways}
+use Rattle.std.specs.List.{Contains}
 use Rattle.lra_linear_spec.specs.Descriptions.{Con, LinearRow, inequality, rows_as, system_of}
-use Rattle.lra_linear_spec.specs.Points.{IsPoint, IsEmptySet}
-use Rattle.lra_linear_spec.specs.Polyhedra.{Polyhedron, IsPolyhedron, HasPoint, falsity}
-use Rattle.lra_linear_spec.specs.Vectors.{entry}
-use Rattle.lra_linear_spec.proofs.Combinations.{generated_row}
-use Rattle.lra_linear_spec.proofs.Descriptions.{generated_gen, system_from}
-use Rattle.lra_linear_spec.proofs.Lines.{in_lines, zeros_length}
+use Rattle.lra_linear_spec.specs.{Cones.both_ways, Points.IsPoint, Points.IsEmptySet, Polyhedra.Polyhedron, Polyhedra.IsPolyhedron, Polyhedra.HasPoint, Polyhedra.falsity, Vectors.entry}
 use Rattle.lra_linear_spec.proofs.Membership.{contains_head, contains_none, each_one}
-use Rattle.lra_linear_spec.proofs.OneSpelling.{falsity_never, given_from}
-use Rattle.lra_linear_spec.proofs.Polyhedra.{con_gen}
-use Rattle.lra_linear_spec.proofs.Products.{negated_length}
-use Rattle.lra_linear_spec.proofs.SetOperations.{has_vertex}
+use Rattle.lra_linear_spec.proofs.{Combinations.generated_row, Descriptions.generated_gen, Descriptions.system_from, Lines.in_lines, Lines.zeros_length, OneSpelling.falsity_never}
+use Rattle.lra_linear_spec.proofs.{OneSpelling.given_from, Polyhedra.con_gen, Products.negated_length, SetOperations.has_vertex}
 
 -- ---- without a point
 pub falsity_is_empty : (n : ℕ) (rows : List LinearRow) → rows ≡ inequality (falsity n) ∷ [] → IsEmptySet n (Con rows)

@@ -1,17 +1,11 @@
 -- Division of a sum of products by a modulus, column by column.
-use Rattle.std.proofs.Common.{Bool, List, [], add-one, ap, arith, false, get_or, length, nat_eq, neg_ℤ, negsuc, of_z, pos, refl, subst, suc, sym, take, to_z, unsigned_abs, zero, FitsSigned, ℕ, ℤ}
-use Rattle.std.proofs.Common.{◌%◌, ◌*ℤ◌, ◌*◌, ◌+ℤ◌, ◌+◌, ◌<ℤ◌, ◌<◌, ◌∙◌, ◌∷◌, ◌≡◌, ◌≤ℤ◌, ◌≤◌, ◌^◌}
-use Rattle.std.specs.Prelude.{◌↔◌, IsTrue}
-use Rattle.std.proofs.Math.Dec.{eqb-suc-zero}
-use Rattle.std.proofs.Math.Nat.{add-mod-mod, mul-le-mul, mul-le-mul_right}
+use Rattle.std.proofs.Common.{Bool, List, [], add-one, ap, arith, false, get_or, length, nat_eq, neg_ℤ, negsuc, of_z, pos, refl, subst, suc, sym, take, to_z, unsigned_abs, zero, FitsSigned, ℕ, ℤ, ◌%◌}
+use Rattle.std.proofs.Common.{◌*ℤ◌, ◌*◌, ◌+ℤ◌, ◌+◌, ◌<ℤ◌, ◌<◌, ◌∙◌, ◌∷◌, ◌≡◌, ◌≤ℤ◌, ◌≤◌, ◌^◌}
 use Rattle.std.proofs.lemmas.Int.{fits_signed_mul, int_rem_euclid_is, ints, to_z-of_z, unsigned_abs-mul}
-use Rattle.std.proofs.lemmas.List.{take_all}
-use Rattle.std.specs.List.{All}
-use Rattle.lra_linear_spec.specs.Range.{InRange}
-use Rattle.lra_linear_spec.proofs.Products.{product_none}
-use Rattle.std.specs.Int.{int_div_euclid, int_rem_euclid, w128}
-use Rattle.lra_linear_spec.specs.Vectors.{product}
-use Rattle.lra_linear_spec.proofs.Ring.{ring, v, ⊖, ◌⊕◌, ◌⊗◌}
+use Rattle.std.proofs.{Math.Dec.eqb-suc-zero, Math.Nat.add-mod-mod, Math.Nat.mul-le-mul, Math.Nat.mul-le-mul_right, lemmas.List.take_all}
+use Rattle.std.specs.{Int.int_div_euclid, Int.int_rem_euclid, Int.w128, List.All, Prelude.◌↔◌, Prelude.IsTrue}
+use Rattle.lra_linear_spec.specs.{Range.InRange, Vectors.product}
+use Rattle.lra_linear_spec.proofs.{Products.product_none, Ring.ring, Ring.v, Ring.⊖, Ring.◌⊕◌, Ring.◌⊗◌}
 use Rattle.lra_row.proofs.Ratio.{euclid, rem_bounds}
 use Rattle.lra_duality.specs.Residues.{IsMultiple, IsResidue}
 

@@ -2,21 +2,14 @@
 use Rattle.std.proofs.Common.{◌≡◌, ◌≢◌, IsTrue, ℕ, suc, ◌+◌, ◌<◌, ◌≤◌, add-one, Bool, true, false, cond, List, [], ◌∷◌, ◌++◌, length, take, drop, get_or, map, ap, refl, sym, ◌∙◌, subst, ℤ, pos, arith}
 use Rattle.std.proofs.lemmas.List.{append-nil, ext_get_or, length-map, take_all, get_or-map}
 use Rattle.std.specs.Ordering.{int_eq}
-use Rattle.lra_bits.specs.Matrix.{Matrix}
-use Rattle.lra_bits.specs.TruthValues.{value_at}
-use Rattle.lra_linear_spec.specs.ConeStrain.{row_limit}
+use Rattle.lra_bits.specs.{Matrix.Matrix, TruthValues.value_at}
 use Rattle.lra_linear_spec.specs.Descriptions.{LinearRow, inequality, lines_of, rays_of}
-use Rattle.lra_linear_spec.specs.Polyhedra.{positivity}
-use Rattle.lra_linear_spec.specs.Vectors.{entry, product}
+use Rattle.lra_linear_spec.specs.{ConeStrain.row_limit, Kinds.is_line, Polyhedra.positivity, Vectors.entry, Vectors.product, declared.GenKind.GenKind}
 use Rattle.lra_linear_spec.proofs.OneSpelling.{positivity_product}
 use Rattle.lra_cone.specs.Cones.{cone_saturation as by_rays, saturation_rows, tight_values}
 use Rattle.lra_double_description.specs.Steps.{IsFilled}
-use Rattle.lra_linear_spec.specs.Kinds.{is_line}
-use Rattle.lra_systems.specs.Dimensions.{too_many_dimensions}
-use Rattle.lra_systems.specs.LinearSystems.{rows_by_kind}
-use Rattle.lra_linear_spec.specs.declared.GenKind.{GenKind}
-use Rattle.lra_duality.specs.Incremental.{MayGoOn, MayTurn}
-use Rattle.lra_duality.specs.Saturations.{column, saturated, saturation_of}
+use Rattle.lra_systems.specs.{Dimensions.too_many_dimensions, LinearSystems.rows_by_kind}
+use Rattle.lra_duality.specs.{Incremental.MayGoOn, Incremental.MayTurn, Saturations.column, Saturations.saturated, Saturations.saturation_of}
 use Rattle.lra_duality.proofs.SaturationLemmas.{given_length}
 use Rattle.lra_systems.proofs.FirstMembers.{front, front_length, given_more, given_split, member}
 

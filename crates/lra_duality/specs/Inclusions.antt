@@ -1,14 +1,11 @@
 -- Inclusion of polyhedra, tried pair by pair: the generators of the one in their order, with each the rows of the other
 -- in their order. The first pair whose product passes the range, or which violates the row, decides.
-use Rattle.std.specs.Prelude.{◌≡◌, ℕ, false, List, IsTrue, IsOk, IsErr}
 use Rattle.std.specs.List.{All}
+use Rattle.std.specs.Prelude.{◌≡◌, ℕ, false, List, IsTrue, IsOk, IsErr}
 use Rattle.lra_linear_spec.specs.declared.Excess as E
-use Rattle.lra_linear_spec.specs.CheckedArithmetic.{checked_product}
-use Rattle.lra_linear_spec.specs.Descriptions.{LinearRow, Con}
 use Rattle.lra_linear_spec.specs.OperationStrain.{InclusionStrains}
-use Rattle.lra_linear_spec.specs.Points.{IsWithin}
-use Rattle.lra_linear_spec.specs.Polyhedra.{Polyhedron}
-use Rattle.lra_linear_spec.specs.Widening.{holds_with}
+use Rattle.lra_linear_spec.specs.{CheckedArithmetic.checked_product, Descriptions.LinearRow, Descriptions.Con}
+use Rattle.lra_linear_spec.specs.{Points.IsWithin, Polyhedra.Polyhedron, Widening.holds_with}
 use Rattle.lra_systems.specs.declared.membership.MembershipAnswer as H
 use Rattle.lra_systems.specs.declared.membership.MembershipAnswer.TheVariants as holds
 use Rattle.lra_duality.specs.declared.inclusion.Inclusion.{Inclusion}

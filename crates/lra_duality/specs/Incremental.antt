@@ -1,7 +1,6 @@
 -- Polyhedra whose two lists at hand make a cone, which further rows are taken into.
 use Rattle.std.specs.Prelude.{◌<◌, ◌≤◌, ◌+◌, ℕ, List, length}
-use Rattle.lra_linear_spec.specs.ConeStrain.{row_limit}
-use Rattle.lra_linear_spec.specs.Descriptions.{LinearRow}
+use Rattle.lra_linear_spec.specs.{ConeStrain.row_limit, Descriptions.LinearRow}
 use Rattle.lra_systems.specs.Dimensions.{too_many_dimensions}
 
 -- these generators make the cone of the constraints: there is one, and they are no more than a cone may have rays,

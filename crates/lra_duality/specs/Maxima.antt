@@ -1,17 +1,12 @@
 -- The greatest value of a form on a polyhedron, told by its generators in their order. The value of the form c0, .., cn
 -- at a point is its product with the point's row, divided by the point's divisor.
-use Rattle.std.specs.Prelude.{◌≡◌, ◌≢◌, ℕ, ◌⊎◌, ℤ, pos, ◌*ℤ◌, ◌<ℤ◌, ◌≤ℤ◌, Bool, true, false, cond, ⊤}
-use Rattle.std.specs.Prelude.{List, [], ◌∷◌, IsOk, IsErr}
-use Rattle.std.specs.List.{All}
+use Rattle.std.specs.Prelude.{◌≡◌, ◌≢◌, ℕ, ◌⊎◌, ℤ, pos, ◌*ℤ◌, ◌<ℤ◌, ◌≤ℤ◌, Bool, true, false, cond, ⊤, List, [], ◌∷◌}
+use Rattle.std.specs.{List.All, Prelude.IsOk, Prelude.IsErr}
 use Rattle.lra_linear_spec.specs.declared.Excess as E
-use Rattle.lra_linear_spec.specs.CheckedArithmetic.{checked_product}
-use Rattle.lra_linear_spec.specs.Descriptions.{LinearRow, Con}
-use Rattle.lra_linear_spec.specs.LowestTerms.{IsPrimitive}
-use Rattle.lra_linear_spec.specs.OperationStrain.{MaximiseStrains}
-use Rattle.lra_linear_spec.specs.Points.{IsPoint, IsEmptySet}
-use Rattle.lra_linear_spec.specs.Polyhedra.{Polyhedron}
-use Rattle.lra_linear_spec.specs.Range.{InRange}
 use Rattle.lra_linear_spec.specs.Vectors.{entry, negated, product}
+use Rattle.lra_linear_spec.specs.{CheckedArithmetic.checked_product, Descriptions.LinearRow, Descriptions.Con}
+use Rattle.lra_linear_spec.specs.{LowestTerms.IsPrimitive, OperationStrain.MaximiseStrains, Points.IsPoint}
+use Rattle.lra_linear_spec.specs.{Points.IsEmptySet, Polyhedra.Polyhedron, Range.InRange}
 use Rattle.lra_linear_forms.specs.Form.{Form, form_row}
 use Rattle.lra_duality.specs.declared.maximum.Maximum.{Maximum}
 use Rattle.lra_duality.specs.declared.maximum.Maximum.TheVariants.{Empty, Wide, Unbounded, At}

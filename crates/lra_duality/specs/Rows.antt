@@ -1,8 +1,6 @@
 -- The constraints of tests.
 use Rattle.lra_linear_forms.specs.Form.{Form, form_row}
-use Rattle.lra_linear_spec.specs.declared.ConKind.{ConKind}
-use Rattle.lra_linear_spec.specs.Descriptions.{LinearRow}
-use Rattle.lra_linear_spec.specs.Kinds.{is_equality}
+use Rattle.lra_linear_spec.specs.{Descriptions.LinearRow, Kinds.is_equality, declared.ConKind.ConKind}
 
 -- the constraint that a test asks for
 abbrev pub test_row : ConKind → Form → LinearRow

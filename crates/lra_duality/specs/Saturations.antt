@@ -1,10 +1,7 @@
 -- Which constraints of a polyhedron are tight at which of its generators.
 use Rattle.std.specs.Prelude.{◌≡◌, ◌<◌, ℕ, Bool, false, List, [], length, map, slice_index_or}
-use Rattle.lra_bits.specs.Matrix.{Matrix}
-use Rattle.lra_bits.specs.TruthValues.{value_at, IsSubset}
-use Rattle.lra_linear_spec.specs.Kinds.{is_equality}
-use Rattle.lra_linear_spec.specs.declared.ConKind.{ConKind}
-use Rattle.lra_linear_spec.specs.declared.ConKind.TheVariants.{Ge}
+use Rattle.lra_bits.specs.{Matrix.Matrix, TruthValues.value_at, TruthValues.IsSubset}
+use Rattle.lra_linear_spec.specs.{Kinds.is_equality, declared.ConKind.ConKind, declared.ConKind.TheVariants.Ge}
 pub use Rattle.lra_descriptions.specs.Tightness.{saturated, saturation_of}
 
 -- a column of the matrix

@@ -1,11 +1,8 @@
 //! Whether a product of rows is 0, also where it passes the range as it is computed.
 
 ghost use Rattle.std.specs.Prelude.{◌≡◌, ◌↔◌, pos, ◌<ℤ◌, ◌≤ℤ◌, ◌^◌, IsTrue, length};
-ghost use Rattle.std.specs.List.{All};
-ghost use Rattle.std.specs.Int.{int_rem_euclid};
-ghost use Rattle.std.specs.Ordering.{int_eq};
-ghost use Rattle.lra_linear_spec.specs.Range.{InRange};
-ghost use Rattle.lra_linear_spec.specs.Vectors.{product};
+ghost use Rattle.std.specs.{Int.int_rem_euclid, List.All, Ordering.int_eq};
+ghost use Rattle.lra_linear_spec.specs.{Range.InRange, Vectors.product};
 ghost use Rattle.lra_duality.specs.Residues.{IsMultiple, IsResidue};
 
 use lra_row::Row;

@@ -1,10 +1,9 @@
 //! The cone of what is valid on a polyhedron's generators, from its two lists, with no conversion.
 
-ghost use Rattle.std.specs.Prelude.{◌≡◌, ◌≢◌, ◌↔◌, ◌+◌, ◌<◌, ◌≤◌, ◌∷◌, ◌++◌, [], length, List, IsTrue, IfOk};
-ghost use Rattle.std.specs.Prelude.{IfSome, IfNone};
-ghost use Rattle.lra_linear_spec.specs.ConeStrain.{row_limit};
+ghost use Rattle.std.specs.Prelude.{◌≡◌, ◌≢◌, ◌↔◌, ◌+◌, ◌<◌, ◌≤◌, ◌∷◌, ◌++◌, [], length, List, IsTrue, IfOk, IfSome};
+ghost use Rattle.std.specs.Prelude.{IfNone};
 ghost use Rattle.lra_linear_spec.specs.Descriptions.{LinearRow, lines_of, rays_of};
-ghost use Rattle.lra_linear_spec.specs.Polyhedra.{IsPolyhedron};
+ghost use Rattle.lra_linear_spec.specs.{ConeStrain.row_limit, Polyhedra.IsPolyhedron};
 ghost use Rattle.lra_cone.specs.Cones.{IsCone, cone_saturation as by_rays};
 ghost use Rattle.lra_systems.specs.Dimensions.{too_many_dimensions};
 ghost use Rattle.lra_systems.specs.LinearSystems.{constraints, generators};

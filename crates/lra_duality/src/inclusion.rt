@@ -1,11 +1,8 @@
 //! Inclusion of polyhedra.
 
-ghost use Rattle.std.specs.Prelude.{◌≡◌, length};
-ghost use Rattle.std.specs.List.{All};
-ghost use Rattle.lra_linear_spec.specs.Descriptions.{LinearRow};
+ghost use Rattle.std.specs.{List.All, Prelude.◌≡◌, Prelude.length};
 ghost use Rattle.lra_linear_spec.specs.Kinds.{is_equality};
-ghost use Rattle.lra_linear_spec.specs.Widening.{holds_with};
-ghost use Rattle.lra_linear_spec.specs.Vectors.{product};
+ghost use Rattle.lra_linear_spec.specs.{Descriptions.LinearRow, Vectors.product, Widening.holds_with};
 ghost use Rattle.lra_systems.specs.LinearSystems.{rows_by_kind, constraints, generators};
 ghost use Rattle.lra_duality.specs.Inclusions.{IsReply, IsInclusion};
 

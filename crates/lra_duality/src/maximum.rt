@@ -1,19 +1,14 @@
 //! The greatest value of a form.
 
-ghost use Rattle.std.specs.Prelude.{◌≡◌, ◌↔◌, ◌<◌, [], length, List, pos, ◌+ℤ◌, ◌*ℤ◌, ◌<ℤ◌, false};
-ghost use Rattle.std.specs.Prelude.{Ok, IsErr, IsOk, IsTrue, MatchOption, slice_index_or, unsigned_abs};
-ghost use Rattle.std.specs.Int.{IsGcd};
-ghost use Rattle.std.specs.List.{All};
-ghost use Rattle.std.specs.Option.{SomeIff};
+ghost use Rattle.std.specs.Prelude.{◌≡◌, ◌↔◌, ◌<◌, [], length, List, pos, ◌+ℤ◌, ◌*ℤ◌, ◌<ℤ◌, false, Ok, IsErr, IsOk};
+ghost use Rattle.std.specs.Prelude.{IsTrue, MatchOption, slice_index_or, unsigned_abs};
+ghost use Rattle.std.specs.{Int.IsGcd, List.All, Option.SomeIff};
 ghost use Rattle.lra_linear_forms.specs.Form.{AddsInRange, form_row};
 ghost use Rattle.lra_linear_spec.specs.CheckedArithmetic.{checked_product, checked_product_from};
-ghost use Rattle.lra_linear_spec.specs.Descriptions.{LinearRow};
-ghost use Rattle.lra_linear_spec.specs.Range.{InRange};
-ghost use Rattle.lra_linear_spec.specs.Vectors.{entry, product};
-ghost use Rattle.lra_systems.specs.LinearSystems.{generators};
-ghost use Rattle.lra_systems.specs.FirstPlaces.{FirstAt};
-ghost use Rattle.lra_duality.specs.Maxima.{StaysInRange, PassesRange, Improves, DoesNotImprove};
-ghost use Rattle.lra_duality.specs.Maxima.{IsAtMost, IsBelow, IsGreatest, IsMaximum, ValueInRange, directed};
+ghost use Rattle.lra_linear_spec.specs.{Descriptions.LinearRow, Range.InRange, Vectors.entry, Vectors.product};
+ghost use Rattle.lra_systems.specs.{FirstPlaces.FirstAt, LinearSystems.generators};
+ghost use Rattle.lra_duality.specs.Maxima.{StaysInRange, PassesRange, Improves, DoesNotImprove, IsAtMost, IsBelow};
+ghost use Rattle.lra_duality.specs.Maxima.{IsGreatest, IsMaximum, ValueInRange, directed};
 
 use lra_linear_forms::LinExpr;
 use lra_row::{Row, add, gcd, mul, opposite, ratio_cmp};

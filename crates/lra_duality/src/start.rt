@@ -1,17 +1,15 @@
 //! The cone of a polyhedron from its two lists, with no conversion.
 
-ghost use Rattle.std.specs.Prelude.{◌≡◌, ◌∷◌, ◌+◌, ◌<◌, ◌≤◌, suc, pos, length, List, IsTrue, IfOk, IfSome, IfNone};
 ghost use Rattle.std.specs.Ordering.{int_eq};
-ghost use Rattle.lra_linear_spec.specs.ConeStrain.{row_limit};
+ghost use Rattle.std.specs.Prelude.{◌≡◌, ◌∷◌, ◌+◌, ◌<◌, ◌≤◌, suc, pos, length, List, IsTrue, IfOk, IfSome, IfNone};
 ghost use Rattle.lra_linear_spec.specs.Descriptions.{LinearRow, inequality, lines_of, rays_of};
 ghost use Rattle.lra_linear_spec.specs.Polyhedra.{IsPolyhedron, positivity};
-ghost use Rattle.lra_linear_spec.specs.Vectors.{entry};
+ghost use Rattle.lra_linear_spec.specs.{ConeStrain.row_limit, Vectors.entry};
 ghost use Rattle.lra_bits.specs.TruthValues.{value_at};
 ghost use Rattle.lra_cone.specs.Cones.{cone_saturation as by_rays};
 ghost use Rattle.lra_systems.specs.Dimensions.{too_many_dimensions};
 ghost use Rattle.lra_systems.specs.LinearSystems.{constraints, generators};
-ghost use Rattle.lra_duality.specs.Incremental.{MayGoOn};
-ghost use Rattle.lra_duality.specs.Saturations.{column, saturation_of};
+ghost use Rattle.lra_duality.specs.{Incremental.MayGoOn, Saturations.column, Saturations.saturation_of};
 
 use crate::lists::join_rows;
 use lra_bits::{BitRow, SatMatrix};

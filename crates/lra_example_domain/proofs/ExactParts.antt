@@ -1,9 +1,7 @@
 -- What the parts of a gauge tell is all of it.
 use Rattle.std.proofs.Common.{ℕ, zero, suc, ◌<◌, ℤ, List, arith}
-use Rattle.lra_domain.specs.Laws.{PartsAreExact}
-use Rattle.lra_domain.specs.Parts.{SomePartHolds}
-use Rattle.lra_example_domain.specs.declared.example.ExampleDomain.{ExampleDomain}
-use Rattle.lra_example_domain.specs.Abstraction.{example_abstraction, example_parts}
+use Rattle.lra_domain.specs.{Laws.PartsAreExact, Parts.SomePartHolds}
+use Rattle.lra_example_domain.specs.{Abstraction.example_abstraction, Abstraction.example_parts, declared.example.ExampleDomain.ExampleDomain}
 
 some_part : (n bound : ℕ) (s : List ℤ) → SomePartHolds (example_parts n bound) s → 0 < bound
 some_part n zero s h = absurd h

@@ -4,11 +4,10 @@ use Rattle.std.specs.Prelude.{◌≡◌, ℕ, zero, suc, ◌-◌, ◌<◌, ◌�
 use Rattle.lra_systems.specs.LinearSystems.{LinearSystem}
 use Rattle.lra_linear_spec.specs.declared.ConKind.{ConKind}
 use Rattle.lra_domain.specs.Actions.{dims_after, HoldsStores, KeepsStores}
-use Rattle.lra_domain.specs.declared.Included.{Included}
 use Rattle.lra_domain.specs.declared.Included.TheVariants.{Yes, No, Wide}
-use Rattle.lra_domain.specs.Abstraction.{Abstraction}
-use Rattle.lra_example_domain.specs.declared.example.ExampleDomain.{ExampleDomain}
+use Rattle.lra_domain.specs.{Abstraction.Abstraction, declared.Included.Included}
 use Rattle.lra_example_domain.specs.Bounds.{unbounded, Passes, grown_bound, GrowthPasses}
+use Rattle.lra_example_domain.specs.declared.example.ExampleDomain.{ExampleDomain}
 
 abbrev pub ExampleGamma : ExampleDomain → List ℤ → Type 0
 ExampleGamma v s = (length s ≡ v.dims) × (0 < v.bound)

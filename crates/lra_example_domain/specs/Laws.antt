@@ -1,15 +1,11 @@
 -- The laws of gauges.
 use Rattle.std.proofs.Common.{◌≡◌, ℕ, zero, suc, max, ◌<◌, ◌≤◌, ℤ, List, [], length, refl, sym, subst, ◌∙◌, arith}
 use Rattle.std.proofs.Common.{Option, None, pos, replicate}
-use Rattle.std.proofs.lemmas.List.{length-replicate}
-use Rattle.lra_domain.specs.Bounds.{IsBetween}
+use Rattle.std.proofs.{Math.Nat.max-le, lemmas.List.length-replicate}
+use Rattle.lra_domain.specs.{Actions.Within, Bounds.IsBetween, Laws.Laws, Laws.BaseLaws}
 use Rattle.lra_linear_forms.specs.Form.{form_value}
-use Rattle.std.proofs.Math.Nat.{max-le}
-use Rattle.lra_domain.specs.Actions.{Within}
-use Rattle.lra_domain.specs.Laws.{Laws, BaseLaws}
-use Rattle.lra_example_domain.specs.declared.example.ExampleDomain.{ExampleDomain}
-use Rattle.lra_example_domain.specs.Bounds.{unbounded}
 use Rattle.lra_example_domain.specs.Abstraction.{ExampleGamma, Under, IsExample, example_parts, example_abstraction}
+use Rattle.lra_example_domain.specs.{Bounds.unbounded, declared.example.ExampleDomain.ExampleDomain}
 
 under_has : (a b : ExampleDomain) → Under a b → Within (ExampleGamma a) (ExampleGamma b)
 under_has a b u s h = let more = u.1 in let some = h.1 in (h.0 ∙ u.0, omega arith)

@@ -1,40 +1,21 @@
 -- The first generator of a polyhedron with a point is a point; of the polyhedron of all multipliers, it shows the claim.
-use Rattle.std.proofs.Common.{◌≡◌, ◌≢◌, ◌⊎◌, ℕ, suc, ◌<◌, ◌≤◌, ℤ, true, false, List, [], ◌∷◌, ◌++◌, length, drop, Some, Result}
-use Rattle.std.proofs.Common.{refl, ap, sym, ◌∙◌, subst, arith, inl, inr}
-use Rattle.std.specs.Prelude.{slice_get, IfErr}
-use Rattle.std.specs.List.{All, Contains}
-use Rattle.std.specs.Result.{IsErrAnd}
-use Rattle.std.proofs.lemmas.List.Elements.{All-contains, Contains-append_left}
-use Rattle.std.proofs.lemmas.Option.{same_Some, none-some}
-use Rattle.std.proofs.lemmas.Result.{err_from_is_err_and}
-use Rattle.lra_linear_spec.specs.Cones.{both_ways}
-use Rattle.lra_linear_spec.specs.Descriptions.{LinearRow, generator, rows_as, Con}
-use Rattle.lra_linear_spec.specs.Kinds.{is_equality, is_line}
-use Rattle.lra_linear_spec.specs.OperationStrain.{FromRowsStrains}
-use Rattle.lra_linear_spec.specs.Points.{IsPoint, IsEmptySet}
+use Rattle.std.proofs.Common.{◌≡◌, ◌≢◌, ◌⊎◌, ℕ, suc, ◌<◌, ◌≤◌, ℤ, true, false, List, [], ◌∷◌, ◌++◌, length, drop, Some, Result, refl, ap, sym, ◌∙◌, subst, arith, inl, inr}
+use Rattle.std.proofs.{lemmas.List.Elements.All-contains, lemmas.List.Elements.Contains-append_left, lemmas.Option.same_Some, lemmas.Option.none-some, lemmas.Result.err_from_is_err_and}
+use Rattle.std.specs.{List.All, List.Contains, Prelude.slice_get, Prelude.IfErr, Result.IsErrAnd}
 use Rattle.lra_linear_spec.specs.Polyhedra.{Polyhedron, HasPoint, IsPolyhedron, IsPolyhedronOf}
-use Rattle.lra_linear_spec.specs.Strain.{Loss}
-use Rattle.lra_linear_spec.specs.Vectors.{entry}
-use Rattle.lra_linear_spec.specs.declared.ConKind.{ConKind}
-use Rattle.lra_linear_spec.specs.declared.GenKind.{GenKind}
-use Rattle.lra_linear_spec.proofs.Combinations.{generated_row}
+use Rattle.lra_linear_spec.specs.{Cones.both_ways, Descriptions.LinearRow, Descriptions.generator, Descriptions.rows_as, Descriptions.Con, Kinds.is_equality, Kinds.is_line}
+use Rattle.lra_linear_spec.specs.{OperationStrain.FromRowsStrains, Points.IsPoint, Points.IsEmptySet, Strain.Loss, Vectors.entry, declared.ConKind.ConKind, declared.GenKind.GenKind}
 use Rattle.lra_linear_spec.proofs.Membership.{contains_none, contains_head, contains_tail, contains_cases}
-use Rattle.lra_linear_spec.proofs.Polyhedra.{con_gen, cone_gen}
+use Rattle.lra_linear_spec.proofs.{Combinations.generated_row, Polyhedra.con_gen, Polyhedra.cone_gen}
 use Rattle.lra_systems.specs.LinearSystems.{LinearSystem, rows_by_kind, generators, constraints}
-use Rattle.lra_duality.proofs.PolyhedronLemmas.{falsity_is_empty}
-use Rattle.lra_duality.proofs.SaturationLemmas.{given_length}
+use Rattle.lra_duality.proofs.{PolyhedronLemmas.falsity_is_empty, SaturationLemmas.given_length}
 use Rattle.lra_poly.specs.Outcomes.{IfExact, IfFlagged, IsOfRows}
-use Rattle.lra_poly.specs.declared.outcome.Outcome.{Outcome}
-use Rattle.lra_poly.specs.declared.outcome.Outcome.TheVariants.{Exact, Flagged}
+use Rattle.lra_poly.specs.{declared.outcome.Outcome.Outcome, declared.outcome.Outcome.TheVariants.Exact, declared.outcome.Outcome.TheVariants.Flagged}
 use Rattle.lra_multipliers.specs.Multipliers.{Multipliers, IsFarkasCertificate, IsCheckWide, IsAnswer, yes}
-use Rattle.lra_multipliers.specs.MultiplierViews.{answer_view}
-use Rattle.lra_multipliers.specs.declared.columns.Answer.{Answer}
-use Rattle.lra_multipliers.specs.declared.columns.Answer.TheVariants.{Yes, No}
-use Rattle.lra_farkas.specs.MultiplierRows.{multiplier_dims, multiplier_rows, point_of, AreAsWide}
-use Rattle.lra_farkas.specs.FirstMultipliers.{AreFirst, IsMultipliersFailure, MultipliersStrain}
-use Rattle.lra_farkas.specs.RowsByKinds.{HasNoFirst}
-use Rattle.lra_farkas.specs.declared.first.MultipliersFailure.{MultipliersFailure}
+use Rattle.lra_multipliers.specs.{MultiplierViews.answer_view, declared.columns.Answer.Answer, declared.columns.Answer.TheVariants.Yes, declared.columns.Answer.TheVariants.No}
 use Rattle.lra_farkas.specs.declared.first.MultipliersFailure.TheVariants.{NotImplied, Strained, Memory}
+use Rattle.lra_farkas.specs.{FirstMultipliers.AreFirst, FirstMultipliers.IsMultipliersFailure, FirstMultipliers.MultipliersStrain, MultiplierRows.multiplier_dims, MultiplierRows.multiplier_rows}
+use Rattle.lra_farkas.specs.{MultiplierRows.point_of, MultiplierRows.AreAsWide, RowsByKinds.HasNoFirst, declared.first.MultipliersFailure.MultipliersFailure}
 use Rattle.lra_farkas.proofs.ShownPoints.{points_show}
 
 -- ---- the first generator

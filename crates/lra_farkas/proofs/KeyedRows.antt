@@ -1,23 +1,13 @@
 -- Rows that are put in another order have the same points.
 use Rattle.std.proofs.Common.{◌≡◌, ℕ, suc, ◌<◌, ◌+◌, ℤ, List, [], ◌∷◌, ◌++◌, length, map, take, get_or, Some, Result, Ok, Err, ap, sym, ◌∙◌, subst}
-use Rattle.std.specs.Prelude.{slice_get, IfErr}
-use Rattle.std.specs.List.{All}
-use Rattle.std.specs.List.Sorted.{IsPermutation}
-use Rattle.std.proofs.lemmas.List.{take_more, map-append}
 use Rattle.std.proofs.lemmas.List.Sorted.{All-permutation, Contains-permutation, IsPermutation-map, IsPermutation-sym}
-use Rattle.std.proofs.lemmas.Option.{get_or_from_slice_get}
-use Rattle.lra_linear_spec.specs.Descriptions.{LinearRow, Con}
-use Rattle.lra_linear_spec.specs.Kinds.{is_equality}
-use Rattle.lra_linear_spec.specs.Points.{IsPoint}
-use Rattle.lra_linear_spec.specs.Polyhedra.{Polyhedron, IsPolyhedronOf}
-use Rattle.lra_linear_spec.specs.declared.ConKind.{ConKind}
+use Rattle.std.proofs.{lemmas.List.take_more, lemmas.List.map-append, lemmas.Option.get_or_from_slice_get}
+use Rattle.std.specs.{List.All, List.Sorted.IsPermutation, Prelude.slice_get, Prelude.IfErr}
+use Rattle.lra_linear_spec.specs.{Descriptions.LinearRow, Descriptions.Con, Kinds.is_equality, Points.IsPoint, Polyhedra.Polyhedron, Polyhedra.IsPolyhedronOf, declared.ConKind.ConKind}
 use Rattle.lra_systems.specs.LinearSystems.{LinearSystem, rows_by_kind, constraints}
 use Rattle.lra_systems.proofs.LinearRows.{constraints_pushed, given_more}
-use Rattle.lra_farkas.specs.KeyedRows.{row_of_keyed}
-use Rattle.lra_farkas.specs.RowsByKinds.{HasNoFirst, HasNoPoint}
-use Rattle.lra_farkas.specs.declared.first.MultipliersFailure.{MultipliersFailure}
 use Rattle.lra_farkas.specs.declared.first.MultipliersFailure.TheVariants.{NotImplied, Strained, Memory}
-use Rattle.lra_farkas.specs.declared.orders.Keyed.{Keyed}
+use Rattle.lra_farkas.specs.{KeyedRows.row_of_keyed, RowsByKinds.HasNoFirst, RowsByKinds.HasNoPoint, declared.first.MultipliersFailure.MultipliersFailure, declared.orders.Keyed.Keyed}
 
 -- ---- keys
 pub keyed_pushed : (rows : List (List ℤ)) (kinds : List ConKind) (before new : List Keyed) (i : ℕ) (row : List ℤ) (kind : ConKind) (x : Keyed) →

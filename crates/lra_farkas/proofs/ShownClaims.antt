@@ -1,18 +1,13 @@
 -- What holds wherever the premises do is a sum of them and 1 >= 0 (Farkas 1902), with multipliers in the premises' order.
-use Rattle.std.proofs.Common.{◌≡◌, ℕ, zero, suc, ◌<◌, ◌-◌, ℤ, pos, neg_ℤ, ◌+ℤ◌, ◌*ℤ◌, ◌≤ℤ◌, ◌<ℤ◌, negsuc, Bool, true, false, List, [], ◌∷◌, length}
-use Rattle.std.proofs.Common.{refl, ap, sym, ◌∙◌, subst, arith, inl, inr}
-use Rattle.std.specs.List.{Contains}
+use Rattle.std.proofs.Common.{◌≡◌, ℕ, zero, suc, ◌<◌, ◌-◌, ℤ, pos, neg_ℤ, ◌+ℤ◌, ◌*ℤ◌, ◌≤ℤ◌, ◌<ℤ◌, negsuc, Bool, true, false, List, [], ◌∷◌, length, refl, ap, sym, ◌∙◌, subst, arith, inl, inr}
 use Rattle.std.proofs.lemmas.Int.{ints}
-use Rattle.lra_linear_spec.specs.Descriptions.{LinearRow, rows_of, system_of, Con, HoldsWith}
-use Rattle.lra_linear_spec.specs.Polyhedra.{positivity, falsity}
+use Rattle.std.specs.List.{Contains}
 use Rattle.lra_linear_spec.specs.Vectors.{entry, product, negated, blend, sum_of, signed_sum}
-use Rattle.lra_linear_spec.proofs.Descriptions.{solves_con, system_from}
-use Rattle.lra_linear_spec.proofs.Lines.{zeros_length, entry_zeros}
+use Rattle.lra_linear_spec.specs.{Descriptions.LinearRow, Descriptions.rows_of, Descriptions.system_of, Descriptions.Con, Descriptions.HoldsWith, Polyhedra.positivity, Polyhedra.falsity}
 use Rattle.lra_linear_spec.proofs.Membership.{contains_head, contains_tail, contains_cases}
-use Rattle.lra_linear_spec.proofs.OneSpelling.{positivity_product, dot_zeros, far}
-use Rattle.lra_linear_spec.proofs.Ring.{ring, v, ⊖, ◌⊕◌, ◌⊗◌, mul_nonnegative}
 use Rattle.lra_linear_spec.proofs.Products.{entry_negated, negated_length, entry_blend, blend_length, dot_same, dot_plus, dot_scale}
-use Rattle.lra_linear_spec.proofs.Signs.{above_zero, zero_at_least, add_nonnegative}
+use Rattle.lra_linear_spec.proofs.{Descriptions.solves_con, Descriptions.system_from, Lines.zeros_length, Lines.entry_zeros, OneSpelling.positivity_product, OneSpelling.dot_zeros, OneSpelling.far}
+use Rattle.lra_linear_spec.proofs.{Ring.ring, Ring.v, Ring.⊖, Ring.◌⊕◌, Ring.◌⊗◌, Ring.mul_nonnegative, Signs.above_zero, Signs.zero_at_least, Signs.add_nonnegative}
 use Rattle.lra_canonical.proofs.Solutions.{farkas, sum_none}
 use Rattle.lra_multipliers.specs.Multipliers.{Multipliers, AreSigned, IsFarkasCertificate}
 use Rattle.lra_farkas.specs.MultiplierRows.{AreAsWide, WhatHoldsIsShown, WhatHoldsAtPointsIsShown, NoPointIsShown}

@@ -1,23 +1,13 @@
 -- The points of the polyhedron of all multipliers are the multipliers that show the claim.
-use Rattle.std.proofs.Common.{◌≡◌, ℕ, zero, suc, ◌<◌, ◌≤◌, ◌+◌, ℤ, pos, neg_ℤ, ◌+ℤ◌, ◌*ℤ◌, ◌≤ℤ◌, Bool, true, false, cond, List, [], ◌∷◌, length, map}
-use Rattle.std.proofs.Common.{refl, ap, sym, ◌∙◌, subst, arith, inl, inr}
-use Rattle.std.specs.List.{Contains, range_with_len}
-use Rattle.std.proofs.lemmas.Bool.{cases_lt}
-use Rattle.std.proofs.lemmas.Int.{ints}
+use Rattle.std.proofs.Common.{◌≡◌, ℕ, zero, suc, ◌<◌, ◌≤◌, ◌+◌, ℤ, pos, neg_ℤ, ◌+ℤ◌, ◌*ℤ◌, ◌≤ℤ◌, Bool, true, false, cond, List, [], ◌∷◌, length, map, refl, ap, sym, ◌∙◌, subst, arith, inl, inr}
 use Rattle.std.proofs.lemmas.List.Elements.{Contains-append_cases, Contains-append_left, Contains-append_right}
-use Rattle.std.proofs.lemmas.List.FromFn.{length-range_with_len, get_or-range_with_len}
+use Rattle.std.proofs.{lemmas.Bool.cases_lt, lemmas.Int.ints, lemmas.List.FromFn.length-range_with_len, lemmas.List.FromFn.get_or-range_with_len}
+use Rattle.std.specs.List.{Contains, range_with_len}
 use Rattle.lra_linear_spec.specs.Descriptions.{LinearRow, equality, rows_of, Con, Holds}
-use Rattle.lra_linear_spec.specs.OperationStrain.{unit_row}
-use Rattle.lra_linear_spec.specs.Points.{IsPoint}
-use Rattle.lra_linear_spec.specs.Polyhedra.{positivity}
-use Rattle.lra_linear_spec.specs.Vectors.{entry, dot, product, signed_sum}
-use Rattle.lra_linear_spec.proofs.Lines.{entry_zeros}
+use Rattle.lra_linear_spec.specs.{OperationStrain.unit_row, Points.IsPoint, Polyhedra.positivity, Vectors.entry, Vectors.dot, Vectors.product, Vectors.signed_sum}
 use Rattle.lra_linear_spec.proofs.Membership.{contains_none, contains_head, contains_tail, contains_cases, map_has, map_from}
-use Rattle.lra_linear_spec.proofs.Products.{entry_past}
-use Rattle.lra_linear_spec.proofs.Ring.{ring, v, ⊖, ◌⊕◌, ◌⊗◌}
-use Rattle.lra_linear_spec.proofs.UnitRows.{unit_product}
-use Rattle.lra_multipliers.specs.Columns.{first_of}
-use Rattle.lra_multipliers.specs.Multipliers.{IsSigned, AreSigned, IsFarkasCertificate}
+use Rattle.lra_linear_spec.proofs.{Lines.entry_zeros, Products.entry_past, Ring.ring, Ring.v, Ring.⊖, Ring.◌⊕◌, Ring.◌⊗◌, UnitRows.unit_product}
+use Rattle.lra_multipliers.specs.{Columns.first_of, Multipliers.IsSigned, Multipliers.AreSigned, Multipliers.IsFarkasCertificate}
 use Rattle.lra_farkas.specs.MultiplierRows.{balance_row, inequality_columns, multiplier_dims, sign_row, multiplier_rows, AreAsWide, PointsShow}
 
 -- ---- one column

@@ -1,12 +1,8 @@
 -- The first multipliers that show a claim, and why there are none.
-use Rattle.std.specs.Prelude.{◌≡◌, ◌⊎◌, ℤ, List, Some, slice_get}
-use Rattle.std.specs.List.{All}
+use Rattle.std.specs.{List.All, Prelude.◌≡◌, Prelude.◌⊎◌, Prelude.ℤ, Prelude.List, Prelude.Some, Prelude.slice_get}
 use Rattle.lra_linear_spec.specs.Descriptions.{LinearRow, generator, Con}
-use Rattle.lra_linear_spec.specs.OperationStrain.{FromRowsStrains}
-use Rattle.lra_linear_spec.specs.Points.{IsEmptySet}
 use Rattle.lra_linear_spec.specs.Polyhedra.{Polyhedron, IsPolyhedronOf}
-use Rattle.lra_linear_spec.specs.Range.{InRange}
-use Rattle.lra_linear_spec.specs.Strain.{Loss}
+use Rattle.lra_linear_spec.specs.{OperationStrain.FromRowsStrains, Points.IsEmptySet, Range.InRange, Strain.Loss}
 use Rattle.lra_multipliers.specs.Multipliers.{Multipliers, IsCheckWide}
 use Rattle.lra_farkas.specs.MultiplierRows.{multiplier_dims, multiplier_rows, point_of}
 use Rattle.lra_farkas.specs.declared.first.MultipliersFailure.{MultipliersFailure}

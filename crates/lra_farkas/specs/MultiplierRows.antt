@@ -1,14 +1,11 @@
 -- The polyhedron of all multipliers that show a claim by premises. Its points have the multiple of the claim in column
 -- 0, that of 1 >= 0 in column 1, and then those of the premises, in their order.
-use Rattle.std.specs.Prelude.{◌≡◌, ◌↔◌, ◌<◌, ℕ, suc, ℤ, pos, ◌≤ℤ◌, neg_ℤ, List, [], ◌∷◌, ◌++◌, map, length, cond}
 use Rattle.std.specs.List.{Contains, range_with_len}
+use Rattle.std.specs.Prelude.{◌≡◌, ◌↔◌, ◌<◌, ℕ, suc, ℤ, pos, ◌≤ℤ◌, neg_ℤ, List, [], ◌∷◌, ◌++◌, map, length, cond}
 use Rattle.lra_linear_spec.specs.Descriptions.{LinearRow, equality, inequality, rows_of, Con}
-use Rattle.lra_linear_spec.specs.OperationStrain.{unit_row}
 use Rattle.lra_linear_spec.specs.Points.{IsPoint, IsEmptySet, IsWithin}
-use Rattle.lra_linear_spec.specs.Polyhedra.{falsity}
-use Rattle.lra_linear_spec.specs.Vectors.{entry, product}
-use Rattle.lra_multipliers.specs.Multipliers.{Multipliers, IsFarkasCertificate}
-use Rattle.lra_multipliers.specs.Columns.{first_of}
+use Rattle.lra_linear_spec.specs.{OperationStrain.unit_row, Polyhedra.falsity, Vectors.entry, Vectors.product}
+use Rattle.lra_multipliers.specs.{Columns.first_of, Multipliers.Multipliers, Multipliers.IsFarkasCertificate}
 
 -- In this column, the multiple of the claim is the sum of 1 >= 0, which has a column 0 alone, and the premises.
 abbrev pub balance_row : List (List ℤ) → List ℤ → ℕ → List ℤ

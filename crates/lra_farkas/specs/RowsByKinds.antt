@@ -2,11 +2,8 @@
 -- them tells.
 use Rattle.std.specs.Prelude.{ℕ, suc, List, [], ◌∷◌, cond}
 use Rattle.lra_linear_spec.specs.Descriptions.{Con, LinearRow}
-use Rattle.lra_linear_spec.specs.Kinds.{is_equality}
 use Rattle.lra_linear_spec.specs.OperationStrain.{FromRowsStrains}
-use Rattle.lra_linear_spec.specs.Points.{IsEmptySet}
-use Rattle.lra_linear_spec.specs.Strain.{Loss}
-use Rattle.lra_linear_spec.specs.declared.ConKind.{ConKind}
+use Rattle.lra_linear_spec.specs.{Kinds.is_equality, Points.IsEmptySet, Strain.Loss, declared.ConKind.ConKind}
 use Rattle.lra_farkas.specs.declared.first.MultipliersFailure.{MultipliersFailure}
 use Rattle.lra_farkas.specs.declared.first.MultipliersFailure.TheVariants.{NotImplied, Strained, Memory}
 

@@ -1,16 +1,12 @@
 //! The first multipliers that show a claim.
 
 ghost use Rattle.std.specs.Prelude.{◌≡◌, ◌<◌, suc, length, IfOk, IfErr, Some, slice_get};
-ghost use Rattle.lra_linear_spec.specs.Descriptions.{Con, generator};
-ghost use Rattle.lra_linear_spec.specs.Points.{IsEmptySet};
 ghost use Rattle.lra_linear_spec.specs.Polyhedra.{IsPolyhedronOf};
-ghost use Rattle.lra_systems.specs.Dimensions.{too_many_dimensions};
-ghost use Rattle.lra_systems.specs.LinearSystems.{constraints};
-ghost use Rattle.lra_multipliers.specs.Multipliers.{IsAnswer, yes};
-ghost use Rattle.lra_multipliers.specs.MultiplierViews.{multipliers_view};
-ghost use Rattle.lra_farkas.specs.MultiplierRows.{point_of};
+ghost use Rattle.lra_linear_spec.specs.{Descriptions.Con, Descriptions.generator, Points.IsEmptySet};
+ghost use Rattle.lra_systems.specs.{Dimensions.too_many_dimensions, LinearSystems.constraints};
+ghost use Rattle.lra_multipliers.specs.{MultiplierViews.multipliers_view, Multipliers.IsAnswer, Multipliers.yes};
 ghost use Rattle.lra_farkas.specs.FirstMultipliers.{AreFirst, MultipliersInRange, IsMultipliersFailure};
-ghost use Rattle.lra_farkas.specs.RowsByKinds.{HasNoFirst, HasNoPoint};
+ghost use Rattle.lra_farkas.specs.{MultiplierRows.point_of, RowsByKinds.HasNoFirst, RowsByKinds.HasNoPoint};
 
 use crate::orders::{Order, reorder};
 use crate::rows::list_rows;

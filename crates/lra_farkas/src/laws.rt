@@ -1,7 +1,7 @@
 //! The laws of the polyhedron of all multipliers: they do nothing, and their contracts are the theorems.
 
-ghost use Rattle.lra_farkas.specs.MultiplierRows.{PointsShow, WhatHoldsIsShown};
-ghost use Rattle.lra_farkas.specs.MultiplierRows.{WhatHoldsAtPointsIsShown, NoPointIsShown};
+ghost use Rattle.lra_farkas.specs.MultiplierRows.{PointsShow, WhatHoldsIsShown, WhatHoldsAtPointsIsShown};
+ghost use Rattle.lra_farkas.specs.MultiplierRows.{NoPointIsShown};
 
 /// The points of the polyhedron are the multipliers that show the claim.
 pub fn multipliers_are_points()

@@ -1,10 +1,8 @@
 //! The rows of a list in other orders.
 
 ghost use Rattle.std.specs.Prelude.{◌≡◌, ◌<◌, suc, map, length, IfOk};
-ghost use Rattle.std.specs.List.{All};
-ghost use Rattle.std.specs.List.Sorted.{IsPermutation};
-ghost use Rattle.lra_systems.specs.Dimensions.{too_many_dimensions};
-ghost use Rattle.lra_systems.specs.LinearSystems.{constraints};
+ghost use Rattle.std.specs.{List.All, List.Sorted.IsPermutation};
+ghost use Rattle.lra_systems.specs.{Dimensions.too_many_dimensions, LinearSystems.constraints};
 ghost use Rattle.lra_farkas.specs.KeyedRows.{row_of_keyed};
 
 use lra_linear_spec::ConKind;

@@ -1,13 +1,10 @@
 //! The rows of the polyhedron of all multipliers.
 
-ghost use Rattle.std.specs.Prelude.{◌≡◌, ◌<◌, ◌++◌, [], ◌∷◌, suc, map, length, pos, IfOk, OnOk};
 ghost use Rattle.std.specs.List.{All, range_with_len};
-ghost use Rattle.lra_linear_spec.specs.Descriptions.{equality};
-ghost use Rattle.lra_linear_spec.specs.Range.{InRange};
-ghost use Rattle.lra_linear_spec.specs.Vectors.{entry};
+ghost use Rattle.std.specs.Prelude.{◌≡◌, ◌<◌, ◌++◌, [], ◌∷◌, suc, map, length, pos, IfOk, OnOk};
+ghost use Rattle.lra_linear_spec.specs.{Descriptions.equality, Range.InRange, Vectors.entry};
 ghost use Rattle.lra_multipliers.specs.Columns.{first_of};
-ghost use Rattle.lra_systems.specs.Dimensions.{too_many_dimensions};
-ghost use Rattle.lra_systems.specs.LinearSystems.{constraints};
+ghost use Rattle.lra_systems.specs.{Dimensions.too_many_dimensions, LinearSystems.constraints};
 ghost use Rattle.lra_farkas.specs.MultiplierRows.{balance_row, sign_row, multiplier_dims, multiplier_rows};
 ghost use Rattle.lra_farkas.specs.RowsByKinds.{columns_by_kinds};
 

@@ -1,24 +1,17 @@
 -- Places of loops, which are boxed: what comes next at them, and what that takes.
 use Rattle.std.proofs.Common.{◌≡◌, ℕ, suc, ◌+◌, ◌*◌, ◌<◌, Box, Global, arith, ap, sym, subst}
+use Rattle.std.proofs.{Math.Nat.suc-mul, lemmas.Result.IfOk-weaker}
 use Rattle.std.specs.Prelude.{IfOk}
 use Rattle.std.specs.Prelude as outcome_or
-use Rattle.std.proofs.Math.Nat.{suc-mul}
-use Rattle.std.proofs.lemmas.Result.{IfOk-weaker}
 use Rattle.lra_analysis_spec.specs.Plan.{Plan}
-use Rattle.lra_domain.specs.Abstraction.{Abstraction}
-use Rattle.lra_domain.specs.Interference.{Interference}
-use Rattle.lra_pass_results.specs.declared.loop_cache.LoopCache.{LoopCache}
-use Rattle.lra_pass_results.specs.declared.outcome.PassOutcome.{PassOutcome}
-use Rattle.lra_pass_stack.specs.declared.stack.Entering.{Entering}
-use Rattle.lra_pass_stack.specs.declared.stack.GrowingFrame.{GrowingFrame}
-use Rattle.lra_pass_stack.specs.declared.stack.NarrowingFrame.{NarrowingFrame}
-use Rattle.lra_pass_stack.specs.declared.stack.Next as next
-use Rattle.lra_pass_stack.specs.declared.stack.Next.TheVariants.{Opens, Again}
-use Rattle.lra_pass_stack.specs.declared.stack.PassFrame as place
-use Rattle.lra_pass_stack.specs.declared.stack.PassFrame.TheVariants.{Growing, Narrowing}
+use Rattle.lra_domain.specs.{Abstraction.Abstraction, Interference.Interference}
+use Rattle.lra_pass_results.specs.{Outcome.outcome_view, declared.loop_cache.LoopCache.LoopCache, declared.outcome.PassOutcome.PassOutcome}
 use Rattle.lra_pass_stack.specs.Stack.{PassTask, pass_task, IsGrowing, IsMade, IsNarrowing, IsPassFrame, PassStepLeads, MayBePassed}
-use Rattle.lra_pass_results.specs.Outcome.{outcome_view}
 use Rattle.lra_pass_stack.specs.StepsLeft.{next_left, place_left, rounds_left, tree_steps, turns_left}
+use Rattle.lra_pass_stack.specs.{declared.stack.Entering.Entering, declared.stack.GrowingFrame.GrowingFrame, declared.stack.NarrowingFrame.NarrowingFrame, declared.stack.Next.TheVariants.Opens}
+use Rattle.lra_pass_stack.specs.{declared.stack.Next.TheVariants.Again, declared.stack.PassFrame.TheVariants.Growing, declared.stack.PassFrame.TheVariants.Narrowing}
+use Rattle.lra_pass_stack.specs.declared.stack.Next as next
+use Rattle.lra_pass_stack.specs.declared.stack.PassFrame as place
 
 -- one round, and those that are left behind it
 round_more : (k t : ℕ) → (1 + k * suc t) + t < 1 + suc k * suc t

@@ -1,24 +1,16 @@
 -- A pass finds as many entries for a number as its tree has: so an iteration over a program's tree finds one value for each point and one for
 -- each assertion.
 use Rattle.std.proofs.Common.{◌≡◌, ◌≢◌, ℕ, zero, suc, ◌+◌, ◌-◌, ◌++◌, ◌≤◌, List, [], ◌∷◌, Option, Some, None, Bool, true, false, cond, inl, inr, refl, sym, ap, ◌∙◌, subst, arith}
-use Rattle.std.specs.Prelude.{slice_get}
-use Rattle.std.specs.List.{Contains}
-use Rattle.std.proofs.lemmas.Bool.{cases_eq}
-use Rattle.std.proofs.lemmas.Bool.Decides.{nat_tests}
+use Rattle.std.proofs.{lemmas.Bool.cases_eq, lemmas.Bool.Decides.nat_tests}
+use Rattle.std.specs.{List.Contains, Prelude.slice_get}
 use Rattle.lra_linear_spec.proofs.Membership.{contains_none, contains_head, contains_tail, contains_cases}
-use Rattle.lra_program.specs.Program.{Expr, Cond, Program}
+use Rattle.lra_program.specs.{Program.Expr, Program.Cond, Program.Program, Sites.Site, Sites.sites_of}
+use Rattle.lra_operations.specs.Tree.{Exit, broken, continued, returned, Node, empty, probe, point, act, check, seq, choose, iterate, catch, leave, select, Arms, no_arms, entry, arm}
 use Rattle.lra_operations.specs.declared.probes.Probe.TheVariants.{InterferencePoint, RecordWrite}
-use Rattle.lra_operations.specs.Tree.{Exit, broken, continued, returned, Node, empty, probe, point, act, check, seq, choose, iterate, catch, leave}
-use Rattle.lra_operations.specs.Tree.{select, Arms, no_arms, entry, arm}
-use Rattle.lra_program.specs.Sites.{Site, sites_of}
-use Rattle.lra_analysis_spec.specs.Plan.{Plan, Widening}
-use Rattle.lra_analysis_spec.specs.Operations.{Operations}
-use Rattle.lra_analysis_spec.specs.Pass.{PassEntry, value, failing, recorded, PassResult, noted, jumps, jumps_caught, Transformer, LoopRoundFrom}
-use Rattle.lra_analysis_spec.specs.Pass.{AscendingIteration, DescendingIteration}
-use Rattle.lra_analysis_spec.specs.Pass.{Absorption, nothing_absorbed, PassUnder, ArmsPassUnder}
-use Rattle.lra_analysis_spec.specs.Analysis.{Iteration}
-use Rattle.lra_fixpoint.specs.Numbers.{one_if, values_in, values_in_arms, checks_in, checks_in_arms, asserts_of, IsNumbered}
+use Rattle.lra_analysis_spec.specs.Pass.{PassEntry, value, failing, recorded, PassResult, noted, jumps, jumps_caught, Transformer, LoopRoundFrom, AscendingIteration, DescendingIteration, Absorption}
+use Rattle.lra_analysis_spec.specs.{Analysis.Iteration, Operations.Operations, Pass.nothing_absorbed, Pass.PassUnder, Pass.ArmsPassUnder, Plan.Plan, Plan.Widening}
 use Rattle.lra_fixpoint.specs.Counts.{values_at, failing_at, AreCounted}
+use Rattle.lra_fixpoint.specs.Numbers.{one_if, values_in, values_in_arms, checks_in, checks_in_arms, asserts_of, IsNumbered}
 
 pub one_same : (q : ℕ) → one_if q q ≡ 1
 unfolding one_if

@@ -1,28 +1,13 @@
 -- What is found of a tree holds in its runs.
 use Rattle.std.proofs.Common.{◌≡◌, ℕ, ◌≤◌, [], List, length, Option, Some, None, Bool, true, refl, sym, ◌∙◌, subst}
-use Rattle.std.specs.Prelude.{ℤ, slice_get}
-use Rattle.std.specs.List.{Contains}
 use Rattle.std.proofs.lemmas.Option.{same_Some}
-use Rattle.lra_domain.specs.Abstraction.{Abstraction}
-use Rattle.lra_domain.specs.Laws.{Laws}
-use Rattle.lra_domain.specs.declared.Exactness.{Exactness}
-use Rattle.lra_program.specs.Program.{Program}
-use Rattle.lra_program.specs.WellFormed.{AreGoodGlobals}
-use Rattle.lra_program.specs.Step.{State}
-use Rattle.lra_program.specs.Run.{begun}
+use Rattle.std.specs.{List.Contains, Prelude.ℤ, Prelude.slice_get}
+use Rattle.lra_domain.specs.{Abstraction.Abstraction, Laws.Laws, declared.Exactness.Exactness}
+use Rattle.lra_program.specs.{Program.Program, Run.begun, Sites.Site, Step.State, WellFormed.AreGoodGlobals}
 use Rattle.lra_operations.specs.Tree.{Node, ReachesPoint, FailsAt}
-use Rattle.lra_program.specs.Sites.{Site}
-use Rattle.lra_analysis_spec.specs.Plan.{Plan}
-use Rattle.lra_analysis_spec.specs.Operations.{lossy_operations}
-use Rattle.lra_analysis_spec.specs.Moves.{AreMade}
-use Rattle.lra_analysis_spec.specs.MovesOf.{first_values}
-use Rattle.lra_analysis_spec.specs.Pass.{PassResult, noted, Pass}
-use Rattle.lra_analysis_spec.specs.Analysis.{IsSolution, IsUnreachable}
-use Rattle.lra_analysis_spec.proofs.Covers.{Covers, Has}
-use Rattle.lra_analysis_spec.proofs.Keeping.{first_lead}
-use Rattle.lra_analysis_spec.proofs.Keeps.{moves_keep, pass_covers}
-use Rattle.lra_fixpoint.specs.Counts.{failing_at, AreCounted}
-use Rattle.lra_fixpoint.specs.Sound.{HoldsInTree}
+use Rattle.lra_analysis_spec.specs.{Analysis.IsSolution, Analysis.IsUnreachable, Moves.AreMade, MovesOf.first_values, Operations.lossy_operations, Pass.PassResult, Pass.noted, Pass.Pass, Plan.Plan}
+use Rattle.lra_analysis_spec.proofs.{Covers.Covers, Covers.Has, Keeping.first_lead, Keeps.moves_keep, Keeps.pass_covers}
+use Rattle.lra_fixpoint.specs.{Counts.failing_at, Counts.AreCounted, Sound.HoldsInTree}
 use Rattle.lra_fixpoint.proofs.Counting.{one_failing, asserts_few}
 
 -- the globals at their first values ---------------------------------------------------------------------------------

@@ -1,35 +1,16 @@
 -- What is found of a tree among others holds in the runs, among them, of the program's own tree.
 use Rattle.std.proofs.Common.{◌≡◌, ◌↔◌, ℕ, ◌<◌, ◌≤◌, [], List, length, Some, None, Bool, true, refl, sym, ◌∙◌, subst}
-use Rattle.std.specs.Prelude.{ℤ, slice_get, Option}
-use Rattle.std.specs.List.{Contains}
 use Rattle.std.proofs.lemmas.Option.{same_Some}
-use Rattle.lra_domain.specs.Abstraction.{Abstraction}
-use Rattle.lra_domain.specs.Laws.{Laws}
-use Rattle.lra_domain.specs.declared.Exactness.{Exactness}
-use Rattle.lra_domain.specs.Interference.{Interference, none}
-use Rattle.lra_program.specs.Program.{Program}
-use Rattle.lra_program.specs.WellFormed.{AreGoodGlobals}
-use Rattle.lra_program.specs.Step.{State}
-use Rattle.lra_program.specs.Run.{begun}
-use Rattle.lra_program.specs.Traces.{Trace}
-use Rattle.lra_program.specs.Sites.{Site}
-use Rattle.lra_operations.specs.Tree.{Node}
-use Rattle.lra_operations.specs.Traces.{to_point, to_failure}
-use Rattle.lra_analysis_spec.specs.Plan.{Plan}
-use Rattle.lra_analysis_spec.specs.Operations.{lossy_operations}
-use Rattle.lra_analysis_spec.specs.Moves.{AreMade}
-use Rattle.lra_analysis_spec.specs.MovesOf.{first_values}
-use Rattle.lra_analysis_spec.specs.Pass.{recorded, PassResult, noted, PassUnder}
-use Rattle.lra_analysis_spec.specs.Analysis.{IsSolution, IsUnreachable}
-use Rattle.lra_analysis_spec.specs.UnderInterference.{absorbed}
-use Rattle.lra_analysis_spec.specs.Instrumented.{instrumented}
-use Rattle.lra_analysis_spec.proofs.Covers.{Has}
-use Rattle.lra_analysis_spec.proofs.Keeping.{first_lead}
-use Rattle.lra_analysis_spec.proofs.Keeps.{moves_keep}
+use Rattle.std.specs.{List.Contains, Prelude.ℤ, Prelude.slice_get, Prelude.Option}
+use Rattle.lra_domain.specs.{Abstraction.Abstraction, Interference.Interference, Interference.none, Laws.Laws, declared.Exactness.Exactness}
+use Rattle.lra_program.specs.{Program.Program, Run.begun, Sites.Site, Step.State, Traces.Trace, WellFormed.AreGoodGlobals}
+use Rattle.lra_operations.specs.{Traces.to_point, Traces.to_failure, Tree.Node}
+use Rattle.lra_analysis_spec.specs.{Analysis.IsSolution, Analysis.IsUnreachable, Instrumented.instrumented, Moves.AreMade, MovesOf.first_values, Operations.lossy_operations, Pass.recorded}
+use Rattle.lra_analysis_spec.specs.{Pass.PassResult, Pass.noted, Pass.PassUnder, Plan.Plan, UnderInterference.absorbed}
+use Rattle.lra_analysis_spec.proofs.{Covers.Has, Keeping.first_lead, Keeps.moves_keep}
 use Rattle.lra_interference_sound.specs.CoversUnder.{MayBecome, stop, after_write, CoversUnder}
 use Rattle.lra_interference_sound.proofs.SoundUnder.{covers_among}
-use Rattle.lra_fixpoint.specs.Counts.{failing_at, AreCounted}
-use Rattle.lra_fixpoint.specs.UnderInterference.{begins, RunsUnder, WritesUnder, HoldsUnder}
+use Rattle.lra_fixpoint.specs.{Counts.failing_at, Counts.AreCounted, UnderInterference.begins, UnderInterference.RunsUnder, UnderInterference.WritesUnder, UnderInterference.HoldsUnder}
 use Rattle.lra_fixpoint.proofs.Counting.{one_failing, asserts_few}
 
 module _ {V H : Type 0} (o : Interference V) (m : Abstraction V H) (laws : Laws m) where

@@ -1,24 +1,16 @@
 -- One turn of a loop over entries, or over places.
 use Rattle.std.proofs.Common.{◌≡◌, ℕ, zero, suc, ◌+◌, ◌≤◌, ◌<◌, List, [], ◌∷◌, ◌++◌, length, map, take, get_or, Option, Some, None, Bool, refl, sym, ap, ◌∙◌, subst, arith, append_assoc}
-use Rattle.std.specs.Prelude.{◌↔◌, IsTrue, slice_get, slice_set}
-use Rattle.std.specs.List.{Contains}
-use Rattle.std.proofs.lemmas.List.{map-append}
-use Rattle.std.proofs.lemmas.List.Elements.{Contains-append_left, Contains-push}
-use Rattle.std.proofs.lemmas.Option.{none-some, same_Some, slice_get-get_or}
-use Rattle.std.specs.Iterator.{Yields}
-use Rattle.std.specs.Vec.Iter.{into_iter_items, into_iter_len, into_iter_steps}
-use Rattle.std.specs.declared.vec.IntoIter.{IntoIter}
-use Rattle.std.proofs.lemmas.Iterator.Adapters.{YieldsList-from_vec}
 use Rattle.std.proofs.lemmas.Iterator.Consumers.{YieldsList-end, YieldsList-so_far, YieldsList-turn}
+use Rattle.std.proofs.lemmas.Option.{none-some, same_Some, slice_get-get_or}
+use Rattle.std.proofs.{lemmas.Iterator.Adapters.YieldsList-from_vec, lemmas.List.map-append, lemmas.List.Elements.Contains-append_left, lemmas.List.Elements.Contains-push}
+use Rattle.std.specs.Vec.Iter.{into_iter_items, into_iter_len, into_iter_steps}
+use Rattle.std.specs.{Iterator.Yields, List.Contains, Prelude.◌↔◌, Prelude.IsTrue, Prelude.slice_get, Prelude.slice_set, declared.vec.IntoIter.IntoIter}
 use Rattle.lra_domain.specs.Abstraction.{Abstraction}
-use Rattle.lra_analysis_spec.specs.Pass.{value, failing}
+use Rattle.lra_analysis_spec.specs.{Analysis.IsUnreachable, Pass.value, Pass.failing}
 use Rattle.lra_analysis_spec.specs.Pass as pass
-use Rattle.lra_analysis_spec.specs.Analysis.{IsUnreachable}
-use Rattle.lra_pass_results.specs.declared.outcome.PassEntry.{PassEntry}
 use Rattle.lra_pass_results.specs.declared.outcome.PassEntry.TheVariants.{Value, Failing, Recorded}
-use Rattle.lra_pass_results.specs.Outcome.{entry_view}
-use Rattle.lra_fixpoint.specs.Counts.{values_at, failing_at, AreApart}
-use Rattle.lra_fixpoint.specs.Tables.{AreTabled, filled_from}
+use Rattle.lra_pass_results.specs.{Outcome.entry_view, declared.outcome.PassEntry.PassEntry}
+use Rattle.lra_fixpoint.specs.{Counts.values_at, Counts.failing_at, Counts.AreApart, Tables.AreTabled, Tables.filled_from}
 use Rattle.lra_fixpoint.proofs.Tabled.{Next, next_in, few_before, few_checks_before, value_inside, failing_inside, value_tabled, failing_tabled, given_tabled}
 
 same_items : {A : Type 0} (xs : List A) → map (λ (x : A). x) xs ≡ xs

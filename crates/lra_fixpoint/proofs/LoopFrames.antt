@@ -1,39 +1,18 @@
 -- Places at loops: what their bodies are passed from, and what comes behind a round.
 use Rattle.std.proofs.Common.{◌≡◌, ◌≤◌, ℕ, suc, Option, Some, None, refl, sym, ap, subst, ◌∙◌}
-use Rattle.lra_domain.specs.Abstraction.{Abstraction}
-use Rattle.lra_domain.specs.Rank.{RankFits}
-use Rattle.lra_domain.specs.Interference.{Interference}
-use Rattle.lra_domain.specs.declared.Exactness.{Exactness}
+use Rattle.lra_domain.specs.{Abstraction.Abstraction, Interference.Interference, Rank.RankFits, declared.Exactness.Exactness}
 use Rattle.lra_program.specs.ProgramViews.{cond_view}
-use Rattle.lra_operations.specs.Tree.{Node, iterate}
-use Rattle.lra_operations.specs.TreeViews.{node_view}
-use Rattle.lra_analysis_spec.specs.LiveLimit.{most_live}
-use Rattle.lra_analysis_spec.specs.Plan.{Plan, mode_at}
-use Rattle.lra_analysis_spec.specs.Thresholds.{loop_thresholds}
-use Rattle.lra_analysis_spec.specs.Operations.{lossy_operations}
-use Rattle.lra_analysis_spec.specs.Pass.{noted}
-use Rattle.lra_pass_results.specs.declared.heads.Growing.{Growing}
-use Rattle.lra_pass_results.specs.declared.loop_cache.LoopCache.{LoopCache}
-use Rattle.lra_pass_results.specs.declared.outcome.Entered.TheVariants.{Again as again, Anew}
-use Rattle.lra_pass_results.specs.declared.outcome.HeadRound.{HeadRound}
-use Rattle.lra_pass_results.specs.declared.outcome.PassOutcome.{PassOutcome}
-use Rattle.lra_pass_results.specs.declared.outcome.LoopRound.{LoopRound}
-use Rattle.lra_pass_stack.specs.declared.stack.GrowingFrame.{GrowingFrame}
-use Rattle.lra_pass_stack.specs.declared.stack.Narrowing.{Narrowing}
-use Rattle.lra_pass_stack.specs.declared.stack.NarrowingFrame.{NarrowingFrame}
-use Rattle.lra_pass_results.specs.declared.tree_forms.Loop.{Loop}
-use Rattle.lra_analysis_spec.specs.Live.{live_after}
-use Rattle.lra_pass_results.specs.Dimensions.{TreeFits}
-use Rattle.lra_pass_results.specs.Heads.{IsValued, GrowsBy}
-use Rattle.lra_pass_results.specs.LoopCache.{AreRecalled, MayRecall, Remembers, StaysKept}
-use Rattle.lra_pass_results.specs.Outcome.{headed, outcome_view, AreKept, IsEntered, IsKept, IsPassed, IsLoopRound, LeavesWith}
-use Rattle.lra_pass_stack.specs.Stack.{PassTask, HasEntered, IsGrowing, IsHead, IsLoopDue, IsMade, IsNarrowed}
-use Rattle.lra_pass_stack.specs.Stack.{IsNarrowing, IsWaiting, MayBePassed, NarrowLoop}
-use Rattle.lra_pass_results.proofs.Again.{all_noted, kept_noted, passed_kept, turned}
-use Rattle.lra_pass_results.proofs.CachedLoops.{later_noted, recalled_passed, remembers_body, remembers_later, remembers_on}
-use Rattle.lra_pass_results.proofs.CachedLoops.{stays_begun, stays_both, stays_passed, stays_recalled, stays_since, stays_then}
+use Rattle.lra_operations.specs.{Tree.Node, Tree.iterate, TreeViews.node_view}
+use Rattle.lra_analysis_spec.specs.{Live.live_after, LiveLimit.most_live, Operations.lossy_operations, Pass.noted, Plan.Plan, Plan.mode_at, Thresholds.loop_thresholds}
+use Rattle.lra_pass_results.specs.{Dimensions.TreeFits, Heads.IsValued, Heads.GrowsBy, LoopCache.AreRecalled, LoopCache.MayRecall, LoopCache.Remembers, LoopCache.StaysKept, Outcome.headed}
+use Rattle.lra_pass_results.specs.{Outcome.outcome_view, Outcome.AreKept, Outcome.IsEntered, Outcome.IsKept, Outcome.IsPassed, Outcome.IsLoopRound, Outcome.LeavesWith, declared.heads.Growing.Growing}
+use Rattle.lra_pass_results.specs.{declared.loop_cache.LoopCache.LoopCache, declared.outcome.Entered.TheVariants.Again as again, declared.outcome.Entered.TheVariants.Anew}
+use Rattle.lra_pass_results.specs.{declared.outcome.HeadRound.HeadRound, declared.outcome.LoopRound.LoopRound, declared.outcome.PassOutcome.PassOutcome, declared.tree_forms.Loop.Loop}
+use Rattle.lra_pass_stack.specs.Stack.{PassTask, HasEntered, IsGrowing, IsHead, IsLoopDue, IsMade, IsNarrowed, IsNarrowing, IsWaiting, MayBePassed, NarrowLoop}
+use Rattle.lra_pass_stack.specs.{declared.stack.GrowingFrame.GrowingFrame, declared.stack.Narrowing.Narrowing, declared.stack.NarrowingFrame.NarrowingFrame}
+use Rattle.lra_pass_results.proofs.CachedLoops.{later_noted, recalled_passed, remembers_body, remembers_later, remembers_on, stays_begun, stays_both, stays_passed, stays_recalled, stays_since}
+use Rattle.lra_pass_results.proofs.{Again.all_noted, Again.kept_noted, Again.passed_kept, Again.turned, CachedLoops.stays_then, PassSteps.loop_passed}
 use Rattle.lra_fixpoint.proofs.PassLoops.{head_next, head_stable, head_starts, head_wide, narrow_ends, narrow_next, narrow_starts}
-use Rattle.lra_pass_results.proofs.PassSteps.{loop_passed}
 
 -- the loop's body is next
 abbrev at : {V : Type 0} → Loop → V → Option ℕ → LoopCache V → PassTask V

@@ -1,15 +1,12 @@
 -- Notes are what variables got, in the order in which it is found.
 use Rattle.std.proofs.Common.{◌≡◌, ℕ, List, [], ◌∷◌, ◌++◌, map, inl, inr, sym, ap, refl, ◌∙◌, subst}
-use Rattle.std.specs.Prelude.{◌↔◌}
-use Rattle.std.specs.List.{Contains}
 use Rattle.std.proofs.lemmas.List.{append-nil, map-append}
+use Rattle.std.specs.{List.Contains, Prelude.◌↔◌}
 use Rattle.lra_linear_spec.proofs.Membership.{contains_none, contains_head, contains_tail, contains_cases}
 use Rattle.lra_analysis_spec.specs.Pass.{PassEntry, value, failing, recorded}
 use Rattle.lra_pass_results.specs.declared.outcome.PassEntry as entry
-use Rattle.lra_pass_results.specs.declared.outcome.PassEntry.TheVariants.{Value, Failing, Recorded}
-use Rattle.lra_pass_results.specs.Outcome.{entry_view}
-use Rattle.lra_fixpoint.specs.declared.tables.Note.{Note}
-use Rattle.lra_fixpoint.specs.Tables.{note_view, notes_in}
+use Rattle.lra_pass_results.specs.{Outcome.entry_view, declared.outcome.PassEntry.TheVariants.Value, declared.outcome.PassEntry.TheVariants.Failing, declared.outcome.PassEntry.TheVariants.Recorded}
+use Rattle.lra_fixpoint.specs.{Tables.note_view, Tables.notes_in, declared.tables.Note.Note}
 
 module _ {V : Type 0} where
   notes_append : (xs ys : List (PassEntry V)) → notes_in (xs ++ ys) ≡ notes_in xs ++ notes_in ys

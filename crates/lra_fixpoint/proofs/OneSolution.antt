@@ -1,17 +1,11 @@
 -- The written iteration has one solution: one value at each point, one verdict on each assertion.
 use Rattle.std.proofs.Common.{◌≡◌, ◌↔◌, ℕ, suc, List, [], ◌∷◌, Option, Some, Bool, true, false, refl, sym, subst}
-use Rattle.std.specs.Prelude.{slice_get, IsTrue}
-use Rattle.std.specs.List.{Contains}
 use Rattle.std.proofs.lemmas.Option.{same_Some, none-some}
-use Rattle.lra_domain.specs.Laws.{SingleLaws}
-use Rattle.lra_domain.specs.Abstraction.{Abstraction}
-use Rattle.lra_program.specs.Program.{Program}
-use Rattle.lra_program.specs.Sites.{sites_of}
+use Rattle.std.specs.{List.Contains, Prelude.slice_get, Prelude.IsTrue}
+use Rattle.lra_domain.specs.{Abstraction.Abstraction, Laws.SingleLaws}
+use Rattle.lra_program.specs.{Program.Program, Sites.sites_of}
 use Rattle.lra_operations.specs.Tree.{Node}
-use Rattle.lra_analysis_spec.specs.Plan.{Plan}
-use Rattle.lra_analysis_spec.specs.Operations.{exact_operations}
-use Rattle.lra_analysis_spec.specs.Pass.{PassResult, failing}
-use Rattle.lra_analysis_spec.specs.Analysis.{IsUnreachable, IsSolution, ExactIteration}
+use Rattle.lra_analysis_spec.specs.{Analysis.IsUnreachable, Analysis.IsSolution, Analysis.ExactIteration, Operations.exact_operations, Pass.PassResult, Pass.failing, Plan.Plan}
 use Rattle.lra_analysis_spec.proofs.OneIteration.{one_written}
 use Rattle.lra_fixpoint.specs.Numbers.{IsNumbered}
 use Rattle.lra_fixpoint.proofs.Counting.{iteration_fails_once}

@@ -1,29 +1,17 @@
 -- What the loops of a pass keep.
-use Rattle.std.proofs.Common.{◌≡◌, ◌≢◌, ℕ, zero, suc, ◌-◌, ◌^◌, ◌<◌, List, [], ◌∷◌, ◌++◌}
-use Rattle.std.proofs.Common.{Option, None, take, drop, refl, sym, ap, subst, ◌∙◌, arith}
+use Rattle.std.proofs.Common.{◌≡◌, ◌≢◌, ℕ, zero, suc, ◌-◌, ◌^◌, ◌<◌, List, [], ◌∷◌, ◌++◌, Option, None, take, drop, refl, sym, ap, subst, ◌∙◌, arith}
 use Rattle.std.specs.Prelude.{slice_index_or}
-use Rattle.lra_domain.specs.declared.Rank.{Rank}
-use Rattle.lra_domain.specs.declared.Mode.TheVariants.{Join}
-use Rattle.lra_domain.specs.Rank.{RankFits, RankBelow}
-use Rattle.lra_domain.specs.Parts.{CapsWithin}
 use Rattle.lra_domain.specs.Abstraction.{Abstraction, Values, Grew}
-use Rattle.lra_domain.specs.Interference.{Interference}
+use Rattle.lra_domain.specs.{Interference.Interference, Parts.CapsWithin, Rank.RankFits, Rank.RankBelow, declared.Exactness.Exactness, declared.Mode.TheVariants.Join, declared.Rank.Rank}
 use Rattle.lra_domain.proofs.RankNumbers.{phased, phased_joins, phased_falls}
-use Rattle.lra_domain.specs.declared.Exactness.{Exactness}
 use Rattle.lra_program.specs.Program.{Cond}
 use Rattle.lra_operations.specs.Tree as graph
-use Rattle.lra_analysis_spec.specs.Plan.{Plan, Widening, standard, limited, by_thresholds, mode_at}
-use Rattle.lra_analysis_spec.specs.Operations.{Operations, lossy_operations}
-use Rattle.lra_analysis_spec.specs.UnderInterference.{absorbed}
-use Rattle.lra_analysis_spec.specs.Thresholds.{loop_thresholds}
 use Rattle.lra_analysis_spec.specs.Pass.{AreJoined, PassResult, noted, first_of_call, PassUnder, LoopRoundFrom, AscendingIteration, DescendingIteration}
-use Rattle.lra_pass_results.specs.declared.outcome.LoopRound.{LoopRound}
-use Rattle.lra_pass_results.specs.declared.heads.Growing.{Growing}
-use Rattle.lra_pass_results.specs.declared.loop_cache.LoopCache.{LoopCache}
-use Rattle.lra_pass_results.specs.Heads.{IsValued, GrowsBy}
-use Rattle.lra_pass_results.specs.LoopCache.{StaysKept}
-use Rattle.lra_pass_stack.specs.Stack.{GrowLoop, HeadLoop, NarrowLoop}
+use Rattle.lra_analysis_spec.specs.Plan.{Plan, Widening, standard, limited, by_thresholds, mode_at}
+use Rattle.lra_analysis_spec.specs.{Operations.Operations, Operations.lossy_operations, Thresholds.loop_thresholds, UnderInterference.absorbed}
 use Rattle.lra_pass_results.specs.Outcome.{headed, outcome_view, AllHave, AreKept, HasGrown, IsKept, IsLoopRound, JumpsFit, NarrowsTo}
+use Rattle.lra_pass_results.specs.{Heads.IsValued, Heads.GrowsBy, LoopCache.StaysKept, declared.heads.Growing.Growing, declared.loop_cache.LoopCache.LoopCache, declared.outcome.LoopRound.LoopRound}
+use Rattle.lra_pass_stack.specs.Stack.{GrowLoop, HeadLoop, NarrowLoop}
 
 module _ {V H : Type 0} (o : Interference V) (m : Abstraction V H) (set : Plan) (q base : ℕ) (c : Cond) (a : graph.Node) where
   -- a head begins

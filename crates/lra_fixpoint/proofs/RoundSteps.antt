@@ -1,24 +1,15 @@
 -- How many steps are left falls with each round of a loop.
 use Rattle.std.proofs.Common.{◌≡◌, ◌≢◌, ℕ, suc, ◌+◌, ◌-◌, ◌*◌, ◌<◌, ◌≤◌, ◌^◌, List, [], ◌∷◌, ◌++◌, Option, Some, Box, Global, arith, ap, subst, sym, ◌∙◌}
-use Rattle.std.specs.Prelude.{IfOk, option_to_list}
-use Rattle.std.specs.List.{sum_by}
-use Rattle.std.proofs.lemmas.List.Sums.{sum_by-append, sum_by-cons}
+use Rattle.std.proofs.{Math.Nat.suc-mul, lemmas.List.Sums.sum_by-append, lemmas.List.Sums.sum_by-cons, lemmas.Nat.mul-le, lemmas.Nat.mul-add-lt, lemmas.Result.IfOk-weaker}
+use Rattle.std.specs.{List.sum_by, Prelude.IfOk, Prelude.option_to_list}
 use Rattle.std.specs.Prelude as outcome_or
-use Rattle.std.proofs.Math.Nat.{suc-mul}
-use Rattle.std.proofs.lemmas.Nat.{mul-le, mul-add-lt}
-use Rattle.std.proofs.lemmas.Result.{IfOk-weaker}
 use Rattle.lra_analysis_spec.specs.Plan.{Plan, Widening, mode_at}
-use Rattle.lra_domain.specs.declared.Rank.{Rank}
-use Rattle.lra_domain.specs.declared.Mode.TheVariants.{Join}
-use Rattle.lra_domain.specs.Abstraction.{Abstraction}
-use Rattle.lra_domain.specs.Rank.{RankFits, RankBelow}
-use Rattle.lra_pass_results.specs.declared.outcome.PassOutcome.{PassOutcome}
-use Rattle.lra_pass_stack.specs.declared.stack.Entering.{Entering}
-use Rattle.lra_pass_stack.specs.declared.stack.Next as next
-use Rattle.lra_pass_stack.specs.declared.stack.Next.TheVariants.{Passed, Opens, Again}
-use Rattle.lra_pass_stack.specs.declared.stack.PassFrame as place
-use Rattle.lra_pass_results.specs.declared.tree_forms.Loop.{Loop}
+use Rattle.lra_domain.specs.{Abstraction.Abstraction, Rank.RankFits, Rank.RankBelow, declared.Mode.TheVariants.Join, declared.Rank.Rank}
+use Rattle.lra_pass_results.specs.{declared.outcome.PassOutcome.PassOutcome, declared.tree_forms.Loop.Loop}
 use Rattle.lra_pass_stack.specs.StepsLeft.{all_left, most_rounds, next_left, place_left, rounds_left, tree_steps, turns_left}
+use Rattle.lra_pass_stack.specs.{declared.stack.Entering.Entering, declared.stack.Next.TheVariants.Passed, declared.stack.Next.TheVariants.Opens, declared.stack.Next.TheVariants.Again}
+use Rattle.lra_pass_stack.specs.declared.stack.Next as next
+use Rattle.lra_pass_stack.specs.declared.stack.PassFrame as place
 use Rattle.lra_fixpoint.proofs.PassLoops.{grow_falls}
 
 same : (n : ℕ) → n ≤ n

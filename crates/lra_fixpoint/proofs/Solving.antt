@@ -1,19 +1,11 @@
 -- What a derivation's values, verdicts and first flag say of the written iteration.
 use Rattle.std.proofs.Common.{◌≡◌, ◌↔◌, ℕ, List, Option, None, Bool, sym, ◌∙◌, subst}
-use Rattle.lra_program.specs.declared.program.GlobalVariable.{GlobalVariable}
+use Rattle.lra_program.specs.{Program.Program, declared.program.GlobalVariable.GlobalVariable}
 use Rattle.std.specs.List.{Contains}
-use Rattle.lra_domain.specs.Abstraction.{Abstraction}
-use Rattle.lra_domain.specs.Interference.{Interference}
-use Rattle.lra_domain.specs.Laws.{Laws}
-use Rattle.lra_domain.specs.declared.Exactness.{Exactness}
-use Rattle.lra_program.specs.Program.{Program}
+use Rattle.lra_domain.specs.{Abstraction.Abstraction, Interference.Interference, Laws.Laws, declared.Exactness.Exactness}
 use Rattle.lra_operations.specs.Tree.{Node}
-use Rattle.lra_analysis_spec.specs.Plan.{Plan}
-use Rattle.lra_analysis_spec.specs.Operations.{lossy_operations}
-use Rattle.lra_analysis_spec.specs.MovesOf.{first_values}
-use Rattle.lra_analysis_spec.specs.Pass.{recorded, PassResult, noted, PassUnder}
-use Rattle.lra_analysis_spec.specs.Analysis.{LossyIteration, IsSolution}
-use Rattle.lra_analysis_spec.specs.UnderInterference.{absorbed, LossyIterationUnder}
+use Rattle.lra_analysis_spec.specs.{Analysis.LossyIteration, Analysis.IsSolution, MovesOf.first_values, Operations.lossy_operations, Pass.recorded, Pass.PassResult, Pass.noted, Pass.PassUnder}
+use Rattle.lra_analysis_spec.specs.{Plan.Plan, UnderInterference.absorbed, UnderInterference.LossyIterationUnder}
 use Rattle.lra_analysis_spec.proofs.Unflagged.{unflagged_is_written, flagged_strains, unflagged_is_written_among, flagged_strains_among}
 use Rattle.lra_transfer.specs.Changes.{Does}
 use Rattle.lra_fixpoint.specs.Solved.{IsSolved, IsSolvedUnder}

@@ -1,21 +1,15 @@
 -- What stands in tables is what a pass found.
 use Rattle.std.proofs.Common.{◌≡◌, ◌≢◌, ℕ, zero, suc, ◌+◌, ◌≤◌, ◌<◌, List, [], ◌∷◌, ◌++◌, length, map, take, get_or, Option, Some, None, Bool, inl, inr, refl, sym, ap, ◌∙◌, subst, arith}
-use Rattle.std.specs.Prelude.{◌↔◌, IsTrue, slice_get, slice_set, replicate, flat_map, option_map, cond, true, false}
-use Rattle.std.specs.List.{Contains}
-use Rattle.std.specs.Option.{option_to_list}
 use Rattle.std.proofs.lemmas.Bool.{cases_eq, cases_lt, cond-true, cond-false, false_from_ne_true}
-use Rattle.std.proofs.lemmas.List.{length-replicate, length-set, length-map}
-use Rattle.std.proofs.lemmas.List.Elements.{Contains-append_left, Contains-push, Contains-push_cases}
-use Rattle.std.proofs.lemmas.Option.{none-some, same_Some, slice_get-map, slice_get_past}
+use Rattle.std.proofs.{lemmas.List.length-replicate, lemmas.List.length-set, lemmas.List.length-map, lemmas.List.Elements.Contains-append_left, lemmas.List.Elements.Contains-push}
+use Rattle.std.proofs.{lemmas.List.Elements.Contains-push_cases, lemmas.Option.none-some, lemmas.Option.same_Some, lemmas.Option.slice_get-map, lemmas.Option.slice_get_past}
+use Rattle.std.specs.Prelude.{◌↔◌, IsTrue, slice_get, slice_set, replicate, flat_map, option_map, cond, true, false}
+use Rattle.std.specs.{List.Contains, Option.option_to_list}
 use Rattle.lra_linear_spec.proofs.Membership.{contains_none, contains_head, contains_tail, contains_cases}
 use Rattle.lra_domain.specs.Abstraction.{Abstraction}
-use Rattle.lra_program.specs.Sites.{Site}
-use Rattle.lra_program.specs.Assertions.{assertions_from}
-use Rattle.lra_analysis_spec.specs.Pass.{PassEntry, value, failing, recorded, PassResult}
-use Rattle.lra_analysis_spec.specs.Analysis.{IsUnreachable, IsSolution}
-use Rattle.lra_fixpoint.specs.Numbers.{asserts_of}
-use Rattle.lra_fixpoint.specs.Counts.{values_at, failing_at, AreCounted, AreApart}
-use Rattle.lra_fixpoint.specs.Tables.{AreTabled, filled_from}
+use Rattle.lra_program.specs.{Assertions.assertions_from, Sites.Site}
+use Rattle.lra_analysis_spec.specs.{Analysis.IsUnreachable, Analysis.IsSolution, Pass.PassEntry, Pass.value, Pass.failing, Pass.recorded, Pass.PassResult}
+use Rattle.lra_fixpoint.specs.{Counts.values_at, Counts.failing_at, Counts.AreCounted, Counts.AreApart, Numbers.asserts_of, Tables.AreTabled, Tables.filled_from}
 use Rattle.lra_fixpoint.proofs.Counting.{values_append, failing_append, value_counted, failing_counted, counted_value, counted_failing, one_value, asserts_few}
 
 -- places -------------------------------------------------------------------------------------------------------------

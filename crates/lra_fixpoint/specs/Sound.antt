@@ -1,10 +1,8 @@
 -- What is found of a program's tree of operations holds in all of the tree's runs.
-use Rattle.std.specs.Prelude.{◌≡◌, ℕ, ℤ, List, length, Bool, true, Some, slice_get}
 use Rattle.std.specs.List.{Contains}
+use Rattle.std.specs.Prelude.{◌≡◌, ℕ, ℤ, List, length, Bool, true, Some, slice_get}
 use Rattle.lra_domain.specs.Abstraction.{Abstraction}
-use Rattle.lra_program.specs.Program.{Program}
-use Rattle.lra_program.specs.Step.{State}
-use Rattle.lra_program.specs.Run.{begun}
+use Rattle.lra_program.specs.{Program.Program, Run.begun, Step.State}
 use Rattle.lra_operations.specs.Tree.{Node, ReachesPoint, FailsAt}
 use Rattle.lra_analysis_spec.specs.Analysis.{IsUnreachable}
 

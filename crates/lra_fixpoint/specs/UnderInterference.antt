@@ -1,16 +1,11 @@
 -- What is found of a program's tree among others holds in all runs of the program's own tree among them.
-use Rattle.std.specs.Prelude.{◌≡◌, ◌<◌, ℕ, ℤ, List, [], length, Bool, true, Some, slice_get}
 use Rattle.std.specs.List.{Contains}
-use Rattle.lra_domain.specs.Abstraction.{Abstraction}
-use Rattle.lra_domain.specs.Interference.{Interference}
-use Rattle.lra_program.specs.Program.{Program}
-use Rattle.lra_program.specs.Step.{State}
-use Rattle.lra_program.specs.Run.{begun}
-use Rattle.lra_program.specs.Traces.{Trace}
-use Rattle.lra_operations.specs.Tree.{Node}
+use Rattle.std.specs.Prelude.{◌≡◌, ◌<◌, ℕ, ℤ, List, [], length, Bool, true, Some, slice_get}
+use Rattle.lra_domain.specs.{Abstraction.Abstraction, Interference.Interference}
+use Rattle.lra_program.specs.{Program.Program, Run.begun, Step.State, Traces.Trace}
 use Rattle.lra_operations.specs.Traces.{Stop, to_point, to_failure, stopped, RunsUpTo}
-use Rattle.lra_analysis_spec.specs.Analysis.{IsUnreachable}
-use Rattle.lra_analysis_spec.specs.Instrumented.{WritesVariable}
+use Rattle.lra_operations.specs.Tree.{Node}
+use Rattle.lra_analysis_spec.specs.{Analysis.IsUnreachable, Instrumented.WritesVariable}
 use Rattle.lra_interference_sound.specs.CoversUnder.{MayBecome}
 
 -- where a run with these draws begins; in its trail each point is named by its number

@@ -1,8 +1,7 @@
 //! Jumps that come out of a tree.
 
 ghost use Rattle.std.specs.Prelude.{◌≡◌, IfOk};
-ghost use Rattle.lra_operations.specs.Tree.{broken, continued, returned};
-ghost use Rattle.lra_operations.specs.TreeViews.{exit_view};
+ghost use Rattle.lra_operations.specs.{Tree.broken, Tree.continued, Tree.returned, TreeViews.exit_view};
 ghost use Rattle.lra_analysis_spec.specs.Pass.{jumps_of};
 ghost use Rattle.lra_pass_results.specs.Outcome.{outcome_view, AllHave, Catches};
 

@@ -3,14 +3,11 @@
 ghost use Rattle.std.specs.Prelude.{◌≡◌, ◌≤◌, ◌<◌, ◌^◌, ◌+◌, ◌*◌, ℕ, suc, Option, true, false, IfOk};
 ghost use Rattle.lra_domain.specs.declared.Exactness.{Exactness};
 ghost use Rattle.lra_operations.specs.Tree as graph;
-ghost use Rattle.lra_analysis_spec.specs.LiveLimit.{most_live};
-ghost use Rattle.lra_analysis_spec.specs.Plan.{Plan};
+ghost use Rattle.lra_analysis_spec.specs.{LiveLimit.most_live, Operations.lossy_operations, Pass.noted, Plan.Plan};
 ghost use Rattle.lra_program.specs.ProgramViews.{cond_view};
 ghost use Rattle.lra_operations.specs.TreeViews.{node_view};
-ghost use Rattle.lra_analysis_spec.specs.Operations.{lossy_operations};
-ghost use Rattle.lra_analysis_spec.specs.Pass.{noted};
-ghost use Rattle.lra_pass_results.specs.Outcome.{ended, headed, outcome_view, AreKept, IsEntered, IsKept, LeavesWith};
 ghost use Rattle.lra_pass_results.specs.LoopCache.{MayRecall};
+ghost use Rattle.lra_pass_results.specs.Outcome.{ended, headed, outcome_view, AreKept, IsEntered, IsKept, LeavesWith};
 ghost use Rattle.lra_pass_stack.specs.Stack.{PassTask, IsMade, PassStepLeads, MayBePassed, IsGrowing, IsHead};
 ghost use Rattle.lra_pass_stack.specs.Stack.{IsLoopDue, IsNarrowed, IsNarrowing, IsWaiting};
 ghost use Rattle.lra_pass_stack.specs.StepsLeft.{next_left, most_rounds, rounds_left, tree_steps, turns_left};

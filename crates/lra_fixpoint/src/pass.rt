@@ -1,16 +1,14 @@
 //! The pass over a tree of operations.
 
 ghost use Rattle.std.specs.Prelude.{◌≡◌, ◌≤◌, ◌<◌, ◌^◌, Ok, Err, IfOk, MatchResult};
-ghost use Rattle.lra_analysis_spec.specs.LiveLimit.{most_live};
-ghost use Rattle.lra_analysis_spec.specs.Plan.{Plan};
+ghost use Rattle.lra_analysis_spec.specs.{LiveLimit.most_live, Plan.Plan};
 ghost use Rattle.lra_operations.specs.TreeViews.{node_view};
-ghost use Rattle.lra_pass_results.specs.Dimensions.{TreeFits};
 ghost use Rattle.lra_pass_results.specs.Outcome.{outcome_view, IsPassed};
-ghost use Rattle.lra_pass_results.specs.LoopCache.{Remembers, StaysKept};
-ghost use Rattle.lra_pass_stack.specs.declared.stack.Step.TheVariants.{Goes};
+ghost use Rattle.lra_pass_results.specs.{Dimensions.TreeFits, LoopCache.Remembers, LoopCache.StaysKept};
 ghost use Rattle.lra_pass_stack.specs.Stack.{PassTask, pass_task, PassIsUnderWay, IsMade, IsPassFrame, PassStepLeads};
 ghost use Rattle.lra_pass_stack.specs.Stack.{MayBePassed, PassStepReaches};
 ghost use Rattle.lra_pass_stack.specs.StepsLeft.{all_left, next_left, place_left, tree_steps, TakesFewer};
+ghost use Rattle.lra_pass_stack.specs.declared.stack.Step.TheVariants.{Goes};
 
 use crate::catches::catch_jumps;
 use crate::loops::{go_on_growing, go_on_narrowing, open_loop};

@@ -1,10 +1,8 @@
 //! What is done beside a program's own operations: others act, and what variables get is noted.
 
 ghost use Rattle.std.specs.Prelude.{◌≡◌, ◌∷◌, [], IfOk};
-ghost use Rattle.lra_operations.specs.declared.probes.Probe.TheVariants.{InterferencePoint};
-ghost use Rattle.lra_operations.specs.Tree.{probe};
-ghost use Rattle.lra_analysis_spec.specs.Plan.{Plan};
-ghost use Rattle.lra_analysis_spec.specs.Pass.{recorded, goes_on};
+ghost use Rattle.lra_operations.specs.{Tree.probe, declared.probes.Probe.TheVariants.InterferencePoint};
+ghost use Rattle.lra_analysis_spec.specs.{Pass.recorded, Pass.goes_on, Plan.Plan};
 ghost use Rattle.lra_pass_results.specs.Outcome.{outcome_view, IsPassed};
 
 use lra_domain::{Domain, Interfere};

@@ -1,28 +1,16 @@
 //! What is found of a whole program.
 
 ghost use Rattle.std.specs.Prelude.{◌≡◌, ◌≤◌, map, length, None, IfOk};
-ghost use Rattle.lra_program.specs.Program.{Program};
-ghost use Rattle.lra_operations.specs.TreeViews.{node_view, site_view};
-ghost use Rattle.lra_program.specs.Assertions.{assertions_from};
-ghost use Rattle.lra_program.specs.WellFormed.{AreGoodGlobals};
+ghost use Rattle.lra_program.specs.{Assertions.assertions_from, Program.Program, WellFormed.AreGoodGlobals};
+ghost use Rattle.lra_operations.specs.{Tree.Node, TreeViews.node_view, TreeViews.site_view};
 ghost use Rattle.lra_domain.specs.declared.Exactness.{Exactness};
-ghost use Rattle.lra_analysis_spec.specs.LiveLimit.{most_live};
-ghost use Rattle.lra_analysis_spec.specs.Plan.{Plan};
-ghost use Rattle.lra_analysis_spec.specs.Analysis.{IsSolution};
-ghost use Rattle.lra_analysis_spec.specs.MovesOf.{first_values};
-ghost use Rattle.lra_analysis_spec.specs.Instrumented.{instrumented};
-ghost use Rattle.lra_analysis_spec.specs.Pass.{noted};
-ghost use Rattle.lra_operations.specs.Tree.{Node};
+ghost use Rattle.lra_analysis_spec.specs.{Analysis.IsSolution, Instrumented.instrumented, LiveLimit.most_live};
+ghost use Rattle.lra_analysis_spec.specs.{MovesOf.first_values, Pass.noted, Plan.Plan};
 ghost use Rattle.lra_transfer.specs.Changes.{Does};
-ghost use Rattle.lra_pass_results.specs.Dimensions.{TreeFits};
-ghost use Rattle.lra_fixpoint.specs.Lives.{PointsHave, AreWide, NotesHave};
-ghost use Rattle.lra_pass_results.specs.Outcome.{outcome_view};
-ghost use Rattle.lra_fixpoint.specs.Numbers.{IsNumbered};
-ghost use Rattle.lra_fixpoint.specs.Counts.{AreCounted};
-ghost use Rattle.lra_fixpoint.specs.Solved.{IsSolved, IsSolvedUnder};
-ghost use Rattle.lra_fixpoint.specs.Sound.{HoldsInTree};
-ghost use Rattle.lra_fixpoint.specs.UnderInterference.{HoldsUnder};
-ghost use Rattle.lra_fixpoint.specs.Tables.{note_view, notes_in};
+ghost use Rattle.lra_pass_results.specs.{Dimensions.TreeFits, Outcome.outcome_view};
+ghost use Rattle.lra_fixpoint.specs.{Counts.AreCounted, Lives.PointsHave, Lives.AreWide, Lives.NotesHave};
+ghost use Rattle.lra_fixpoint.specs.{Numbers.IsNumbered, Solved.IsSolved, Solved.IsSolvedUnder, Sound.HoldsInTree};
+ghost use Rattle.lra_fixpoint.specs.{Tables.note_view, Tables.notes_in, UnderInterference.HoldsUnder};
 
 use crate::pass::pass;
 use crate::tables::{Note, number_held, tables_of, take_held};

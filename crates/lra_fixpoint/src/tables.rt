@@ -1,7 +1,7 @@
 //! What a pass finds, by the numbers of the points.
 
-ghost use Rattle.std.specs.Prelude.{◌≡◌, ◌<◌, length, map, replicate, flat_map, slice_set, None, Some, IfOk};
 ghost use Rattle.std.specs.Option.{option_to_list};
+ghost use Rattle.std.specs.Prelude.{◌≡◌, ◌<◌, length, map, replicate, flat_map, slice_set, None, Some, IfOk};
 ghost use Rattle.lra_pass_results.specs.Outcome.{entry_view};
 ghost use Rattle.lra_fixpoint.specs.Counts.{AreApart};
 ghost use Rattle.lra_fixpoint.specs.Tables.{note_view, notes_in, AreTabled, filled_from};

@@ -1,23 +1,15 @@
 -- Which accesses of arrays are judged to be inside in whole programs, over boxes: by the values at their points.
 use Rattle.std.proofs.Common.{◌≡◌, ℕ, pos, negsuc, List, [], ◌∷◌, None, Some, Bool, true, false, refl, inl, inr, lit<}
 use Rattle.lra_domain.specs.declared.Exactness.TheVariants.{Exact}
-use Rattle.lra_base.specs.declared.number_types.NumberType.{NumberType}
 use Rattle.lra_base.specs.declared.number_types.NumberType.TheVariants.{Int, Long}
-use Rattle.lra_base.specs.declared.refusals.Place.{Place}
-use Rattle.lra_base.specs.Operators.{above, at_least, below}
-use Rattle.lra_program.specs.Receivers.{variable_at}
+use Rattle.lra_base.specs.{Operators.above, Operators.at_least, Operators.below, declared.number_types.NumberType.NumberType, declared.refusals.Place.Place}
 use Rattle.lra_program.specs.Program.{local, Expr, literal, read, input, element, Element, Cond, compare, both_of, either_of}
-use Rattle.lra_program.specs.Step.{Op, append, store_value, store_element}
+use Rattle.lra_program.specs.{Receivers.variable_at, Step.Op, Step.append, Step.store_value, Step.store_element}
 use Rattle.lra_program.specs.Step as step
-use Rattle.lra_operations.specs.Tree.{Node, empty, point, act, seq, choose}
-use Rattle.lra_operations.specs.CheckedOperations.{accessing_ops}
-use Rattle.lra_box.specs.Bounds.{full_interval}
-use Rattle.lra_box.specs.declared.interval.Interval.{Interval}
-use Rattle.lra_box.specs.Content.{BoxContent}
-use Rattle.lra_box.specs.Abstraction.{box_abstraction}
+use Rattle.lra_operations.specs.{CheckedOperations.accessing_ops, Tree.Node, Tree.empty, Tree.point, Tree.act, Tree.seq, Tree.choose}
+use Rattle.lra_box.specs.{Abstraction.box_abstraction, Bounds.full_interval, Content.BoxContent, declared.interval.Interval.Interval}
 use Rattle.lra_analysis_spec.specs.Accesses.{AccessJudged, InsideAtPoint, JudgesAccesses, OpInside}
-use Rattle.lra_fixpoint_examples.proofs.Judged.{judged}
-use Rattle.lra_fixpoint_examples.proofs.LoopExamples.{boxes, one, none, between, at_least as from}
+use Rattle.lra_fixpoint_examples.proofs.{Judged.judged, LoopExamples.boxes, LoopExamples.one, LoopExamples.none, LoopExamples.between, LoopExamples.at_least as from}
 
 abbrev at : ℕ → Place
 at column = record { line = 1; column = column }

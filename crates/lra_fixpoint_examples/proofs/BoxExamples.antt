@@ -1,20 +1,13 @@
 -- Single definitions of the iteration on small boxes.
-use Rattle.std.proofs.Common.{[], None, Some, refl, inl, inr, ◌^◌, ◌-◌, arith}
-use Rattle.std.proofs.lemmas.Int.{ints}
+use Rattle.std.proofs.{Common.[], Common.None, Common.Some, Common.refl, Common.inl, Common.inr, Common.◌^◌, Common.◌-◌, Common.arith, lemmas.Int.ints}
 use Rattle.lra_domain.specs.declared.Exactness.TheVariants.{Exact, Flagged}
-use Rattle.lra_base.specs.declared.number_types.NumberType.TheVariants.{Int, Long}
+use Rattle.lra_base.specs.{Operators.plus, declared.number_types.NumberType.TheVariants.Int, declared.number_types.NumberType.TheVariants.Long}
 use Rattle.lra_program.proofs.RunExamples.{long_variable}
-use Rattle.lra_program.specs.Receivers.{variable_at}
-use Rattle.lra_program.specs.Program.{local, Expr, literal, read, binary}
-use Rattle.lra_base.specs.Operators.{plus}
-use Rattle.lra_program.specs.Step.{store_value, truncate_to}
+use Rattle.lra_program.specs.{Program.local, Program.Expr, Program.literal, Program.read, Program.binary, Receivers.variable_at, Step.store_value, Step.truncate_to}
 use Rattle.lra_operations.specs.Tree.{broken, act, seq, leave}
-use Rattle.lra_box.specs.Content.{BoxContent}
-use Rattle.lra_box.specs.Abstraction.{box_abstraction}
-use Rattle.lra_analysis_spec.specs.Operations.{straining_operations}
-use Rattle.lra_analysis_spec.specs.Pass.{goes_on, jumps, Pass}
-use Rattle.lra_fixpoint_examples.proofs.LoopExamples.{boxes, one, between, at_least, narrowed}
-use Rattle.lra_fixpoint_examples.proofs.NestedExamples.{two, nowhere}
+use Rattle.lra_box.specs.{Abstraction.box_abstraction, Content.BoxContent}
+use Rattle.lra_analysis_spec.specs.{Operations.straining_operations, Pass.goes_on, Pass.jumps, Pass.Pass}
+use Rattle.lra_fixpoint_examples.proofs.{LoopExamples.boxes, LoopExamples.one, LoopExamples.between, LoopExamples.at_least, LoopExamples.narrowed, NestedExamples.two, NestedExamples.nowhere}
 
 abbrev i : Expr
 i = read (long_variable (local 0))

@@ -2,27 +2,18 @@
 -- long f(long x){ if(input()) return 1; x=2; return x; } int main(void){ long r=f(0); }
 use Rattle.std.proofs.Common.{◌≡◌, ℕ, pos, List, [], ◌∷◌, ◌++◌, length, None, Some, refl, arith, lit<}
 use Rattle.lra_linear_forms.specs.Form.{Form}
-use Rattle.lra_domain.specs.Actions.{assign}
-use Rattle.lra_domain.specs.declared.Exactness.TheVariants.{Exact}
+use Rattle.lra_domain.specs.{Actions.assign, declared.Exactness.TheVariants.Exact}
 use Rattle.lra_base.specs.declared.number_types.NumberType.TheVariants.{Int, Long}
 use Rattle.lra_program.proofs.RunExamples.{long_variable}
-use Rattle.lra_program.specs.Receivers.{variable_at}
-use Rattle.lra_program.specs.Value.{Argument}
 use Rattle.lra_program.specs.Program.{local, literal, read, input, nonzero, Call, Function, Program, declaration, statement, no_more, absent}
+use Rattle.lra_program.specs.{Receivers.variable_at, Step.Op, Step.append, Step.store_value, Step.havoc, Step.truncate_to, Value.Argument}
 use Rattle.lra_program.specs.Program as program
-use Rattle.lra_program.specs.Step.{Op, append, store_value, havoc, truncate_to}
-use Rattle.lra_operations.specs.Tree.{returned, Node, empty, point, act, seq, choose}
 use Rattle.lra_operations.specs.Inlined.{as_declaration, as_given, as_result, is_call, as_statement, as_none, as_if, as_absent, as_assign, as_value, as_return_value, call_node, return_node}
-use Rattle.lra_operations.specs.Agree.{IsInlinedTree}
-use Rattle.lra_box.specs.declared.interval.Interval.{Interval}
-use Rattle.lra_box.specs.declared.interval.Side.TheVariants.{Low, High}
-use Rattle.lra_box.specs.Bounds.{full_interval, form, IsValidInterval}
-use Rattle.lra_box.specs.Content.{BoxContent}
-use Rattle.lra_box.specs.Tables.{stepped}
-use Rattle.lra_box.specs.Abstraction.{BoxTransfersTo, box_abstraction}
+use Rattle.lra_operations.specs.{Agree.IsInlinedTree, Tree.returned, Tree.Node, Tree.empty, Tree.point, Tree.act, Tree.seq, Tree.choose}
+use Rattle.lra_box.specs.{Abstraction.BoxTransfersTo, Abstraction.box_abstraction, Bounds.full_interval, Bounds.form, Bounds.IsValidInterval, Content.BoxContent, Tables.stepped}
+use Rattle.lra_box.specs.{declared.interval.Interval.Interval, declared.interval.Side.TheVariants.Low, declared.interval.Side.TheVariants.High}
 use Rattle.lra_box.proofs.ExtremeLemmas.{end_is_extreme}
-use Rattle.lra_analysis_spec.specs.Pass.{PassEntry, value, PassResult, goes_on, jumps, Pass}
-use Rattle.lra_analysis_spec.specs.Analysis.{ExactIteration}
+use Rattle.lra_analysis_spec.specs.{Analysis.ExactIteration, Pass.PassEntry, Pass.value, Pass.PassResult, Pass.goes_on, Pass.jumps, Pass.Pass}
 use Rattle.lra_fixpoint_examples.proofs.LoopExamples.{boxes, between, one, none, narrowed, between_sound}
 use Rattle.lra_fixpoint_examples.proofs.NestedExamples.{two, nowhere}
 

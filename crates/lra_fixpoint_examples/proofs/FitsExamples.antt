@@ -1,42 +1,22 @@
 -- What is told to fit in whole programs, over boxes: by the values at their points, an answer at each point at which something is computed.
-use Rattle.std.proofs.Common.{◌≡◌, ◌∙◌, ◌⊎◌, ℕ, ℤ, pos, negsuc, List, [], ◌∷◌, None, Some, Bool, true, false, refl, sym, ap}
-use Rattle.std.proofs.Common.{inl, inr, lit<}
-use Rattle.std.specs.Prelude.{◌+ℤ◌, ◌*ℤ◌, slice_get}
-use Rattle.std.specs.List.{list_all}
+use Rattle.std.proofs.Common.{◌≡◌, ◌∙◌, ◌⊎◌, ℕ, ℤ, pos, negsuc, List, [], ◌∷◌, None, Some, Bool, true, false, refl, sym, ap, inl, inr, lit<}
 use Rattle.std.proofs.lemmas.Option.{same_Some}
-use Rattle.lra_linear_spec.specs.Range.{InRange}
+use Rattle.std.specs.{List.list_all, Prelude.◌+ℤ◌, Prelude.◌*ℤ◌, Prelude.slice_get}
+use Rattle.lra_linear_spec.specs.{Range.InRange, declared.ConKind.TheVariants.Ge}
 use Rattle.lra_linear_forms.specs.Form.{Form}
-use Rattle.lra_linear_spec.specs.declared.ConKind.TheVariants.{Ge}
-use Rattle.lra_domain.specs.Actions.{test}
-use Rattle.lra_domain.specs.Moves.{make, first_then}
-use Rattle.lra_domain.specs.declared.Exactness.TheVariants.{Exact}
-use Rattle.lra_base.specs.declared.number_types.NumberType.TheVariants.{Int}
-use Rattle.lra_base.specs.NumberTypes.{fits}
-use Rattle.lra_base.specs.Operators.{plus, over, below, above, differs}
+use Rattle.lra_domain.specs.{Actions.test, Moves.make, Moves.first_then, declared.Exactness.TheVariants.Exact}
+use Rattle.lra_base.specs.{NumberTypes.fits, Operators.plus, Operators.over, Operators.below, Operators.above, Operators.differs, declared.number_types.NumberType.TheVariants.Int}
 use Rattle.lra_program.proofs.RunExamples.{main_alone}
-use Rattle.lra_program.specs.Receivers.{variable_at}
-use Rattle.lra_program.specs.Program.{local, Variable, Expr, literal, read, input, binary, Cond, compare, both_of, Program, declaration, statement}
-use Rattle.lra_program.specs.Program.{no_more, loop, absent}
+use Rattle.lra_program.specs.Program.{local, Variable, Expr, literal, read, input, binary, Cond, compare, both_of, Program, declaration, statement, no_more, loop, absent}
+use Rattle.lra_program.specs.{Receivers.variable_at, Step.Op, Step.append, Step.store_value}
 use Rattle.lra_program.specs.Program as program
-use Rattle.lra_program.specs.Step.{Op, append, store_value}
 use Rattle.lra_program.specs.Step as step
-use Rattle.lra_operations.specs.Tree.{Node, empty, point, act, seq, choose}
-use Rattle.lra_operations.specs.Inlined.{as_declaration, as_fresh, as_given, as_value, as_statement, as_none, as_loop, is_loop, as_assign, as_if}
-use Rattle.lra_operations.specs.Inlined.{as_nothing, as_absent, loop_node}
-use Rattle.lra_operations.specs.Agree.{IsInlinedTree}
-use Rattle.lra_operations.specs.CheckedOperations.{OpAtPoint, computing_ops}
-use Rattle.lra_box.specs.Bounds.{full_interval, form}
-use Rattle.lra_box.specs.Content.{BoxContent}
-use Rattle.lra_box.specs.Laws.{box_laws}
-use Rattle.lra_box.specs.Abstraction.{box_abstraction}
-use Rattle.lra_analysis_spec.specs.Moves.{AreMade}
-use Rattle.lra_analysis_spec.specs.MovesOf.{above_least, below_greatest}
-use Rattle.lra_analysis_spec.specs.Pass.{value, goes_on, OpTransfer, Pass}
-use Rattle.lra_analysis_spec.specs.Analysis.{IsUnreachable, ExactIteration}
-use Rattle.lra_analysis_spec.specs.Judging.{AnswersUnlessUnreachable}
-use Rattle.lra_analysis_spec.specs.Fits.{LiesIn, ExprJudged, GivenJudged, JudgedAtPoint, Judges, IsDivisor, OpFits}
-use Rattle.lra_fixpoint_examples.proofs.Judged.{judged}
-use Rattle.lra_fixpoint_examples.proofs.LoopExamples.{boxes, one, none, narrowed, next, increased}
+use Rattle.lra_operations.specs.Inlined.{as_declaration, as_fresh, as_given, as_value, as_statement, as_none, as_loop, is_loop, as_assign, as_if, as_nothing, as_absent, loop_node}
+use Rattle.lra_operations.specs.{Agree.IsInlinedTree, CheckedOperations.OpAtPoint, CheckedOperations.computing_ops, Tree.Node, Tree.empty, Tree.point, Tree.act, Tree.seq, Tree.choose}
+use Rattle.lra_box.specs.{Abstraction.box_abstraction, Bounds.full_interval, Bounds.form, Content.BoxContent, Laws.box_laws}
+use Rattle.lra_analysis_spec.specs.{Analysis.IsUnreachable, Analysis.ExactIteration, Fits.LiesIn, Fits.ExprJudged, Fits.GivenJudged, Fits.JudgedAtPoint, Fits.Judges, Fits.IsDivisor, Fits.OpFits}
+use Rattle.lra_analysis_spec.specs.{Judging.AnswersUnlessUnreachable, Moves.AreMade, MovesOf.above_least, MovesOf.below_greatest, Pass.value, Pass.goes_on, Pass.OpTransfer, Pass.Pass}
+use Rattle.lra_fixpoint_examples.proofs.{Judged.judged, LoopExamples.boxes, LoopExamples.one, LoopExamples.none, LoopExamples.narrowed, LoopExamples.next, LoopExamples.increased}
 
 -- one variable x -----------------------------------------------------------------------------------------------------
 

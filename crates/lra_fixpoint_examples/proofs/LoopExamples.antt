@@ -3,31 +3,20 @@ use Rattle.std.proofs.Common.{◌≡◌, ℕ, pos, negsuc, List, [], ◌∷◌, 
 use Rattle.std.proofs.lemmas.Int.{ints}
 use Rattle.lra_linear_forms.specs.Form.{Form}
 use Rattle.lra_linear_spec.specs.declared.ConKind.TheVariants.{Ge}
-use Rattle.lra_domain.specs.Actions.{assign, test}
-use Rattle.lra_domain.specs.declared.Exactness.TheVariants.{Exact}
-use Rattle.lra_base.specs.declared.number_types.NumberType.TheVariants.{Int, Long}
+use Rattle.lra_domain.specs.{Actions.assign, Actions.test, declared.Exactness.TheVariants.Exact}
+use Rattle.lra_base.specs.{Operators.plus, Operators.below, declared.number_types.NumberType.TheVariants.Int, declared.number_types.NumberType.TheVariants.Long}
 use Rattle.lra_program.proofs.RunExamples.{long_variable}
-use Rattle.lra_program.specs.Receivers.{variable_at}
 use Rattle.lra_program.specs.Program.{local, Expr, literal, read, binary, Cond, compare, Program, declaration, statement, no_more, loop, absent}
-use Rattle.lra_base.specs.Operators.{plus, below}
+use Rattle.lra_program.specs.{Receivers.variable_at, Step.append, Step.store_value}
 use Rattle.lra_program.specs.Program as program
-use Rattle.lra_program.specs.Step.{append, store_value}
-use Rattle.lra_operations.specs.Tree.{continued, Node, empty, point, act, seq, catch}
 use Rattle.lra_operations.specs.Inlined.{as_declaration, as_given, as_value, as_statement, as_none, as_loop, is_loop, as_assign, as_absent, loop_node}
-use Rattle.lra_operations.specs.Agree.{IsInlinedTree}
-use Rattle.lra_box.specs.declared.interval.Interval.{Interval}
-use Rattle.lra_box.specs.declared.interval.Side.TheVariants.{Low, High}
-use Rattle.lra_box.specs.Bounds.{full_interval, crossed, form, IsValidInterval}
-use Rattle.lra_box.specs.Content.{BoxContent}
-use Rattle.lra_box.specs.Tables.{stepped}
-use Rattle.lra_box.specs.Abstraction.{BoxTransfersTo, box_abstraction}
+use Rattle.lra_operations.specs.{Agree.IsInlinedTree, Tree.continued, Tree.Node, Tree.empty, Tree.point, Tree.act, Tree.seq, Tree.catch}
+use Rattle.lra_box.specs.{Abstraction.BoxTransfersTo, Abstraction.box_abstraction, Bounds.full_interval, Bounds.crossed, Bounds.form, Bounds.IsValidInterval, Content.BoxContent, Tables.stepped}
+use Rattle.lra_box.specs.{declared.interval.Interval.Interval, declared.interval.Side.TheVariants.Low, declared.interval.Side.TheVariants.High}
 use Rattle.lra_box.proofs.ExtremeLemmas.{end_is_extreme}
-use Rattle.lra_analysis_spec.specs.Plan.{Plan, plan_of, standard}
-use Rattle.lra_options.specs.OptionRows.{default_options}
-use Rattle.lra_analysis_spec.specs.Operations.{Operations, exact_operations}
-use Rattle.lra_analysis_spec.specs.GuardThresholds.{guard_thresholds}
 use Rattle.lra_analysis_spec.specs.Pass.{PassEntry, value, PassResult, goes_on, LoopRoundFrom, LoopRoundFromHead, AscendingIteration, DescendingIteration, Pass}
-use Rattle.lra_analysis_spec.specs.Analysis.{ExactIteration}
+use Rattle.lra_analysis_spec.specs.{Analysis.ExactIteration, GuardThresholds.guard_thresholds, Operations.Operations, Operations.exact_operations, Plan.Plan, Plan.plan_of, Plan.standard}
+use Rattle.lra_options.specs.OptionRows.{default_options}
 
 abbrev pub boxes : Operations BoxContent BoxContent
 boxes = exact_operations box_abstraction

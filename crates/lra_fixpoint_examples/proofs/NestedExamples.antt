@@ -1,38 +1,26 @@
 -- The iteration over boxes on nested loops with a `break` and a `return`:
 -- int main(void){ long a=0, b=0; while(a<5){ b=0; while(1){ if(b>=3) break; if(input()) return 0; b=b+1; } a=a+1; } assert(a==5); }
 use Rattle.std.proofs.Common.{◌≡◌, ℕ, ◌≤◌, pos, negsuc, List, [], ◌∷◌, ◌++◌, Option, None, Some, false, refl, arith, lit<}
-use Rattle.std.specs.List.{Contains}
 use Rattle.std.proofs.lemmas.Int.{ints}
+use Rattle.std.specs.List.{Contains}
 use Rattle.lra_linear_forms.specs.Form.{Form}
 use Rattle.lra_linear_spec.specs.declared.ConKind.TheVariants.{Ge}
-use Rattle.lra_domain.specs.Actions.{assign, test}
-use Rattle.lra_domain.specs.declared.Exactness.TheVariants.{Exact}
-use Rattle.lra_domain.specs.Bounds.{greater, stable, lesser_low}
-use Rattle.lra_base.specs.declared.number_types.NumberType.TheVariants.{Int, Long}
+use Rattle.lra_domain.specs.{Actions.assign, Actions.test, Bounds.greater, Bounds.stable, Bounds.lesser_low, declared.Exactness.TheVariants.Exact}
+use Rattle.lra_base.specs.{Operators.plus, Operators.below, Operators.equal, declared.number_types.NumberType.TheVariants.Int, declared.number_types.NumberType.TheVariants.Long}
 use Rattle.lra_program.proofs.RunExamples.{long_variable}
-use Rattle.lra_program.specs.declared.receivers.Receiver.{Receiver}
-use Rattle.lra_program.specs.Receivers.{variable_at, nobody, result_receiver}
 use Rattle.lra_program.specs.Program.{local, Expr, literal, read, input, binary, Cond, compare, nonzero}
-use Rattle.lra_base.specs.Operators.{plus, below, equal}
+use Rattle.lra_program.specs.{Receivers.variable_at, Receivers.nobody, Receivers.result_receiver, Step.append, Step.store_value, Step.truncate_to, declared.receivers.Receiver.Receiver}
 use Rattle.lra_program.specs.Program as program
 use Rattle.lra_base.specs.Operators as operators
-use Rattle.lra_program.specs.Step.{append, store_value, truncate_to}
-use Rattle.lra_operations.specs.Tree.{broken, continued, returned, Node, empty, point, act, check, seq, choose, catch, leave}
 use Rattle.lra_operations.specs.Inlined.{as_declaration, as_given, as_value, as_statement, as_none, as_loop, is_loop, as_assign, as_absent, as_block, as_if, as_break, as_end_value, as_assert}
-use Rattle.lra_operations.specs.Inlined.{loop_node}
-use Rattle.lra_operations.specs.Agree.{IsInlinedTree}
-use Rattle.lra_box.specs.declared.interval.Interval.{Interval}
-use Rattle.lra_box.specs.declared.interval.Side.TheVariants.{Low, High}
+use Rattle.lra_operations.specs.Tree.{broken, continued, returned, Node, empty, point, act, check, seq, choose, catch, leave}
+use Rattle.lra_operations.specs.{Agree.IsInlinedTree, Inlined.loop_node}
 use Rattle.lra_box.specs.Bounds.{full_interval, crossed, form, IsValidInterval}
-use Rattle.lra_box.specs.Content.{BoxContent}
-use Rattle.lra_box.specs.Tables.{stepped, widened_low}
-use Rattle.lra_box.specs.Abstraction.{BoxTransfersTo, box_abstraction}
+use Rattle.lra_box.specs.{Abstraction.BoxTransfersTo, Abstraction.box_abstraction, Content.BoxContent, Covering.low_within_refl, Covering.high_within_refl, Tables.stepped, Tables.widened_low}
+use Rattle.lra_box.specs.{declared.interval.Interval.Interval, declared.interval.Side.TheVariants.Low, declared.interval.Side.TheVariants.High}
 use Rattle.lra_box.proofs.ExtremeLemmas.{end_is_extreme}
-use Rattle.lra_box.specs.Covering.{low_within_refl, high_within_refl}
-use Rattle.lra_analysis_spec.specs.Plan.{Plan, standard}
-use Rattle.lra_analysis_spec.specs.Pass.{PassEntry, value, failing, PassResult, goes_on, jumps, LoopRoundFrom, LoopRoundFromHead, AscendingIteration}
-use Rattle.lra_analysis_spec.specs.Pass.{DescendingIteration, Pass}
-use Rattle.lra_analysis_spec.specs.Analysis.{ExactIteration, IsUnreachable}
+use Rattle.lra_analysis_spec.specs.Pass.{PassEntry, value, failing, PassResult, goes_on, jumps, LoopRoundFrom, LoopRoundFromHead, AscendingIteration, DescendingIteration, Pass}
+use Rattle.lra_analysis_spec.specs.{Analysis.ExactIteration, Analysis.IsUnreachable, Plan.Plan, Plan.standard}
 use Rattle.lra_fixpoint_examples.proofs.LoopExamples.{boxes, between, at_least, one, none, narrowed, between_sound, declared, declaring}
 
 -- the box of both variables

@@ -1,22 +1,14 @@
 -- A name that isn't at fault means a variable that lives, and a call that isn't at fault a function that is there.
 -- Arrays are no variables: a scope has as many of these as it is wide.
-use Rattle.std.proofs.Common.{◌≡◌, ℕ, suc, ◌+◌, zero, ◌≤◌, ◌<◌, List, [], ◌∷◌, ◌++◌, length, take, Option, Some, None, Bool, true, false, not, ◌||◌, nat_eq}
-use Rattle.std.proofs.Common.{refl, ap, ◌∙◌, subst, arith}
-use Rattle.std.specs.Prelude.{is_none, ◌&&◌, option_map, slice_get}
-use Rattle.std.specs.List.{AllByRecursion}
-use Rattle.std.proofs.lemmas.Bool.{eqb-true}
-use Rattle.std.proofs.lemmas.Option.{same_Some, none-some}
-use Rattle.lra_base.specs.declared.refusals.Place.{Place}
-use Rattle.lra_base.specs.declared.refusals.Cause.{Cause}
-use Rattle.lra_base.specs.declared.refusals.Cause.TheVariants.{NotArray}
-use Rattle.lra_syntax.specs.declared.trees.Identifier.{Identifier}
-use Rattle.lra_syntax.specs.Trees.{FunctionTree}
-use Rattle.lra_program.specs.Program.{Slot, global, local, Program}
-use Rattle.lra_resolution_spec.specs.Scope.{Binding, scalar, array, SymbolEntry, names_in, Scope, newest, width_of, width_of_all, Lookup, found_at, found_among, found_in, found_of}
-use Rattle.lra_resolution_spec.specs.Scope.{is_array, with_local, inner}
-use Rattle.lra_resolution_spec.specs.NameFaults.{fault_if, scalar_faults, use_faults, called_faults}
-use Rattle.lra_resolution_spec.specs.Resolve.{variable_or, variable}
-use Rattle.lra_program.specs.WellFormed.{IsLive}
+use Rattle.std.proofs.Common.{◌≡◌, ℕ, suc, ◌+◌, zero, ◌≤◌, ◌<◌, List, [], ◌∷◌, ◌++◌, length, take, Option, Some, None, Bool, true, false, not, ◌||◌, nat_eq, refl, ap, ◌∙◌, subst, arith}
+use Rattle.std.proofs.{lemmas.Bool.eqb-true, lemmas.Option.same_Some, lemmas.Option.none-some}
+use Rattle.std.specs.{List.AllByRecursion, Prelude.is_none, Prelude.◌&&◌, Prelude.option_map, Prelude.slice_get}
+use Rattle.lra_base.specs.{declared.refusals.Cause.Cause, declared.refusals.Cause.TheVariants.NotArray, declared.refusals.Place.Place}
+use Rattle.lra_syntax.specs.{Trees.FunctionTree, declared.trees.Identifier.Identifier}
+use Rattle.lra_program.specs.{Program.Slot, Program.global, Program.local, Program.Program, WellFormed.IsLive}
+use Rattle.lra_resolution_spec.specs.Scope.{Binding, scalar, array, SymbolEntry, names_in, Scope, newest, width_of, width_of_all, Lookup, found_at, found_among, found_in, found_of, is_array}
+use Rattle.lra_resolution_spec.specs.Scope.{with_local, inner}
+use Rattle.lra_resolution_spec.specs.{NameFaults.fault_if, NameFaults.scalar_faults, NameFaults.use_faults, NameFaults.called_faults, Resolve.variable_or, Resolve.variable}
 use Rattle.lra_front_end.proofs.Declared.{wider, wider_is}
 
 -- lists without faults ---------------------------------------------------------------------------------------------

@@ -1,38 +1,21 @@
 -- The arrays that a source without faults of names names are there.
 use Rattle.std.proofs.Common.{◌≡◌, ℕ, suc, ◌+◌, List, [], ◌∷◌, ◌++◌, map, Option, Some, None, Bool, true, false, not, is_some, refl, sym, subst, arith}
-use Rattle.std.specs.Prelude.{⊤}
-use Rattle.std.specs.List.{AllByRecursion, Contains, flat_map}
 use Rattle.std.proofs.lemmas.List.Elements.{Contains-append_left, Contains-append_right}
-use Rattle.lra_base.specs.declared.number_types.NumberType.{NumberType}
-use Rattle.lra_base.specs.declared.refusals.Place.{Place}
-use Rattle.lra_base.specs.declared.refusals.Cause.TheVariants.{NotArray}
-use Rattle.lra_base.specs.declared.case_labels.CaseLabel.{CaseLabel}
-use Rattle.lra_syntax.specs.declared.trees.Identifier.{Identifier}
-use Rattle.lra_syntax.specs.declared.trees.Parameter.{Parameter}
-use Rattle.lra_syntax.specs.declared.trees.SignedLiteral.{SignedLiteral}
+use Rattle.std.specs.{List.AllByRecursion, List.Contains, List.flat_map, Prelude.⊤}
+use Rattle.lra_base.specs.{declared.case_labels.CaseLabel.CaseLabel, declared.number_types.NumberType.NumberType, declared.refusals.Cause.TheVariants.NotArray, declared.refusals.Place.Place}
+use Rattle.lra_syntax.specs.{Functions.functions_of, Functions.function_named, declared.trees.Identifier.Identifier, declared.trees.Parameter.Parameter, declared.trees.SignedLiteral.SignedLiteral}
 use Rattle.lra_syntax.specs.Trees as tree
-use Rattle.lra_syntax.specs.Functions.{functions_of, function_named}
-use Rattle.lra_program.specs.declared.arrays.Array.{Array}
-use Rattle.lra_program.specs.Program.{Cond, BlockItems, no_more, Function}
 use Rattle.lra_program.specs.WellFormed.{Jumps, no_jumps, in_loop, in_switch}
-use Rattle.lra_resolution_spec.specs.Scope.{Binding, scalar, array, SymbolEntry, Scope, Lookup, found_of, is_array, array_of, binding_of, with_local}
-use Rattle.lra_resolution_spec.specs.Scope.{declarator_entry}
-use Rattle.lra_resolution_spec.specs.Scope.{parameter_entry, global_entry, global_entries, with_declarators, inner, for_scope, function_scope}
-use Rattle.lra_resolution_spec.specs.NameFaults.{fault_if, array_faults, use_faults, named_faults, unary_faults, term_faults, expr_faults, negation_faults}
-use Rattle.lra_resolution_spec.specs.NameFaults.{test_faults}
-use Rattle.lra_resolution_spec.specs.NameFaults.{conjunction_faults, cond_faults, called_faults, call_faults, rvalue_faults, assign_faults, given_faults}
-use Rattle.lra_resolution_spec.specs.NameFaults.{shape_faults}
-use Rattle.lra_resolution_spec.specs.NameFaults.{declarators_faults, init_faults, test_of_for_faults, step_faults, Around, return_faults, stmt_faults}
-use Rattle.lra_resolution_spec.specs.NameFaults.{cases_faults}
-use Rattle.lra_resolution_spec.specs.NameFaults.{items_faults, parameters_faults, function_faults, globals_faults, global_names, parts_faults, name_faults}
-use Rattle.lra_resolution_spec.specs.Resolve.{array_in, array_or, array_named, no_array, resolve_unary, resolve_term, resolve_expr, resolve_negation}
-use Rattle.lra_resolution_spec.specs.Resolve.{resolve_test}
-use Rattle.lra_resolution_spec.specs.Resolve.{resolve_all_of, resolve_any_of, resolve_cond, resolve_call, resolve_rvalue, resolve_given, resolve_assign}
-use Rattle.lra_resolution_spec.specs.Resolve.{resolve_declared}
-use Rattle.lra_resolution_spec.specs.Resolve.{resolve_declarators, resolve_init, resolve_for_test, resolve_step, init_count, step_count, stmt_count}
-use Rattle.lra_resolution_spec.specs.Resolve.{items_count}
-use Rattle.lra_resolution_spec.specs.Resolve.{declarator_count, resolve_stmt, resolve_cases, resolve_items, arrays_by, arrays_in, resolve_parts, resolve}
-use Rattle.lra_resolution_spec.specs.Threads.{thread_faults, thread_program}
+use Rattle.lra_program.specs.{Program.Cond, Program.BlockItems, Program.no_more, Program.Function, declared.arrays.Array.Array}
+use Rattle.lra_resolution_spec.specs.NameFaults.{fault_if, array_faults, use_faults, named_faults, unary_faults, term_faults, expr_faults, negation_faults, test_faults, conjunction_faults}
+use Rattle.lra_resolution_spec.specs.NameFaults.{cond_faults, called_faults, call_faults, rvalue_faults, assign_faults, given_faults, shape_faults, declarators_faults, init_faults, test_of_for_faults}
+use Rattle.lra_resolution_spec.specs.NameFaults.{step_faults, Around, return_faults, stmt_faults, cases_faults, items_faults, parameters_faults, function_faults, globals_faults, global_names}
+use Rattle.lra_resolution_spec.specs.Resolve.{array_in, array_or, array_named, no_array, resolve_unary, resolve_term, resolve_expr, resolve_negation, resolve_test, resolve_all_of, resolve_any_of}
+use Rattle.lra_resolution_spec.specs.Resolve.{resolve_cond, resolve_call, resolve_rvalue, resolve_given, resolve_assign, resolve_declared, resolve_declarators, resolve_init, resolve_for_test}
+use Rattle.lra_resolution_spec.specs.Resolve.{resolve_step, init_count, step_count, stmt_count, items_count, declarator_count, resolve_stmt, resolve_cases, resolve_items, arrays_by, arrays_in}
+use Rattle.lra_resolution_spec.specs.Scope.{Binding, scalar, array, SymbolEntry, Scope, Lookup, found_of, is_array, array_of, binding_of, with_local, declarator_entry, parameter_entry, global_entry}
+use Rattle.lra_resolution_spec.specs.Scope.{global_entries, with_declarators, inner, for_scope, function_scope}
+use Rattle.lra_resolution_spec.specs.{NameFaults.parts_faults, NameFaults.name_faults, Resolve.resolve_parts, Resolve.resolve, Threads.thread_faults, Threads.thread_program}
 use Rattle.lra_front_end.specs.Known.{Knows, CondKnows, CallKnows, RvalueKnows, GivenKnows, known_behind, StmtKnows, CasesKnow, ItemsKnow, HasArrays}
 use Rattle.lra_front_end.proofs.Faultless.{none_left, none_right, none_both, at_place, Each, each_found}
 

@@ -1,21 +1,13 @@
 -- A source is accepted with one tree, or refused for one cause at one place: from one reading of its bytes, one tree and one first fault of its tokens.
 use Rattle.std.proofs.Common.{◌≡◌, ℕ, ◌≤◌, ◌<◌, List, [], ◌∷◌, ◌++◌, length, None, refl, sym, ap, ◌∙◌, subst, arith}
-use Rattle.std.specs.List.{AllByRecursion}
 use Rattle.std.proofs.lemmas.Option.{none-some, same_Some}
-use Rattle.lra_base.specs.declared.refusals.Place.{Place}
-use Rattle.lra_base.specs.declared.refusals.Cause.{Cause}
-use Rattle.lra_base.specs.declared.refusals.Refusal.{Refusal}
-use Rattle.lra_syntax.specs.declared.tokens.Token.{Token}
-use Rattle.lra_syntax.specs.declared.trees.Identifier.{Identifier}
-use Rattle.lra_syntax.specs.Trees.{FileTree}
-use Rattle.lra_syntax.specs.Tokens.{Lex, OneReading}
-use Rattle.lra_syntax.specs.Faults.{Language, IsTree, IsTextFault, OneTree, OneTextFault}
-use Rattle.lra_resolution_spec.specs.NameFaults.{name_faults}
-use Rattle.lra_syntax.specs.Labels.{labels_of}
-use Rattle.lra_syntax.specs.Reach.{IsRecursive, IsFirstRecursive, NotRecursive}
-use Rattle.lra_resolution_spec.specs.Resolve.{resolve}
-use Rattle.lra_program.specs.Sites.{events_of}
+use Rattle.std.specs.List.{AllByRecursion}
+use Rattle.lra_base.specs.{declared.refusals.Cause.Cause, declared.refusals.Place.Place, declared.refusals.Refusal.Refusal}
+use Rattle.lra_syntax.specs.{Faults.Language, Faults.IsTree, Faults.IsTextFault, Faults.OneTree, Faults.OneTextFault, Labels.labels_of, Reach.IsRecursive, Reach.IsFirstRecursive, Reach.NotRecursive}
+use Rattle.lra_syntax.specs.{Tokens.Lex, Tokens.OneReading, Trees.FileTree, declared.tokens.Token.Token, declared.trees.Identifier.Identifier}
 use Rattle.lra_resolution_spec.specs.Refuse.{limit_fault, RefusesTree, bad_name, recursive, past_limit, Refuse, too_long, bad_token, bad_text, bad_tree, Accepts, OneAnswer}
+use Rattle.lra_resolution_spec.specs.{NameFaults.name_faults, Resolve.resolve}
+use Rattle.lra_program.specs.Sites.{events_of}
 
 pub not_both : {A : Type 0} (x : A) (xs ys : List A) → xs ≡ [] → xs ≡ x ∷ ys → ⊥
 not_both x xs ys e f = cc

@@ -1,23 +1,12 @@
 -- What the stages of the reading answer, as answers of the source.
 use Rattle.std.proofs.Common.{◌≡◌, ◌≤◌, ◌<◌, ℕ, ℤ, List, length, take, sym, ap, ◌∙◌, subst, Result}
 use Rattle.std.specs.Result.{IsErrAnd}
-use Rattle.lra_base.specs.declared.refusals.Cause.{Cause}
-use Rattle.lra_base.specs.declared.refusals.Cause.TheVariants.{TooLong}
-use Rattle.lra_base.specs.declared.refusals.Place.{Place}
-use Rattle.lra_syntax.specs.declared.tokens.Token.{Token}
-use Rattle.lra_syntax.specs.Trees.{FileTree}
-use Rattle.lra_base.specs.Places.{place_after, greatest_length}
-use Rattle.lra_syntax.specs.Tokens.{Lex, IsTokenFault, OneReading}
-use Rattle.lra_syntax.specs.Faults.{IsTree, IsTextFault}
-use Rattle.lra_syntax.specs.Grammar.{Spells}
+use Rattle.lra_base.specs.{Places.place_after, Places.greatest_length, Refused.IfRefusal, Refused.IfRefused, declared.error.SourceError.SourceError, declared.refusals.Cause.Cause}
+use Rattle.lra_base.specs.{declared.refusals.Cause.TheVariants.TooLong, declared.refusals.Place.Place}
+use Rattle.lra_syntax.specs.{Constants.constants_of, Faults.IsTree, Faults.IsTextFault, Grammar.Spells, Tokens.Lex, Tokens.IsTokenFault, Tokens.OneReading, Trees.FileTree, declared.tokens.Token.Token}
 use Rattle.lra_resolution_spec.specs.Refuse as plain
-use Rattle.lra_resolution_spec.specs.Refuse.{RefusesTree, Refuse, bad_tree}
-use Rattle.lra_resolution_spec.specs.RefuseThreads.{NotParsed, too_long, bad_token, bad_text}
-use Rattle.lra_base.specs.declared.error.SourceError.{SourceError}
-use Rattle.lra_base.specs.Refused.{IfRefusal, IfRefused}
-use Rattle.lra_base.proofs.Refusing.{refusal_by, refused_by, exit_refused}
-use Rattle.lra_base.proofs.Limit.{limit_is}
-use Rattle.lra_syntax.specs.Constants.{constants_of}
+use Rattle.lra_resolution_spec.specs.{Refuse.RefusesTree, Refuse.Refuse, Refuse.bad_tree, RefuseThreads.NotParsed, RefuseThreads.too_long, RefuseThreads.bad_token, RefuseThreads.bad_text}
+use Rattle.lra_base.proofs.{Limit.limit_is, Refusing.refusal_by, Refusing.refused_by, Refusing.exit_refused}
 use Rattle.lra_front_end.specs.Stages.{HasConstants, HasTree, OneConstants}
 
 within : (source : List ℕ) → length source ≤ 65536 → length source ≤ greatest_length

@@ -2,26 +2,17 @@
 -- beside it.
 use Rattle.std.proofs.Common.{◌≡◌, ℕ, true, List, [], ◌∷◌, ◌++◌, codes, length, None, Ok, refl, arith}
 use Rattle.std.specs.Prelude.{◌≤◌}
-use Rattle.lra_base.specs.declared.refusals.Place.{Place}
-use Rattle.lra_base.specs.declared.refusals.Cause.{Cause}
 use Rattle.lra_base.specs.declared.refusals.Cause.TheVariants.{UnknownName, DuplicateName, Misplaced, BadCall, Recursive, NotArray}
+use Rattle.lra_base.specs.{Places.greatest_length, declared.refusals.Cause.Cause, declared.refusals.Place.Place}
 use Rattle.lra_syntax.specs.declared.tokens.Mark.TheVariants as mark
-use Rattle.lra_syntax.specs.declared.trees.Identifier.{Identifier}
 use Rattle.lra_syntax.specs.Trees.{no_items, declaration, statement, FileTree, assign, break, set, set_element, expression}
-use Rattle.lra_base.specs.Places.{greatest_length}
-use Rattle.lra_syntax.specs.Tokens.{tokens_of, end_token}
-use Rattle.lra_syntax.specs.Grammar.{Spells}
-use Rattle.lra_syntax.proofs.TreeSamples.{at, x_at, main_of, declared_as, literal_text}
-use Rattle.lra_syntax.proofs.Lexemes.{ExternalDeclaration, written, reading, all_lexed}
-use Rattle.lra_syntax.proofs.LexedByTest.{space, sign, word_of, one, is_written, are_read_by}
+use Rattle.lra_syntax.specs.{Grammar.Spells, Tokens.tokens_of, Tokens.end_token, declared.trees.Identifier.Identifier}
+use Rattle.lra_syntax.proofs.{LexedByTest.space, LexedByTest.sign, LexedByTest.word_of, LexedByTest.one, LexedByTest.is_written, LexedByTest.are_read_by, Lexemes.ExternalDeclaration, Lexemes.written}
+use Rattle.lra_syntax.proofs.{Lexemes.reading, Lexemes.all_lexed, TreeSamples.at, TreeSamples.x_at, TreeSamples.main_of, TreeSamples.declared_as, TreeSamples.literal_text}
 use Rattle.lra_resolution_spec.specs.Refuse.{Refuse, RefusesTree, bad_tree, bad_name, recursive, Accepts}
 use Rattle.lra_resolution_spec.proofs.NameExamples.{calls_with_one, itself, is_recursive}
-use Rattle.lra_parser_spec.specs.Reading.{Text, loop}
-use Rattle.lra_parser_spec.specs.Expressions.{unary_at, tests}
-use Rattle.lra_parser_spec.specs.Statements.{levels}
-use Rattle.lra_parser_spec.specs.Files.{file_at}
-use Rattle.lra_parser_spec.proofs.Answered.{tree_found}
-use Rattle.lra_parser_spec.proofs.FaultExamples.{all_inner, no_end}
+use Rattle.lra_parser_spec.specs.{Expressions.unary_at, Expressions.tests, Files.file_at, Reading.Text, Reading.loop, Statements.levels}
+use Rattle.lra_parser_spec.proofs.{Answered.tree_found, FaultExamples.all_inner, FaultExamples.no_end}
 
 -- reading a source that is written out -----------------------------------------------------------------------------
 

@@ -1,34 +1,19 @@
 -- Each source has an answer: its one refusal, or its tree with the tree of operations of its program.
 use Rattle.std.proofs.Common.{◌≡◌, List, [], ◌∷◌, length, Ok, Err, Option, Some, None, ◌⊎◌, inl, inr, ℕ, refl, ◌≤◌}
 use Rattle.std.proofs.lemmas.Bool.{cases_lt}
-use Rattle.lra_base.specs.declared.refusals.Place.{Place}
-use Rattle.lra_base.specs.declared.refusals.Cause.{Cause}
-use Rattle.lra_base.specs.declared.refusals.Cause.TheVariants.{Recursive}
-use Rattle.lra_base.specs.declared.refusals.Refusal.{Refusal}
-use Rattle.lra_syntax.specs.declared.tokens.Token.{Token}
-use Rattle.lra_syntax.specs.Trees.{FileTree}
-use Rattle.lra_syntax.specs.Faults.{IsTree, IsTextFault}
-use Rattle.lra_syntax.specs.Grammar.{Spells}
-use Rattle.lra_resolution_spec.specs.NameFaults.{name_faults}
-use Rattle.lra_syntax.specs.Labels.{labels_of}
-use Rattle.lra_resolution_spec.specs.Resolve.{resolve}
-use Rattle.lra_program.specs.Sites.{events_of}
-use Rattle.lra_base.specs.Places.{greatest_length}
+use Rattle.lra_base.specs.{Places.greatest_length, declared.refusals.Cause.Cause, declared.refusals.Cause.TheVariants.Recursive, declared.refusals.Place.Place, declared.refusals.Refusal.Refusal}
+use Rattle.lra_syntax.specs.{Faults.IsTree, Faults.IsTextFault, Grammar.Spells, Labels.labels_of, Reach.NotRecursive, Trees.FileTree, declared.tokens.Token.Token}
 use Rattle.lra_resolution_spec.specs.Refuse.{limit_fault, bad_name, recursive, past_limit, too_long, bad_token, bad_text, OneAnswer}
-use Rattle.lra_syntax.specs.Reach.{NotRecursive}
+use Rattle.lra_resolution_spec.specs.{NameFaults.name_faults, Resolve.resolve}
+use Rattle.lra_program.specs.Sites.{events_of}
 use Rattle.lra_lex.proofs.EachReading.{each_reading}
-use Rattle.lra_parser_spec.specs.Reading.{Read}
-use Rattle.lra_parser_spec.specs.Files.{EndsOnce, file_at}
-use Rattle.lra_parser_spec.proofs.Answered.{tree_found, stops_at}
-use Rattle.lra_parser_spec.proofs.Ended.{lexed_end}
+use Rattle.lra_parser_spec.specs.{Files.EndsOnce, Files.file_at, Reading.Read}
+use Rattle.lra_parser_spec.proofs.{Answered.tree_found, Answered.stops_at, Ended.lexed_end}
 use Rattle.lra_recursion.proofs.Deciding.{each_recursion}
-use Rattle.lra_inline_sound.proofs.Agreement.{trees_agree}
-use Rattle.lra_inline_sound.proofs.DistinctSites.{distinct_sites}
+use Rattle.lra_inline_sound.proofs.{Agreement.trees_agree, DistinctSites.distinct_sites}
 use Rattle.lra_inline.proofs.Existing.{has_graph}
-use Rattle.lra_front_end.specs.Stages.{HasTree}
-use Rattle.lra_front_end.specs.Claims.{HasRefusal, IsAccepted, EachAnswer}
-use Rattle.lra_front_end.proofs.ReadSteps.{tree_refused}
-use Rattle.lra_front_end.proofs.StageSteps.{well, accepted}
+use Rattle.lra_front_end.specs.{Claims.HasRefusal, Claims.IsAccepted, Claims.EachAnswer, Stages.HasTree}
+use Rattle.lra_front_end.proofs.{ReadSteps.tree_refused, StageSteps.well, StageSteps.accepted}
 
 -- a list of tokens has a tree, or a first fault
 abbrev pub IsRead : List Token → Type 0

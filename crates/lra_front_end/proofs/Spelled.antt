@@ -1,27 +1,19 @@
 -- Literals are numbers of tokens, and so numbers of their types.
 use Rattle.std.proofs.Common.{◌≡◌, ℕ, ◌+◌, List, [], ◌∷◌, ◌++◌, Option, Some, None, sym, subst}
-use Rattle.std.specs.Prelude.{pos, IsTrue}
-use Rattle.std.specs.List.{AllByRecursion}
-use Rattle.lra_base.specs.declared.number_types.NumberType.{NumberType}
-use Rattle.lra_base.specs.NumberTypes.{fits}
-use Rattle.lra_syntax.specs.declared.tokens.Token.{Token}
-use Rattle.lra_syntax.specs.declared.tokens.Kind.TheVariants.{Number}
+use Rattle.std.specs.{List.AllByRecursion, Prelude.pos, Prelude.IsTrue}
+use Rattle.lra_base.specs.{NumberTypes.fits, declared.number_types.NumberType.NumberType}
+use Rattle.lra_syntax.specs.Grammar.{IsUnary, IsTerm, IsExpr, IsNegation, IsTest, IsConjunction, IsCond, InParens, IsCall, IsRvalue, IsAssign, IsGiven, IsScalarOrArray, IsDeclarator, IsDeclaration}
+use Rattle.lra_syntax.specs.Grammar.{IsInit, in_brackets, IsForTest, IsForStep, IsReturned, opened_by, level_of, IsStmt, AreCases, AreLabelled, AreStated, AreItems, IsExternalDeclaration}
+use Rattle.lra_syntax.specs.Grammar.{AreExternalDeclarations, Spells}
+use Rattle.lra_syntax.specs.{Texts.Piece, Texts.Pieces, Texts.plain, Texts.Texts, Texts.◌⋅◌, Texts.further, Texts.separated, declared.tokens.Kind.TheVariants.Number, declared.tokens.Token.Token}
 use Rattle.lra_syntax.specs.Trees as tree
 use Rattle.lra_parser_spec.specs.Files.{IsSmallKind}
 use Rattle.lra_parser_spec.proofs.Ended.{lexed_small}
 use Rattle.lra_syntax.specs.Tokens as lexical
-use Rattle.lra_syntax.specs.Texts.{Piece, Pieces, plain, Texts, ◌⋅◌, further, separated}
 use Rattle.lra_syntax.specs.Texts as text
-use Rattle.lra_syntax.specs.Grammar.{IsUnary, IsTerm, IsExpr, IsNegation, IsTest, IsConjunction, IsCond, InParens, IsCall, IsRvalue, IsAssign, IsGiven}
-use Rattle.lra_syntax.specs.Grammar.{IsScalarOrArray}
-use Rattle.lra_syntax.specs.Grammar.{IsDeclarator, IsDeclaration, IsInit}
-use Rattle.lra_syntax.specs.Grammar.{in_brackets, IsForTest, IsForStep, IsReturned, opened_by, level_of, IsStmt, AreCases, AreLabelled, AreStated, AreItems}
-use Rattle.lra_syntax.specs.Grammar.{IsExternalDeclaration, AreExternalDeclarations, Spells}
-use Rattle.lra_front_end.specs.Literals.{IsSmallUnary, IsSmallTerm, IsSmallExpr, IsSmallNegation, IsSmallTest, IsSmallConjunction, IsSmallCond, IsSmallCall, IsSmallRvalue, IsSmallGiven}
-use Rattle.lra_front_end.specs.Literals.{IsSmallAssign}
-use Rattle.lra_front_end.specs.Literals.{IsSmallShape, IsSmallDeclarator, IsSmallDeclaration, IsSmallInit, IsSmallForTest, IsSmallStep, IsSmallStmt}
-use Rattle.lra_front_end.specs.Literals.{AreSmallCases}
-use Rattle.lra_front_end.specs.Literals.{AreSmallItems, IsSmallPart, HasSmallLiterals}
+use Rattle.lra_front_end.specs.Literals.{IsSmallUnary, IsSmallTerm, IsSmallExpr, IsSmallNegation, IsSmallTest, IsSmallConjunction, IsSmallCond, IsSmallCall, IsSmallRvalue, IsSmallGiven, IsSmallAssign}
+use Rattle.lra_front_end.specs.Literals.{IsSmallShape, IsSmallDeclarator, IsSmallDeclaration, IsSmallInit, IsSmallForTest, IsSmallStep, IsSmallStmt, AreSmallCases, AreSmallItems, IsSmallPart}
+use Rattle.lra_front_end.specs.Literals.{HasSmallLiterals}
 
 -- tokens -----------------------------------------------------------------------------------------------------------
 

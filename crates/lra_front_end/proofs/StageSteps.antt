@@ -1,36 +1,18 @@
 -- What the stages behind the reading answer, as answers of the tree.
 use Rattle.std.proofs.Common.{◌≡◌, ℕ, List, [], ◌∷◌, Some, None, refl, sym, ap, ◌∙◌, subst}
-use Rattle.std.specs.Prelude.{Option, Result, MatchOption}
-use Rattle.std.specs.Result.{IsErrAnd}
-use Rattle.lra_base.specs.declared.refusals.Refusal.{Refusal}
-use Rattle.lra_base.specs.declared.refusals.Place.{Place}
-use Rattle.lra_base.specs.Refused.{IfRefusal, IfRefused}
+use Rattle.std.specs.{Prelude.Option, Prelude.Result, Prelude.MatchOption, Result.IsErrAnd}
+use Rattle.lra_base.specs.{Refused.IfRefusal, Refused.IfRefused, declared.error.SourceError.SourceError, declared.error.SourceError.TheVariants.Refused, declared.error.SourceError.TheVariants.Memory}
+use Rattle.lra_base.specs.{declared.refusals.Cause.Cause, declared.refusals.Cause.TheVariants.Recursive, declared.refusals.Place.Place, declared.refusals.Refusal.Refusal}
 use Rattle.lra_base.proofs.Refusing.{exit_refused, refusal_by}
-use Rattle.lra_base.specs.declared.refusals.Cause.{Cause}
-use Rattle.lra_base.specs.declared.refusals.Cause.TheVariants.{Recursive}
-use Rattle.lra_syntax.specs.Reach.{IsFirstRecursive, NotRecursive}
-use Rattle.lra_syntax.specs.Trees.{FileTree}
-use Rattle.lra_program.specs.Program.{Function, Program}
-use Rattle.lra_operations.specs.Tree.{Node}
-use Rattle.lra_program.specs.Sites.{Site, events_of, sites_of}
-use Rattle.lra_syntax.specs.Labels.{Labelled, labels_of}
-use Rattle.lra_resolution_spec.specs.Resolve.{resolve, resolved_functions}
-use Rattle.lra_resolution_spec.specs.NameFaults.{name_faults}
-use Rattle.lra_operations.specs.Agree.{IsInlinedTree, Agrees}
-use Rattle.lra_program.specs.WellFormed.{IsWellFormed}
-use Rattle.lra_syntax.specs.Grammar.{Spells}
+use Rattle.lra_syntax.specs.{Grammar.Spells, Labels.Labelled, Labels.labels_of, Reach.IsFirstRecursive, Reach.NotRecursive, Trees.FileTree}
+use Rattle.lra_program.specs.{Program.Function, Program.Program, Sites.Site, Sites.events_of, Sites.sites_of, WellFormed.IsWellFormed}
+use Rattle.lra_operations.specs.{Agree.IsInlinedTree, Agree.Agrees, Tree.Node}
 use Rattle.lra_resolution_spec.specs.Refuse.{limit_fault, RefusesTree, bad_name, recursive, past_limit, Accepts}
+use Rattle.lra_resolution_spec.specs.{NameFaults.name_faults, Resolve.resolve, Resolve.resolved_functions}
 use Rattle.lra_scopes.specs.Outcome.{first_fault, IsFirstFault}
-use Rattle.lra_inline_steps.specs.declared.points.Limit.{Limit}
-use Rattle.lra_inline_steps.specs.declared.points.InlineError.{InlineError}
-use Rattle.lra_inline_steps.specs.declared.points.InlineError.TheVariants.{Passed}
-use Rattle.lra_inline_steps.specs.Limits.{refusal_of, OnError}
-use Rattle.lra_front_end.proofs.Spelled.{spelled_are_small}
-use Rattle.lra_front_end.proofs.Whole.{well_formed}
-use Rattle.lra_base.specs.declared.error.SourceError.{SourceError}
-use Rattle.lra_base.specs.declared.error.SourceError.TheVariants.{Refused, Memory}
-use Rattle.lra_front_end.specs.Claims.{AreFew}
-use Rattle.lra_front_end.specs.Stages.{HasTree, HasInlinedTree, IsRecursionRefusal}
+use Rattle.lra_inline_steps.specs.{Limits.refusal_of, Limits.OnError, declared.points.InlineError.InlineError, declared.points.InlineError.TheVariants.Passed, declared.points.Limit.Limit}
+use Rattle.lra_front_end.proofs.{Spelled.spelled_are_small, Whole.well_formed}
+use Rattle.lra_front_end.specs.{Claims.AreFew, Stages.HasTree, Stages.HasInlinedTree, Stages.IsRecursionRefusal}
 
 -- names --------------------------------------------------------------------------------------------------------------
 

@@ -1,38 +1,18 @@
 -- What the stages behind the reading answer, as answers of the tree of a source of several threads.
-use Rattle.std.proofs.Common.{◌≡◌, ℕ, zero, suc, ◌+◌, ◌<◌, List, [], ◌∷◌, ◌++◌, length, map, drop, take, get_or, Some}
-use Rattle.std.proofs.Common.{None, Result, refl, sym, ap, ◌∙◌, subst, arith}
-use Rattle.std.proofs.Common.{length-append, add-one}
-use Rattle.std.proofs.lemmas.List.{at_drop_more}
-use Rattle.std.proofs.Math.Seq.{take-suc}
-use Rattle.std.specs.Prelude.{flat_map, slice_get}
-use Rattle.std.specs.List.{AllByRecursion, AllZip}
-use Rattle.std.specs.Result.{IsErrAnd}
-use Rattle.lra_base.specs.declared.refusals.Cause.{Cause}
-use Rattle.lra_base.specs.declared.refusals.Place.{Place}
-use Rattle.lra_base.specs.declared.refusals.Refusal.{Refusal}
-use Rattle.lra_base.specs.declared.error.SourceError.{SourceError}
-use Rattle.lra_base.specs.declared.error.SourceError.TheVariants.{Refused, Memory}
-use Rattle.lra_base.specs.Refused.{IfRefusal, IfRefused}
+use Rattle.std.proofs.Common.{◌≡◌, ℕ, zero, suc, ◌+◌, ◌<◌, List, [], ◌∷◌, ◌++◌, length, map, drop, take, get_or, Some, None, Result, refl, sym, ap, ◌∙◌, subst, arith, length-append, add-one}
+use Rattle.std.proofs.{Math.Seq.take-suc, lemmas.List.at_drop_more}
+use Rattle.std.specs.{List.AllByRecursion, List.AllZip, Prelude.flat_map, Prelude.slice_get, Result.IsErrAnd}
+use Rattle.lra_base.specs.{Refused.IfRefusal, Refused.IfRefused, declared.error.SourceError.SourceError, declared.error.SourceError.TheVariants.Refused, declared.error.SourceError.TheVariants.Memory}
+use Rattle.lra_base.specs.{declared.refusals.Cause.Cause, declared.refusals.Place.Place, declared.refusals.Refusal.Refusal}
 use Rattle.lra_base.proofs.Refusing.{exit_refused, refusal_by}
-use Rattle.lra_syntax.specs.Trees.{FileTree}
-use Rattle.lra_syntax.specs.Grammar.{Spells}
-use Rattle.lra_syntax.specs.Labels.{Labelled, labels_of}
-use Rattle.lra_syntax.specs.Reach.{NotRecursive}
-use Rattle.lra_program.specs.declared.program.Program.{Program}
+use Rattle.lra_syntax.specs.{Grammar.Spells, Labels.Labelled, Labels.labels_of, Reach.NotRecursive, Trees.FileTree}
+use Rattle.lra_program.specs.{ProgramViews.function_or, ProgramViews.program_view, Sites.Event, Sites.events_of, Sites.sites_of, WellFormed.IsWellFormed, declared.program.Program.Program}
 use Rattle.lra_program.specs.Program as resolved
-use Rattle.lra_program.specs.ProgramViews.{function_or, program_view}
-use Rattle.lra_program.specs.Sites.{Event, events_of, sites_of}
-use Rattle.lra_program.specs.WellFormed.{IsWellFormed}
-use Rattle.lra_resolution_spec.specs.Refuse.{limit_fault}
-use Rattle.lra_resolution_spec.specs.Threads.{thread_faults, thread_places, thread_program, thread_events}
 use Rattle.lra_resolution_spec.specs.RefuseThreads.{RefusesThreads, bad_name, recursive, past_limit, RefuseThreads, NotParsed, unread, bad_tree, AcceptsThreads}
-use Rattle.lra_front_end.proofs.Spelled.{spelled_are_small}
-use Rattle.lra_front_end.proofs.Whole.{threads_formed}
+use Rattle.lra_resolution_spec.specs.{Refuse.limit_fault, Threads.thread_faults, Threads.thread_places, Threads.thread_program, Threads.thread_events}
+use Rattle.lra_front_end.proofs.{Limits.fault_behind, Limits.fault_stays, Spelled.spelled_are_small, StageSteps.first_is, Whole.threads_formed}
 use Rattle.lra_scopes.specs.Outcome.{first_fault, IsFirstFault}
-use Rattle.lra_front_end.specs.Stages.{HasTree, IsRecursionRefusal}
-use Rattle.lra_front_end.proofs.StageSteps.{first_is}
-use Rattle.lra_front_end.specs.ThreadsStages.{HasThreads}
-use Rattle.lra_front_end.proofs.Limits.{fault_behind, fault_stays}
+use Rattle.lra_front_end.specs.{Stages.HasTree, Stages.IsRecursionRefusal, ThreadsStages.HasThreads}
 
 -- names --------------------------------------------------------------------------------------------------------------
 

@@ -1,20 +1,11 @@
 -- As a program of several threads a source is accepted with one tree, or refused for one cause at one place.
 use Rattle.std.proofs.Common.{◌≡◌, ℕ, ◌≤◌, length, List, [], None, refl, sym, ◌∙◌, subst}
 use Rattle.std.proofs.lemmas.Option.{none-some, same_Some}
-use Rattle.lra_base.specs.declared.refusals.Place.{Place}
-use Rattle.lra_base.specs.declared.refusals.Cause.{Cause}
-use Rattle.lra_base.specs.Places.{greatest_length}
-use Rattle.lra_syntax.specs.declared.tokens.Token.{Token}
-use Rattle.lra_syntax.specs.Trees.{FileTree}
-use Rattle.lra_syntax.specs.Tokens.{Lex, OneReading}
+use Rattle.lra_base.specs.{Places.greatest_length, declared.refusals.Cause.Cause, declared.refusals.Place.Place}
 use Rattle.lra_syntax.specs.Faults.{Language, IsTree, IsTextFault, OneTree, OneTextFault}
-use Rattle.lra_syntax.specs.Labels.{labels_of}
-use Rattle.lra_syntax.specs.Reach.{NotRecursive}
-use Rattle.lra_resolution_spec.specs.Refuse.{limit_fault}
-use Rattle.lra_resolution_spec.specs.Threads.{thread_faults, thread_events}
-use Rattle.lra_resolution_spec.specs.RefuseThreads.{RefusesThreads, bad_name, recursive, past_limit, NotParsed, too_long}
-use Rattle.lra_resolution_spec.specs.RefuseThreads.{bad_token, bad_text, RefuseThreads, unread, bad_tree}
-use Rattle.lra_resolution_spec.specs.RefuseThreads.{AcceptsThreads, OneThreadsAnswer}
+use Rattle.lra_syntax.specs.{Labels.labels_of, Reach.NotRecursive, Tokens.Lex, Tokens.OneReading, Trees.FileTree, declared.tokens.Token.Token}
+use Rattle.lra_resolution_spec.specs.RefuseThreads.{RefusesThreads, bad_name, recursive, past_limit, NotParsed, too_long, bad_token, bad_text, RefuseThreads, unread, bad_tree, AcceptsThreads}
+use Rattle.lra_resolution_spec.specs.{Refuse.limit_fault, RefuseThreads.OneThreadsAnswer, Threads.thread_faults, Threads.thread_events}
 use Rattle.lra_front_end.proofs.OneAnswer.{not_both, heads, one_recursive, Same, same_refusal, same_tokens, same_tree, not_long, text_and_tree}
 
 one_tree_fault : (t : FileTree) (c d : Cause) (p q : Place) → RefusesThreads t c p → RefusesThreads t d q → Same c d p q

@@ -1,24 +1,16 @@
 -- Refusals of whole sources of several threads, whose tokens and trees are found by reading them.
 use Rattle.std.proofs.Common.{◌≡◌, ℕ, true, List, [], ◌∷◌, ◌++◌, ◌+◌, codes, length, Ok, refl, arith}
 use Rattle.std.specs.Prelude.{◌≤◌}
-use Rattle.lra_base.specs.declared.refusals.Place.{Place}
-use Rattle.lra_base.specs.declared.refusals.Cause.{Cause}
 use Rattle.lra_base.specs.declared.refusals.Cause.TheVariants.{NoThreads, UnknownName}
-use Rattle.lra_base.specs.Places.{greatest_length}
+use Rattle.lra_base.specs.{Places.greatest_length, declared.refusals.Cause.Cause, declared.refusals.Place.Place}
 use Rattle.lra_syntax.specs.declared.tokens.Mark.TheVariants as mark
 use Rattle.lra_syntax.specs.Trees.{no_items, statement, assign, set, expression, function, FileTree, ItemsTree}
-use Rattle.lra_syntax.specs.Tokens.{tokens_of, end_token}
-use Rattle.lra_syntax.specs.Grammar.{Spells}
-use Rattle.lra_syntax.proofs.TreeSamples.{at, x_at, literal_text, void_of}
-use Rattle.lra_syntax.proofs.Lexemes.{ExternalDeclaration, written, reading, all_lexed}
+use Rattle.lra_syntax.specs.{Grammar.Spells, Tokens.tokens_of, Tokens.end_token}
 use Rattle.lra_syntax.proofs.LexedByTest.{space, sign, word_of, one, is_written, are_read_by}
+use Rattle.lra_syntax.proofs.{Lexemes.ExternalDeclaration, Lexemes.written, Lexemes.reading, Lexemes.all_lexed, TreeSamples.at, TreeSamples.x_at, TreeSamples.literal_text, TreeSamples.void_of}
 use Rattle.lra_resolution_spec.specs.RefuseThreads.{RefuseThreads, RefusesThreads, bad_tree, bad_name}
-use Rattle.lra_parser_spec.specs.Reading.{Text, loop}
-use Rattle.lra_parser_spec.specs.Expressions.{unary_at, tests}
-use Rattle.lra_parser_spec.specs.Statements.{levels}
-use Rattle.lra_parser_spec.specs.Files.{file_at}
-use Rattle.lra_parser_spec.proofs.Answered.{tree_found}
-use Rattle.lra_parser_spec.proofs.FaultExamples.{all_inner, no_end}
+use Rattle.lra_parser_spec.specs.{Expressions.unary_at, Expressions.tests, Files.file_at, Reading.Text, Reading.loop, Statements.levels}
+use Rattle.lra_parser_spec.proofs.{Answered.tree_found, FaultExamples.all_inner, FaultExamples.no_end}
 
 abbrev inner_tokens : List ExternalDeclaration → Text
 inner_tokens xs = tokens_of (reading [] xs)

@@ -1,35 +1,22 @@
 -- As a program of several threads each source has an answer: its one refusal, or its tree with a tree of operations
 -- for each thread.
 use Rattle.std.proofs.Common.{◌≡◌, ℕ, ◌≤◌, ◌+◌, List, [], ◌∷◌, length, map, Option, Some, None, ◌⊎◌, inl, inr, refl, sym, ◌∙◌, arith}
-use Rattle.std.specs.Prelude.{flat_map}
-use Rattle.std.specs.List.{AllByRecursion, AllZip}
 use Rattle.std.proofs.lemmas.Bool.{cases_lt}
-use Rattle.lra_base.specs.declared.refusals.Cause.TheVariants.{Recursive}
-use Rattle.lra_base.specs.declared.refusals.Refusal.{Refusal}
-use Rattle.lra_base.specs.Places.{greatest_length}
-use Rattle.lra_syntax.specs.Trees.{FileTree}
-use Rattle.lra_syntax.specs.Labels.{labels_of}
-use Rattle.lra_syntax.specs.Reach.{NotRecursive}
-use Rattle.lra_syntax.specs.Grammar.{Spells}
-use Rattle.lra_program.specs.Sites.{events_of, event_sites}
-use Rattle.lra_program.specs.WellFormed.{IsWellFormed}
+use Rattle.std.specs.{List.AllByRecursion, List.AllZip, Prelude.flat_map}
+use Rattle.lra_base.specs.{Places.greatest_length, declared.refusals.Cause.TheVariants.Recursive, declared.refusals.Refusal.Refusal}
+use Rattle.lra_syntax.specs.{Grammar.Spells, Labels.labels_of, Reach.NotRecursive, Trees.FileTree}
+use Rattle.lra_program.specs.{Sites.events_of, Sites.event_sites, WellFormed.IsWellFormed}
 use Rattle.lra_operations.specs.Tree.{Node}
-use Rattle.lra_resolution_spec.specs.Refuse.{limit_fault}
-use Rattle.lra_resolution_spec.specs.Threads.{thread_faults, thread_places, thread_program, thread_events}
 use Rattle.lra_resolution_spec.specs.RefuseThreads.{bad_name, recursive, past_limit, too_long, bad_token, bad_text, unread, bad_tree, OneThreadsAnswer}
+use Rattle.lra_resolution_spec.specs.{Refuse.limit_fault, Threads.thread_faults, Threads.thread_places, Threads.thread_program, Threads.thread_events}
 use Rattle.lra_lex.proofs.EachReading.{each_reading}
 use Rattle.lra_parser_spec.specs.Files.{file_at}
 use Rattle.lra_parser_spec.proofs.Ended.{lexed_end}
 use Rattle.lra_recursion.proofs.Deciding.{each_recursion}
-use Rattle.lra_inline_sound.proofs.Agreement.{trees_agree}
-use Rattle.lra_inline_sound.proofs.DistinctSites.{distinct_sites}
-use Rattle.lra_inline.proofs.Totals.{fewer_within}
-use Rattle.lra_inline.proofs.Existing.{has_graph}
-use Rattle.lra_front_end.specs.Stages.{HasTree}
-use Rattle.lra_front_end.proofs.SomeAnswer.{text_read}
-use Rattle.lra_front_end.specs.ThreadsClaims.{HasThreadsRefusal, IsThreadTree, IsAcceptedThreads, EachThreadsAnswer}
-use Rattle.lra_front_end.proofs.Limits.{within_front, fault_behind}
-use Rattle.lra_front_end.proofs.ThreadSteps.{well, accepted}
+use Rattle.lra_inline_sound.proofs.{Agreement.trees_agree, DistinctSites.distinct_sites}
+use Rattle.lra_inline.proofs.{Existing.has_graph, Totals.fewer_within}
+use Rattle.lra_front_end.specs.{Stages.HasTree, ThreadsClaims.HasThreadsRefusal, ThreadsClaims.IsThreadTree, ThreadsClaims.IsAcceptedThreads, ThreadsClaims.EachThreadsAnswer}
+use Rattle.lra_front_end.proofs.{Limits.within_front, Limits.fault_behind, SomeAnswer.text_read, ThreadSteps.well, ThreadSteps.accepted}
 
 abbrev Answer : List ℕ → Type 0
 Answer source = HasThreadsRefusal source ⊎ IsAcceptedThreads source

@@ -1,14 +1,10 @@
 -- What each source deserves: its one refusal, or its tree with the tree of operations of its program.
 use Rattle.std.specs.Prelude.{◌≡◌, ◌≤◌, ◌⊎◌, ℕ, List, slice_get, Some}
-use Rattle.lra_base.specs.declared.refusals.Cause.{Cause}
-use Rattle.lra_base.specs.declared.refusals.Place.{Place}
-use Rattle.lra_syntax.specs.Trees.{FileTree}
-use Rattle.lra_operations.specs.Tree.{Node}
-use Rattle.lra_resolution_spec.specs.Resolve.{resolve}
+use Rattle.lra_base.specs.{declared.refusals.Cause.Cause, declared.refusals.Place.Place}
+use Rattle.lra_syntax.specs.{Grammar.Spells, Trees.FileTree}
+use Rattle.lra_operations.specs.{Agree.IsInlinedTree, Agree.Agrees, Tree.Node}
+use Rattle.lra_resolution_spec.specs.{Refuse.greatest_live, Refuse.Refuse, Refuse.Accepts, Resolve.resolve}
 use Rattle.lra_program.specs.Sites.{Site}
-use Rattle.lra_operations.specs.Agree.{IsInlinedTree, Agrees}
-use Rattle.lra_syntax.specs.Grammar.{Spells}
-use Rattle.lra_resolution_spec.specs.Refuse.{greatest_live, Refuse, Accepts}
 
 -- the source is refused for some cause at some place; if it is too long, for that
 abbrev pub HasRefusal : List ℕ → Type 0

@@ -1,13 +1,13 @@
 -- Programs whose arrays are there: each that an expression or an assignment names is global, or its declarator stands
 -- before it in scope.
-use Rattle.std.specs.Prelude.{List, [], ◌∷◌, ◌++◌, Option, Some, None, ⊤}
 use Rattle.std.specs.List.{AllByRecursion, Contains}
-use Rattle.lra_program.specs.declared.arrays.Array.{Array}
+use Rattle.std.specs.Prelude.{List, [], ◌∷◌, ◌++◌, Option, Some, None, ⊤}
 use Rattle.lra_program.specs.Program.{Expr, literal, read, input, negate, binary, element, Cond, compare, nonzero}
 use Rattle.lra_program.specs.Program.{opposite, both_of, either_of, Call, Rvalue, value, result, Stmt, absent, nothing}
 use Rattle.lra_program.specs.Program.{block, assign, write, call, if, loop, for, break, continue, return, assert}
 use Rattle.lra_program.specs.Program.{assume, switch, Cases, no_cases, labelled, stated, BlockItems, no_more}
 use Rattle.lra_program.specs.Program.{declaration, array, statement, Function, Program}
+use Rattle.lra_program.specs.declared.arrays.Array.{Array}
 
 -- with these arrays in scope
 abbrev pub Knows : List Array → Expr → Type 0

@@ -1,23 +1,13 @@
 -- What is known of a source between the stages of its reading.
 use Rattle.std.specs.Prelude.{◌≡◌, ℕ, ◌≤◌, ℤ, List, [], length, None}
-use Rattle.lra_base.specs.declared.refusals.Cause.TheVariants.{Recursive}
-use Rattle.lra_base.specs.declared.refusals.Refusal.{Refusal}
-use Rattle.lra_syntax.specs.declared.tokens.Token.{Token}
-use Rattle.lra_syntax.specs.Trees.{FileTree}
 use Rattle.lra_base.specs.Places.{greatest_length}
-use Rattle.lra_syntax.specs.Tokens.{Lex}
-use Rattle.lra_syntax.specs.Constants.{constants_of}
-use Rattle.lra_syntax.specs.Faults.{IsTree}
-use Rattle.lra_syntax.specs.Grammar.{Spells}
-use Rattle.lra_resolution_spec.specs.NameFaults.{name_faults}
-use Rattle.lra_syntax.specs.Labels.{labels_of}
-use Rattle.lra_resolution_spec.specs.Resolve.{resolve}
-use Rattle.lra_operations.specs.Tree.{Node}
-use Rattle.lra_program.specs.Sites.{Site, events_of, sites_of}
-use Rattle.lra_operations.specs.Agree.{IsInlinedTree, Agrees}
-use Rattle.lra_program.specs.WellFormed.{IsWellFormed}
-use Rattle.lra_resolution_spec.specs.Refuse.{limit_fault}
+use Rattle.lra_base.specs.{declared.refusals.Cause.TheVariants.Recursive, declared.refusals.Refusal.Refusal}
 use Rattle.lra_syntax.specs.Reach.{IsFirstRecursive, NotRecursive}
+use Rattle.lra_syntax.specs.{Constants.constants_of, Faults.IsTree, Grammar.Spells, Labels.labels_of, Tokens.Lex}
+use Rattle.lra_syntax.specs.{Trees.FileTree, declared.tokens.Token.Token}
+use Rattle.lra_resolution_spec.specs.{NameFaults.name_faults, Refuse.limit_fault, Resolve.resolve}
+use Rattle.lra_operations.specs.{Agree.IsInlinedTree, Agree.Agrees, Tree.Node}
+use Rattle.lra_program.specs.{Sites.Site, Sites.events_of, Sites.sites_of, WellFormed.IsWellFormed}
 use Rattle.lra_front_end.specs.Claims.{AreFew}
 
 -- a source that isn't too long, and its tree

@@ -1,15 +1,11 @@
 -- What each source deserves as a program of several threads: its one refusal, or its tree with a tree of operations
 -- for each thread.
-use Rattle.std.specs.Prelude.{◌⊎◌, ℕ, List}
-use Rattle.std.specs.List.{AllZip}
-use Rattle.lra_base.specs.declared.refusals.Cause.{Cause}
-use Rattle.lra_base.specs.declared.refusals.Place.{Place}
-use Rattle.lra_syntax.specs.Trees.{FileTree}
-use Rattle.lra_syntax.specs.Grammar.{Spells}
-use Rattle.lra_operations.specs.Tree.{Node}
-use Rattle.lra_operations.specs.Agree.{IsInlinedTree, Agrees}
-use Rattle.lra_resolution_spec.specs.Threads.{thread_places, thread_program}
+use Rattle.std.specs.{List.AllZip, Prelude.◌⊎◌, Prelude.ℕ, Prelude.List}
+use Rattle.lra_base.specs.{declared.refusals.Cause.Cause, declared.refusals.Place.Place}
+use Rattle.lra_syntax.specs.{Grammar.Spells, Trees.FileTree}
+use Rattle.lra_operations.specs.{Agree.IsInlinedTree, Agree.Agrees, Tree.Node}
 use Rattle.lra_resolution_spec.specs.RefuseThreads.{RefuseThreads, AcceptsThreads}
+use Rattle.lra_resolution_spec.specs.Threads.{thread_places, thread_program}
 
 -- the source is refused for some cause at some place
 abbrev pub HasThreadsRefusal : List ℕ → Type 0

@@ -2,13 +2,10 @@
 
 ghost use Rattle.std.specs.Prelude.{◌≡◌, ◌<◌, ◌+◌, ◌^◌, length, map, IfOk};
 ghost use Rattle.lra_base.specs.Refused.{IfRefused};
-ghost use Rattle.lra_syntax.specs.Views.{tree_view};
+ghost use Rattle.lra_syntax.specs.{Grammar.Spells, Labels.labels_of, Views.tree_view};
 ghost use Rattle.lra_program.specs.ProgramViews.{program_view};
 ghost use Rattle.lra_operations.specs.TreeViews.{node_view, site_view};
-ghost use Rattle.lra_resolution_spec.specs.Resolve.{resolve};
-ghost use Rattle.lra_syntax.specs.Grammar.{Spells};
-ghost use Rattle.lra_syntax.specs.Labels.{labels_of};
-ghost use Rattle.lra_resolution_spec.specs.Refuse.{Refuse};
+ghost use Rattle.lra_resolution_spec.specs.{Refuse.Refuse, Resolve.resolve};
 ghost use Rattle.lra_front_end.specs.Stages.{HasConstants, HasInlinedTree, HasTree};
 
 use crate::program::{inline_calls, program_of};

@@ -2,8 +2,7 @@
 
 ghost use Rattle.lra_syntax.specs.Grammar.{Spells};
 ghost use Rattle.lra_resolution_spec.specs.Refuse.{OneAnswer};
-ghost use Rattle.lra_front_end.specs.Claims.{EachAnswer};
-ghost use Rattle.lra_front_end.specs.Stages.{OneConstants};
+ghost use Rattle.lra_front_end.specs.{Claims.EachAnswer, Stages.OneConstants};
 
 /// A source is accepted with at most one tree, or refused for at most one cause at one place; never both.
 pub fn one_answer()

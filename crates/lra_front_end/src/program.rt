@@ -2,15 +2,11 @@
 
 ghost use Rattle.std.specs.Prelude.{◌≡◌, [], map, IfOk, OnOk};
 ghost use Rattle.lra_base.specs.Refused.{IfRefused};
-ghost use Rattle.lra_syntax.specs.Views.{tree_view};
-ghost use Rattle.lra_program.specs.ProgramViews.{program_view};
+ghost use Rattle.lra_syntax.specs.{Labels.labels_of, Reach.NotRecursive, Views.tree_view};
+ghost use Rattle.lra_program.specs.{ProgramViews.program_view, WellFormed.IsWellFormed};
 ghost use Rattle.lra_operations.specs.TreeViews.{node_view, site_view};
-ghost use Rattle.lra_resolution_spec.specs.NameFaults.{name_faults};
 ghost use Rattle.lra_resolution_spec.specs.Resolve.{resolve, resolved_functions};
-ghost use Rattle.lra_program.specs.WellFormed.{IsWellFormed};
-ghost use Rattle.lra_syntax.specs.Labels.{labels_of};
-ghost use Rattle.lra_syntax.specs.Reach.{NotRecursive};
-ghost use Rattle.lra_resolution_spec.specs.Refuse.{RefusesTree};
+ghost use Rattle.lra_resolution_spec.specs.{NameFaults.name_faults, Refuse.RefusesTree};
 ghost use Rattle.lra_front_end.specs.Stages.{HasInlinedTree, IsRecursionRefusal};
 
 use lra_base::{Cause, Refusal, SourceError};

@@ -2,10 +2,8 @@
 
 ghost use Rattle.std.specs.Prelude.{◌<◌, ◌+◌, ◌^◌, length, IfOk};
 ghost use Rattle.lra_base.specs.Refused.{IfRefused};
-ghost use Rattle.lra_syntax.specs.Views.{tree_view};
-ghost use Rattle.lra_syntax.specs.Grammar.{Spells};
-ghost use Rattle.lra_resolution_spec.specs.Refuse.{Refuse};
-ghost use Rattle.lra_resolution_spec.specs.RefuseThreads.{NotParsed};
+ghost use Rattle.lra_syntax.specs.{Grammar.Spells, Views.tree_view};
+ghost use Rattle.lra_resolution_spec.specs.{Refuse.Refuse, RefuseThreads.NotParsed};
 ghost use Rattle.lra_front_end.specs.Stages.{HasConstants, HasTree};
 
 use lra_base::{Cause, GREATEST_LENGTH, Refusal, SourceError, place_after};

@@ -1,17 +1,13 @@
 //! From the tree of a source to its threads, and to the tree of operations of each.
 
-ghost use Rattle.std.specs.Prelude.{◌≡◌, ◌++◌, [], ℕ, List, length, IfOk, OnOk, Some, None};
 ghost use Rattle.std.specs.List.{AllByRecursion, AllZip};
+ghost use Rattle.std.specs.Prelude.{◌≡◌, ◌++◌, [], ℕ, List, length, IfOk, OnOk, Some, None};
 ghost use Rattle.lra_base.specs.Refused.{IfRefused};
-ghost use Rattle.lra_syntax.specs.Views.{tree_view};
-ghost use Rattle.lra_syntax.specs.Labels.{Labelled, labels_of};
-ghost use Rattle.lra_syntax.specs.Reach.{NotRecursive};
-ghost use Rattle.lra_program.specs.ProgramViews.{program_view};
+ghost use Rattle.lra_syntax.specs.{Labels.Labelled, Labels.labels_of, Reach.NotRecursive, Views.tree_view};
 ghost use Rattle.lra_program.specs.Sites.{events_of, sites_of};
-ghost use Rattle.lra_program.specs.WellFormed.{IsWellFormed};
-ghost use Rattle.lra_resolution_spec.specs.Refuse.{limit_fault};
+ghost use Rattle.lra_program.specs.{ProgramViews.program_view, WellFormed.IsWellFormed};
 ghost use Rattle.lra_resolution_spec.specs.Threads.{thread_events, thread_faults, thread_places, thread_program};
-ghost use Rattle.lra_resolution_spec.specs.RefuseThreads.{RefusesThreads};
+ghost use Rattle.lra_resolution_spec.specs.{Refuse.limit_fault, RefuseThreads.RefusesThreads};
 ghost use Rattle.lra_inline_steps.specs.Inlining.{points_in};
 ghost use Rattle.lra_front_end.specs.ThreadsStages.{HasThreads, IsInlinedOf, IsThreadInlined};
 

@@ -1,16 +1,13 @@
 //! From the bytes of a source of several threads to all that is read of it.
 
-ghost use Rattle.std.specs.Prelude.{◌≡◌, ◌<◌, ◌+◌, ◌^◌, length, IfOk};
 ghost use Rattle.std.specs.List.{AllZip};
+ghost use Rattle.std.specs.Prelude.{◌≡◌, ◌<◌, ◌+◌, ◌^◌, length, IfOk};
 ghost use Rattle.lra_base.specs.Refused.{IfRefused};
-ghost use Rattle.lra_syntax.specs.Views.{tree_view};
-ghost use Rattle.lra_syntax.specs.Grammar.{Spells};
-ghost use Rattle.lra_syntax.specs.Labels.{labels_of};
+ghost use Rattle.lra_syntax.specs.{Grammar.Spells, Labels.labels_of, Views.tree_view};
 ghost use Rattle.lra_program.specs.ProgramViews.{program_view};
-ghost use Rattle.lra_resolution_spec.specs.Threads.{thread_places, thread_program};
 ghost use Rattle.lra_resolution_spec.specs.RefuseThreads.{AcceptsThreads, RefuseThreads};
-ghost use Rattle.lra_front_end.specs.Stages.{HasConstants};
-ghost use Rattle.lra_front_end.specs.ThreadsStages.{IsThreadInlined};
+ghost use Rattle.lra_resolution_spec.specs.Threads.{thread_places, thread_program};
+ghost use Rattle.lra_front_end.specs.{Stages.HasConstants, ThreadsStages.IsThreadInlined};
 
 use crate::reading::{Reading, read_text};
 use crate::threads::{inline_threads, threads_of};

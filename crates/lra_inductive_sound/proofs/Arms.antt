@@ -1,30 +1,22 @@
 -- The arms of a `switch`: those behind a label, from the value that comes in there.
 use Rattle.std.proofs.Common.{◌≡◌, ℕ, List, [], ◌∷◌, map, Option, Some, None, Bool, true, false, inl, inr, refl, sym, subst}
+use Rattle.std.proofs.{lemmas.List.Elements.Contains-append_cases, lemmas.Option.same_Some, lemmas.Option.none-some}
 use Rattle.std.specs.List.{Contains}
-use Rattle.std.proofs.lemmas.List.Elements.{Contains-append_cases}
-use Rattle.std.proofs.lemmas.Option.{same_Some, none-some}
 use Rattle.lra_linear_spec.proofs.Membership.{contains_none, map_from}
-use Rattle.lra_base.specs.declared.case_labels.CaseLabel.{CaseLabel}
-use Rattle.lra_base.specs.declared.case_labels.CaseLabel.TheVariants.{Case, Default}
+use Rattle.lra_base.specs.{declared.case_labels.CaseLabel.CaseLabel, declared.case_labels.CaseLabel.TheVariants.Case, declared.case_labels.CaseLabel.TheVariants.Default}
 use Rattle.lra_program.specs.Program.{Expr}
-use Rattle.lra_domain.specs.declared.Exactness.{Exactness}
-use Rattle.lra_domain.specs.Abstraction.{Abstraction}
+use Rattle.lra_domain.specs.{Abstraction.Abstraction, declared.Exactness.Exactness}
 use Rattle.lra_operations.specs.Tree.{Completion, normal, jump, Node, Arms, no_arms, entry, arm}
-use Rattle.lra_analysis_spec.specs.Operations.{lossy_operations}
-use Rattle.lra_analysis_spec.specs.MovesOf.{value_moves}
-use Rattle.lra_analysis_spec.specs.Pass.{PassResult, goes_on, in_turn, MatchesNone, Enters, JoinsRunning, ComesOut}
+use Rattle.lra_analysis_spec.specs.{MovesOf.value_moves, Operations.lossy_operations, Pass.PassResult, Pass.goes_on, Pass.in_turn, Pass.MatchesNone, Pass.Enters, Pass.JoinsRunning, Pass.ComesOut}
 use Rattle.lra_analysis_spec.proofs.Sound.{right_jump}
 use Rattle.lra_transfer.proofs.OperationWidths.{value_dims}
-use Rattle.lra_path_segments.specs.Segments.{SegmentStep, goes, GoalSegment, Segment, Suffix, through, enter, exit_suffixes, inside, prepend_step}
-use Rattle.lra_path_segments.specs.Segments.{prepend_step_to_goal}
-use Rattle.lra_path_segments.specs.Segments.{through_arms, through_labels, enter_arms, enter_labels, arms_exit_suffixes, inside_arms}
-use Rattle.lra_inductive_sound.specs.Points.{PointsOf, KeepPoints}
+use Rattle.lra_path_segments.specs.Segments.{SegmentStep, goes, GoalSegment, Segment, Suffix, through, enter, exit_suffixes, inside, prepend_step, prepend_step_to_goal, through_arms, through_labels}
+use Rattle.lra_path_segments.specs.Segments.{enter_arms, enter_labels, arms_exit_suffixes, inside_arms}
 use Rattle.lra_inductive_sound.specs.Inductive.{Keeps, KeptBy, KeptFrom, IsExitValue, IsGoalValue, IsInductiveThrough}
-use Rattle.lra_inductive_sound.proofs.Members.{one_from}
-use Rattle.lra_inductive_sound.proofs.Changes.{made_keep, none_keep, none_dims}
-use Rattle.lra_inductive_sound.proofs.WaysOn.{same_keeps, keeps_then, then_by, one_step, join_left, join_right}
-use Rattle.lra_inductive_sound.proofs.Parts.{right_part, among_more, met_more}
+use Rattle.lra_inductive_sound.specs.Points.{PointsOf, KeepPoints}
 use Rattle.lra_inductive_sound.proofs.Sequences.{Closes, through_both, outs_both, tree_closes, both_close}
+use Rattle.lra_inductive_sound.proofs.WaysOn.{same_keeps, keeps_then, then_by, one_step, join_left, join_right}
+use Rattle.lra_inductive_sound.proofs.{Changes.made_keep, Changes.none_keep, Changes.none_dims, Members.one_from, Parts.right_part, Parts.among_more, Parts.met_more}
 
 module _ (V H X : Type 0) (m : Abstraction V H) (o : PointsOf V H X) where
   -- Arms of a `switch` to whose labels the steps go from the value v; what has no match is `other`, and `running` is what

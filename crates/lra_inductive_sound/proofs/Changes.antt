@@ -1,22 +1,13 @@
 -- What moves make of a value keeps the points to which one of their sides leads.
 use Rattle.std.proofs.Common.{◌≡◌, ℕ, List, [], ◌∷◌, ◌++◌, false, inl, inr, refl, sym, ap, ◌∙◌, subst}
-use Rattle.std.specs.List.{Contains}
 use Rattle.std.proofs.lemmas.List.Elements.{Contains-append_cases}
-use Rattle.lra_base.specs.declared.case_labels.CaseLabel.{CaseLabel}
-use Rattle.lra_base.specs.declared.case_labels.CaseLabel.TheVariants.{Case, Default}
+use Rattle.std.specs.List.{Contains}
+use Rattle.lra_base.specs.{declared.case_labels.CaseLabel.CaseLabel, declared.case_labels.CaseLabel.TheVariants.Case, declared.case_labels.CaseLabel.TheVariants.Default}
 use Rattle.lra_program.specs.Program.{Expr}
-use Rattle.lra_domain.specs.Actions.{Action}
-use Rattle.lra_domain.specs.declared.Exactness.{Exactness}
-use Rattle.lra_domain.specs.Abstraction.{Abstraction}
-use Rattle.lra_domain.specs.Moves.{Moves, stay, make, first_then, join_of}
-use Rattle.lra_analysis_spec.specs.Operations.{lossy_operations}
-use Rattle.lra_analysis_spec.specs.Moves.{AreMade}
-use Rattle.lra_analysis_spec.specs.MovesOf.{value_moves, number_moves}
-use Rattle.lra_analysis_spec.specs.Linearization.{linearized}
-use Rattle.lra_analysis_spec.specs.Pass.{MatchesNone}
+use Rattle.lra_domain.specs.{Abstraction.Abstraction, Actions.Action, Moves.Moves, Moves.stay, Moves.make, Moves.first_then, Moves.join_of, declared.Exactness.Exactness}
+use Rattle.lra_analysis_spec.specs.{Linearization.linearized, Moves.AreMade, MovesOf.value_moves, MovesOf.number_moves, Operations.lossy_operations, Pass.MatchesNone}
 use Rattle.lra_transfer.proofs.OperationWidths.{value_dims}
-use Rattle.lra_path_disjuncts.specs.Disjuncts.{disjuncts}
-use Rattle.lra_path_disjuncts.specs.StepMoves.{unmatched_moves}
+use Rattle.lra_path_disjuncts.specs.{Disjuncts.disjuncts, StepMoves.unmatched_moves}
 use Rattle.lra_inductive_sound.specs.Points.{PointsOf, LeadsBy, KeepPoints}
 use Rattle.lra_inductive_sound.proofs.Members.{one_from, pairs_from}
 

@@ -1,22 +1,17 @@
 -- Loops that aren't narrowed: the last round stays in the head whose value is the one at the loop's point.
 use Rattle.std.proofs.Common.{◌≡◌, ℕ, ◌-◌, List, [], ◌∷◌, map, Option, true, false, inl, inr, refl, sym, ◌∙◌, subst}
-use Rattle.std.specs.List.{Contains}
 use Rattle.std.proofs.lemmas.List.Elements.{Contains-append_cases}
+use Rattle.std.specs.List.{Contains}
 use Rattle.lra_linear_spec.proofs.Membership.{contains_none, contains_head, contains_tail, map_from}
 use Rattle.lra_domain.specs.Abstraction.{Abstraction}
-use Rattle.lra_program.specs.Program.{Cond}
-use Rattle.lra_program.specs.Step.{test}
+use Rattle.lra_program.specs.{Program.Cond, Step.test}
 use Rattle.lra_operations.specs.Tree.{Exit, broken, continued, returned, Completion, normal, jump, Node, iterate}
-use Rattle.lra_analysis_spec.specs.Plan.{Plan, Widening, mode_at}
-use Rattle.lra_analysis_spec.specs.Operations.{lossy_operations}
-use Rattle.lra_analysis_spec.specs.Pass.{value, PassResult, noted, jumps_of, AscendingIteration, Pass}
-use Rattle.lra_path_segments.specs.Segments.{SegmentStep, does, comes_to, GoalSegment, Segment, Suffix, through, enter, exit_suffixes, inside, into_body}
-use Rattle.lra_path_segments.specs.Segments.{out_of_body, segment_to}
-use Rattle.lra_inductive_sound.specs.Points.{PointsOf, KeepPoints}
+use Rattle.lra_analysis_spec.specs.{Operations.lossy_operations, Pass.value, Pass.PassResult, Pass.noted, Pass.jumps_of, Pass.AscendingIteration, Pass.Pass, Plan.Plan, Plan.Widening, Plan.mode_at}
+use Rattle.lra_path_segments.specs.Segments.{SegmentStep, does, comes_to, GoalSegment, Segment, Suffix, through, enter, exit_suffixes, inside, into_body, out_of_body, segment_to}
 use Rattle.lra_inductive_sound.specs.Inductive.{Keeps, KeptBy, KeptFrom, IsExitValue, IsGoalValue, IsInductiveThrough}
-use Rattle.lra_inductive_sound.proofs.Members.{one_from}
+use Rattle.lra_inductive_sound.specs.Points.{PointsOf, KeepPoints}
 use Rattle.lra_inductive_sound.proofs.WaysOn.{at_once, then_by, keeps_then, keeps_on, test_keeps}
-use Rattle.lra_inductive_sound.proofs.Parts.{IsPart, met_more, from_more, from_met, to_same}
+use Rattle.lra_inductive_sound.proofs.{Members.one_from, Parts.IsPart, Parts.met_more, Parts.from_more, Parts.from_met, Parts.to_same}
 
 -- the round is passed with the value at the loop's point and this one where the loop ends
 abbrev pub round_of : {V : Type 0} → ℕ → V → V → Option ℕ → PassResult V → PassResult V

@@ -1,7 +1,6 @@
 -- What is in lists that are made of others.
-use Rattle.std.proofs.Common.{◌≡◌, List, [], ◌∷◌, map, inl, inr}
+use Rattle.std.proofs.{Common.◌≡◌, Common.List, Common.[], Common.◌∷◌, Common.map, Common.inl, Common.inr, lemmas.List.Elements.Contains-append_cases}
 use Rattle.std.specs.List.{Contains, flat_map}
-use Rattle.std.proofs.lemmas.List.Elements.{Contains-append_cases}
 use Rattle.lra_linear_spec.proofs.Membership.{contains_none, contains_cases, contains_head, contains_tail, map_from}
 
 pub one_from : {A : Type 0} (a x : A) → Contains (a ∷ []) x → a ≡ x

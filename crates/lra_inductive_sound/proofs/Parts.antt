@@ -1,16 +1,11 @@
 -- Ways through two parts of a tree, one behind the other; and what is found in a part is found in the whole.
-use Rattle.std.proofs.Common.{◌≡◌, ℕ, List, ◌++◌, Option, subst}
+use Rattle.std.proofs.{Common.◌≡◌, Common.ℕ, Common.List, Common.◌++◌, Common.Option, Common.subst, lemmas.List.Elements.Contains-append_left, lemmas.List.Elements.Contains-append_right}
 use Rattle.std.specs.List.{Contains}
-use Rattle.std.proofs.lemmas.List.Elements.{Contains-append_left, Contains-append_right}
 use Rattle.lra_domain.specs.Abstraction.{Abstraction}
 use Rattle.lra_analysis_spec.specs.Pass.{PassEntry, value, failing, PassResult, in_turn}
-use Rattle.lra_path_segments.specs.Segments.{SegmentStep, Goal, comes_to, violates, GoalSegment, Segment, Suffix, each_then, then_way, then_ways, then_out}
-use Rattle.lra_path_segments.specs.Segments.{then_outs}
-use Rattle.lra_path_segments.specs.Segments.{segment_by, segments_by}
-use Rattle.lra_inductive_sound.specs.Points.{PointsOf}
-use Rattle.lra_inductive_sound.specs.Inductive.{Keeps, KeptBy, KeptFrom, IsGoalValue}
-use Rattle.lra_inductive_sound.proofs.Members.{pairs_from}
-use Rattle.lra_inductive_sound.proofs.WaysOn.{then_by}
+use Rattle.lra_path_segments.specs.Segments.{SegmentStep, Goal, comes_to, violates, GoalSegment, Segment, Suffix, each_then, then_way, then_ways, then_out, then_outs, segment_by, segments_by}
+use Rattle.lra_inductive_sound.specs.{Inductive.Keeps, Inductive.KeptBy, Inductive.KeptFrom, Inductive.IsGoalValue, Points.PointsOf}
+use Rattle.lra_inductive_sound.proofs.{Members.pairs_from, WaysOn.then_by}
 
 module _ {V : Type 0} where
   -- what the one finds the other finds

@@ -1,6 +1,5 @@
 -- Where actions lead rational points.
-use Rattle.std.proofs.Common.{pos, [], ◌∷◌, refl, arith}
-use Rattle.std.proofs.lemmas.Int.{ints}
+use Rattle.std.proofs.{Common.pos, Common.[], Common.◌∷◌, Common.refl, Common.arith, lemmas.Int.ints}
 use Rattle.lra_domain.specs.Actions.{assign, embed}
 use Rattle.lra_inductive_sound.specs.RationalPoints.{LeadsPoint}
 

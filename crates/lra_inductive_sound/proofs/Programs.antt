@@ -1,29 +1,20 @@
 -- What is reported of an iteration over a program is closed along its paths.
 use Rattle.std.proofs.Common.{◌≡◌, ℕ, suc, List, ◌++◌, length, Bool, true, Option, Some, None, refl, sym, ap, ◌∙◌, subst}
-use Rattle.std.specs.Prelude.{nat_eq, ◌&&◌, slice_get}
-use Rattle.std.specs.List.{Contains}
-use Rattle.std.proofs.lemmas.Bool.{and_parts, eqb-true}
-use Rattle.std.proofs.lemmas.Option.{same_Some}
+use Rattle.std.proofs.{lemmas.Bool.and_parts, lemmas.Bool.eqb-true, lemmas.Option.same_Some}
+use Rattle.std.specs.{List.Contains, Prelude.nat_eq, Prelude.◌&&◌, Prelude.slice_get}
 use Rattle.lra_linear_spec.proofs.Membership.{filter_from}
-use Rattle.lra_domain.specs.Actions.{Action}
-use Rattle.lra_domain.specs.Laws.{Laws}
-use Rattle.lra_domain.specs.Abstraction.{Abstraction}
-use Rattle.lra_program.specs.Program.{Program}
-use Rattle.lra_program.specs.Sites.{Site, sites_of}
+use Rattle.lra_domain.specs.{Abstraction.Abstraction, Actions.Action, Laws.Laws}
+use Rattle.lra_program.specs.{Program.Program, Sites.Site, Sites.sites_of}
 use Rattle.lra_operations.specs.Tree.{Node}
-use Rattle.lra_analysis_spec.specs.MovesOf.{first_values}
-use Rattle.lra_analysis_spec.specs.Pass.{PassResult, noted}
-use Rattle.lra_analysis_spec.specs.Analysis.{IsSolution}
+use Rattle.lra_analysis_spec.specs.{Analysis.IsSolution, MovesOf.first_values, Pass.PassResult, Pass.noted}
 use Rattle.lra_transfer.proofs.OperationWidths.{globals_dims}
 use Rattle.lra_path_segments.specs.Segments.{Goal, comes_to, violates, GoalSegment, Segment, enter, inside}
 use Rattle.lra_path_disjuncts.specs.Disjuncts.{disjuncts, written}
 use Rattle.lra_paths.specs.Paths.{same_goal, live_of, started, first_segments, next_segments, actions_between}
 use Rattle.lra_paths.proofs.SourceSteps.{alike}
-use Rattle.lra_inductive_sound.specs.Points.{PointsOf, LeadsBy, KeepPoints}
 use Rattle.lra_inductive_sound.specs.Inductive.{IsAtGoal, FailOnce, ValuesAreInductive, IsGoalValue, IsInductiveThrough}
-use Rattle.lra_inductive_sound.proofs.Members.{flat_map_from, pairs_from}
-use Rattle.lra_inductive_sound.proofs.Changes.{split_leads, made_keep}
-use Rattle.lra_inductive_sound.proofs.Trees.{tree_closed}
+use Rattle.lra_inductive_sound.specs.Points.{PointsOf, LeadsBy, KeepPoints}
+use Rattle.lra_inductive_sound.proofs.{Changes.split_leads, Changes.made_keep, Members.flat_map_from, Members.pairs_from, Trees.tree_closed}
 
 module _ (V H X : Type 0) (m : Abstraction V H) (o : PointsOf V H X) (keep : KeepPoints m o) where
   module _ (r : PassResult V) (values : List V) (verdicts : List (ℕ × Bool)) (flagged : Option ℕ) (solves : IsSolution m r values verdicts flagged)

@@ -1,22 +1,13 @@
 -- Polyhedra keep rational points.
 use Rattle.std.proofs.Common.{◌≡◌, ◌∙◌, ◌+◌, ◌-◌, ◌≤◌, ℕ, suc, ℤ, List, length, take, ap, sym, refl, subst, arith}
 use Rattle.lra_domain.specs.Actions.{Action, ActionFits, dims_after, assign, forget, test, embed, remove_last}
-use Rattle.lra_domain.specs.Abstraction.{Values}
-use Rattle.lra_domain.specs.declared.Exactness.{Exactness}
-use Rattle.lra_domain.specs.declared.Exactness.TheVariants.{Exact, Flagged}
+use Rattle.lra_domain.specs.{Abstraction.Values, declared.Exactness.Exactness, declared.Exactness.TheVariants.Exact, declared.Exactness.TheVariants.Flagged}
 use Rattle.lra_duality.specs.Rows.{test_row}
-use Rattle.lra_linear_spec.specs.Descriptions.{Con, Holds}
-use Rattle.lra_linear_spec.specs.Points.{IsPoint, SamePoint}
-use Rattle.lra_linear_spec.specs.Polyhedra.{Polyhedron}
+use Rattle.lra_linear_spec.specs.{Descriptions.Con, Descriptions.Holds, Points.IsPoint, Points.SamePoint, Polyhedra.Polyhedron}
 use Rattle.lra_linear_spec.proofs.Descriptions.{con_none}
-use Rattle.lra_poly_domain.specs.Content.{HeadContent, PolyhedronLeq}
-use Rattle.lra_poly_domain.specs.Covering.{parts_empty}
-use Rattle.lra_poly_domain.specs.Laws.{polyhedron_laws}
-use Rattle.lra_poly_domain.specs.Abstraction.{polyhedron_abstraction}
-use Rattle.lra_poly_domain.specs.Sets.{KeepsPoints, reached}
-use Rattle.lra_inductive_sound.specs.Points.{KeepPoints}
-use Rattle.lra_inductive_sound.specs.Inductive.{ValuesAreInductive}
+use Rattle.lra_poly_domain.specs.{Abstraction.polyhedron_abstraction, Content.HeadContent, Content.PolyhedronLeq, Covering.parts_empty, Laws.polyhedron_laws, Sets.KeepsPoints, Sets.reached}
 use Rattle.lra_inductive_sound.specs.RationalPoints.{IsPointOf, LeadsPoint, MovesPoint, dimension, rational_points}
+use Rattle.lra_inductive_sound.specs.{Inductive.ValuesAreInductive, Points.KeepPoints}
 use Rattle.lra_inductive_sound.proofs.Programs.{values_closed}
 
 -- where an action leads is where its set of points says

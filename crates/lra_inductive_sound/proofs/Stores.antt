@@ -1,10 +1,7 @@
 -- Stores are points that each domain keeps.
 use Rattle.std.proofs.Common.{length, ap}
-use Rattle.lra_domain.specs.Laws.{Laws}
-use Rattle.lra_domain.specs.Abstraction.{Abstraction}
-use Rattle.lra_inductive_sound.specs.Points.{KeepPoints}
-use Rattle.lra_inductive_sound.specs.Inductive.{ValuesAreInductive}
-use Rattle.lra_inductive_sound.specs.Stores.{stores}
+use Rattle.lra_domain.specs.{Abstraction.Abstraction, Laws.Laws}
+use Rattle.lra_inductive_sound.specs.{Inductive.ValuesAreInductive, Points.KeepPoints, Stores.stores}
 use Rattle.lra_inductive_sound.proofs.Programs.{values_closed}
 
 pub keep_stores : {V H : Type 0} (m : Abstraction V H) → Laws m → KeepPoints m (stores m)

@@ -1,39 +1,25 @@
 -- Each tree is closed, from any value, in a pass that doesn't narrow its loops.
 use Rattle.std.proofs.Common.{◌≡◌, ℕ, List, [], ◌∷◌, ◌++◌, map, Option, Some, None, Bool, true, false, inl, inr, refl, sym, ap, ◌∙◌, subst}
-use Rattle.std.specs.Prelude.{if◌then◌else◌}
-use Rattle.std.specs.List.{Contains, list_any}
 use Rattle.std.proofs.lemmas.List.Elements.{Contains-append_cases, Contains-append_left, Contains-append_right}
 use Rattle.std.proofs.lemmas.Option.{same_Some, none-some}
+use Rattle.std.specs.{List.Contains, List.list_any, Prelude.if◌then◌else◌}
 use Rattle.lra_linear_spec.proofs.Membership.{contains_none, contains_cases, contains_head, map_from}
-use Rattle.lra_base.specs.declared.case_labels.CaseLabel.{CaseLabel}
-use Rattle.lra_base.specs.declared.case_labels.CaseLabel.TheVariants.{Default}
-use Rattle.lra_base.specs.CaseLabels.{is_same_case}
-use Rattle.lra_program.specs.Program.{Expr, Cond}
-use Rattle.lra_program.specs.Step.{Op, test}
-use Rattle.lra_domain.specs.declared.Exactness.{Exactness}
-use Rattle.lra_domain.specs.declared.Exactness.TheVariants.{Exact}
-use Rattle.lra_domain.specs.Abstraction.{Abstraction}
-use Rattle.lra_operations.specs.declared.probes.Probe.{Probe}
-use Rattle.lra_operations.specs.declared.probes.Probe.TheVariants.{InterferencePoint, RecordWrite}
-use Rattle.lra_operations.specs.Tree.{Exit, broken, continued, returned, Completion, normal, jump, Node, empty, probe, point, act, check, seq, choose, iterate, catch, leave}
-use Rattle.lra_operations.specs.Tree.{select, Arms, no_arms, entry, arm, entries_of}
-use Rattle.lra_analysis_spec.specs.Plan.{Plan}
-use Rattle.lra_analysis_spec.specs.Operations.{lossy_operations}
-use Rattle.lra_analysis_spec.specs.Pass.{PassEntry, value, failing, recorded, PassResult, noted, jumps_of, goes_on, jumps, in_turn, first_of_call}
-use Rattle.lra_analysis_spec.specs.Pass.{values_behind, jumps_caught}
-use Rattle.lra_analysis_spec.specs.Pass.{AreJoined, Filters, Enters, RunsFrom, DescendingIteration, Pass, ArmsPass}
+use Rattle.lra_base.specs.{CaseLabels.is_same_case, declared.case_labels.CaseLabel.CaseLabel, declared.case_labels.CaseLabel.TheVariants.Default}
+use Rattle.lra_program.specs.{Program.Expr, Program.Cond, Step.Op, Step.test}
+use Rattle.lra_domain.specs.{Abstraction.Abstraction, declared.Exactness.Exactness, declared.Exactness.TheVariants.Exact}
+use Rattle.lra_operations.specs.Tree.{Exit, broken, continued, returned, Completion, normal, jump, Node, empty, probe, point, act, check, seq, choose, iterate, catch, leave, select, Arms, no_arms}
+use Rattle.lra_operations.specs.{Tree.entry, Tree.arm, Tree.entries_of, declared.probes.Probe.Probe, declared.probes.Probe.TheVariants.InterferencePoint, declared.probes.Probe.TheVariants.RecordWrite}
+use Rattle.lra_analysis_spec.specs.Pass.{PassEntry, value, failing, recorded, PassResult, noted, jumps_of, goes_on, jumps, in_turn, first_of_call, values_behind, jumps_caught, AreJoined, Filters}
+use Rattle.lra_analysis_spec.specs.{Operations.lossy_operations, Pass.Enters, Pass.RunsFrom, Pass.DescendingIteration, Pass.Pass, Pass.ArmsPass, Plan.Plan}
 use Rattle.lra_analysis_spec.proofs.Sound.{left_jump, right_jump, jump_there, behind_normal}
-use Rattle.lra_path_segments.specs.Segments.{SegmentStep, does, comes_to, violates, GoalSegment, Segment, Suffix, same_exit, through, enter, exit_suffixes}
-use Rattle.lra_path_segments.specs.Segments.{inside, with_test, tested_way}
-use Rattle.lra_path_segments.specs.Segments.{goes_in, past_labels, through_labels}
-use Rattle.lra_inductive_sound.specs.Points.{PointsOf, KeepPoints}
+use Rattle.lra_path_segments.specs.Segments.{SegmentStep, does, comes_to, violates, GoalSegment, Segment, Suffix, same_exit, through, enter, exit_suffixes, inside, with_test, tested_way, goes_in}
+use Rattle.lra_path_segments.specs.Segments.{past_labels, through_labels}
 use Rattle.lra_inductive_sound.specs.Inductive.{Keeps, KeptBy, KeptFrom, IsExitValue, IsGoalValue, IsInductiveThrough}
-use Rattle.lra_inductive_sound.proofs.Members.{one_from}
-use Rattle.lra_inductive_sound.proofs.WaysOn.{at_once, itself, same_keeps, keeps_on, then_by, change_keeps, test_keeps, join_left, join_right}
+use Rattle.lra_inductive_sound.specs.Points.{PointsOf, KeepPoints}
 use Rattle.lra_inductive_sound.proofs.Parts.{IsPart, left_part, right_part, among_more, met_more, from_met, to_same}
 use Rattle.lra_inductive_sound.proofs.Sequences.{Closes, through_both, outs_both, tree_closes, both_close}
-use Rattle.lra_inductive_sound.proofs.Loops.{round_of, loop_closed, grown}
-use Rattle.lra_inductive_sound.proofs.Arms.{AreArmsClosed, label_keeps, arms_end, arms_labelled, arms_behind}
+use Rattle.lra_inductive_sound.proofs.WaysOn.{at_once, itself, same_keeps, keeps_on, then_by, change_keeps, test_keeps, join_left, join_right}
+use Rattle.lra_inductive_sound.proofs.{Arms.AreArmsClosed, Arms.label_keeps, Arms.arms_end, Arms.arms_labelled, Arms.arms_behind, Loops.round_of, Loops.loop_closed, Loops.grown, Members.one_from}
 
 -- a jump that is caught, and the others
 behind_part : {V : Type 0} (k : Exit) (r : PassResult V) (v : V) (f : Option ℕ) → IsPart r (jumps_caught k r v f)

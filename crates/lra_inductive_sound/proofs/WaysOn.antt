@@ -2,24 +2,15 @@
 use Rattle.std.proofs.Common.{◌≡◌, ℕ, List, [], ◌∷◌, ◌++◌, Bool, refl, sym, ap, ◌∙◌, subst, append_assoc, append-nil}
 use Rattle.std.specs.List.{Contains}
 use Rattle.lra_linear_spec.proofs.Membership.{contains_head}
-use Rattle.lra_program.specs.Program.{Cond}
-use Rattle.lra_program.specs.Step.{Op, test}
-use Rattle.lra_domain.specs.Actions.{Action}
-use Rattle.lra_domain.specs.declared.Exactness.{Exactness}
-use Rattle.lra_domain.specs.Abstraction.{Abstraction}
-use Rattle.lra_analysis_spec.specs.Operations.{lossy_operations}
-use Rattle.lra_analysis_spec.specs.MovesOf.{guard, moves_of}
-use Rattle.lra_analysis_spec.specs.Pass.{OpTransfer, Filters}
+use Rattle.lra_program.specs.{Program.Cond, Step.Op, Step.test}
+use Rattle.lra_domain.specs.{Abstraction.Abstraction, Actions.Action, declared.Exactness.Exactness}
+use Rattle.lra_analysis_spec.specs.{MovesOf.guard, MovesOf.moves_of, Operations.lossy_operations, Pass.OpTransfer, Pass.Filters}
 use Rattle.lra_transfer.proofs.OperationWidths.{changes_dims, leaves_dims}
 use Rattle.lra_path_segments.specs.Segments.{SegmentStep, does}
-use Rattle.lra_path_disjuncts.specs.StepMoves.{step_moves, dims_after_step}
-use Rattle.lra_path_disjuncts.specs.Disjuncts.{disjuncts, written}
-use Rattle.lra_path_disjuncts.specs.SegmentMoves.{live_after_steps}
+use Rattle.lra_path_disjuncts.specs.{Disjuncts.disjuncts, Disjuncts.written, SegmentMoves.live_after_steps, StepMoves.step_moves, StepMoves.dims_after_step}
 use Rattle.lra_path_segments.proofs.Lists.{each_then_has}
-use Rattle.lra_inductive_sound.specs.Points.{PointsOf, LeadsBy, KeepPoints}
-use Rattle.lra_inductive_sound.specs.Inductive.{Keeps, KeptBy}
-use Rattle.lra_inductive_sound.proofs.Members.{one_from, pairs_from}
-use Rattle.lra_inductive_sound.proofs.Changes.{split_leads, SidesKeep, made_keep}
+use Rattle.lra_inductive_sound.specs.{Inductive.Keeps, Inductive.KeptBy, Points.PointsOf, Points.LeadsBy, Points.KeepPoints}
+use Rattle.lra_inductive_sound.proofs.{Changes.split_leads, Changes.SidesKeep, Changes.made_keep, Members.one_from, Members.pairs_from}
 
 live_on : (live : ℕ) (a b : List SegmentStep) → live_after_steps live (a ++ b) ≡ live_after_steps (live_after_steps live a) b
 live_on live [] b = refl

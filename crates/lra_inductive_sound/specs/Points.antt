@@ -3,11 +3,8 @@
 use Rattle.std.specs.Prelude.{◌≡◌, ℕ, List, [], ◌∷◌}
 use Rattle.lra_systems.specs.LinearSystems.{LinearSystem}
 use Rattle.lra_linear_spec.specs.declared.ConKind.{ConKind}
-use Rattle.lra_domain.specs.Actions.{Action}
-use Rattle.lra_domain.specs.declared.Mode.{Mode}
-use Rattle.lra_domain.specs.declared.Exactness.{Exactness}
-use Rattle.lra_domain.specs.declared.Included.TheVariants.{Yes}
-use Rattle.lra_domain.specs.Abstraction.{Abstraction, Starts, Values}
+use Rattle.lra_domain.specs.{Abstraction.Abstraction, Abstraction.Starts, Abstraction.Values, Actions.Action}
+use Rattle.lra_domain.specs.{declared.Exactness.Exactness, declared.Included.TheVariants.Yes, declared.Mode.Mode}
 
 pub record PointsOf (V H X : Type 0) : Type 1 where
   -- the point is one of the value, of the head

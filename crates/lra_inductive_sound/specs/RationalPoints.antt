@@ -3,10 +3,8 @@
 use Rattle.std.specs.Prelude.{◌≡◌, ◌-◌, ℕ, suc, ℤ, List, length, take}
 use Rattle.lra_domain.specs.Actions.{Action, dims_after, assign, forget, test, embed, remove_last}
 use Rattle.lra_linear_forms.specs.Form.{form_row}
-use Rattle.lra_linear_spec.specs.Descriptions.{Con, Holds}
-use Rattle.lra_linear_spec.specs.Points.{IsPoint, SamePoint}
-use Rattle.lra_linear_spec.specs.Polyhedra.{Polyhedron}
-use Rattle.lra_linear_spec.specs.SetOperations.{assigned, SameBut}
+use Rattle.lra_linear_spec.specs.{Descriptions.Con, Descriptions.Holds, Points.IsPoint, Points.SamePoint}
+use Rattle.lra_linear_spec.specs.{Polyhedra.Polyhedron, SetOperations.assigned, SetOperations.SameBut}
 use Rattle.lra_duality.specs.Rows.{test_row}
 use Rattle.lra_poly_domain.specs.Content.{HeadContent}
 use Rattle.lra_inductive_sound.specs.Points.{PointsOf}

@@ -2,8 +2,7 @@
 
 ghost use Rattle.lra_poly_domain.specs.Abstraction.{polyhedron_abstraction};
 ghost use Rattle.lra_inductive_sound.specs.Inductive.{ValuesAreInductive};
-ghost use Rattle.lra_inductive_sound.specs.RationalPoints.{rational_points};
-ghost use Rattle.lra_inductive_sound.specs.Stores.{stores};
+ghost use Rattle.lra_inductive_sound.specs.{RationalPoints.rational_points, Stores.stores};
 
 use lra_domain::Domain;
 

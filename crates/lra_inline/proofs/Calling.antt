@@ -3,27 +3,14 @@ use Rattle.std.proofs.Common.{◌≡◌, ◌≢◌, ℕ, suc, ◌+◌, ◌-◌, 
 use Rattle.std.proofs.lemmas.Option.{same_Some}
 use Rattle.lra_base.specs.Limits.{greatest_live}
 use Rattle.lra_program.specs.Program.{Call, BlockItems, Function, Program}
-use Rattle.lra_program.specs.declared.receivers.Receiver.{Receiver}
-use Rattle.lra_program.specs.Receivers.{result_receiver}
-use Rattle.lra_program.specs.Step.{Op, arguments_for}
-use Rattle.lra_program.specs.Value.{Argument}
-use Rattle.lra_operations.specs.Tree.{Node}
 use Rattle.lra_program.specs.Sites.{Site, plain_site, live_after_items, items_events, function_events, call_events}
-use Rattle.lra_operations.specs.Inlined.{callee_node}
-use Rattle.lra_inline_steps.specs.declared.points.Limit.{Limit}
-use Rattle.lra_inline_steps.specs.declared.points.Limit.TheVariants.{Calls}
-use Rattle.lra_inline_steps.specs.declared.frame.Frame.{Frame}
-use Rattle.lra_inline_steps.specs.Limits.{Progress, passed, stopped, add_points}
-use Rattle.lra_inline_steps.specs.Building.{inside, callee_frame, CallStands, ItemsStand, WritesItems, WritesCall, WritesBody}
-use Rattle.lra_inline_steps.specs.declared.stack.CalledFrom.{CalledFrom}
+use Rattle.lra_program.specs.{ProgramViews.call_view, Receivers.result_receiver, Step.Op, Step.arguments_for, Value.Argument, WellFormed.IsWellFormed, declared.receivers.Receiver.Receiver}
+use Rattle.lra_operations.specs.{Inlined.callee_node, Tree.Node}
+use Rattle.lra_inline_steps.specs.{Building.inside, Building.callee_frame, Building.CallStands, Building.ItemsStand, Building.WritesItems, Building.WritesCall, Building.WritesBody, Limits.Progress}
+use Rattle.lra_inline_steps.specs.{Limits.passed, Limits.stopped, Limits.add_points, Stack.inline_task, Stack.all_items, Stack.a_call, Stack.IsInlineFrame, Steps.items_steps, Steps.body_steps}
+use Rattle.lra_inline_steps.specs.{Steps.call_steps, declared.frame.Frame.Frame, declared.points.Limit.Limit, declared.points.Limit.TheVariants.Calls, declared.stack.CalledFrom.CalledFrom}
 use Rattle.lra_inline_steps.specs.declared.stack.InlineContext.TheVariants as place
-use Rattle.lra_inline_steps.specs.Stack.{inline_task, all_items, a_call, IsInlineFrame}
-use Rattle.lra_inline_steps.specs.Steps.{items_steps, body_steps, call_steps}
-use Rattle.lra_inline_steps.proofs.Walking.{walk_then, walk_stop}
-use Rattle.lra_inline_steps.proofs.Writing.{Pointed, result_written}
-use Rattle.lra_inline_steps.proofs.Standing.{callee_stands}
-use Rattle.lra_program.specs.WellFormed.{IsWellFormed}
-use Rattle.lra_program.specs.ProgramViews.{call_view}
+use Rattle.lra_inline_steps.proofs.{Standing.callee_stands, Walking.walk_then, Walking.walk_stop, Writing.Pointed, Writing.result_written}
 
 pub one_less : (n : ℕ) → (n ≡ 0 → ⊥) → n ≡ suc (n - 1)
 one_less n some = omega (arith, some)

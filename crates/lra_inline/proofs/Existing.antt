@@ -1,43 +1,29 @@
 -- Each well-formed program that passes no limit has a tree of operations.
 use Rattle.std.proofs.Common.{◌≡◌, ℕ, zero, suc, ◌+◌, ◌≤◌, List, [], ◌∷◌, ◌++◌, length, Option, Some, None, refl, sym, ap, ◌∙◌, subst, arith}
-use Rattle.std.specs.Prelude.{nat_lt}
 use Rattle.std.proofs.lemmas.Option.{none-some}
-use Rattle.lra_program.specs.Program.{Call, Rvalue, value, result, Stmt, absent, nothing, block, assign, write, call, if, loop, for}
-use Rattle.lra_program.specs.Program.{break, continue, return, assert}
-use Rattle.lra_program.specs.Program.{assume, BlockItems, no_more, declaration, array, statement, switch, Cases, no_cases, labelled, stated, Program}
-use Rattle.lra_program.specs.Value.{Argument, index_of}
-use Rattle.lra_program.specs.Step.{Op, append, store_value, havoc, push, push_for, truncate_to, arguments_for}
+use Rattle.std.specs.Prelude.{nat_lt}
+use Rattle.lra_program.specs.Program.{Call, Rvalue, value, result, Stmt, absent, nothing, block, assign, write, call, if, loop, for, break, continue, return, assert, assume, BlockItems, no_more}
+use Rattle.lra_program.specs.Program.{declaration, array, statement, switch, Cases, no_cases, labelled, stated, Program}
+use Rattle.lra_program.specs.Sites.{Site, Event, comes, one_call_more, plain_site, live_after_items, rvalue_events, given_events, stmt_events, cases_events, items_events, function_events, call_events}
+use Rattle.lra_program.specs.{Receivers.variable_at, Receivers.waiting_in, Receivers.nobody, Receivers.result_receiver, Sites.events_of, Step.Op, Step.append, Step.store_value, Step.havoc, Step.push}
+use Rattle.lra_program.specs.{Step.push_for, Step.truncate_to, Step.arguments_for, Value.Argument, Value.index_of, WellFormed.IsWellFormed, declared.receivers.Receiver.Receiver}
 use Rattle.lra_base.specs.declared.number_types.NumberType.{NumberType}
-use Rattle.lra_program.specs.declared.receivers.Receiver.{Receiver}
-use Rattle.lra_program.specs.Receivers.{variable_at, waiting_in, nobody, result_receiver}
 use Rattle.lra_operations.specs.Tree.{returned, Node, empty, point, act, seq, choose, leave, Arms, no_arms, entry, arm}
+use Rattle.lra_operations.specs.{Agree.IsInlinedTree, Inlined.return_node, Inlined.callee_node, Inlined.loop_node, Inlined.switch_node}
 use Rattle.lra_syntax.specs.Labels.{Labelled}
-use Rattle.lra_program.specs.Sites.{Site, Event, comes, one_call_more, plain_site, live_after_items, rvalue_events, given_events, stmt_events, cases_events, items_events, function_events, call_events, events_of}
-use Rattle.lra_operations.specs.Inlined.{return_node, callee_node, loop_node, switch_node}
-use Rattle.lra_operations.specs.Agree.{IsInlinedTree}
-use Rattle.lra_program.specs.WellFormed.{IsWellFormed}
 use Rattle.lra_resolution_spec.specs.Refuse.{greatest_live, greatest_points, limit_fault}
+use Rattle.lra_inline_steps.specs.Building.{inside, StmtStands, CasesStand, ItemsStand, GivenStands, CallStands, cases_frame, WritesStmt, WritesCases, WritesItems, WritesRvalue, WritesCall}
 use Rattle.lra_inline_steps.specs.declared.points.Limit.TheVariants.{Variables, Points, Calls}
-use Rattle.lra_inline_steps.specs.declared.frame.Frame.{Frame}
-use Rattle.lra_inline_steps.specs.Limits.{Progress, passed, stopped, add_points}
-use Rattle.lra_inline_steps.specs.Building.{inside, StmtStands, CasesStand, ItemsStand, GivenStands, CallStands, cases_frame, WritesStmt}
-use Rattle.lra_inline_steps.specs.Building.{WritesCases, WritesItems, WritesRvalue, WritesCall, WritesDeclared}
+use Rattle.lra_inline_steps.specs.{Building.WritesDeclared, Limits.Progress, Limits.passed, Limits.stopped, Limits.add_points, declared.frame.Frame.Frame}
+use Rattle.lra_inline_steps.proofs.Standing.{block_stands, assign_stands, write_stands, call_stands, true_stands, false_stands, return_stands, first_stands, others_stand, array_stands, result_stands}
+use Rattle.lra_inline_steps.proofs.Standing.{declared_stands, behind_stand, switch_stands, labelled_stand, first_case_stands, other_cases_stand, body_stands, step_stands, init_stands, for_again}
+use Rattle.lra_inline_steps.proofs.Standing.{callee_stands, main_stands, the_callee, break_stands, continue_stands}
 use Rattle.lra_inline_steps.proofs.Walking.{not_passed, passed_same, chosen_then, chosen_passed}
-use Rattle.lra_inline_steps.proofs.Writing.{absent_written, nothing_written, block_written, assign_written, write_written, write_called, call_written}
-use Rattle.lra_inline_steps.proofs.Writing.{if_written, rounds_written, loop_written, break_written, continue_written}
-use Rattle.lra_inline_steps.proofs.Writing.{assert_written, assume_written, for_written, return_written, return_any_written, return_value_written, return_call_written, end_any_written}
-use Rattle.lra_inline_steps.proofs.Writing.{end_value_written}
-use Rattle.lra_inline_steps.proofs.Writing.{no_cases_written, labelled_written, stated_written, switch_written}
-use Rattle.lra_inline_steps.proofs.Writing.{WritesReturn, end_call_written, none_written, statement_written, declaration_written}
-use Rattle.lra_inline_steps.proofs.Writing.{array_written, fresh_written, given_written, value_written, result_given}
-use Rattle.lra_inline_steps.proofs.Standing.{block_stands, assign_stands, write_stands, call_stands, true_stands, false_stands, return_stands}
-use Rattle.lra_inline_steps.proofs.Standing.{first_stands, others_stand, array_stands, result_stands}
-use Rattle.lra_inline_steps.proofs.Standing.{declared_stands, behind_stand}
-use Rattle.lra_inline_steps.proofs.Standing.{switch_stands, labelled_stand, first_case_stands, other_cases_stand}
-use Rattle.lra_inline_steps.proofs.Standing.{body_stands, step_stands, init_stands, for_again, callee_stands, main_stands, the_callee, break_stands}
-use Rattle.lra_inline_steps.proofs.Standing.{continue_stands}
-use Rattle.lra_inline.proofs.Calling.{no_call_more, invoked}
-use Rattle.lra_inline.proofs.Totals.{fault_in, walk_fault, first_frame, events_are, whole_graph}
+use Rattle.lra_inline_steps.proofs.Writing.{absent_written, nothing_written, block_written, assign_written, write_written, write_called, call_written, if_written, rounds_written, loop_written}
+use Rattle.lra_inline_steps.proofs.Writing.{break_written, continue_written, assert_written, assume_written, for_written, return_written, return_any_written, return_value_written, return_call_written}
+use Rattle.lra_inline_steps.proofs.Writing.{end_any_written, end_value_written, no_cases_written, labelled_written, stated_written, switch_written, WritesReturn, end_call_written, none_written}
+use Rattle.lra_inline_steps.proofs.Writing.{statement_written, declaration_written, array_written, fresh_written, given_written, value_written, result_given}
+use Rattle.lra_inline.proofs.{Calling.no_call_more, Calling.invoked, Totals.fault_in, Totals.walk_fault, Totals.first_frame, Totals.events_are, Totals.whole_graph}
 
 -- what passes, passes up to each place
 abbrev Parts : List Site → List Event → List Event → List Site → Type 0

@@ -1,28 +1,18 @@
 -- Which function of the defined program a function of the code's stands for, and that `main` is one of them.
-use Rattle.std.proofs.Common.{◌≡◌, ℕ, ◌+◌, ◌≤◌, ◌<◌, List, [], ◌∷◌, length, map, Some, None, option_map, slice_get, get_or, inl, inr, refl, sym, ap, ◌∙◌, subst}
-use Rattle.std.proofs.Common.{arith}
-use Rattle.std.specs.Vec.{vec_len}
+use Rattle.std.proofs.Common.{◌≡◌, ℕ, ◌+◌, ◌≤◌, ◌<◌, List, [], ◌∷◌, length, map, Some, None, option_map, slice_get, get_or, inl, inr, refl, sym, ap, ◌∙◌, subst, arith}
 use Rattle.std.proofs.lemmas.List.{length-map}
 use Rattle.std.proofs.lemmas.Option.{none-some, same_Some, slice_get-map, slice_get_cases, slice_get_read, get_or_from_slice_get}
+use Rattle.std.specs.Vec.{vec_len}
 use Rattle.lra_base.specs.Limits.{greatest_live}
 use Rattle.lra_program.specs.Program as resolved
-use Rattle.lra_program.specs.declared.program.BlockItem.{BlockItem}
-use Rattle.lra_program.specs.declared.program.Call.{Call}
-use Rattle.lra_program.specs.declared.program.Function.{Function}
-use Rattle.lra_program.specs.declared.program.Program.{Program}
 use Rattle.lra_program.specs.ProgramViews.{expr_view, call_view, item_view, items_of, function_view, function_or, program_view}
 use Rattle.lra_program.specs.WellFormed.{items_numbers, function_numbers, IsWellFormed}
-use Rattle.lra_inline_sound.proofs.DistinctLists.{IsIn, in_right, in_piece, in_range}
-use Rattle.lra_inline_sound.proofs.DistinctSites.{main_at}
-use Rattle.lra_inline_steps.specs.declared.frame.Frame.{Frame}
-use Rattle.lra_inline_steps.specs.Building.{callee_frame, CallStands}
-use Rattle.lra_inline_steps.proofs.Shown.{shown_items}
-use Rattle.lra_inline_steps.proofs.Standing.{the_callee}
-use Rattle.lra_inline.proofs.Calling.{IsCallee}
-use Rattle.lra_inline.proofs.Totals.{first_frame}
-use Rattle.lra_program.specs.declared.receivers.Receiver.{Receiver}
-use Rattle.lra_program.specs.Receivers.{nobody, result_receiver}
-use Rattle.lra_program.specs.Step.{main_receiver}
+use Rattle.lra_program.specs.{Receivers.nobody, Receivers.result_receiver, Step.main_receiver, declared.program.BlockItem.BlockItem, declared.program.Call.Call, declared.program.Function.Function}
+use Rattle.lra_program.specs.{declared.program.Program.Program, declared.receivers.Receiver.Receiver}
+use Rattle.lra_inline_sound.proofs.{DistinctLists.IsIn, DistinctLists.in_right, DistinctLists.in_piece, DistinctLists.in_range, DistinctSites.main_at}
+use Rattle.lra_inline_steps.specs.{Building.callee_frame, Building.CallStands, declared.frame.Frame.Frame}
+use Rattle.lra_inline_steps.proofs.{Shown.shown_items, Standing.the_callee}
+use Rattle.lra_inline.proofs.{Calling.IsCallee, Totals.first_frame}
 
 -- labels are counted from 1
 end_counts : (P : resolved.Program) → IsWellFormed P → 1 ≤ P.main.end

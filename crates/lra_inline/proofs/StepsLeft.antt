@@ -1,13 +1,11 @@
 -- Where the innermost place goes on behind its part, fewer steps are left in all.
-use Rattle.std.proofs.Common.{◌≡◌, ◌+◌, ◌<◌, List, [], ◌∷◌, ◌++◌, sym, subst, arith}
+use Rattle.std.proofs.{Common.◌≡◌, Common.◌+◌, Common.◌<◌, Common.List, Common.[], Common.◌∷◌, Common.◌++◌, Common.sym, Common.subst, Common.arith, lemmas.List.Sums.sum_by_push}
 use Rattle.std.specs.List.{sum_by}
-use Rattle.std.proofs.lemmas.List.Sums.{sum_by_push}
 use Rattle.lra_program.specs.Program.{Program}
-use Rattle.lra_inline_steps.specs.declared.stack.InlineFrame.{InlineFrame}
+use Rattle.lra_inline_steps.specs.{Steps.place_left, Steps.next_left, Steps.all_left, declared.stack.InlineFrame.InlineFrame}
 use Rattle.lra_inline_steps.specs.declared.stack.Written as written
 use Rattle.lra_inline_steps.specs.declared.stack.Next as next_type
 use Rattle.lra_inline_steps.specs.declared.stack.Next.TheVariants as next
-use Rattle.lra_inline_steps.specs.Steps.{place_left, next_left, all_left}
 
 pub fewer_left : (P : Program) (os os' : List InlineFrame) (o : InlineFrame) (k k' : next_type.Next) (w : written.Written) → os ≡ os' ++ o ∷ [] → k ≡ next.Written w → next_left P k' < place_left P o
     → all_left P os' k' < all_left P os k

@@ -1,26 +1,17 @@
 -- A whole program written out: its points are those of the definition, its tree is the definition's, and it is refused for the limit that
 -- stopped the writing.
 use Rattle.std.proofs.Common.{◌≡◌, ℕ, zero, suc, ◌≤◌, ◌<◌, List, [], ◌∷◌, ◌++◌, length, Option, Some, None, Bool, true, false, slice_get, refl, sym, ap, ◌∙◌, subst, arith, append-nil, append_assoc}
-use Rattle.std.proofs.Common.{length-append, add-zero}
+use Rattle.std.proofs.{Common.length-append, Common.add-zero, lemmas.Bool.lt-ltb, lemmas.Bool.le-ltb, lemmas.Bool.ltb-false, lemmas.Option.none-some, lemmas.Option.same_Some}
 use Rattle.std.specs.Prelude.{nat_lt, if◌then◌else◌}
-use Rattle.std.proofs.lemmas.Bool.{lt-ltb, le-ltb, ltb-false}
-use Rattle.std.proofs.lemmas.Option.{none-some, same_Some}
 use Rattle.lra_base.specs.declared.refusals.Refusal.{Refusal}
-use Rattle.lra_program.specs.Program.{BlockItems, Program}
-use Rattle.lra_program.specs.Step.{main_receiver}
+use Rattle.lra_program.specs.Sites.{Site, Event, comes, one_call_more, plain_site, live_after_items, items_events, call_events, events_of, event_sites, sites_of}
+use Rattle.lra_program.specs.{Program.BlockItems, Program.Program, Step.main_receiver, WellFormed.IsWellFormed}
 use Rattle.lra_syntax.specs.Labels.{Labelled}
-use Rattle.lra_operations.specs.Tree.{Node, seq, point}
-use Rattle.lra_program.specs.Sites.{Site, Event, comes, one_call_more, plain_site, live_after_items, items_events, call_events, events_of, event_sites}
-use Rattle.lra_program.specs.Sites.{sites_of}
-use Rattle.lra_operations.specs.Inlined.{move, IsSiteAt, InlineItems, main_frame, main_inline_state}
-use Rattle.lra_operations.specs.Agree.{IsInlinedTree}
-use Rattle.lra_program.specs.WellFormed.{IsWellFormed}
+use Rattle.lra_operations.specs.{Agree.IsInlinedTree, Inlined.move, Inlined.IsSiteAt, Inlined.InlineItems, Inlined.main_frame, Inlined.main_inline_state, Tree.Node, Tree.seq, Tree.point}
 use Rattle.lra_resolution_spec.specs.Refuse.{greatest_live, greatest_points, limit_fault}
-use Rattle.lra_inline_steps.specs.declared.points.Limit.{Limit}
-use Rattle.lra_inline_steps.specs.declared.points.Limit.TheVariants.{Variables, Points, Calls}
-use Rattle.lra_inline_steps.specs.declared.frame.Frame.{Frame}
 use Rattle.lra_inline_steps.specs.Limits.{Progress, passed, stopped, add_points, refusal_of}
-use Rattle.lra_inline_steps.specs.Building.{inside, WritesItems, IsFrame}
+use Rattle.lra_inline_steps.specs.declared.points.Limit.TheVariants.{Variables, Points, Calls}
+use Rattle.lra_inline_steps.specs.{Building.inside, Building.WritesItems, Building.IsFrame, declared.frame.Frame.Frame, declared.points.Limit.Limit}
 use Rattle.lra_inline_steps.proofs.Walking.{walk_then, walk_stop, chosen, chosen_passed, point_there, one_longer, begins_same, passed_same, not_passed}
 use Rattle.lra_inline_steps.proofs.Writing.{Pointed, pointed_begins}
 

@@ -7,16 +7,13 @@ mod parts;
 mod whole;
 
 ghost use Rattle.std.specs.Prelude.{◌≡◌, ◌<◌, [], ◌∷◌, ◌++◌, map, IfOk};
-ghost use Rattle.lra_program.specs.Sites.{live_after_items};
-ghost use Rattle.lra_program.specs.WellFormed.{IsWellFormed};
 ghost use Rattle.lra_program.specs.ProgramViews.{item_view, items_of};
+ghost use Rattle.lra_program.specs.{Sites.live_after_items, WellFormed.IsWellFormed};
 ghost use Rattle.lra_operations.specs.TreeViews.{node_view};
-ghost use Rattle.lra_inline_steps.specs.Limits.{OnLimit};
 ghost use Rattle.lra_inline_steps.specs.Inlining.{points_in, program_of, program_around, ItemsStand};
-ghost use Rattle.lra_inline_steps.specs.Inlining.{AreItemsWrittenOut, StopsItems};
 ghost use Rattle.lra_inline_steps.specs.Stack.{InlineTask, inline_task, part_view, IsWritten, InlineStepLeads};
-ghost use Rattle.lra_inline_steps.specs.Stack.{StandsAs, Stops, StopsAs};
-ghost use Rattle.lra_inline_steps.specs.Steps.{next_left, work_steps};
+ghost use Rattle.lra_inline_steps.specs.{Inlining.AreItemsWrittenOut, Inlining.StopsItems, Limits.OnLimit};
+ghost use Rattle.lra_inline_steps.specs.{Stack.StandsAs, Stack.Stops, Stack.StopsAs, Steps.next_left, Steps.work_steps};
 
 use going_on::go_on;
 use lra_inline_steps::{Around, Frame, InlineError, InlineFrame, Next, Part, Source, Written};

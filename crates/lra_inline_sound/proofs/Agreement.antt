@@ -1,22 +1,14 @@
 -- A run comes to a point on a trail, and fails there, exactly where the tree does; so without trails too.
 use Rattle.std.proofs.Common.{◌≡◌, ℕ, ℤ, List, [], ◌∷◌, length, Some, slice_get, ◌⊎◌, inl, inr, refl, sym, ap, ◌∙◌, subst}
 use Rattle.std.proofs.lemmas.Option.{same_Some}
-use Rattle.lra_program.specs.Program.{Program}
-use Rattle.lra_program.specs.Step.{State, Config}
-use Rattle.lra_program.specs.Run.{begun, Point, start, label_on, IsOn, At, Fails}
 use Rattle.lra_program.specs.Traces.{TraceEvent, visit, Trace, NoChange, TracedSteps, Arrives, ViolatesAssertion}
+use Rattle.lra_program.specs.{Program.Program, Run.begun, Run.Point, Run.start, Run.label_on, Run.IsOn, Run.At, Run.Fails, Sites.Site, Sites.sites_of, Step.State, Step.Config}
 use Rattle.lra_program.proofs.TraceLaws as walks
 use Rattle.lra_program.proofs.TraceLaws.{Quiet, LastMet, last_met}
-use Rattle.lra_operations.specs.Tree.{Node}
-use Rattle.lra_operations.specs.Traces.{to_point, to_failure}
-use Rattle.lra_program.specs.Sites.{Site, sites_of}
-use Rattle.lra_operations.specs.Agree.{IsInlinedTree, Reached, Failed, point_of, AreDistinct, TreesAgree}
 use Rattle.lra_operations.specs.TracesAgree.{KeepsWidth, point_at, point_or_none, TreeRunsUpTo, TracesAgree, TreesHaveTraces}
+use Rattle.lra_operations.specs.{Agree.IsInlinedTree, Agree.Reached, Agree.Failed, Agree.point_of, Agree.AreDistinct, Agree.TreesAgree, Traces.to_point, Traces.to_failure, Tree.Node}
 use Rattle.lra_operations.proofs.TraceLaws as trees
-use Rattle.lra_inline_sound.proofs.NextOperations.{overflows}
-use Rattle.lra_inline_sound.proofs.Split.{trail}
-use Rattle.lra_inline_sound.proofs.Reached.{reached}
-use Rattle.lra_inline_sound.proofs.Performed.{performed, failed}
+use Rattle.lra_inline_sound.proofs.{NextOperations.overflows, Performed.performed, Performed.failed, Reached.reached, Split.trail}
 
 met_rest : {x y : TraceEvent Point} {xs ys : List (TraceEvent Point)} → x ∷ xs ≡ y ∷ ys → xs ≡ ys
 met_rest e = cc

@@ -1,19 +1,11 @@
 -- Where something holds of what is on top of a run, it holds of what its tree asks there: where a run stops by a number, and where an access is outside.
 use Rattle.std.proofs.Common.{◌≡◌, ℕ, [], length, Some, None, refl, ap, subst, slice_get}
-use Rattle.lra_program.specs.Program.{Program}
-use Rattle.lra_program.specs.Step.{State, Config}
-use Rattle.lra_program.specs.Run.{start, IsOn, Reaches}
-use Rattle.lra_program.specs.Traces.{NoChange}
-use Rattle.lra_program.specs.NextOperation.{NextOpIs}
-use Rattle.lra_program.specs.Sites.{Site, sites_of}
+use Rattle.lra_program.specs.{NextOperation.NextOpIs, Program.Program, Run.start, Run.IsOn, Run.Reaches, Sites.Site, Sites.sites_of, Step.State, Step.Config, Traces.NoChange}
 use Rattle.lra_program.proofs.TraceLaws.{walk_of}
-use Rattle.lra_operations.specs.Tree.{Node}
-use Rattle.lra_operations.specs.Agree.{IsInlinedTree, point_of, AreDistinct}
 use Rattle.lra_operations.specs.CheckedOperations.{AgreesOnOps, TreesAgreeOnOverflows, TreesAgreeOnAccesses}
-use Rattle.lra_operations.specs.TracesAgree.{KeepsWidth}
-use Rattle.lra_inline_sound.proofs.OncePerPoint.{Unasked, asked_once}
+use Rattle.lra_operations.specs.{Agree.IsInlinedTree, Agree.point_of, Agree.AreDistinct, TracesAgree.KeepsWidth, Tree.Node}
 use Rattle.lra_inline_sound.proofs.NextOperations.{Question, overflows, strays, Asks, all_in}
-use Rattle.lra_inline_sound.proofs.Reached.{reached}
+use Rattle.lra_inline_sound.proofs.{OncePerPoint.Unasked, OncePerPoint.asked_once, Reached.reached}
 
 alone_keeps : KeepsWidth NoChange
 alone_keeps s t e = ap (λ (x : State). length x.store) e

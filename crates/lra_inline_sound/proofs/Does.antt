@@ -1,46 +1,31 @@
 -- What the tree reaches, a run reaches, on the same trail.
-use Rattle.std.proofs.Common.{◌≡◌, ◌≢◌, ℕ, zero, suc, ◌+◌, ◌≤◌, List, ◌∷◌, length, Option, Some, None, Bool, true, false, inl, inr, refl, sym, ap, ◌∙◌, subst}
-use Rattle.std.proofs.Common.{slice_get}
-use Rattle.std.specs.Prelude.{cond}
+use Rattle.std.proofs.Common.{◌≡◌, ◌≢◌, ℕ, zero, suc, ◌+◌, ◌≤◌, List, ◌∷◌, length, Option, Some, None, Bool, true, false, inl, inr, refl, sym, ap, ◌∙◌, subst, slice_get}
 use Rattle.std.proofs.lemmas.Option.{same_Some, none-some}
-use Rattle.lra_program.specs.Program.{Expr, Cond, Call, Rvalue, value, result, Declarator, Stmt, absent, nothing, block, assign, write, call, if, loop, for}
-use Rattle.lra_program.specs.Program.{break, continue, return, assert, assume}
-use Rattle.lra_base.specs.declared.case_labels.CaseLabel.{CaseLabel}
-use Rattle.lra_base.specs.CaseLabels.{is_same_case}
-use Rattle.lra_program.specs.Program.{switch, Cases, no_cases, labelled, stated, labels_of}
-use Rattle.lra_program.specs.Program.{BlockItems, no_more, declaration, array, statement, Function, Program}
-use Rattle.lra_program.specs.Value.{Drawn, index_of, Argument, truth_of}
-use Rattle.lra_program.specs.declared.receivers.Receiver.{Receiver}
-use Rattle.lra_program.specs.Receivers.{variable_at, nobody}
-use Rattle.lra_program.specs.Step.{State, Op, append, fill, store_value, store_element, havoc, truncate_to, test, run_op, run_any, tested, CallContext}
-use Rattle.lra_program.specs.Step.{ReturnFrame, Item, run, declare}
-use Rattle.lra_program.specs.Step.{declare_array, all, end_of, next_round, end_for, return_frame, leave_call, Config, BreakTarget, ContinueTarget}
-use Rattle.lra_program.specs.Step.{environment_at, break_target, continue_target, ReturnTarget}
-use Rattle.lra_program.specs.Step.{return_target, main_receiver, receiver_of, go, go_by, go_on, enter_by, do_rvalue, do_write, do_leave, do_break, cases}
-use Rattle.lra_program.specs.Step.{end_switch}
-use Rattle.lra_program.specs.Step.{cases_after_label, do_continue, do_stmt, do_declare, next, next_at}
-use Rattle.lra_program.specs.Run.{label_on, Point, IsFailing}
-use Rattle.lra_program.specs.Traces.{TraceEvent, visit, Trace, with_visit, Becomes, TracedSteps}
+use Rattle.std.specs.Prelude.{cond}
+use Rattle.lra_program.specs.Program.{Expr, Cond, Call, Rvalue, value, result, Declarator, Stmt, absent, nothing, block, assign, write, call, if, loop, for, break, continue, return, assert, assume}
+use Rattle.lra_program.specs.Program.{switch, Cases, no_cases, labelled, stated, labels_of, BlockItems, no_more, declaration, array, statement, Function, Program}
+use Rattle.lra_program.specs.Step.{State, Op, append, fill, store_value, store_element, havoc, truncate_to, test, run_op, run_any, tested, CallContext, ReturnFrame, Item, run, declare, declare_array}
+use Rattle.lra_program.specs.Step.{all, end_of, next_round, end_for, return_frame, leave_call, Config, BreakTarget, ContinueTarget, environment_at, break_target, continue_target, ReturnTarget}
+use Rattle.lra_program.specs.Step.{return_target, main_receiver, receiver_of, go, go_by, go_on, enter_by, do_rvalue, do_write, do_leave, do_break, cases, end_switch, cases_after_label, do_continue}
+use Rattle.lra_program.specs.Step.{do_stmt, do_declare, next, next_at}
+use Rattle.lra_program.specs.{Receivers.variable_at, Receivers.nobody, Run.label_on, Run.Point, Run.IsFailing, Sites.Site, Traces.TraceEvent, Traces.visit, Traces.Trace, Traces.with_visit}
+use Rattle.lra_program.specs.{Traces.Becomes, Traces.TracedSteps, Value.Drawn, Value.index_of, Value.Argument, Value.truth_of, declared.receivers.Receiver.Receiver}
+use Rattle.lra_base.specs.{CaseLabels.is_same_case, declared.case_labels.CaseLabel.CaseLabel}
 use Rattle.lra_program.proofs.TraceLaws.{walk_on}
-use Rattle.lra_operations.specs.Tree.{Exit, broken, continued, returned, Node, empty, point, act, check, seq, choose, leave, Arms, entries_of}
+use Rattle.lra_operations.specs.Inlined.{Frame, InlineState, spot_of, move, IsSiteAt, IsSiteWith, callee, InlineStmt, InlineItems, InlineDeclarator, InlineLoop, InlineRvalue, InlineCall, as_nothing}
+use Rattle.lra_operations.specs.Inlined.{as_block, as_absent, as_assign, as_write, as_write_call, as_call, as_if, as_loop, as_for, as_break, as_continue, as_return, as_return_value, as_return_call}
+use Rattle.lra_operations.specs.Inlined.{as_end, as_end_value, as_end_call, as_assert, as_assume, as_switch, as_no_cases, as_labelled, as_stated, InlineCases, switch_node, as_none, as_declaration}
+use Rattle.lra_operations.specs.Inlined.{as_array, as_statement, as_fresh, as_given, is_loop, as_value, as_result, is_call, loop_node, callee_node, return_node}
 use Rattle.lra_operations.specs.Traces.{Stop, by_jump, to_point, to_failure, RunExtent, to_end, stopped, RunsUpTo, ArmsRunUpTo, Finds, VisitsAndTests, TrailRounds, Performs, VisitsPoint}
 use Rattle.lra_operations.specs.TracesAgree.{KeepsWidth, point_at, point_or_none}
-use Rattle.lra_program.specs.Sites.{Site}
-use Rattle.lra_operations.specs.Inlined.{Frame, InlineState, spot_of, move, IsSiteAt, IsSiteWith, callee, InlineStmt, InlineItems, InlineDeclarator, InlineLoop}
-use Rattle.lra_operations.specs.Inlined.{InlineRvalue, InlineCall, as_nothing, as_block}
-use Rattle.lra_operations.specs.Inlined.{as_absent, as_assign, as_write, as_write_call, as_call, as_if, as_loop, as_for, as_break, as_continue, as_return}
-use Rattle.lra_operations.specs.Inlined.{as_return_value, as_return_call, as_end, as_end_value, as_end_call, as_assert, as_assume, as_switch, as_no_cases}
-use Rattle.lra_operations.specs.Inlined.{as_labelled, as_stated, InlineCases, switch_node, as_none, as_declaration, as_array, as_statement, as_fresh, as_given}
-use Rattle.lra_operations.specs.Inlined.{is_loop, as_value, as_result, is_call, loop_node, callee_node, return_node}
+use Rattle.lra_operations.specs.Tree.{Exit, broken, continued, returned, Node, empty, point, act, check, seq, choose, leave, Arms, entries_of}
 use Rattle.lra_operations.proofs.ArmRows.{arms_row, row_behind, row_of_behind}
-use Rattle.lra_inline_sound.proofs.Selecting.{entries_are}
-use Rattle.lra_inline_sound.proofs.Shapes.{inner, given, width, seq_inv, act_inv, leave_inv, point_seq, act_seq, jump_inv, EndsBody, GoesCall, call_returned}
-use Rattle.lra_inline_sound.proofs.Shapes.{call_ended, call_stopped, call_at_end, call_inv, Round}
-use Rattle.lra_inline_sound.proofs.Shapes.{EndsBodyRound, LeavesRound, EndsLoop, loop_done, loop_at, loop_broken, loop_left, loop_inv}
-use Rattle.lra_inline_sound.proofs.Lengths.{Adds, AddsEach, adds_given, LengthAt, Length, length_one, length_all, length_declarator, length_array, length_loop}
-use Rattle.lra_inline_sound.proofs.Lengths.{length_test, length_push, length_push_for, length_append, grows_all, tests_length, in_loop, mid_length}
-use Rattle.lra_inline_sound.proofs.Lengths.{rounds_length}
 use Rattle.lra_inline_sound.proofs.Landing.{config, land, land_skip, Matches, matches_skip, mark_none, outside_length, turn_length, back_of, land_broken, land_continued, land_returned}
+use Rattle.lra_inline_sound.proofs.Lengths.{Adds, AddsEach, adds_given, LengthAt, Length, length_one, length_all, length_declarator, length_array, length_loop, length_test, length_push}
+use Rattle.lra_inline_sound.proofs.Lengths.{length_push_for, length_append, grows_all, tests_length, in_loop, mid_length, rounds_length}
+use Rattle.lra_inline_sound.proofs.Selecting.{entries_are}
+use Rattle.lra_inline_sound.proofs.Shapes.{inner, given, width, seq_inv, act_inv, leave_inv, point_seq, act_seq, jump_inv, EndsBody, GoesCall, call_returned, call_ended, call_stopped, call_at_end}
+use Rattle.lra_inline_sound.proofs.Shapes.{call_inv, Round, EndsBodyRound, LeavesRound, EndsLoop, loop_done, loop_at, loop_broken, loop_left, loop_inv}
 
 go_is : (k : List Item) (h : CallContext) (o : Option State) (t : State) → o ≡ Some t → go k h o ≡ Some (config k h t)
 go_is k h o t e = rw e refl

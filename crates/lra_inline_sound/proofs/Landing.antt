@@ -1,13 +1,10 @@
 -- Where a jump leads on a list of items, and what a step must have done.
 use Rattle.std.proofs.Common.{◌≡◌, ℕ, List, ◌∷◌, Option, Some, None, Bool, true, false, ◌⊎◌, inl, inr, refl, sym, ap}
-use Rattle.std.specs.Prelude.{⊤, []}
 use Rattle.std.proofs.lemmas.Option.{same_Some, none-some}
-use Rattle.lra_program.specs.Value.{Drawn}
-use Rattle.lra_program.specs.Step.{State, tested, CallContext, ReturnFrame, Item, run, declare, declare_array, all, end_of, next_round, cases, end_switch}
-use Rattle.lra_program.specs.Step.{end_for, return_frame, leave_call}
-use Rattle.lra_program.specs.Step.{Config, BreakTarget, break_target, ContinueTarget, continue_target, ReturnTarget, return_target, go, go_by, go_on}
-use Rattle.lra_operations.specs.Tree.{Exit, broken, continued, returned}
-use Rattle.lra_operations.specs.Inlined.{Frame}
+use Rattle.std.specs.Prelude.{⊤, []}
+use Rattle.lra_program.specs.Step.{State, tested, CallContext, ReturnFrame, Item, run, declare, declare_array, all, end_of, next_round, cases, end_switch, end_for, return_frame, leave_call, Config}
+use Rattle.lra_program.specs.{Step.BreakTarget, Step.break_target, Step.ContinueTarget, Step.continue_target, Step.ReturnTarget, Step.return_target, Step.go, Step.go_by, Step.go_on, Value.Drawn}
+use Rattle.lra_operations.specs.{Inlined.Frame, Tree.Exit, Tree.broken, Tree.continued, Tree.returned}
 
 abbrev pub config : List Item → CallContext → State → Config
 config k h s = record { items = k; here = h; state = s }

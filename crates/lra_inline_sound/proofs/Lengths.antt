@@ -1,43 +1,23 @@
 -- How long the store is where a statement is left.
 use Rattle.std.proofs.Common.{◌≡◌, ◌≢◌, ℕ, zero, suc, ◌+◌, ◌≤◌, ℤ, List, [], ◌∷◌, ◌++◌, length, Option, Some, None, Bool, true, false, ◌||◌, ◌⊎◌, inl, inr, refl, sym, ap, ◌∙◌, arith, length-append}
-use Rattle.std.proofs.lemmas.Option.{same_Some, none-some}
-use Rattle.std.proofs.lemmas.List.{length-map, length-set, length-take-le}
-use Rattle.lra_base.specs.declared.case_labels.CaseLabel.{CaseLabel}
-use Rattle.lra_base.specs.CaseLabels.{is_same_case}
+use Rattle.std.proofs.{lemmas.List.length-map, lemmas.List.length-set, lemmas.List.length-take-le, lemmas.Option.same_Some, lemmas.Option.none-some}
+use Rattle.lra_base.specs.{CaseLabels.is_same_case, declared.case_labels.CaseLabel.CaseLabel, declared.number_types.NumberType.NumberType}
 use Rattle.lra_program.specs.Program.{Expr, Element, Cond, Call, Rvalue, Stmt, Cases, BlockItems, Function, Program}
-use Rattle.lra_base.specs.declared.number_types.NumberType.{NumberType}
-use Rattle.lra_program.specs.declared.arrays.Array.{Array}
-use Rattle.lra_program.specs.Arrays.{place_among}
-use Rattle.lra_program.specs.declared.receivers.Cell.{Cell}
-use Rattle.lra_program.specs.declared.receivers.Cell.TheVariants.{Variable, Waiting}
-use Rattle.lra_program.specs.declared.receivers.Target.{Target}
-use Rattle.lra_program.specs.declared.receivers.Receiver.{Receiver}
-use Rattle.lra_program.specs.Receivers.{waiting_in, accepts}
+use Rattle.lra_program.specs.Step.{State, environment_at, Op, append, fill, store_value, store_element, havoc, push, push_for, truncate_to, test, run_op, run_any, drawn_for, put_in, put, receive}
 use Rattle.lra_program.specs.Value.{◌>>=◌, number, first_draw, draws_of, Environment, Argument, value_of, values_of, truth_of, Drawn}
-use Rattle.lra_program.proofs.TypeLaws.{bind_some}
-use Rattle.lra_program.proofs.StepLaws.{is_kept, store_waiting}
-use Rattle.lra_program.proofs.GivenArguments.{given_width}
-use Rattle.lra_program.specs.Step.{State, environment_at, Op, append, fill, store_value, store_element, havoc, push, push_for, truncate_to, test, run_op}
-use Rattle.lra_program.specs.Step.{run_any, drawn_for}
-use Rattle.lra_program.specs.Step.{put_in, put, receive, pushed, filled, aim, tested, ReturnFrame}
-use Rattle.lra_program.specs.declared.program.GlobalVariable.{GlobalVariable}
-use Rattle.lra_program.specs.Run.{Point, begun}
-use Rattle.lra_program.specs.Traces.{Trace}
-use Rattle.lra_operations.specs.Tree.{Exit, broken, continued, returned, Node, empty, choose, point, act, seq, leave, check, Arms}
-use Rattle.lra_operations.specs.Traces.{Stop, by_jump, to_point, to_failure, RunExtent, to_end, stopped, RunsUpTo, ArmsRunUpTo, Finds, VisitsAndTests}
-use Rattle.lra_operations.specs.Traces.{TrailRounds}
+use Rattle.lra_program.specs.{Arrays.place_among, Receivers.waiting_in, Receivers.accepts, Run.Point, Run.begun, Sites.Site, Step.pushed, Step.filled, Step.aim, Step.tested, Step.ReturnFrame}
+use Rattle.lra_program.specs.{Traces.Trace, declared.arrays.Array.Array, declared.program.GlobalVariable.GlobalVariable, declared.receivers.Cell.Cell, declared.receivers.Cell.TheVariants.Variable}
+use Rattle.lra_program.specs.{declared.receivers.Cell.TheVariants.Waiting, declared.receivers.Receiver.Receiver, declared.receivers.Target.Target}
+use Rattle.lra_program.proofs.{GivenArguments.given_width, StepLaws.is_kept, StepLaws.store_waiting, TypeLaws.bind_some}
+use Rattle.lra_operations.specs.Inlined.{Frame, InlineState, callee, InlineStmt, InlineCases, InlineItems, InlineDeclarator, InlineLoop, InlineRvalue, InlineCall, as_nothing, as_block, as_absent}
+use Rattle.lra_operations.specs.Inlined.{as_assign, as_write, as_write_call, as_call, as_if, as_loop, as_for, as_break, as_continue, as_return, as_return_value, as_return_call, as_end, as_end_value}
+use Rattle.lra_operations.specs.Inlined.{as_end_call, as_assert, as_assume, as_none, as_declaration, as_array, as_statement, as_fresh, as_given, is_loop, as_value, as_result, is_call, as_switch}
+use Rattle.lra_operations.specs.Inlined.{as_no_cases, as_labelled, as_stated, loop_node, switch_node, callee_node, return_node}
+use Rattle.lra_operations.specs.Traces.{Stop, by_jump, to_point, to_failure, RunExtent, to_end, stopped, RunsUpTo, ArmsRunUpTo, Finds, VisitsAndTests, TrailRounds}
 use Rattle.lra_operations.specs.TracesAgree.{KeepsWidth}
-use Rattle.lra_program.specs.Sites.{Site}
-use Rattle.lra_operations.specs.Inlined.{Frame, InlineState, callee, InlineStmt, InlineCases, InlineItems, InlineDeclarator, InlineLoop, InlineRvalue}
-use Rattle.lra_operations.specs.Inlined.{InlineCall, as_nothing, as_block, as_absent, as_assign}
-use Rattle.lra_operations.specs.Inlined.{as_write, as_write_call, as_call, as_if, as_loop, as_for, as_break, as_continue, as_return, as_return_value}
-use Rattle.lra_operations.specs.Inlined.{as_return_call, as_end, as_end_value, as_end_call, as_assert, as_assume, as_none, as_declaration, as_array}
-use Rattle.lra_operations.specs.Inlined.{as_statement, as_fresh, as_given, is_loop, as_value, as_result, is_call, as_switch, as_no_cases, as_labelled}
-use Rattle.lra_operations.specs.Inlined.{as_stated, loop_node, switch_node, callee_node, return_node}
-use Rattle.lra_inline_sound.proofs.Shapes.{seq_inv, act_inv, leave_inv, EndsBody, GoesCall, call_returned, call_ended, call_stopped, call_at_end}
-use Rattle.lra_inline_sound.proofs.Shapes.{inner, given, width, call_inv, Round, EndsBodyRound, LeavesRound, EndsLoop, loop_done, loop_at, loop_broken}
-use Rattle.lra_inline_sound.proofs.Shapes.{loop_left}
-use Rattle.lra_inline_sound.proofs.Shapes.{loop_inv}
+use Rattle.lra_operations.specs.Tree.{Exit, broken, continued, returned, Node, empty, choose, point, act, seq, leave, check, Arms}
+use Rattle.lra_inline_sound.proofs.Shapes.{seq_inv, act_inv, leave_inv, EndsBody, GoesCall, call_returned, call_ended, call_stopped, call_at_end, inner, given, width, call_inv, Round, EndsBodyRound}
+use Rattle.lra_inline_sound.proofs.Shapes.{LeavesRound, EndsLoop, loop_done, loop_at, loop_broken, loop_left, loop_inv}
 
 -- a run begins with one variable for each global
 pub begun_length : (P : Program) (draws : List ℤ) → length (begun P draws).store ≡ length P.globals

@@ -1,29 +1,16 @@
 -- What a tree asks at a point where something holds of what is on top of a run: it holds of an operation there.
 use Rattle.std.proofs.Common.{◌≡◌, ℕ, ◌<◌, List, [], ◌∷◌, ◌++◌, length, Option, Some, None, Bool, true, false, refl, sym, ap, ◌∙◌, subst, IsTrue, arith}
-use Rattle.std.specs.Prelude.{if◌then◌else◌, cond, nat_lt}
-use Rattle.std.specs.List.{Contains}
-use Rattle.std.proofs.lemmas.Bool.Decides.{nat_tests}
-use Rattle.std.proofs.lemmas.List.Elements.{Contains-append_left, Contains-append_right}
-use Rattle.std.proofs.lemmas.Option.{same_Some, slice_get_within}
-use Rattle.lra_base.specs.declared.number_types.NumberType.{NumberType}
-use Rattle.lra_program.specs.declared.receivers.Receiver.{Receiver}
-use Rattle.lra_program.specs.Receivers.{variable_at, nobody}
-use Rattle.lra_program.specs.Program.{Expr, Cond, Call, Rvalue, Function, Program}
-use Rattle.lra_program.specs.Value.{Argument}
-use Rattle.lra_program.specs.Step.{State, Op, append, store_value, test, arguments_for}
-use Rattle.lra_program.specs.NextOperation.{CallOpIs, RvalueOpIs, DeclaratorOpIs}
-use Rattle.lra_program.specs.Overflow.{op_computes, OpOverflows}
-use Rattle.lra_program.specs.Accesses.{op_accesses, op_accesses_any, OpOutOfBounds}
-use Rattle.lra_program.proofs.TypeLaws.{overflowing_compute}
-use Rattle.lra_program.proofs.AccessLaws.{straying_access}
-use Rattle.lra_program.specs.Sites.{Site}
-use Rattle.lra_operations.specs.Tree.{Exit, Node, seq, choose, iterate, catch, select, Arms, no_arms, entry, arm}
-use Rattle.lra_base.specs.declared.case_labels.CaseLabel.{CaseLabel}
-use Rattle.lra_base.specs.CaseLabels.{is_same_case}
-use Rattle.lra_operations.proofs.ArmRows.{arms_row, row_behind}
+use Rattle.std.proofs.{lemmas.Bool.Decides.nat_tests, lemmas.List.Elements.Contains-append_left, lemmas.List.Elements.Contains-append_right, lemmas.Option.same_Some, lemmas.Option.slice_get_within}
+use Rattle.std.specs.{List.Contains, Prelude.if◌then◌else◌, Prelude.cond, Prelude.nat_lt}
+use Rattle.lra_base.specs.{CaseLabels.is_same_case, declared.case_labels.CaseLabel.CaseLabel, declared.number_types.NumberType.NumberType}
+use Rattle.lra_program.specs.{Accesses.op_accesses, Accesses.op_accesses_any, Accesses.OpOutOfBounds, NextOperation.CallOpIs, NextOperation.RvalueOpIs, NextOperation.DeclaratorOpIs}
+use Rattle.lra_program.specs.{Overflow.op_computes, Overflow.OpOverflows, Program.Expr, Program.Cond, Program.Call, Program.Rvalue, Program.Function, Program.Program, Receivers.variable_at}
+use Rattle.lra_program.specs.{Receivers.nobody, Sites.Site, Step.State, Step.Op, Step.append, Step.store_value, Step.test, Step.arguments_for, Value.Argument, declared.receivers.Receiver.Receiver}
+use Rattle.lra_program.proofs.{AccessLaws.straying_access, TypeLaws.overflowing_compute}
 use Rattle.lra_operations.specs.CheckedOperations.{OpAtPoint, op_where, ops_where, ops_where_in_arms, fresh_after, HoldsWithFresh, HoldsAtPoint}
-use Rattle.lra_operations.specs.Inlined.{InlineState, InlineDeclarator, InlineRvalue, InlineCall, as_fresh, as_given, as_value, as_result, is_call, loop_node}
-use Rattle.lra_operations.specs.Inlined.{switch_node}
+use Rattle.lra_operations.specs.Inlined.{InlineState, InlineDeclarator, InlineRvalue, InlineCall, as_fresh, as_given, as_value, as_result, is_call, loop_node, switch_node}
+use Rattle.lra_operations.specs.Tree.{Exit, Node, seq, choose, iterate, catch, select, Arms, no_arms, entry, arm}
+use Rattle.lra_operations.proofs.ArmRows.{arms_row, row_behind}
 use Rattle.lra_inline_sound.proofs.Shapes.{given}
 
 -- a question about operations, and of which it is asked: it holds of those alone

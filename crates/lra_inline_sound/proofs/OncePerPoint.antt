@@ -1,26 +1,18 @@
 -- A tree asks at each point once at most: what a part's tree asks stands at the part's own points.
-use Rattle.std.proofs.Common.{◌≡◌, ℕ, zero, suc, ◌+◌, ◌<◌, ◌≤◌, List, [], ◌∷◌, ◌++◌, Option, Some, None, Bool, true, false, ◌⊎◌, inl, inr, refl, sym, ap, ◌∙◌}
-use Rattle.std.proofs.Common.{slice_get, arith}
-use Rattle.std.specs.Prelude.{if◌then◌else◌}
+use Rattle.std.proofs.Common.{◌≡◌, ℕ, zero, suc, ◌+◌, ◌<◌, ◌≤◌, List, [], ◌∷◌, ◌++◌, Option, Some, None, Bool, true, false, ◌⊎◌, inl, inr, refl, sym, ap, ◌∙◌, slice_get, arith}
 use Rattle.std.proofs.lemmas.Option.{same_Some, none-some}
+use Rattle.std.specs.Prelude.{if◌then◌else◌}
 use Rattle.lra_base.specs.declared.number_types.NumberType.{NumberType}
-use Rattle.lra_program.specs.declared.receivers.Receiver.{Receiver}
-use Rattle.lra_program.specs.Receivers.{nobody}
-use Rattle.lra_program.specs.Program.{Call, Rvalue, Stmt, Cases, BlockItems, Program}
-use Rattle.lra_program.specs.Value.{Argument}
-use Rattle.lra_program.specs.Step.{Op, append, fill, store_value, store_element, havoc, truncate_to, test, main_receiver}
-use Rattle.lra_program.specs.Sites.{Site}
-use Rattle.lra_operations.specs.Tree.{Exit, broken, continued, returned, Node, point, act, seq, leave, Arms}
-use Rattle.lra_operations.specs.Agree.{IsInlinedTree}
+use Rattle.lra_program.specs.{Program.Call, Program.Rvalue, Program.Stmt, Program.Cases, Program.BlockItems, Program.Program, Receivers.nobody, Sites.Site, Step.Op, Step.append, Step.fill}
+use Rattle.lra_program.specs.{Step.store_value, Step.store_element, Step.havoc, Step.truncate_to, Step.test, Step.main_receiver, Value.Argument, declared.receivers.Receiver.Receiver}
 use Rattle.lra_operations.specs.CheckedOperations.{OpAtPoint, op_where, ops_where, ops_where_in_arms, fresh_after, AreOncePerPoint}
-use Rattle.lra_operations.specs.Inlined.{InlineState, InlineStmt, InlineItems, InlineDeclarator, InlineLoop, InlineRvalue, InlineCall, as_nothing, as_block}
-use Rattle.lra_operations.specs.Inlined.{as_absent, as_assign, as_call, as_if, as_loop}
-use Rattle.lra_operations.specs.Inlined.{as_for, as_break, as_continue, as_return, as_return_value, as_return_call, as_end, as_end_value, as_end_call}
-use Rattle.lra_operations.specs.Inlined.{as_assert, as_assume, as_switch, as_no_cases, as_labelled, as_stated, InlineCases, as_none, as_declaration}
-use Rattle.lra_operations.specs.Inlined.{as_statement}
-use Rattle.lra_operations.specs.Inlined.{as_fresh, as_given, is_loop, as_value, as_result, is_call, as_array, as_write, as_write_call, return_node}
-use Rattle.lra_inline_sound.proofs.Shapes.{inner, given, width, tail_node}
+use Rattle.lra_operations.specs.Inlined.{InlineState, InlineStmt, InlineItems, InlineDeclarator, InlineLoop, InlineRvalue, InlineCall, as_nothing, as_block, as_absent, as_assign, as_call, as_if}
+use Rattle.lra_operations.specs.Inlined.{as_loop, as_for, as_break, as_continue, as_return, as_return_value, as_return_call, as_end, as_end_value, as_end_call, as_assert, as_assume, as_switch}
+use Rattle.lra_operations.specs.Inlined.{as_no_cases, as_labelled, as_stated, InlineCases, as_none, as_declaration, as_statement, as_fresh, as_given, is_loop, as_value, as_result, is_call, as_array}
+use Rattle.lra_operations.specs.Inlined.{as_write, as_write_call, return_node}
+use Rattle.lra_operations.specs.{Agree.IsInlinedTree, Tree.Exit, Tree.broken, Tree.continued, Tree.returned, Tree.Node, Tree.point, Tree.act, Tree.seq, Tree.leave, Tree.Arms}
 use Rattle.lra_inline_sound.proofs.DistinctLists.{IsIn, AllDiffer, in_either, differ_join, one_place}
+use Rattle.lra_inline_sound.proofs.Shapes.{inner, given, width, tail_node}
 
 abbrev points_of : List OpAtPoint → List ℕ
 points_of [] = []

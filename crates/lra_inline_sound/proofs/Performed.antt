@@ -1,20 +1,10 @@
 -- What the tree of a whole program comes to, some run comes to, on the same trail.
-use Rattle.std.proofs.Common.{◌≡◌, ℕ, ℤ, List, [], ◌∷◌, length, false, inl, inr, refl}
-use Rattle.std.proofs.lemmas.Option.{none-some}
-use Rattle.lra_program.specs.Program.{Program}
-use Rattle.lra_program.specs.Step.{State, Item, all, end_of}
-use Rattle.lra_program.specs.Run.{begun, Point, start}
-use Rattle.lra_program.specs.Traces.{Trace}
-use Rattle.lra_operations.specs.Tree.{Node, seq, point}
-use Rattle.lra_operations.specs.Traces.{Stop, by_jump, to_point, to_failure, to_end, stopped, RunsUpTo}
-use Rattle.lra_operations.specs.TracesAgree.{KeepsWidth, point_at}
-use Rattle.lra_program.specs.Sites.{Site, sites_of}
-use Rattle.lra_operations.specs.Inlined.{move, IsSiteAt, InlineItems, main_frame, main_inline_state}
-use Rattle.lra_operations.specs.Agree.{IsInlinedTree}
-use Rattle.lra_inline_sound.proofs.Lengths.{begun_length, length_all}
-use Rattle.lra_inline_sound.proofs.Landing.{config, Matches}
-use Rattle.lra_inline_sound.proofs.Split.{trail}
+use Rattle.std.proofs.{Common.◌≡◌, Common.ℕ, Common.ℤ, Common.List, Common.[], Common.◌∷◌, Common.length, Common.false, Common.inl, Common.inr, Common.refl, lemmas.Option.none-some}
+use Rattle.lra_program.specs.{Program.Program, Run.begun, Run.Point, Run.start, Sites.Site, Sites.sites_of, Step.State, Step.Item, Step.all, Step.end_of, Traces.Trace}
+use Rattle.lra_operations.specs.{Agree.IsInlinedTree, Inlined.move, Inlined.IsSiteAt, Inlined.InlineItems, Inlined.main_frame, Inlined.main_inline_state, Traces.Stop, Traces.by_jump, Traces.to_point}
+use Rattle.lra_operations.specs.{Traces.to_failure, Traces.to_end, Traces.stopped, Traces.RunsUpTo, TracesAgree.KeepsWidth, TracesAgree.point_at, Tree.Node, Tree.seq, Tree.point}
 use Rattle.lra_inline_sound.proofs.Does.{Fulfils, Stands, Denied, later, stands_here, does_all}
+use Rattle.lra_inline_sound.proofs.{Landing.config, Landing.Matches, Lengths.begun_length, Lengths.length_all, Split.trail}
 
 abbrev bottom : Program → List Item
 bottom P = end_of P.main.end (length P.globals) ∷ []

@@ -2,20 +2,12 @@
 -- on the same trail.
 use Rattle.std.proofs.Common.{◌≡◌, ℕ, zero, suc, ℤ, List, [], ◌∷◌, length, Some, false, refl, arith}
 use Rattle.std.proofs.lemmas.Option.{none-some}
-use Rattle.lra_program.specs.Program.{Program}
 use Rattle.lra_program.specs.Step.{State, Config, run_op, truncate_to, end_of}
-use Rattle.lra_program.specs.Run.{begun, start, label_on, Point, IsOn}
-use Rattle.lra_program.specs.Traces.{TraceEvent, Trace, TracedSteps}
-use Rattle.lra_operations.specs.Tree.{broken, continued, returned, Node, seq, point}
-use Rattle.lra_operations.specs.TracesAgree.{KeepsWidth, point_at}
-use Rattle.lra_program.specs.Sites.{Site, sites_of}
+use Rattle.lra_program.specs.{Program.Program, Run.begun, Run.start, Run.label_on, Run.Point, Run.IsOn, Sites.Site, Sites.sites_of, Traces.TraceEvent, Traces.Trace, Traces.TracedSteps}
 use Rattle.lra_operations.specs.Inlined.{move, IsSiteAt, InlineItems, main_frame, main_inline_state}
-use Rattle.lra_operations.specs.Agree.{IsInlinedTree}
-use Rattle.lra_inline_sound.proofs.Lengths.{begun_length, length_all}
-use Rattle.lra_inline_sound.proofs.Landing.{config, go_some}
-use Rattle.lra_inline_sound.proofs.NextOperations.{Question}
+use Rattle.lra_operations.specs.{Agree.IsInlinedTree, TracesAgree.KeepsWidth, TracesAgree.point_at, Tree.broken, Tree.continued, Tree.returned, Tree.Node, Tree.seq, Tree.point}
 use Rattle.lra_inline_sound.proofs.Split.{trail, Splits, hits, ended, jumped, all_below, enters, plain, IsSought}
-use Rattle.lra_inline_sound.proofs.Stops.{Hit, stops}
+use Rattle.lra_inline_sound.proofs.{Landing.config, Landing.go_some, Lengths.begun_length, Lengths.length_all, NextOperations.Question, Stops.Hit, Stops.stops}
 
 module _ (may : State → State → Type 0) (keeps : KeepsWidth may) (P : Program) (T : List Site) (c : Config) (zs : List (TraceEvent Point)) (p : ℕ)
     (on : label_on c.items ≡ Some p) (H : Node → Trace Point → Type 0) (F : IsSought may P T c zs H) (body : Node) (last live : ℕ)

@@ -1,15 +1,9 @@
 -- From a point a run goes on to the next one, and so does the tree.
 use Rattle.std.proofs.Common.{◌≡◌, ℕ, ℤ, List, [], ◌∷◌, Some, slice_get, refl, subst}
-use Rattle.lra_program.specs.Program.{Program}
-use Rattle.lra_program.specs.Step.{State, Config}
-use Rattle.lra_program.specs.Run.{Point, IsOn, start}
-use Rattle.lra_program.specs.Sites.{Site, sites_of}
 use Rattle.lra_program.specs.Traces.{TraceEvent, visit, Trace, TracedSteps, Arrives, RunSegment}
+use Rattle.lra_program.specs.{Program.Program, Run.Point, Run.IsOn, Run.start, Sites.Site, Sites.sites_of, Step.State, Step.Config}
 use Rattle.lra_program.proofs.TraceLaws.{walk_on}
-use Rattle.lra_operations.specs.Tree.{Node}
-use Rattle.lra_operations.specs.Traces.{to_point}
-use Rattle.lra_operations.specs.Agree.{point_of}
-use Rattle.lra_operations.specs.TracesAgree.{TreeRunsUpTo, TracesAgree}
+use Rattle.lra_operations.specs.{Agree.point_of, Traces.to_point, TracesAgree.TreeRunsUpTo, TracesAgree.TracesAgree, Tree.Node}
 use Rattle.lra_inline_sound.proofs.Split.{trail}
 
 module _ (may : State → State → Type 0) (P : Program) (g : Node) (trails : TracesAgree may P g) (draws : List ℤ) where

@@ -1,9 +1,7 @@
 -- The labels of a tree's arms are those of its `switch`.
 use Rattle.std.proofs.Common.{◌≡◌, ℕ, List, ◌∷◌, refl, ap}
-use Rattle.lra_program.specs.Program.{Cases, labels_of, Program}
-use Rattle.lra_program.specs.Sites.{Site}
-use Rattle.lra_operations.specs.Tree.{Arms, entries_of}
-use Rattle.lra_operations.specs.Inlined.{InlineState, InlineCases, as_no_cases, as_labelled, as_stated}
+use Rattle.lra_program.specs.{Program.Cases, Program.labels_of, Program.Program, Sites.Site}
+use Rattle.lra_operations.specs.{Inlined.InlineState, Inlined.InlineCases, Inlined.as_no_cases, Inlined.as_labelled, Inlined.as_stated, Tree.Arms, Tree.entries_of}
 
 pub entries_are : {P : Program} {T : List Site} {spot : InlineState} {cs : Cases} {arms : Arms} {q : ℕ} → InlineCases P T spot cs arms q →
     entries_of arms ≡ labels_of cs

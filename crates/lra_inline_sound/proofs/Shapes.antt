@@ -1,16 +1,10 @@
 -- What a run of each shape of tree is made of, with its trail.
 use Rattle.std.proofs.Common.{◌≡◌, ◌≢◌, ℕ, zero, suc, ◌+◌, List, true, false, length, ◌⊎◌, inl, inr, refl, ap}
-use Rattle.lra_program.specs.Program.{Cond, Call, Function}
-use Rattle.lra_program.specs.Value.{Argument}
-use Rattle.lra_program.specs.declared.receivers.Receiver.{Receiver}
-use Rattle.lra_program.specs.Receivers.{result_receiver}
 use Rattle.lra_program.specs.Step.{State, Op, truncate_to, havoc, arguments_for}
-use Rattle.lra_program.specs.Run.{Point}
-use Rattle.lra_program.specs.Traces.{Trace}
-use Rattle.lra_operations.specs.Tree.{Exit, broken, continued, returned, Node, point, act, seq, catch, leave}
-use Rattle.lra_operations.specs.Traces.{Stop, by_jump, to_point, to_failure, RunExtent, to_end, stopped, RunsUpTo, VisitsAndTests, TrailRounds, Performs}
-use Rattle.lra_operations.specs.Traces.{VisitsPoint}
+use Rattle.lra_program.specs.{Program.Cond, Program.Call, Program.Function, Receivers.result_receiver, Run.Point, Traces.Trace, Value.Argument, declared.receivers.Receiver.Receiver}
 use Rattle.lra_operations.specs.Inlined.{InlineState, loop_node, callee_node}
+use Rattle.lra_operations.specs.Traces.{Stop, by_jump, to_point, to_failure, RunExtent, to_end, stopped, RunsUpTo, VisitsAndTests, TrailRounds, Performs, VisitsPoint}
+use Rattle.lra_operations.specs.Tree.{Exit, broken, continued, returned, Node, point, act, seq, catch, leave}
 
 -- a call's receiver, as the called function's body has it, what it gives, and to how many parameters
 abbrev pub inner : Function → Receiver → Receiver

@@ -1,51 +1,29 @@
 -- A run that comes to a point, cut at the statement on top: what is sought there is inside, or the statement ends or
 -- jumps before.
-use Rattle.std.proofs.Common.{◌≡◌, ℕ, ℤ, zero, suc, ◌+◌, ◌<◌, ◌≤◌, List, [], ◌∷◌, length, Option, Some, None, Bool, true, false, ◌⊎◌, inl, inr, refl}
-use Rattle.std.proofs.Common.{sym, ap, ◌∙◌, subst, slice_get, arith}
+use Rattle.std.proofs.Common.{◌≡◌, ℕ, ℤ, zero, suc, ◌+◌, ◌<◌, ◌≤◌, List, [], ◌∷◌, length, Option, Some, None, Bool, true, false, ◌⊎◌, inl, inr, refl, sym, ap, ◌∙◌, subst, slice_get, arith}
 use Rattle.std.proofs.lemmas.Option.{same_Some, none-some}
 use Rattle.std.specs.Prelude.{cond}
-use Rattle.lra_program.specs.Program.{Cond, Call, Rvalue, value, result, Declarator, Stmt, absent, nothing, block, assign, write, call, if, loop, for, break}
-use Rattle.lra_program.specs.Program.{continue, return, assert, assume, BlockItems}
-use Rattle.lra_base.specs.declared.case_labels.CaseLabel.{CaseLabel}
-use Rattle.lra_base.specs.CaseLabels.{is_same_case, goal_of}
-use Rattle.lra_program.specs.Program.{Expr, switch, Cases, no_cases, labelled, stated, labels_of}
-use Rattle.lra_program.specs.Step.{cases as cases_item, end_switch, cases_after_label, chosen, do_switch}
-use Rattle.lra_program.specs.Value.{Drawn, value_of}
-use Rattle.lra_operations.proofs.ArmRows.{arms_row, row_behind, behind_of_row}
-use Rattle.lra_program.specs.Program.{no_more, declaration, array, statement, Function, Program}
-use Rattle.lra_program.specs.Value.{index_of, Argument, truth_of}
-use Rattle.lra_program.specs.declared.arrays.Array.{Array}
-use Rattle.lra_program.specs.Step.{State, Op, append, fill, store_value, store_element, havoc, push, push_for, truncate_to, test, run_op, run_any, CallContext}
-use Rattle.lra_program.specs.Step.{ReturnFrame, Item, run}
-use Rattle.lra_program.specs.Step.{declare, declare_array, all, end_of, next_round, end_for, return_frame, leave_call, Config, break_target, continue_target}
-use Rattle.lra_base.specs.declared.number_types.NumberType.{NumberType}
-use Rattle.lra_program.specs.declared.receivers.Receiver.{Receiver}
-use Rattle.lra_program.specs.Receivers.{variable_at, waiting_in, nobody}
-use Rattle.lra_program.specs.Step.{environment_at, return_target, main_receiver, receiver_of, go, enter_by, do_rvalue, do_leave, do_break, do_continue}
-use Rattle.lra_program.specs.Step.{do_declare, next}
-use Rattle.lra_program.specs.Step.{next_at}
-use Rattle.lra_program.specs.Run.{label_on, Point}
+use Rattle.lra_program.specs.Program.{Cond, Call, Rvalue, value, result, Declarator, Stmt, absent, nothing, block, assign, write, call, if, loop, for, break, continue, return, assert, assume}
+use Rattle.lra_program.specs.Program.{BlockItems, Expr, switch, Cases, no_cases, labelled, stated, labels_of, no_more, declaration, array, statement, Function, Program}
+use Rattle.lra_program.specs.Step.{cases as cases_item, end_switch, cases_after_label, chosen, do_switch, State, Op, append, fill, store_value, store_element, havoc, push, push_for, truncate_to, test}
+use Rattle.lra_program.specs.Step.{run_op, run_any, CallContext, ReturnFrame, Item, run, declare, declare_array, all, end_of, next_round, end_for, return_frame, leave_call, Config, break_target}
+use Rattle.lra_program.specs.Step.{continue_target, environment_at, return_target, main_receiver, receiver_of, go, enter_by, do_rvalue, do_leave, do_break, do_continue, do_declare, next, next_at}
 use Rattle.lra_program.specs.Traces.{TraceEvent, visit, Trace, with_visit, Becomes, TracedSteps}
-use Rattle.lra_operations.specs.Tree.{Exit, broken, continued, returned, Node, point, act, check, seq, choose, catch, iterate, leave, select, Arms, no_arms}
+use Rattle.lra_program.specs.Value.{Drawn, value_of, index_of, Argument, truth_of}
+use Rattle.lra_program.specs.{Receivers.variable_at, Receivers.waiting_in, Receivers.nobody, Run.label_on, Run.Point, Sites.Site, declared.arrays.Array.Array, declared.receivers.Receiver.Receiver}
+use Rattle.lra_base.specs.{CaseLabels.is_same_case, CaseLabels.goal_of, declared.case_labels.CaseLabel.CaseLabel, declared.number_types.NumberType.NumberType}
+use Rattle.lra_operations.proofs.ArmRows.{arms_row, row_behind, behind_of_row}
+use Rattle.lra_operations.specs.Inlined.{Frame, InlineState, move, at_point, within, into_callee, IsSiteAt, IsSiteWith, callee, InlineStmt, InlineItems, InlineDeclarator, InlineLoop, InlineRvalue}
+use Rattle.lra_operations.specs.Inlined.{InlineCall, as_nothing, as_block, as_absent, as_assign, as_call, as_if, as_loop, as_for, as_break, as_continue, as_return, as_return_value, as_return_call}
+use Rattle.lra_operations.specs.Inlined.{as_end, as_end_value, as_end_call, as_assert, as_assume, as_switch, as_no_cases, as_labelled, as_stated, InlineCases, among_cases, switch_node, as_none}
+use Rattle.lra_operations.specs.Inlined.{as_declaration, as_statement, as_fresh, as_given, is_loop, as_value, as_result, is_call, as_array, as_write, as_write_call, loop_node, callee_node}
 use Rattle.lra_operations.specs.Traces.{by_jump, RunExtent, to_end, stopped, RunsUpTo, ArmsRunUpTo, Finds, VisitsAndTests, Performs, VisitsPoint}
-use Rattle.lra_operations.specs.TracesAgree.{KeepsWidth, point_at, point_or_none}
-use Rattle.lra_program.specs.Sites.{Site}
-use Rattle.lra_operations.specs.Inlined.{Frame, InlineState, move, at_point, within, into_callee, IsSiteAt, IsSiteWith, callee, InlineStmt, InlineItems}
-use Rattle.lra_operations.specs.Inlined.{InlineDeclarator, InlineLoop, InlineRvalue, InlineCall}
-use Rattle.lra_operations.specs.Inlined.{as_nothing, as_block, as_absent, as_assign, as_call, as_if, as_loop, as_for, as_break, as_continue, as_return}
-use Rattle.lra_operations.specs.Inlined.{as_return_value, as_return_call, as_end, as_end_value, as_end_call, as_assert, as_assume, as_switch, as_no_cases}
-use Rattle.lra_operations.specs.Inlined.{as_labelled, as_stated, InlineCases, among_cases, switch_node, as_none, as_declaration, as_statement, as_fresh}
-use Rattle.lra_operations.specs.Inlined.{as_given}
-use Rattle.lra_operations.specs.Inlined.{is_loop, as_value, as_result, is_call, as_array, as_write, as_write_call, loop_node, callee_node, return_node}
-use Rattle.lra_inline_sound.proofs.Shapes.{inner, given, width, call_ends, Round, EndsBodyRound, loop_join, loop_done, loop_broken, loop_left, EndsLoop}
-use Rattle.lra_inline_sound.proofs.Shapes.{loop_first, jump_join}
-use Rattle.lra_inline_sound.proofs.Lengths.{Adds, AddsEach, adds_given, Length, length_declarator, length_array, length_one, length_all, length_test}
-use Rattle.lra_inline_sound.proofs.Lengths.{length_push}
-use Rattle.lra_inline_sound.proofs.Lengths.{length_push_for, length_append, tests_length, mid_length, round_length}
-use Rattle.lra_inline_sound.proofs.Selecting.{entries_are}
-use Rattle.lra_inline_sound.proofs.Shapes.{tail_node}
-use Rattle.lra_inline_sound.proofs.Landing.{IsBare, config, land, land_skip, Matches, matches_skip, outside_some, turn_some, mark_some, mark_none, go_some}
-use Rattle.lra_inline_sound.proofs.Landing.{go_on_some, go_by_some, lands_broken, lands_continued, lands_returned}
+use Rattle.lra_operations.specs.Tree.{Exit, broken, continued, returned, Node, point, act, check, seq, choose, catch, iterate, leave, select, Arms, no_arms}
+use Rattle.lra_operations.specs.{Inlined.return_node, TracesAgree.KeepsWidth, TracesAgree.point_at, TracesAgree.point_or_none}
+use Rattle.lra_inline_sound.proofs.Landing.{IsBare, config, land, land_skip, Matches, matches_skip, outside_some, turn_some, mark_some, mark_none, go_some, go_on_some, go_by_some, lands_broken}
+use Rattle.lra_inline_sound.proofs.Lengths.{Adds, AddsEach, adds_given, Length, length_declarator, length_array, length_one, length_all, length_test, length_push, length_push_for, length_append}
+use Rattle.lra_inline_sound.proofs.Shapes.{inner, given, width, call_ends, Round, EndsBodyRound, loop_join, loop_done, loop_broken, loop_left, EndsLoop, loop_first, jump_join, tail_node}
+use Rattle.lra_inline_sound.proofs.{Landing.lands_continued, Landing.lands_returned, Lengths.tests_length, Lengths.mid_length, Lengths.round_length, Selecting.entries_are}
 
 returned_broken : by_jump returned ≡ by_jump broken → ⊥
 returned_broken e = cc

@@ -1,31 +1,20 @@
 -- What is sought of a tree where a program stands at a point: the tree comes there, fails there, and asks there.
-use Rattle.std.proofs.Common.{◌≡◌, ◌≢◌, ℕ, suc, ◌+◌, List, [], ◌∷◌, length, Option, Some, None, Bool, true, false, inl, inr, refl, sym, ap, ◌∙◌, subst}
-use Rattle.std.proofs.Common.{slice_get}
+use Rattle.std.proofs.Common.{◌≡◌, ◌≢◌, ℕ, suc, ◌+◌, List, [], ◌∷◌, length, Option, Some, None, Bool, true, false, inl, inr, refl, sym, ap, ◌∙◌, subst, slice_get}
 use Rattle.std.proofs.lemmas.Option.{same_Some}
 use Rattle.lra_base.specs.declared.number_types.NumberType.{NumberType}
-use Rattle.lra_program.specs.Program.{value, result, Stmt, absent, nothing, block, assign, write, call, if, loop, for, break, continue}
-use Rattle.lra_program.specs.Program.{return, assert, assume, switch, Program}
-use Rattle.lra_program.specs.Step.{State, fill, store_value, havoc, store_element, truncate_to, test, Item, run, declare, declare_array, end_of, return_frame}
-use Rattle.lra_program.specs.Step.{Config}
-use Rattle.lra_program.specs.Step.{main_receiver, receiver_of}
-use Rattle.lra_program.specs.Run.{label_on, Point, IsFailing}
-use Rattle.lra_program.specs.Sites.{Site}
-use Rattle.lra_program.specs.Traces.{TraceEvent, visit, Trace}
-use Rattle.lra_program.specs.NextOperation.{NextOpIs}
-use Rattle.lra_operations.specs.Tree.{Exit, broken, continued, returned, Node, point, act, check, seq, choose, catch, iterate, leave, select}
+use Rattle.lra_program.specs.Program.{value, result, Stmt, absent, nothing, block, assign, write, call, if, loop, for, break, continue, return, assert, assume, switch, Program}
+use Rattle.lra_program.specs.Step.{State, fill, store_value, havoc, store_element, truncate_to, test, Item, run, declare, declare_array, end_of, return_frame, Config, main_receiver, receiver_of}
+use Rattle.lra_program.specs.{NextOperation.NextOpIs, Run.label_on, Run.Point, Run.IsFailing, Sites.Site, Traces.TraceEvent, Traces.visit, Traces.Trace}
+use Rattle.lra_operations.specs.Inlined.{InlineState, IsSiteWith, InlineStmt, InlineLoop, as_nothing, as_block, as_absent, as_assign, as_call, as_if, as_loop, as_for, as_break, as_continue, as_return}
+use Rattle.lra_operations.specs.Inlined.{as_return_value, as_return_call, as_end, as_end_value, as_end_call, as_assert, as_assume, as_switch, as_write, as_write_call, is_loop, loop_node, return_node}
 use Rattle.lra_operations.specs.Traces.{Stop, by_jump, to_point, to_failure, RunExtent, to_end, stopped, RunsUpTo, VisitsPoint}
-use Rattle.lra_operations.specs.TracesAgree.{point_at}
-use Rattle.lra_operations.specs.Inlined.{InlineState, IsSiteWith, InlineStmt, InlineLoop, as_nothing, as_block, as_absent, as_assign, as_call, as_if, as_loop}
-use Rattle.lra_operations.specs.Inlined.{as_for}
-use Rattle.lra_operations.specs.Inlined.{as_break, as_continue, as_return, as_return_value, as_return_call, as_end, as_end_value, as_end_call, as_assert}
-use Rattle.lra_operations.specs.Inlined.{as_assume, as_switch, as_write, as_write_call, is_loop, loop_node, return_node, switch_node}
+use Rattle.lra_operations.specs.Tree.{Exit, broken, continued, returned, Node, point, act, check, seq, choose, catch, iterate, leave, select}
+use Rattle.lra_operations.specs.{Inlined.switch_node, TracesAgree.point_at}
 use Rattle.lra_operations.proofs.ArmRows.{row_behind, behind_of_row}
-use Rattle.lra_inline_sound.proofs.NextOperations.{Question, Asks, AsksAs, all_in, asks_front, asks_own, asks_calls, asks_given, asks_declared, asks_first}
-use Rattle.lra_inline_sound.proofs.NextOperations.{asks_second}
-use Rattle.lra_inline_sound.proofs.NextOperations.{asks_true, asks_false, asks_round, asks_caught, asks_condition, asks_loop, asks_selected, asks_value}
-use Rattle.lra_inline_sound.proofs.Landing.{config, Matches}
-use Rattle.lra_inline_sound.proofs.Shapes.{loop_at, loop_first, loop_join, tail_node}
+use Rattle.lra_inline_sound.proofs.NextOperations.{Question, Asks, AsksAs, all_in, asks_front, asks_own, asks_calls, asks_given, asks_declared, asks_first, asks_second, asks_true, asks_false}
+use Rattle.lra_inline_sound.proofs.NextOperations.{asks_round, asks_caught, asks_condition, asks_loop, asks_selected, asks_value}
 use Rattle.lra_inline_sound.proofs.Split.{trail, named, not_there, receiver_is, no_mark, IsClosed, IsThere, IsSought}
+use Rattle.lra_inline_sound.proofs.{Landing.config, Landing.Matches, Shapes.loop_at, Shapes.loop_first, Shapes.loop_join, Shapes.tail_node}
 
 module _ (may : State → State → Type 0) (Q : Question) (P : Program) (T : List Site) where
   -- what the tree has to show where the program stands at the point of this number

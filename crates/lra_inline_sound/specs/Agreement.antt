@@ -1,12 +1,8 @@
 -- Trees of operations and runs, for well-formed programs: nothing is left to ask of the program's points.
-use Rattle.lra_program.specs.Program.{Program}
-use Rattle.lra_operations.specs.Tree.{Node}
-use Rattle.lra_program.specs.Sites.{sites_of}
+use Rattle.lra_program.specs.{Program.Program, Sites.sites_of, Traces.NoChange, WellFormed.IsWellFormed}
 use Rattle.lra_operations.specs.Agree.{IsInlinedTree, AreDistinct, Agrees}
-use Rattle.lra_operations.specs.TracesAgree.{TracesAgree}
 use Rattle.lra_operations.specs.CheckedOperations.{AgreesOnOverflows, AgreesOnAccesses}
-use Rattle.lra_program.specs.Traces.{NoChange}
-use Rattle.lra_program.specs.WellFormed.{IsWellFormed}
+use Rattle.lra_operations.specs.{TracesAgree.TracesAgree, Tree.Node}
 
 -- no two points of a well-formed program have one call path and label
 abbrev pub WellFormedAreDistinct : Type 0

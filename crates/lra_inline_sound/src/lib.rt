@@ -5,9 +5,8 @@
 //! the program; `lra_inline` makes one.
 #![tactic(auto)]
 
-ghost use Rattle.lra_operations.specs.Agree.{TreesAgree};
-ghost use Rattle.lra_operations.specs.TracesAgree.{TreesHaveTraces};
 ghost use Rattle.lra_operations.specs.CheckedOperations.{TreesAgreeOnOverflows, TreesAgreeOnAccesses};
+ghost use Rattle.lra_operations.specs.{Agree.TreesAgree, TracesAgree.TreesHaveTraces};
 ghost use Rattle.lra_inline_sound.specs.Agreement.{WellFormedAreDistinct, WellFormedAgree, WellFormedHaveTraces};
 ghost use Rattle.lra_inline_sound.specs.Agreement.{WellFormedAgreeOnOverflows, WellFormedAgreeOnAccesses};
 

@@ -3,27 +3,18 @@ use Rattle.std.proofs.Common.{◌≡◌, ℕ, false, ◌+◌, ◌<◌, List, [],
 use Rattle.std.proofs.lemmas.List.{map-append}
 use Rattle.lra_base.specs.declared.case_labels.CaseLabel.{CaseLabel}
 use Rattle.lra_program.specs.Program as program
-use Rattle.lra_program.specs.Program.{Call, no_cases, labelled, stated, switch}
-use Rattle.lra_program.specs.declared.program.CaseItem.{CaseItem}
+use Rattle.lra_program.specs.{Program.Call, Program.no_cases, Program.labelled, Program.stated, Program.switch, ProgramViews.expr_view, ProgramViews.stmt_view, ProgramViews.case_view}
+use Rattle.lra_program.specs.{ProgramViews.cases_of, Sites.Site, Sites.plain_site, Sites.stmt_events, Sites.cases_events, declared.program.CaseItem.CaseItem, declared.program.Stmt.Stmt}
 use Rattle.lra_program.specs.declared.program.CaseItem as code_case
-use Rattle.lra_program.specs.declared.program.Stmt.{Stmt}
 use Rattle.lra_operations.specs.declared.tree.Arm as code_arm
-use Rattle.lra_program.specs.Sites.{Site, plain_site, stmt_events, cases_events}
-use Rattle.lra_operations.specs.Tree.{Node, Arms, no_arms, entry, arm, seq, point}
-use Rattle.lra_operations.specs.TreeViews.{ArmPart, arm_view, arms_before}
-use Rattle.lra_program.specs.ProgramViews.{expr_view, stmt_view, case_view, cases_of}
-use Rattle.lra_operations.specs.Inlined.{switch_node}
-use Rattle.lra_inline_steps.specs.declared.frame.Frame.{Frame}
-use Rattle.lra_inline_steps.specs.declared.stack.CaseRow.{CaseRow}
-use Rattle.lra_inline_steps.specs.declared.stack.InlineContext.TheVariants as place
-use Rattle.lra_inline_steps.specs.Limits.{stopped}
+use Rattle.lra_operations.specs.{Inlined.switch_node, Tree.Node, Tree.Arms, Tree.no_arms, Tree.entry, Tree.arm, Tree.seq, Tree.point, TreeViews.ArmPart, TreeViews.arm_view, TreeViews.arms_before}
 use Rattle.lra_inline_steps.specs.Building.{inside, StmtStands, cases_frame, WritesStmt}
 use Rattle.lra_inline_steps.specs.Stack.{inline_task, a_stmt, SwitchLoop, IsInlineFrame, labelled_all, entry_part, PassesLabels}
-use Rattle.lra_inline_steps.specs.Steps.{stmt_steps, cases_steps}
-use Rattle.lra_inline_steps.proofs.Shown.{shown_label, shown_stated, shown_entry}
-use Rattle.lra_inline_steps.proofs.Walking.{walk_then, walk_stop}
-use Rattle.lra_inline_steps.proofs.Writing.{Pointed, site, no_cases_written, labelled_written, stated_written, switch_written}
+use Rattle.lra_inline_steps.specs.{Limits.stopped, Steps.stmt_steps, Steps.cases_steps, declared.frame.Frame.Frame, declared.stack.CaseRow.CaseRow}
+use Rattle.lra_inline_steps.specs.declared.stack.InlineContext.TheVariants as place
 use Rattle.lra_inline_steps.proofs.Standing.{switch_stands, labelled_stand, first_case_stands, other_cases_stand}
+use Rattle.lra_inline_steps.proofs.Writing.{Pointed, site, no_cases_written, labelled_written, stated_written, switch_written}
+use Rattle.lra_inline_steps.proofs.{Shown.shown_label, Shown.shown_stated, Shown.shown_entry, Walking.walk_then, Walking.walk_stop}
 
 -- more behind them
 arms_joined : (fs gs : List ArmPart) (h : Arms) → arms_before (fs ++ gs) h ≡ arms_before fs (arms_before gs h)

@@ -4,32 +4,21 @@ use Rattle.std.proofs.Common.{◌≡◌, ℕ, suc, ◌≤◌, List, [], ◌∷�
 use Rattle.lra_base.specs.Limits.{greatest_live}
 use Rattle.lra_program.specs.Program as program
 use Rattle.lra_program.specs.Program.{Variable, Expr, value, result, assign, write, call, if, block, return, BlockItems, Program}
-use Rattle.lra_program.specs.Value.{index_of}
-use Rattle.lra_program.specs.Step.{append, store_value, push_for}
-use Rattle.lra_program.specs.declared.receivers.Receiver.{Receiver}
-use Rattle.lra_program.specs.Receivers.{variable_at, waiting_in, nobody}
 use Rattle.lra_program.specs.Sites.{Site, Event, plain_site, live_after_items, stmt_events, items_events}
-use Rattle.lra_program.specs.declared.program.Stmt.{Stmt}
-use Rattle.lra_program.specs.declared.program.Element.{Element}
-use Rattle.lra_program.specs.ProgramViews.{element_view, cond_view, stmt_view}
+use Rattle.lra_program.specs.{ProgramViews.element_view, ProgramViews.cond_view, ProgramViews.stmt_view, Receivers.variable_at, Receivers.waiting_in, Receivers.nobody, Step.append, Step.store_value}
+use Rattle.lra_program.specs.{Step.push_for, Value.index_of, declared.program.Element.Element, declared.program.Stmt.Stmt, declared.receivers.Receiver.Receiver}
 use Rattle.lra_operations.specs.Tree.{Node, point, act, seq}
-use Rattle.lra_inline_steps.specs.declared.frame.Frame.{Frame}
-use Rattle.lra_inline_steps.specs.declared.frame.Repeated.{Repeated}
-use Rattle.lra_inline_steps.specs.declared.frame.Caller.{Caller}
-use Rattle.lra_inline_steps.specs.declared.stack.Branches.{Branches}
-use Rattle.lra_inline_steps.specs.declared.stack.InlineContext.TheVariants as place
-use Rattle.lra_inline_steps.specs.declared.stack.Forked.TheVariants as forked
-use Rattle.lra_inline_steps.specs.Limits.{add_points, stopped}
 use Rattle.lra_inline_steps.specs.Building.{inside, StmtStands, ItemsStand, ItemStands, GivenStands, WritesStmt, WritesRvalue, WritesCall, WritesItem}
 use Rattle.lra_inline_steps.specs.Inlining.{body_of, step_of, loop_of, for_of}
 use Rattle.lra_inline_steps.specs.Stack.{inline_task, a_stmt, a_declaration, all_items, a_call, all_rounds, IsInlineFrame, StandsAs}
-use Rattle.lra_inline_steps.proofs.Walking.{walk_stop}
-use Rattle.lra_inline_steps.proofs.Writing.{Pointed, site, block_written, assign_written, write_called, call_written, if_written}
-use Rattle.lra_inline_steps.proofs.Writing.{rounds_written, loop_written, for_written, call_returned, fresh_written, given_written, value_written, result_given}
+use Rattle.lra_inline_steps.specs.{Limits.add_points, Limits.stopped, declared.frame.Caller.Caller, declared.frame.Frame.Frame, declared.frame.Repeated.Repeated, declared.stack.Branches.Branches}
+use Rattle.lra_inline_steps.specs.declared.stack.InlineContext.TheVariants as place
+use Rattle.lra_inline_steps.specs.declared.stack.Forked.TheVariants as forked
+use Rattle.lra_inline_steps.proofs.Standing.{block_stands, assign_stands, write_stands, call_stands, true_stands, false_stands, return_stands, body_stands, step_stands, init_stands, for_again}
 use Rattle.lra_inline_steps.proofs.Stopping.{second_stopped, third_stopped, middle_stopped, for_at_begin, for_at_round}
-use Rattle.lra_inline_steps.proofs.Standing.{block_stands, assign_stands, write_stands, call_stands, true_stands, false_stands, return_stands}
-use Rattle.lra_inline_steps.proofs.Standing.{body_stands, step_stands, init_stands, for_again, result_stands}
-use Rattle.lra_inline_steps.proofs.ItemRows.{declared_item, given_stops, given_item_stands}
+use Rattle.lra_inline_steps.proofs.Writing.{Pointed, site, block_written, assign_written, write_called, call_written, if_written, rounds_written, loop_written, for_written, call_returned}
+use Rattle.lra_inline_steps.proofs.Writing.{fresh_written, given_written, value_written, result_given}
+use Rattle.lra_inline_steps.proofs.{ItemRows.declared_item, ItemRows.given_stops, ItemRows.given_item_stands, Standing.result_stands, Walking.walk_stop}
 
 -- a caller whose call's value is for no element
 abbrev alone : ℕ → Receiver → Caller

@@ -1,12 +1,9 @@
 -- What a call answers is handed on as that of the whole statement.
 use Rattle.std.proofs.Common.{◌≡◌, ℕ, ◌≤◌, List, Some, Result, IfOk, sym, subst}
-use Rattle.lra_program.specs.Program.{Stmt, break, continue, Program}
+use Rattle.lra_program.specs.{Program.Stmt, Program.break, Program.continue, Program.Program, Sites.Site, Sites.Event, Sites.stmt_events}
 use Rattle.lra_operations.specs.Tree.{broken, continued, returned, Node}
-use Rattle.lra_program.specs.Sites.{Site, Event, stmt_events}
-use Rattle.lra_inline_steps.specs.declared.points.InlineError.{InlineError}
-use Rattle.lra_inline_steps.specs.declared.frame.Frame.{Frame}
-use Rattle.lra_inline_steps.specs.Limits.{add_points, stopped, OnLimit}
 use Rattle.lra_inline_steps.specs.Building.{inside, WritesStmt, LeavesLoop}
+use Rattle.lra_inline_steps.specs.{Limits.add_points, Limits.stopped, Limits.OnLimit, declared.frame.Frame.Frame, declared.points.InlineError.InlineError}
 use Rattle.lra_inline_steps.proofs.Stopping.{ok_through}
 
 not_broken : broken ≡ returned → ⊥

@@ -1,25 +1,17 @@
 -- Items one after the other: what each of them does to those behind it, and what is written of all of them so far.
 use Rattle.std.proofs.Common.{◌≡◌, ℕ, suc, List, [], ◌∷◌, ◌++◌, length, map, false, refl, sym, ap, ◌∙◌, subst}
 use Rattle.lra_program.specs.Program as program
-use Rattle.lra_program.specs.Program.{no_more, declaration, array, statement}
-use Rattle.lra_program.specs.declared.arrays.Array.{Array}
-use Rattle.lra_program.specs.Step.{fill}
-use Rattle.lra_operations.specs.Tree.{Node, empty, seq, point, act}
 use Rattle.lra_program.specs.Sites.{Site, plain_site, live_after_items, stmt_events, given_events, items_events}
+use Rattle.lra_program.specs.{Program.no_more, Program.declaration, Program.array, Program.statement, ProgramViews.item_view, ProgramViews.items_of, Step.fill, declared.arrays.Array.Array}
+use Rattle.lra_operations.specs.{Tree.Node, Tree.empty, Tree.seq, Tree.point, Tree.act, TreeViews.node_view, TreeViews.row}
 use Rattle.lra_operations.specs.declared.tree.Node as code_node
-use Rattle.lra_program.specs.ProgramViews.{item_view, items_of}
-use Rattle.lra_operations.specs.TreeViews.{node_view, row}
-use Rattle.lra_inline_steps.specs.declared.points.Limit.{Limit}
-use Rattle.lra_inline_steps.specs.declared.frame.Frame.{Frame}
-use Rattle.lra_inline_steps.specs.declared.stack.ItemRow.{ItemRow}
-use Rattle.lra_inline_steps.specs.declared.stack.InlineContext.TheVariants as place
-use Rattle.lra_inline_steps.specs.Limits.{add_points, stopped}
-use Rattle.lra_inline_steps.specs.Building.{inside, StmtStands, GivenStands, ItemsStand, ItemStands, WritesStmt, WritesDeclared, WritesItems, WritesItem}
-use Rattle.lra_inline_steps.specs.Building.{StopsItem}
+use Rattle.lra_inline_steps.specs.Building.{inside, StmtStands, GivenStands, ItemsStand, ItemStands, WritesStmt, WritesDeclared, WritesItems, WritesItem, StopsItem}
 use Rattle.lra_inline_steps.specs.Stack.{Work, inline_task, a_stmt, a_declaration, an_array, all_items, ItemsLoop, IsInlineFrame, IsWritten, Stops}
-use Rattle.lra_inline_steps.proofs.Writing.{Pointed, site, none_written, statement_written, array_written, declaration_written}
-use Rattle.lra_inline_steps.proofs.Standing.{first_stands, others_stand, array_stands, declared_stands, behind_stand}
+use Rattle.lra_inline_steps.specs.{Limits.add_points, Limits.stopped, declared.frame.Frame.Frame, declared.points.Limit.Limit, declared.stack.ItemRow.ItemRow}
+use Rattle.lra_inline_steps.specs.declared.stack.InlineContext.TheVariants as place
 use Rattle.lra_inline_steps.proofs.Items.{declaration_at_given, declaration_at_others, array_at_point, array_at_others, statement_at_first, statement_at_others}
+use Rattle.lra_inline_steps.proofs.Standing.{first_stands, others_stand, array_stands, declared_stands, behind_stand}
+use Rattle.lra_inline_steps.proofs.Writing.{Pointed, site, none_written, statement_written, array_written, declaration_written}
 
 -- one part more
 row_last : (gs : List Node) (g h : Node) → row (gs ++ g ∷ []) h ≡ row gs (seq g h)

@@ -1,15 +1,10 @@
 -- The items of a block, one by one: where all are stopped by one of them.
 use Rattle.std.proofs.Common.{◌≡◌, ℕ, suc, List, [], ◌∷◌, sym, subst}
 use Rattle.lra_program.specs.Program as program
-use Rattle.lra_program.specs.declared.arrays.Array.{Array}
-use Rattle.lra_program.specs.Program.{declaration, array, statement}
 use Rattle.lra_program.specs.Sites.{Site, Event, plain_site, given_events, stmt_events, items_events}
-use Rattle.lra_inline_steps.specs.declared.points.Limit.{Limit}
-use Rattle.lra_inline_steps.specs.declared.frame.Frame.{Frame}
-use Rattle.lra_inline_steps.specs.Limits.{Progress, passed, stopped, add_points}
-use Rattle.lra_inline_steps.specs.Building.{inside, ItemsStand}
-use Rattle.lra_inline_steps.proofs.Walking.{walk_stop}
-use Rattle.lra_inline_steps.proofs.Stopping.{second_stopped, third_stopped, middle_stopped}
+use Rattle.lra_program.specs.{Program.declaration, Program.array, Program.statement, declared.arrays.Array.Array}
+use Rattle.lra_inline_steps.specs.{Building.inside, Building.ItemsStand, Limits.Progress, Limits.passed, Limits.stopped, Limits.add_points, declared.frame.Frame.Frame, declared.points.Limit.Limit}
+use Rattle.lra_inline_steps.proofs.{Stopping.second_stopped, Stopping.third_stopped, Stopping.middle_stopped, Walking.walk_stop}
 
 -- items that are known by an equation --------------------------------------------------------------------------------------
 

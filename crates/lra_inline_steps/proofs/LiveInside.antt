@@ -3,14 +3,9 @@ use Rattle.std.proofs.Common.{◌≡◌, ℕ, suc, ◌+◌, ◌<◌, ◌≤◌, 
 use Rattle.std.proofs.lemmas.List.{drop_all}
 use Rattle.lra_base.specs.Limits.{greatest_live}
 use Rattle.lra_program.specs.Program as program
-use Rattle.lra_program.specs.Program.{no_more, declaration, array, statement}
-use Rattle.lra_program.specs.Sites.{live_after_items}
-use Rattle.lra_program.specs.declared.arrays.Array.{Array}
-use Rattle.lra_program.specs.declared.program.Declarator.{Declarator}
-use Rattle.lra_program.specs.declared.program.Stmt.{Stmt}
-use Rattle.lra_program.specs.declared.program.BlockItem.{BlockItem}
+use Rattle.lra_program.specs.{Program.no_more, Program.declaration, Program.array, Program.statement, ProgramViews.item_view, ProgramViews.items_of, Sites.live_after_items}
+use Rattle.lra_program.specs.{declared.arrays.Array.Array, declared.program.BlockItem.BlockItem, declared.program.Declarator.Declarator, declared.program.Stmt.Stmt}
 use Rattle.lra_program.specs.declared.program.BlockItem as code_item
-use Rattle.lra_program.specs.ProgramViews.{item_view, items_of}
 use Rattle.lra_inline_steps.proofs.Shown.{shown_declaration, shown_array, shown_statement}
 
 pub live_low : (n : ℕ) (b : program.BlockItems) → n ≤ live_after_items n b

@@ -2,12 +2,8 @@
 use Rattle.std.proofs.Common.{◌≡◌, ℕ, ap, sym, ◌∙◌, subst}
 use Rattle.lra_program.specs.Program as program
 use Rattle.lra_program.specs.declared.program.Stmt.{Stmt, Stmt-F, out-Stmt, roll-Stmt, roll-out-Stmt}
+use Rattle.lra_program.specs.{ProgramViews.stmt_view, declared.program.BlockItem.BlockItem, declared.program.BlockItems.BlockItems, declared.program.CaseItem.CaseItem, declared.program.Cond.Cond}
 use Rattle.lra_program.specs.declared.program.Stmt as code
-use Rattle.lra_program.specs.declared.program.BlockItem.{BlockItem}
-use Rattle.lra_program.specs.declared.program.CaseItem.{CaseItem}
-use Rattle.lra_program.specs.declared.program.BlockItems.{BlockItems}
-use Rattle.lra_program.specs.declared.program.Cond.{Cond}
-use Rattle.lra_program.specs.ProgramViews.{stmt_view}
 use Rattle.lra_inline_steps.specs.Inlining.{IsLone}
 use Rattle.lra_inline_steps.proofs.Shown.{shown_block, shown_assign, shown_write, shown_call, shown_if, shown_loop, shown_for, shown_return, shown_switch}
 

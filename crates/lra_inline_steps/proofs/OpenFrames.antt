@@ -2,23 +2,16 @@
 use Rattle.std.proofs.Common.{◌≡◌, ℕ, ◌+◌, ◌≤◌, Some, List, [], ◌∷◌, ◌++◌, map, length, Result, Ok, Err, IfOk, refl, sym, ap, ◌∙◌, subst}
 use Rattle.std.proofs.lemmas.List.{map-append}
 use Rattle.lra_base.specs.Limits.{greatest_live}
-use Rattle.lra_program.specs.Program.{Program, BlockItems, switch, Cases}
-use Rattle.lra_program.specs.Step.{truncate_to}
-use Rattle.lra_program.specs.Sites.{Site, plain_site, call_events}
 use Rattle.lra_program.specs.ProgramViews.{expr_view, call_view, item_view, items_of, case_view, cases_of}
+use Rattle.lra_program.specs.{Program.Program, Program.BlockItems, Program.switch, Program.Cases, Sites.Site, Sites.plain_site, Sites.call_events, Step.truncate_to}
 use Rattle.lra_operations.specs.declared.tree.Node as code
 use Rattle.lra_operations.specs.declared.tree.Arm as code_arm
-use Rattle.lra_operations.specs.Tree.{Node, point, act, seq, arm}
-use Rattle.lra_operations.specs.TreeViews.{node_view, arm_view}
-use Rattle.lra_inline_steps.specs.declared.points.Limit.{Limit}
-use Rattle.lra_inline_steps.specs.declared.points.InlineError.{InlineError}
-use Rattle.lra_inline_steps.specs.declared.frame.Frame.{Frame}
-use Rattle.lra_inline_steps.specs.declared.frame.Repeated.{Repeated}
-use Rattle.lra_inline_steps.specs.declared.stack.Branches.{Branches}
-use Rattle.lra_inline_steps.specs.declared.stack.CalledFrom.{CalledFrom}
-use Rattle.lra_inline_steps.specs.declared.stack.ItemRow.{ItemRow}
-use Rattle.lra_inline_steps.specs.declared.stack.CaseRow.{CaseRow}
-use Rattle.lra_inline_steps.specs.declared.stack.InlineFrame.{InlineFrame}
+use Rattle.lra_operations.specs.{Tree.Node, Tree.point, Tree.act, Tree.seq, Tree.arm, TreeViews.node_view, TreeViews.arm_view}
+use Rattle.lra_inline_steps.specs.Stack.{InlineTask, inline_task, a_stmt, all_items, part_view, Closes, Forks, ItemsLoop, SwitchLoop, IsInlineFrame, IsWritten, AreInlineFrames, InliningIsUnderWay}
+use Rattle.lra_inline_steps.specs.Stack.{InlineStepLeads, Stops, StopsAs, StandsAs}
+use Rattle.lra_inline_steps.specs.{Building.StmtStands, Building.CallStands, Building.WritesBody, Inlining.body_of, Inlining.WritesCallOf, Limits.add_points, Limits.passed, Limits.stopped}
+use Rattle.lra_inline_steps.specs.{declared.frame.Frame.Frame, declared.frame.Repeated.Repeated, declared.points.InlineError.InlineError, declared.points.Limit.Limit, declared.stack.Branches.Branches}
+use Rattle.lra_inline_steps.specs.{declared.stack.CalledFrom.CalledFrom, declared.stack.CaseRow.CaseRow, declared.stack.InlineFrame.InlineFrame, declared.stack.ItemRow.ItemRow}
 use Rattle.lra_inline_steps.specs.declared.stack.Next as next_type
 use Rattle.lra_inline_steps.specs.declared.stack.Next.TheVariants as next
 use Rattle.lra_inline_steps.specs.declared.stack.Part as part_type
@@ -28,12 +21,7 @@ use Rattle.lra_inline_steps.specs.declared.stack.InlineContext as place_type
 use Rattle.lra_inline_steps.specs.declared.stack.InlineContext.TheVariants as place
 use Rattle.lra_inline_steps.specs.declared.stack.Forked as forked_type
 use Rattle.lra_inline_steps.specs.declared.stack.Forked.TheVariants as forked
-use Rattle.lra_inline_steps.specs.Limits.{add_points, passed, stopped}
-use Rattle.lra_inline_steps.specs.Building.{StmtStands, CallStands, WritesBody}
-use Rattle.lra_inline_steps.specs.Inlining.{body_of, WritesCallOf}
 use Rattle.lra_inline_steps.proofs.Shown.{shown_tree}
-use Rattle.lra_inline_steps.specs.Stack.{InlineTask, inline_task, a_stmt, all_items, part_view, Closes, Forks, ItemsLoop, SwitchLoop, IsInlineFrame, IsWritten, AreInlineFrames, InliningIsUnderWay}
-use Rattle.lra_inline_steps.specs.Stack.{InlineStepLeads, Stops, StopsAs, StandsAs}
 
 module _ (P : Program) where
   pub open_more : (whole under n : InlineTask) (os : List InlineFrame) (o : InlineFrame) → AreInlineFrames P whole under os → IsInlineFrame P under n o →

@@ -2,30 +2,19 @@
 use Rattle.std.proofs.Common.{◌≡◌, ℕ, map, Option, Some, ap, ◌∙◌, rules, Box, Vec, Global}
 use Rattle.lra_program.specs.Program as program
 use Rattle.lra_operations.specs.Tree as graph
-use Rattle.lra_program.specs.declared.arrays.Array.{Array}
-use Rattle.lra_program.specs.declared.program.Variable.{Variable}
-use Rattle.lra_program.specs.declared.program.Element.{Element}
-use Rattle.lra_program.specs.declared.program.Cond.{Cond}
-use Rattle.lra_program.specs.declared.program.Rvalue.{Rvalue}
+use Rattle.lra_program.specs.ProgramViews.{variable_view, expr_view, element_view, cond_view, call_view, rvalue_view, given_view, declarator_view, stmt_view, item_view, items_of, items_view}
+use Rattle.lra_program.specs.declared.program.BlockItems.{BlockItems, the_lemmas as items_lemmas}
+use Rattle.lra_program.specs.{ProgramViews.case_view, ProgramViews.cases_of, declared.arrays.Array.Array, declared.program.BlockItem.the_lemmas as item_lemmas, declared.program.Call.Call}
+use Rattle.lra_program.specs.{declared.program.CaseItem.CaseItem, declared.program.Cond.Cond, declared.program.Declarator.Declarator, declared.program.Element.Element, declared.program.Expr.Expr}
+use Rattle.lra_program.specs.{declared.program.Rvalue.Rvalue, declared.program.Stmt.Stmt, declared.program.Stmt.the_lemmas as stmt_lemmas, declared.program.Variable.Variable}
 use Rattle.lra_program.specs.declared.program.Rvalue.TheVariants as code_rvalue
-use Rattle.lra_program.specs.declared.program.Expr.{Expr}
-use Rattle.lra_program.specs.declared.program.Declarator.{Declarator}
-use Rattle.lra_program.specs.declared.program.Call.{Call}
-use Rattle.lra_program.specs.declared.program.BlockItem.{the_lemmas as item_lemmas}
 use Rattle.lra_program.specs.declared.program.BlockItem as code_item
-use Rattle.lra_program.specs.declared.program.CaseItem.{CaseItem}
 use Rattle.lra_program.specs.declared.program.CaseItem as code_case
 use Rattle.lra_base.specs.declared.case_labels.CaseLabel.{CaseLabel}
-use Rattle.lra_program.specs.declared.program.BlockItems.{BlockItems, the_lemmas as items_lemmas}
-use Rattle.lra_program.specs.declared.program.Stmt.{Stmt, the_lemmas as stmt_lemmas}
 use Rattle.lra_program.specs.declared.program.Stmt as code
-use Rattle.lra_operations.specs.declared.tree.Op.{Op}
-use Rattle.lra_operations.specs.declared.tree.Node.{the_lemmas as node_lemmas}
+use Rattle.lra_operations.specs.{TreeViews.op_view, TreeViews.node_view, TreeViews.arm_view, declared.tree.Node.the_lemmas as node_lemmas, declared.tree.Op.Op}
 use Rattle.lra_operations.specs.declared.tree.Node as code_node
 use Rattle.lra_operations.specs.declared.tree.Arm as code_arm
-use Rattle.lra_program.specs.ProgramViews.{variable_view, expr_view, element_view, cond_view, call_view, rvalue_view, given_view, declarator_view}
-use Rattle.lra_program.specs.ProgramViews.{stmt_view, item_view, items_of, items_view, case_view, cases_of}
-use Rattle.lra_operations.specs.TreeViews.{op_view, node_view, arm_view}
 use Rattle.lra_inline_steps.specs.Stack.{entry_part}
 
 pub shown_empty : node_view code_node.Empty ≡ graph.empty

@@ -1,17 +1,14 @@
 -- Where a part of a well-formed program stands, its own parts stand.
 use Rattle.std.proofs.Common.{◌≡◌, ℕ, suc, ◌+◌, ◌≤◌, length, Option, Some, None, true, false, slice_get, refl, sym, ap, ◌∙◌, arith}
 use Rattle.std.proofs.lemmas.Option.{none-some, same_Some}
-use Rattle.lra_program.specs.Program.{Variable, Element, Cond, Call, Rvalue, result, Declarator, Stmt, block, assign, write, call, if, loop, for}
-use Rattle.lra_program.specs.Program.{break, continue, return, BlockItems, no_more, declaration, array}
-use Rattle.lra_program.specs.Program.{statement, switch, Cases, labelled, stated, Expr, Function, Program}
-use Rattle.lra_base.specs.declared.case_labels.CaseLabel.{CaseLabel}
-use Rattle.lra_program.specs.declared.arrays.Array.{Array}
-use Rattle.lra_program.specs.Sites.{live_after_items}
+use Rattle.lra_program.specs.Program.{Variable, Element, Cond, Call, Rvalue, result, Declarator, Stmt, block, assign, write, call, if, loop, for, break, continue, return, BlockItems, no_more}
+use Rattle.lra_program.specs.Program.{declaration, array, statement, switch, Cases, labelled, stated, Expr, Function, Program}
 use Rattle.lra_program.specs.WellFormed.{Jumps, no_jumps, in_loop, in_switch, IsWellFormed}
+use Rattle.lra_program.specs.{Sites.live_after_items, declared.arrays.Array.Array, declared.receivers.Receiver.Receiver}
+use Rattle.lra_base.specs.declared.case_labels.CaseLabel.{CaseLabel}
 use Rattle.lra_inline_sound.proofs.DistinctSites.{all_at, main_at}
-use Rattle.lra_inline_steps.specs.declared.frame.Frame.{Frame}
-use Rattle.lra_program.specs.declared.receivers.Receiver.{Receiver}
 use Rattle.lra_inline_steps.specs.Building.{Stands, StmtStands, CasesStand, cases_frame, ItemsStand, GivenStands, CallStands}
+use Rattle.lra_inline_steps.specs.declared.frame.Frame.{Frame}
 use Rattle.lra_inline_steps.proofs.LiveInside.{live_low}
 
 stands_as : (r : Frame) (X Y : Jumps → ℕ → Type 0) → ((b : Jumps) (n : ℕ) → X b n → Y b n) → Stands r X → Stands r Y

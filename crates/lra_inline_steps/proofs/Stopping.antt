@@ -1,15 +1,11 @@
 -- Where a part is stopped by a limit, the whole is.
 use Rattle.std.proofs.Common.{◌≡◌, ℕ, List, [], ◌∷◌, ◌++◌, Result, Ok, Err, IfOk, sym, subst, append_assoc}
-use Rattle.std.specs.Result.{IsErrAnd}
 use Rattle.std.proofs.lemmas.Result.{err_from_is_err_and}
+use Rattle.std.specs.Result.{IsErrAnd}
 use Rattle.lra_program.specs.Program.{Cond, Stmt, for, BlockItems, Program}
 use Rattle.lra_program.specs.Sites.{Site, Event, plain_site, live_after_items, stmt_events, items_events}
-use Rattle.lra_inline_steps.specs.declared.points.Limit.{Limit}
-use Rattle.lra_inline_steps.specs.declared.points.InlineError.{InlineError}
-use Rattle.lra_inline_steps.specs.declared.points.InlineError.TheVariants.{Passed, Memory}
-use Rattle.lra_inline_steps.specs.declared.frame.Frame.{Frame}
-use Rattle.lra_inline_steps.specs.Limits.{passed, stopped, add_points, OnError, OnLimit}
-use Rattle.lra_inline_steps.specs.Building.{inside}
+use Rattle.lra_inline_steps.specs.{Building.inside, Limits.passed, Limits.stopped, Limits.add_points, Limits.OnError, Limits.OnLimit, declared.frame.Frame.Frame}
+use Rattle.lra_inline_steps.specs.{declared.points.InlineError.InlineError, declared.points.InlineError.TheVariants.Passed, declared.points.InlineError.TheVariants.Memory, declared.points.Limit.Limit}
 use Rattle.lra_inline_steps.proofs.Walking.{walk_then, walk_stop}
 
 pub error_as : (e : InlineError) (X Y : Limit → Type 0) → ((x : Limit) → X x → Y x) → OnError e X → OnError e Y

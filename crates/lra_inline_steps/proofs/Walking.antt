@@ -1,13 +1,11 @@
 -- Points are written one behind the other: what stands behind what, and where a limit stops all.
 use Rattle.std.proofs.Common.{◌≡◌, zero, suc, List, [], ◌∷◌, ◌++◌, length, Some, Bool, true, false, slice_get, refl, sym, subst, arith, length-append}
-use Rattle.std.specs.Prelude.{nat_lt, if◌then◌else◌}
 use Rattle.std.proofs.lemmas.Option.{none-some}
+use Rattle.std.specs.Prelude.{nat_lt, if◌then◌else◌}
 use Rattle.lra_program.specs.Sites.{Site, Event, comes, one_call_more}
 use Rattle.lra_resolution_spec.specs.Refuse.{greatest_live, greatest_points}
-use Rattle.lra_inline_steps.specs.declared.points.Limit.{Limit}
 use Rattle.lra_inline_steps.specs.declared.points.Limit.TheVariants.{Variables, Points, Calls}
-use Rattle.lra_inline_steps.specs.Limits.{Progress, passed, stopped, add_points}
-use Rattle.lra_inline_steps.specs.Building.{Begins}
+use Rattle.lra_inline_steps.specs.{Building.Begins, Limits.Progress, Limits.passed, Limits.stopped, Limits.add_points, declared.points.Limit.Limit}
 
 abbrev pub chosen : Bool → Bool → Limit → Limit → Progress → Progress
 chosen many full x y r = if many then stopped x else (if full then stopped y else r)

@@ -1,32 +1,23 @@
 -- Each form of a statement, written out behind the points before it.
 use Rattle.std.proofs.Common.{◌≡◌, ℕ, suc, ◌+◌, ◌≤◌, List, [], ◌∷◌, ◌++◌, length, Option, Some, None, Bool, true, false, slice_get, refl, sym, ap, ◌∙◌, subst, append_assoc}
 use Rattle.std.proofs.lemmas.Option.{none-some, same_Some}
-use Rattle.lra_program.specs.Program.{Variable, Expr, Element, Cond, Call, Rvalue, value, result, Declarator, Stmt, absent, nothing, block, assign, write}
-use Rattle.lra_program.specs.Program.{call, if, loop, for, break, continue, return, assert, assume, switch, Cases, no_cases, labelled, stated}
-use Rattle.lra_base.specs.declared.case_labels.CaseLabel.{CaseLabel}
-use Rattle.lra_program.specs.Program.{BlockItems, no_more, declaration, array, statement, Function, Program}
-use Rattle.lra_program.specs.declared.arrays.Array.{Array}
-use Rattle.lra_program.specs.Value.{Argument, index_of}
-use Rattle.lra_program.specs.Step as step
-use Rattle.lra_program.specs.Step.{Op, append, fill, store_value, store_element, havoc, push, push_for, truncate_to, test, arguments_for, main_receiver}
-use Rattle.lra_base.specs.declared.number_types.NumberType.{NumberType}
-use Rattle.lra_program.specs.declared.receivers.Receiver.{Receiver}
+use Rattle.lra_program.specs.Program.{Variable, Expr, Element, Cond, Call, Rvalue, value, result, Declarator, Stmt, absent, nothing, block, assign, write, call, if, loop, for, break, continue, return}
+use Rattle.lra_program.specs.Program.{assert, assume, switch, Cases, no_cases, labelled, stated, BlockItems, no_more, declaration, array, statement, Function, Program}
 use Rattle.lra_program.specs.Receivers.{variable_at, waiting_in, nobody, result_receiver}
-use Rattle.lra_operations.specs.Tree.{Exit, broken, continued, returned, Node, empty, point, act, check, seq, choose, leave, Arms, no_arms, entry, arm}
 use Rattle.lra_program.specs.Sites.{Site, comes, plain_site, live_after_items, rvalue_events, given_events, stmt_events, cases_events, items_events, function_events, call_events}
+use Rattle.lra_program.specs.Step.{Op, append, fill, store_value, store_element, havoc, push, push_for, truncate_to, test, arguments_for, main_receiver}
+use Rattle.lra_program.specs.{Value.Argument, Value.index_of, declared.arrays.Array.Array, declared.receivers.Receiver.Receiver}
+use Rattle.lra_base.specs.{declared.case_labels.CaseLabel.CaseLabel, declared.number_types.NumberType.NumberType}
+use Rattle.lra_program.specs.Step as step
+use Rattle.lra_operations.specs.Inlined.{spot_of, IsSiteAt, IsSiteWith, callee, InlineStmt, InlineCases, InlineItems, InlineDeclarator, InlineLoop, InlineRvalue, InlineCall, as_nothing, as_block}
+use Rattle.lra_operations.specs.Inlined.{as_absent, as_assign, as_write, as_write_call, as_call, as_if, as_loop, as_for, as_break, as_continue, as_switch, as_no_cases, as_labelled, as_stated}
+use Rattle.lra_operations.specs.Inlined.{switch_node, as_return, as_return_value, as_return_call, as_end, as_end_value, as_end_call, as_assert, as_assume, as_none, as_declaration, as_array}
+use Rattle.lra_operations.specs.Inlined.{as_statement, as_fresh, as_given, is_loop, as_value, as_result, is_call, loop_node, callee_node, return_node}
+use Rattle.lra_operations.specs.Tree.{Exit, broken, continued, returned, Node, empty, point, act, check, seq, choose, leave, Arms, no_arms, entry, arm}
 use Rattle.lra_operations.specs.Inlined as inlined
-use Rattle.lra_operations.specs.Inlined.{spot_of, IsSiteAt, IsSiteWith, callee, InlineStmt, InlineCases, InlineItems, InlineDeclarator, InlineLoop}
-use Rattle.lra_operations.specs.Inlined.{InlineRvalue, InlineCall, as_nothing, as_block, as_absent}
-use Rattle.lra_operations.specs.Inlined.{as_assign, as_write, as_write_call, as_call, as_if, as_loop}
-use Rattle.lra_operations.specs.Inlined.{as_for, as_break, as_continue, as_switch, as_no_cases, as_labelled, as_stated, switch_node}
-use Rattle.lra_operations.specs.Inlined.{as_return, as_return_value, as_return_call, as_end, as_end_value, as_end_call, as_assert}
-use Rattle.lra_operations.specs.Inlined.{as_assume, as_none, as_declaration, as_array, as_statement, as_fresh, as_given}
-use Rattle.lra_operations.specs.Inlined.{is_loop, as_value, as_result, is_call, loop_node, callee_node, return_node}
-use Rattle.lra_inline_steps.specs.declared.frame.Frame.{Frame}
-use Rattle.lra_inline_steps.specs.Limits.{add_points, passed}
-use Rattle.lra_inline_steps.specs.Building.{any_left, value_left, call_left, back_length, function_receiver, IsFrame, Begins, inside, WritesStmt, WritesItems}
-use Rattle.lra_inline_steps.specs.Building.{WritesRvalue, WritesCall, WritesLoop, WritesDeclared, Writes}
-use Rattle.lra_inline_steps.specs.Building.{cases_frame, WritesCases, length_left, LeavesLoop}
+use Rattle.lra_inline_steps.specs.Building.{any_left, value_left, call_left, back_length, function_receiver, IsFrame, Begins, inside, WritesStmt, WritesItems, WritesRvalue, WritesCall, WritesLoop}
+use Rattle.lra_inline_steps.specs.Building.{WritesDeclared, Writes, cases_frame, WritesCases, length_left, LeavesLoop}
+use Rattle.lra_inline_steps.specs.{Limits.add_points, Limits.passed, declared.frame.Frame.Frame}
 use Rattle.lra_inline_steps.proofs.Walking.{walk_then, begins_walk, point_there, one_longer}
 
 begins_join : (S T U : List Site) → Begins S T → Begins T U → Begins S U

@@ -4,20 +4,17 @@ use Rattle.std.specs.Prelude.{◌≡◌, ◌≢◌, ℕ, suc, ◌+◌, ◌-◌, 
 use Rattle.std.specs.Prelude.{slice_get}
 use Rattle.lra_program.specs.Program.{Expr, Cond, Call, Rvalue, Stmt, loop, break, continue, return, Cases, BlockItems}
 use Rattle.lra_program.specs.Program.{Function, Program}
-use Rattle.lra_program.specs.Step as step
-use Rattle.lra_program.specs.Step.{Op, store_value, havoc, truncate_to, main_receiver}
-use Rattle.lra_program.specs.Value.{Argument}
-use Rattle.lra_base.specs.declared.number_types.NumberType.{NumberType}
-use Rattle.lra_program.specs.declared.receivers.Receiver.{Receiver}
-use Rattle.lra_program.specs.Receivers.{result_receiver}
-use Rattle.lra_operations.specs.Tree.{Exit, broken, continued, returned, Node, act, leave, seq, Arms}
 use Rattle.lra_program.specs.Sites.{Site, Event, live_after_items, rvalue_events, given_events, stmt_events}
 use Rattle.lra_program.specs.Sites.{cases_events, items_events, call_events}
-use Rattle.lra_operations.specs.Inlined as inlined
+use Rattle.lra_program.specs.Step.{Op, store_value, havoc, truncate_to, main_receiver}
 use Rattle.lra_program.specs.WellFormed.{Jumps, IsGoodCall, IsGoodGiven, IsGoodStmt, AreGoodCases, AreGoodItems}
+use Rattle.lra_program.specs.{Receivers.result_receiver, Value.Argument, declared.receivers.Receiver.Receiver}
+use Rattle.lra_program.specs.Step as step
+use Rattle.lra_base.specs.declared.number_types.NumberType.{NumberType}
+use Rattle.lra_operations.specs.Tree.{Exit, broken, continued, returned, Node, act, leave, seq, Arms}
+use Rattle.lra_operations.specs.Inlined as inlined
 use Rattle.lra_inline_steps.specs.Limits.{add_points, passed, stopped}
-use Rattle.lra_inline_steps.specs.declared.points.Limit.{Limit}
-use Rattle.lra_inline_steps.specs.declared.frame.Frame.{Frame}
+use Rattle.lra_inline_steps.specs.{declared.frame.Frame.Frame, declared.points.Limit.Limit}
 
 -- frames ------------------------------------------------------------------------------------------------------------
 

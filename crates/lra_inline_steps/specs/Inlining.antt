@@ -3,27 +3,19 @@ use Rattle.std.specs.Prelude.{◌≡◌, ℕ, List, [], ◌∷◌, map, true, �
 use Rattle.std.specs.declared.alloc.Global.{Global}
 use Rattle.lra_operations.specs.declared.tree.Node as code
 use Rattle.lra_operations.specs.declared.tree.Site as code_site
-use Rattle.lra_program.specs.declared.receivers.Receiver.{Receiver}
-use Rattle.lra_program.specs.Step.{Op, push, push_for}
-use Rattle.lra_program.specs.Value.{Argument}
+use Rattle.lra_program.specs.Program.{Call, Element, Stmt, block, assign, write, call, if, loop, for, return, switch}
+use Rattle.lra_program.specs.ProgramViews.{expr_view, element_view, cond_view, stmt_view, case_view, cases_of}
+use Rattle.lra_program.specs.Sites.{Site, Event, comes, plain_site, stmt_events, items_events, call_events}
+use Rattle.lra_program.specs.{Program.BlockItems, Program.Program, ProgramViews.program_view, Step.Op, Step.push}
+use Rattle.lra_program.specs.{Step.push_for, Value.Argument, declared.receivers.Receiver.Receiver}
 use Rattle.lra_program.specs.declared.program.Expr as code_expr
 use Rattle.lra_program.specs.declared.program.CaseItem as code_case
-use Rattle.lra_program.specs.Program.{Call, Element, Stmt, block, assign, write, call, if, loop, for, return, switch}
-use Rattle.lra_program.specs.Program.{BlockItems, Program}
-use Rattle.lra_operations.specs.Tree.{Exit, Node}
-use Rattle.lra_program.specs.Sites.{Site, Event, comes, plain_site, stmt_events}
-use Rattle.lra_program.specs.Sites.{items_events, call_events}
-use Rattle.lra_program.specs.ProgramViews.{expr_view, element_view, cond_view, stmt_view, case_view, cases_of}
-use Rattle.lra_program.specs.ProgramViews.{program_view}
-use Rattle.lra_operations.specs.TreeViews.{node_view, site_view}
+use Rattle.lra_operations.specs.{Tree.Exit, Tree.Node, TreeViews.node_view, TreeViews.site_view}
 use Rattle.lra_inline_steps.specs.Limits.{add_points, passed, stopped}
+use Rattle.lra_inline_steps.specs.{declared.frame.Around.Around, declared.frame.Caller.Caller}
+use Rattle.lra_inline_steps.specs.{declared.frame.Frame.Frame, declared.frame.Repeated.Repeated}
+use Rattle.lra_inline_steps.specs.{declared.frame.Source.Source, declared.points.Limit.Limit}
 use Rattle.lra_inline_steps.specs.Building as building
-use Rattle.lra_inline_steps.specs.declared.points.Limit.{Limit}
-use Rattle.lra_inline_steps.specs.declared.frame.Around.{Around}
-use Rattle.lra_inline_steps.specs.declared.frame.Caller.{Caller}
-use Rattle.lra_inline_steps.specs.declared.frame.Frame.{Frame}
-use Rattle.lra_inline_steps.specs.declared.frame.Repeated.{Repeated}
-use Rattle.lra_inline_steps.specs.declared.frame.Source.{Source}
 
 abbrev pub Points : Type 0
 Points = Vec code_site.Site Global

@@ -5,10 +5,9 @@ use Rattle.lra_base.specs.declared.refusals.Refusal.{Refusal}
 use Rattle.lra_syntax.specs.Labels.{Labelled, label_at, label_place, called_place}
 use Rattle.lra_program.specs.Sites.{Site, Event, comes, one_call_more}
 use Rattle.lra_resolution_spec.specs.Refuse.{greatest_live, greatest_points}
-use Rattle.lra_inline_steps.specs.declared.points.Limit.{Limit}
-use Rattle.lra_inline_steps.specs.declared.points.Limit.TheVariants.{Variables, Points, Calls}
-use Rattle.lra_inline_steps.specs.declared.points.InlineError.{InlineError}
 use Rattle.lra_inline_steps.specs.declared.points.InlineError.TheVariants.{Passed, Memory}
+use Rattle.lra_inline_steps.specs.declared.points.Limit.TheVariants.{Variables, Points, Calls}
+use Rattle.lra_inline_steps.specs.{declared.points.InlineError.InlineError, declared.points.Limit.Limit}
 
 -- the points behind some others, or the first limit passed
 pub data Progress : Type 0 where

@@ -1,49 +1,38 @@
 -- What is owed where a program is written out along a list of open places: in each of them a part is under way, and
 -- with that the place's own part is written.
 use Rattle.std.specs.Prelude.{◌≡◌, ℕ, ◌+◌, ◌≤◌, List, [], ◌∷◌, ◌++◌, map, length, Option, Some, None}
-use Rattle.lra_base.specs.Limits.{greatest_live}
-use Rattle.lra_base.specs.declared.case_labels.CaseLabel.{CaseLabel}
-use Rattle.lra_program.specs.declared.program.CaseItem.{CaseItem}
-use Rattle.lra_operations.specs.declared.tree.Arm.{Arm}
-use Rattle.lra_program.specs.Program as resolved
+use Rattle.lra_base.specs.{Limits.greatest_live, declared.case_labels.CaseLabel.CaseLabel}
 use Rattle.lra_program.specs.Program.{Declarator, declaration, array, BlockItems, Program, Cond}
-use Rattle.lra_program.specs.declared.arrays.Array as arrays
-use Rattle.lra_program.specs.Step.{append, truncate_to}
-use Rattle.lra_program.specs.Sites.{Site, live_after_items, plain_site, stmt_events, cases_events, items_events}
-use Rattle.lra_program.specs.Sites.{call_events}
 use Rattle.lra_program.specs.ProgramViews.{expr_view, cond_view, call_view, stmt_view, declarator_view, item_view}
 use Rattle.lra_program.specs.ProgramViews.{items_of, case_view, cases_of}
-use Rattle.lra_operations.specs.Tree as graph
+use Rattle.lra_program.specs.Sites.{Site, live_after_items, plain_site, stmt_events, cases_events, items_events}
+use Rattle.lra_program.specs.{Sites.call_events, Step.append, Step.truncate_to, declared.program.CaseItem.CaseItem}
 use Rattle.lra_operations.specs.Tree.{Node, point, act, seq, choose, Arms}
 use Rattle.lra_operations.specs.TreeViews.{node_view, row, ArmPart, arm_view, arms_before}
-use Rattle.lra_operations.specs.Inlined.{loop_node, switch_node}
-use Rattle.lra_inline_steps.specs.Limits.{add_points, passed, stopped}
+use Rattle.lra_operations.specs.{Inlined.loop_node, Inlined.switch_node, declared.tree.Arm.Arm}
+use Rattle.lra_program.specs.Program as resolved
+use Rattle.lra_program.specs.declared.arrays.Array as arrays
+use Rattle.lra_operations.specs.Tree as graph
 use Rattle.lra_inline_steps.specs.Building.{inside, call_left, ItemsStand, ItemStands, StmtStands, CasesStand}
-use Rattle.lra_inline_steps.specs.Building.{CallStands}
-use Rattle.lra_inline_steps.specs.Building.{cases_frame, WritesStmt, WritesCases, WritesItems, WritesItem}
+use Rattle.lra_inline_steps.specs.Building.{CallStands, cases_frame, WritesStmt, WritesCases, WritesItems, WritesItem}
 use Rattle.lra_inline_steps.specs.Building.{WritesLoop, WritesBody, StopsItem}
 use Rattle.lra_inline_steps.specs.Inlining.{Points, points_in, body_of, step_of, program_around, WritesCallOf}
-use Rattle.lra_inline_steps.specs.declared.points.Limit.{Limit}
-use Rattle.lra_inline_steps.specs.declared.frame.Frame.{Frame}
-use Rattle.lra_inline_steps.specs.declared.frame.Around.{Around}
-use Rattle.lra_inline_steps.specs.declared.frame.Caller.{Caller}
-use Rattle.lra_inline_steps.specs.declared.stack.Part as part
-use Rattle.lra_inline_steps.specs.declared.stack.Part.TheVariants.{Stmt, Declaration, Array, Items, Call, Rounds}
-use Rattle.lra_inline_steps.specs.declared.stack.ItemRow.{ItemRow}
-use Rattle.lra_inline_steps.specs.declared.stack.CalledFrom.{CalledFrom}
-use Rattle.lra_inline_steps.specs.declared.stack.InlineContext as place
-use Rattle.lra_inline_steps.specs.declared.stack.CaseRow.{CaseRow}
-use Rattle.lra_inline_steps.specs.declared.stack.NextCase.{NextCase}
-use Rattle.lra_inline_steps.specs.declared.stack.InlineContext.TheVariants.{Items as ItemsAt, Cases as CasesAt, Forked}
-use Rattle.lra_inline_steps.specs.declared.stack.InlineContext.TheVariants.{Init}
-use Rattle.lra_inline_steps.specs.declared.stack.InlineContext.TheVariants.{Around as AroundAt, Block, Given, Declared}
-use Rattle.lra_inline_steps.specs.declared.stack.InlineContext.TheVariants.{Returned, Callee}
-use Rattle.lra_inline_steps.specs.declared.stack.Forked as forked
 use Rattle.lra_inline_steps.specs.declared.stack.Forked.TheVariants.{OnTrue, OnFalse, Step, Body}
-use Rattle.lra_inline_steps.specs.declared.stack.InlineFrame.{InlineFrame}
+use Rattle.lra_inline_steps.specs.declared.stack.InlineContext.TheVariants.{Items as ItemsAt, Cases as CasesAt, Forked}
+use Rattle.lra_inline_steps.specs.declared.stack.InlineContext.TheVariants.{Init, Around as AroundAt, Block, Given}
+use Rattle.lra_inline_steps.specs.declared.stack.InlineContext.TheVariants.{Declared, Returned, Callee}
+use Rattle.lra_inline_steps.specs.declared.stack.Next.TheVariants.{Written, Opens}
+use Rattle.lra_inline_steps.specs.declared.stack.Part.TheVariants.{Stmt, Declaration, Array, Items, Call, Rounds}
+use Rattle.lra_inline_steps.specs.{Limits.add_points, Limits.passed, Limits.stopped, declared.frame.Around.Around}
+use Rattle.lra_inline_steps.specs.{declared.frame.Caller.Caller, declared.frame.Frame.Frame}
+use Rattle.lra_inline_steps.specs.{declared.points.Limit.Limit, declared.stack.CalledFrom.CalledFrom}
+use Rattle.lra_inline_steps.specs.{declared.stack.CaseRow.CaseRow, declared.stack.InlineFrame.InlineFrame}
+use Rattle.lra_inline_steps.specs.{declared.stack.ItemRow.ItemRow, declared.stack.NextCase.NextCase}
+use Rattle.lra_inline_steps.specs.declared.stack.Part as part
+use Rattle.lra_inline_steps.specs.declared.stack.InlineContext as place
+use Rattle.lra_inline_steps.specs.declared.stack.Forked as forked
 use Rattle.lra_inline_steps.specs.declared.stack.Written as written
 use Rattle.lra_inline_steps.specs.declared.stack.Next as next
-use Rattle.lra_inline_steps.specs.declared.stack.Next.TheVariants.{Written, Opens}
 
 -- what is to be written out: a statement; a declarator with its variable; one of an array, by its label; items; a call,
 -- for what calls; the rounds of a loop behind its own point, by its body and its step

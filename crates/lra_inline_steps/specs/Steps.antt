@@ -1,25 +1,21 @@
 -- How many steps the writing out may still take: so it ends. Calls are counted as they are written out.
-use Rattle.std.specs.Prelude.{◌<◌, ℕ, zero, suc, ◌+◌, List, map, Option, Some, None, slice_get}
 use Rattle.std.specs.List.{sum_by}
+use Rattle.std.specs.Prelude.{◌<◌, ℕ, zero, suc, ◌+◌, List, map, Option, Some, None, slice_get}
 use Rattle.lra_program.specs.Program.{Call, Rvalue, value, result, Stmt, absent, nothing, block, assign, write, call}
 use Rattle.lra_program.specs.Program.{if, loop, for, break, continue, return, assert, assume, switch, Cases, no_cases}
 use Rattle.lra_program.specs.Program.{labelled, stated, BlockItems, no_more, declaration, array, statement, Function}
-use Rattle.lra_program.specs.Program.{Program}
 use Rattle.lra_program.specs.ProgramViews.{stmt_view, item_view, items_of, case_view, cases_of}
-use Rattle.lra_program.specs.declared.program.CaseItem.{CaseItem}
-use Rattle.lra_inline_steps.specs.declared.frame.Frame.{Frame}
-use Rattle.lra_inline_steps.specs.declared.frame.Around.{Around}
-use Rattle.lra_inline_steps.specs.declared.stack.Part.TheVariants.{Rounds}
-use Rattle.lra_inline_steps.specs.declared.stack.InlineContext as place
-use Rattle.lra_inline_steps.specs.declared.stack.InlineContext.TheVariants.{Items as ItemsAt, Cases as CasesAt, Forked}
-use Rattle.lra_inline_steps.specs.declared.stack.InlineContext.TheVariants.{Init}
-use Rattle.lra_inline_steps.specs.declared.stack.Forked.TheVariants.{OnTrue, Step}
-use Rattle.lra_inline_steps.specs.declared.stack.InlineFrame.{InlineFrame}
-use Rattle.lra_inline_steps.specs.declared.stack.Next as next
-use Rattle.lra_inline_steps.specs.declared.stack.Next.TheVariants.{Written, Opens}
+use Rattle.lra_program.specs.{Program.Program, declared.program.CaseItem.CaseItem}
 use Rattle.lra_inline_steps.specs.Inlining.{body_of, program_around}
 use Rattle.lra_inline_steps.specs.Stack.{Work, a_stmt, a_declaration, an_array, all_items, a_call, all_rounds}
-use Rattle.lra_inline_steps.specs.Stack.{part_view}
+use Rattle.lra_inline_steps.specs.declared.stack.Forked.TheVariants.{OnTrue, Step}
+use Rattle.lra_inline_steps.specs.declared.stack.InlineContext.TheVariants.{Items as ItemsAt, Cases as CasesAt, Forked}
+use Rattle.lra_inline_steps.specs.declared.stack.Next.TheVariants.{Written, Opens}
+use Rattle.lra_inline_steps.specs.{Stack.part_view, declared.frame.Around.Around, declared.frame.Frame.Frame}
+use Rattle.lra_inline_steps.specs.{declared.stack.InlineContext.TheVariants.Init}
+use Rattle.lra_inline_steps.specs.{declared.stack.InlineFrame.InlineFrame, declared.stack.Part.TheVariants.Rounds}
+use Rattle.lra_inline_steps.specs.declared.stack.InlineContext as place
+use Rattle.lra_inline_steps.specs.declared.stack.Next as next
 
 -- of parts, by what their calls take
 module _ (called : Call → ℕ) where

@@ -3,10 +3,8 @@
 ghost use Rattle.std.specs.Prelude.{IfOk};
 ghost use Rattle.lra_program.specs.Program as resolved;
 ghost use Rattle.lra_program.specs.ProgramViews.{expr_view, element_view, call_view, rvalue_view};
-ghost use Rattle.lra_inline_steps.specs.Limits.{OnLimit};
-ghost use Rattle.lra_inline_steps.specs.Inlining.{StmtStands, StopsStmt, StopsItem};
-ghost use Rattle.lra_inline_steps.specs.Stack.{a_stmt, an_array, InlineStepLeadsFrom};
-ghost use Rattle.lra_inline_steps.specs.Steps.{FallsFrom};
+ghost use Rattle.lra_inline_steps.specs.{Inlining.StmtStands, Inlining.StopsStmt, Inlining.StopsItem, Limits.OnLimit};
+ghost use Rattle.lra_inline_steps.specs.{Stack.a_stmt, Stack.an_array, Stack.InlineStepLeadsFrom, Steps.FallsFrom};
 
 use crate::frame::{Around, Caller};
 use crate::lone::open_point;

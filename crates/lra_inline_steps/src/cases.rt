@@ -5,10 +5,9 @@ ghost use Rattle.lra_program.specs.Program as resolved;
 ghost use Rattle.lra_program.specs.Sites as points;
 ghost use Rattle.lra_program.specs.ProgramViews.{expr_view, case_view, cases_of};
 ghost use Rattle.lra_operations.specs.TreeViews.{arm_view};
-ghost use Rattle.lra_inline_steps.specs.Limits.{OnLimit};
 ghost use Rattle.lra_inline_steps.specs.Stack.{InlineTask, a_stmt, inline_task, SwitchLoop, PassesLabels, from_next};
 ghost use Rattle.lra_inline_steps.specs.Stack.{IsAfterFrame, InlineStepLeads};
-ghost use Rattle.lra_inline_steps.specs.Steps.{next_left, kind_left, cases_left};
+ghost use Rattle.lra_inline_steps.specs.{Limits.OnLimit, Steps.next_left, Steps.kind_left, Steps.cases_left};
 ghost use Rattle.lra_inline_steps.specs.declared.stack.InlineContext.TheVariants as place;
 
 use crate::frame::Frame;

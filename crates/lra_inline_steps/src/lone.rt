@@ -5,10 +5,9 @@ ghost use Rattle.lra_program.specs.Program as resolved;
 ghost use Rattle.lra_program.specs.ProgramViews.{cond_view, stmt_view};
 ghost use Rattle.lra_operations.specs.TreeViews.{exit_view};
 ghost use Rattle.lra_resolution_spec.specs.Refuse.{greatest_live};
-ghost use Rattle.lra_inline_steps.specs.Limits.{OnLimit};
 ghost use Rattle.lra_inline_steps.specs.Inlining.{points_in, own_events, assertion_events, Passes, Stops, StmtStands};
-ghost use Rattle.lra_inline_steps.specs.Building.{length_left};
 ghost use Rattle.lra_inline_steps.specs.Inlining.{StopsStmt, IsLone, IsStmtWrittenOut, IsPlain, IsExit};
+ghost use Rattle.lra_inline_steps.specs.{Building.length_left, Limits.OnLimit};
 
 use crate::frame::Around;
 use crate::points::{InlineError, add_point, finish};

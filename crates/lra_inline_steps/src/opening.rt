@@ -1,19 +1,16 @@
 //! The first step into a statement or a declarator: it is written, or a place opens in which a part of it is.
 
-ghost use Rattle.std.specs.Prelude.{◌≡◌, ◌<◌, ◌+◌, ◌^◌, ℕ, map, IfOk, MatchOption};
 ghost use Rattle.std.specs.Borrow.{Bor};
+ghost use Rattle.std.specs.Prelude.{◌≡◌, ◌<◌, ◌+◌, ◌^◌, ℕ, map, IfOk, MatchOption};
 ghost use Rattle.lra_program.specs.Program as resolved;
 ghost use Rattle.lra_program.specs.declared.program.Stmt as code;
-ghost use Rattle.lra_program.specs.Sites.{live_after_items};
-ghost use Rattle.lra_program.specs.Value.{index_of};
-ghost use Rattle.lra_program.specs.ProgramViews.{slot_view, variable_view, cond_view, call_view, rvalue_view, stmt_view};
-ghost use Rattle.lra_program.specs.ProgramViews.{declarator_view, item_view, items_of};
+ghost use Rattle.lra_program.specs.ProgramViews.{slot_view, variable_view, cond_view, call_view, rvalue_view};
+ghost use Rattle.lra_program.specs.ProgramViews.{stmt_view, declarator_view, item_view, items_of};
+ghost use Rattle.lra_program.specs.{Sites.live_after_items, Value.index_of};
 ghost use Rattle.lra_resolution_spec.specs.Refuse.{greatest_live};
-ghost use Rattle.lra_inline_steps.specs.Limits.{OnLimit};
 ghost use Rattle.lra_inline_steps.specs.Inlining.{Points, StmtStands, ItemStands, StopsStmt, StopsItem, IsSimple};
-ghost use Rattle.lra_inline_steps.specs.Inlining.{loop_of, for_of, switch_of};
-ghost use Rattle.lra_inline_steps.specs.Stack.{a_stmt, a_declaration, InlineStepLeadsFrom};
-ghost use Rattle.lra_inline_steps.specs.Steps.{FallsFrom};
+ghost use Rattle.lra_inline_steps.specs.{Inlining.loop_of, Inlining.for_of, Inlining.switch_of, Limits.OnLimit};
+ghost use Rattle.lra_inline_steps.specs.{Stack.a_stmt, Stack.a_declaration, Stack.InlineStepLeadsFrom, Steps.FallsFrom};
 ghost use Rattle.lra_inline_steps.specs.declared.stack.Next.TheVariants as next;
 ghost use Rattle.lra_inline_steps.specs.declared.stack.Part.TheVariants as part;
 ghost use Rattle.lra_inline_steps.specs.declared.stack.InlineContext.TheVariants as place;

@@ -3,13 +3,10 @@
 ghost use Rattle.std.specs.Prelude.{◌≡◌, IfOk, None, Some};
 ghost use Rattle.lra_program.specs.Program as resolved;
 ghost use Rattle.lra_program.specs.ProgramViews.{expr_view, call_view, given_view};
-ghost use Rattle.lra_operations.specs.Tree.{seq, point as own};
-ghost use Rattle.lra_operations.specs.TreeViews.{node_view};
+ghost use Rattle.lra_operations.specs.{Tree.seq, Tree.point as own, TreeViews.node_view};
 ghost use Rattle.lra_inline_steps.specs.Building.{any_left, value_left, call_left};
-ghost use Rattle.lra_inline_steps.specs.Limits.{OnLimit};
-ghost use Rattle.lra_inline_steps.specs.Inlining.{StmtStands, StopsStmt};
 ghost use Rattle.lra_inline_steps.specs.Stack.{a_stmt, InlineStepLeadsFrom};
-ghost use Rattle.lra_inline_steps.specs.Steps.{FallsFrom};
+ghost use Rattle.lra_inline_steps.specs.{Inlining.StmtStands, Inlining.StopsStmt, Limits.OnLimit, Steps.FallsFrom};
 
 use crate::frame::{Around, Caller, Frame};
 use crate::lone::open_point;

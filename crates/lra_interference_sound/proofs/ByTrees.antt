@@ -1,12 +1,8 @@
 -- Each thread runs as one among others where the threads' trees give only what was said.
 use Rattle.std.proofs.Common.{◌≡◌, ◌<◌, ℕ, ℤ, List, length, Some, slice_get}
-use Rattle.lra_program.specs.Program.{Function, Program}
-use Rattle.lra_program.specs.Step.{State}
-use Rattle.lra_program.specs.Run.{Point}
-use Rattle.lra_program.specs.Traces.{Trace}
+use Rattle.lra_program.specs.{Program.Function, Program.Program, Run.Point, Step.State, Traces.Trace}
 use Rattle.lra_operations.specs.TracesAgree.{KeepsWidth}
-use Rattle.lra_interleavings.specs.Interleavings.{thread_program}
-use Rattle.lra_interleavings.specs.ThreadModular.{ThreadWritesUnder}
+use Rattle.lra_interleavings.specs.{Interleavings.thread_program, ThreadModular.ThreadWritesUnder}
 use Rattle.lra_interleavings.proofs.ThreadRuns.{threads_are_modular}
 use Rattle.lra_interference_sound.specs.WritesAgree.{TreesWriteWithin, ModularByTrees}
 use Rattle.lra_interference_sound.proofs.Writes.{writes_agree}

@@ -1,24 +1,16 @@
 -- A called function's end stands nowhere but behind the end of its body, so it is on top only behind that point.
 use Rattle.std.proofs.Common.{◌≡◌, ℕ, zero, suc, ℤ, List, [], ◌∷◌, length, Option, Some, None, Bool, true, false, ◌⊎◌, inl, inr, refl, sym, subst}
-use Rattle.std.specs.Prelude.{⊤, slice_get}
 use Rattle.std.proofs.lemmas.Option.{same_Some, none-some}
+use Rattle.std.specs.Prelude.{⊤, slice_get}
 use Rattle.lra_base.specs.declared.number_types.NumberType.{NumberType}
-use Rattle.lra_program.specs.declared.receivers.Receiver.{Receiver}
-use Rattle.lra_program.specs.Receivers.{variable_at, waiting_in, nobody}
-use Rattle.lra_program.specs.Program.{Element, Call, Rvalue, value, result, Stmt, absent, nothing, block, assign, write, call, if, loop, for, break, continue}
-use Rattle.lra_program.specs.Program.{return, assert, assume, switch, Cases, no_cases, labelled, stated, no_more, declaration, array, statement, Function}
-use Rattle.lra_program.specs.Program.{Program}
-use Rattle.lra_program.specs.Value.{index_of, Drawn, value_of, Argument, truth_of}
-use Rattle.lra_program.specs.Step.{State, environment_at, Op, append, fill, store_value, store_element, push, push_for, truncate_to, test, run_any, run_op}
-use Rattle.lra_program.specs.Step.{CallContext}
-use Rattle.lra_program.specs.Step.{ReturnFrame, Item, run, declare, declare_array, all, end_of, next_round, cases, end_switch, end_for, return_frame}
-use Rattle.lra_program.specs.Step.{leave_call, Config, BreakTarget}
-use Rattle.lra_program.specs.Step.{break_target}
-use Rattle.lra_program.specs.Step.{ContinueTarget, continue_target, ReturnTarget, return_target, receiver_of, go, go_by, go_on, arguments_for, enter_by}
-use Rattle.lra_program.specs.Step.{do_rvalue, do_write, do_break}
-use Rattle.lra_program.specs.Step.{do_continue, do_leave, do_return, do_switch, chosen, do_stmt, do_declare, next_at}
-use Rattle.lra_program.specs.Run.{label_on, Point}
-use Rattle.lra_program.specs.Traces.{TraceEvent, with_visit, Becomes, TracedSteps}
+use Rattle.lra_program.specs.Program.{Element, Call, Rvalue, value, result, Stmt, absent, nothing, block, assign, write, call, if, loop, for, break, continue, return, assert, assume, switch, Cases}
+use Rattle.lra_program.specs.Program.{no_cases, labelled, stated, no_more, declaration, array, statement, Function, Program}
+use Rattle.lra_program.specs.Step.{State, environment_at, Op, append, fill, store_value, store_element, push, push_for, truncate_to, test, run_any, run_op, CallContext, ReturnFrame, Item, run}
+use Rattle.lra_program.specs.Step.{declare, declare_array, all, end_of, next_round, cases, end_switch, end_for, return_frame, leave_call, Config, BreakTarget, break_target, ContinueTarget}
+use Rattle.lra_program.specs.Step.{continue_target, ReturnTarget, return_target, receiver_of, go, go_by, go_on, arguments_for, enter_by, do_rvalue, do_write, do_break, do_continue, do_leave}
+use Rattle.lra_program.specs.Step.{do_return, do_switch, chosen, do_stmt, do_declare, next_at}
+use Rattle.lra_program.specs.{Receivers.variable_at, Receivers.waiting_in, Receivers.nobody, Run.label_on, Run.Point, Traces.TraceEvent, Traces.with_visit, Traces.Becomes, Traces.TracedSteps}
+use Rattle.lra_program.specs.{Value.index_of, Value.Drawn, Value.value_of, Value.Argument, Value.truth_of, declared.receivers.Receiver.Receiver}
 use Rattle.lra_inline_sound.proofs.Landing.{IsBare}
 
 abbrev pub IsGuarded : List Item → Type 0

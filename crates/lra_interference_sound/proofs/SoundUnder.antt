@@ -1,44 +1,24 @@
 -- A pass among others covers the runs among them of the program's own tree, where each least change keeps its stores. At
 -- a loop's head it has what others make of what comes there; that they may act on that once more isn't asked of it.
 use Rattle.std.proofs.Common.{◌≡◌, ◌∙◌, ◌≢◌, ◌<◌, inl, inr, ℕ, zero, suc, ◌-◌, ℤ, List, ◌∷◌, [], Option, None, Some, Bool, true, false, refl, subst, sym, ap}
-use Rattle.std.specs.Prelude.{◌||◌, ◌⊎◌, if◌then◌else◌, nat_lt}
-use Rattle.std.specs.List.{Contains, list_any}
-use Rattle.std.proofs.lemmas.Bool.{lt-ltb}
-use Rattle.std.proofs.lemmas.Option.{same_Some}
-use Rattle.std.proofs.lemmas.List.Elements.{Contains-append_left, Contains-append_right}
+use Rattle.std.proofs.{lemmas.Bool.lt-ltb, lemmas.List.Elements.Contains-append_left, lemmas.List.Elements.Contains-append_right, lemmas.Option.same_Some}
+use Rattle.std.specs.{List.Contains, List.list_any, Prelude.◌||◌, Prelude.◌⊎◌, Prelude.if◌then◌else◌, Prelude.nat_lt}
 use Rattle.lra_linear_spec.proofs.Membership.{contains_head, contains_tail}
 use Rattle.lra_systems.specs.LinearSystems.{LinearSystem}
 use Rattle.lra_linear_spec.specs.declared.ConKind.{ConKind}
-use Rattle.lra_domain.specs.Actions.{Within}
-use Rattle.lra_domain.specs.Abstraction.{Abstraction}
-use Rattle.lra_domain.specs.Laws.{Laws}
-use Rattle.lra_domain.specs.declared.Exactness.{Exactness}
-use Rattle.lra_domain.specs.Interference.{Interference, RelyClosure, none}
-use Rattle.lra_program.specs.Program.{Expr, Cond}
-use Rattle.lra_program.specs.Step.{State, Op, run_op, test}
-use Rattle.lra_program.specs.Traces.{Trace}
-use Rattle.lra_base.specs.declared.case_labels.CaseLabel.{CaseLabel}
-use Rattle.lra_base.specs.declared.case_labels.CaseLabel.TheVariants.{Default}
-use Rattle.lra_base.specs.CaseLabels.{is_same_case}
-use Rattle.lra_operations.specs.declared.probes.Probe.{Probe}
-use Rattle.lra_operations.specs.declared.probes.Probe.TheVariants.{InterferencePoint, RecordWrite}
-use Rattle.lra_operations.specs.Tree.{Exit, Node, empty, point, probe, act, check, seq, choose, iterate, catch, leave, select}
-use Rattle.lra_operations.specs.Tree.{Arms, no_arms, entry, arm, entries_of}
+use Rattle.lra_domain.specs.{Abstraction.Abstraction, Actions.Within, Interference.Interference, Interference.RelyClosure, Interference.none, Laws.Laws, declared.Exactness.Exactness}
+use Rattle.lra_program.specs.{Program.Expr, Program.Cond, Step.State, Step.Op, Step.run_op, Step.test, Traces.Trace, WrittenVariables.written_variable}
+use Rattle.lra_base.specs.{CaseLabels.is_same_case, declared.case_labels.CaseLabel.CaseLabel, declared.case_labels.CaseLabel.TheVariants.Default}
 use Rattle.lra_operations.specs.Traces.{Stop, by_jump, to_point, to_failure, to_end, StopsAtPoint, TrailRounds, Performs, Finds, VisitsAndTests, RunsUpTo}
-use Rattle.lra_analysis_spec.specs.Plan.{Plan, Widening, mode_at}
-use Rattle.lra_analysis_spec.specs.Operations.{lossy_operations}
-use Rattle.lra_analysis_spec.specs.Pass.{PassEntry, value, failing, recorded, PassResult, noted, goes_on, in_turn, jumps_caught, jumps, Filters, LoopRoundFrom}
-use Rattle.lra_analysis_spec.specs.Pass.{AscendingIteration, DescendingIteration, Transformer}
-use Rattle.lra_analysis_spec.specs.Pass.{PassUnder, ArmsPassUnder, MatchesNone, ComesOut}
-use Rattle.lra_analysis_spec.specs.UnderInterference.{absorbed}
-use Rattle.lra_program.specs.WrittenVariables.{written_variable}
-use Rattle.lra_analysis_spec.specs.Instrumented.{with_recording, instrumented, instrumented_arms}
-use Rattle.lra_analysis_spec.proofs.Covers.{Has, HeadHas, covered_has, stays_has}
-use Rattle.lra_analysis_spec.proofs.Keeps.{changes_keep, values_keep}
-use Rattle.lra_interference_sound.specs.CoversUnder.{Moment, stop, after_write, Happens, ArmsHappen, Owes, CoversUnder, BodyCovers, ArmsCoverUnder, MayBecome}
-use Rattle.lra_interference_sound.specs.CoversUnder.{PassesCoverUnder}
-use Rattle.lra_analysis_spec.proofs.Sound.{left_jump, right_jump, jump_there, behind_normal}
-use Rattle.lra_analysis_spec.proofs.Sound.{jumps_same, behind_entries, behind_jump, joined_caught, enters_has, out_has, comes_running, comes_other, Runs, Waits, with_interference, waits_on}
+use Rattle.lra_operations.specs.Tree.{Exit, Node, empty, point, probe, act, check, seq, choose, iterate, catch, leave, select, Arms, no_arms, entry, arm, entries_of}
+use Rattle.lra_operations.specs.{declared.probes.Probe.Probe, declared.probes.Probe.TheVariants.InterferencePoint, declared.probes.Probe.TheVariants.RecordWrite}
+use Rattle.lra_analysis_spec.specs.Pass.{PassEntry, value, failing, recorded, PassResult, noted, goes_on, in_turn, jumps_caught, jumps, Filters, LoopRoundFrom, AscendingIteration, DescendingIteration}
+use Rattle.lra_analysis_spec.specs.{Instrumented.with_recording, Instrumented.instrumented, Instrumented.instrumented_arms, Operations.lossy_operations, Pass.Transformer, Pass.PassUnder}
+use Rattle.lra_analysis_spec.specs.{Pass.ArmsPassUnder, Pass.MatchesNone, Pass.ComesOut, Plan.Plan, Plan.Widening, Plan.mode_at, UnderInterference.absorbed}
+use Rattle.lra_analysis_spec.proofs.Sound.{left_jump, right_jump, jump_there, behind_normal, jumps_same, behind_entries, behind_jump, joined_caught, enters_has, out_has, comes_running, comes_other}
+use Rattle.lra_analysis_spec.proofs.Sound.{Runs, Waits, with_interference, waits_on}
+use Rattle.lra_analysis_spec.proofs.{Covers.Has, Covers.HeadHas, Covers.covered_has, Covers.stays_has, Keeps.changes_keep, Keeps.values_keep}
+use Rattle.lra_interference_sound.specs.CoversUnder.{Moment, stop, after_write, Happens, ArmsHappen, Owes, CoversUnder, BodyCovers, ArmsCoverUnder, MayBecome, PassesCoverUnder}
 
 -- labels are as they were
 same_entries : (n : ℕ) (arms : Arms) → entries_of (instrumented_arms n arms) ≡ entries_of arms

@@ -3,31 +3,19 @@
 use Rattle.std.proofs.Common.{◌≡◌, ℕ, suc, ◌+◌, List, [], ◌∷◌, length, Option, Some, None, Bool, true, false, inl, inr, refl, sym, ap, ◌∙◌, subst}
 use Rattle.std.proofs.lemmas.Option.{same_Some, none-some}
 use Rattle.lra_base.specs.declared.number_types.NumberType.{NumberType}
-use Rattle.lra_program.specs.declared.receivers.Receiver.{Receiver}
-use Rattle.lra_program.specs.Receivers.{variable_at}
-use Rattle.lra_program.specs.Program.{Rvalue, value, result, Stmt, absent, nothing, block, assign, write, call, if, loop, for, break, continue}
-use Rattle.lra_program.specs.Program.{return, assert, assume, switch, Program}
-use Rattle.lra_program.specs.Value.{index_of}
-use Rattle.lra_program.specs.Step.{State, fill, store_value, havoc, store_element, truncate_to, test, Item, run, declare, declare_array, end_of, return_frame}
-use Rattle.lra_program.specs.Step.{Config}
-use Rattle.lra_program.specs.Step.{main_receiver, receiver_of}
-use Rattle.lra_program.specs.Run.{label_on, Point}
-use Rattle.lra_program.specs.Sites.{Site}
-use Rattle.lra_program.specs.Traces.{TraceEvent, visit, Trace}
 use Rattle.lra_program.specs.NextOperation.{RvalueOpIs, DeclaratorOpIs}
+use Rattle.lra_program.specs.Program.{Rvalue, value, result, Stmt, absent, nothing, block, assign, write, call, if, loop, for, break, continue, return, assert, assume, switch, Program}
+use Rattle.lra_program.specs.Step.{State, fill, store_value, havoc, store_element, truncate_to, test, Item, run, declare, declare_array, end_of, return_frame, Config, main_receiver, receiver_of}
+use Rattle.lra_program.specs.{Receivers.variable_at, Run.label_on, Run.Point, Sites.Site, Traces.TraceEvent, Traces.visit, Traces.Trace, Value.index_of, declared.receivers.Receiver.Receiver}
+use Rattle.lra_operations.specs.Inlined.{InlineState, move, IsSiteWith, InlineStmt, InlineDeclarator, InlineLoop, InlineRvalue, as_nothing, as_block, as_absent, as_assign, as_call, as_if, as_loop}
+use Rattle.lra_operations.specs.Inlined.{as_for, as_break, as_continue, as_return, as_return_value, as_return_call, as_end, as_end_value, as_end_call, as_assert, as_assume, as_switch, as_write}
+use Rattle.lra_operations.specs.Inlined.{as_write_call, as_fresh, as_given, as_value, as_result, is_loop, loop_node, return_node, switch_node}
 use Rattle.lra_operations.specs.Tree.{broken, continued, returned, Node, point, act, check, seq, choose, catch, iterate, leave, select}
-use Rattle.lra_operations.specs.Traces.{to_end, RunsUpTo, VisitsPoint}
-use Rattle.lra_operations.specs.TracesAgree.{KeepsWidth, point_at}
-use Rattle.lra_operations.specs.Inlined.{InlineState, move, IsSiteWith, InlineStmt, InlineDeclarator, InlineLoop, InlineRvalue, as_nothing, as_block, as_absent}
-use Rattle.lra_operations.specs.Inlined.{as_assign, as_call, as_if, as_loop}
-use Rattle.lra_operations.specs.Inlined.{as_for, as_break, as_continue, as_return, as_return_value, as_return_call, as_end, as_end_value, as_end_call}
-use Rattle.lra_operations.specs.Inlined.{as_assert, as_assume, as_switch, as_write, as_write_call, as_fresh, as_given, as_value, as_result, is_loop}
-use Rattle.lra_operations.specs.Inlined.{loop_node, return_node, switch_node}
+use Rattle.lra_operations.specs.{Traces.to_end, Traces.RunsUpTo, Traces.VisitsPoint, TracesAgree.KeepsWidth, TracesAgree.point_at}
 use Rattle.lra_operations.proofs.ArmRows.{row_behind}
 use Rattle.lra_analysis_spec.specs.Instrumented as opened
-use Rattle.lra_inline_sound.proofs.Landing.{config, Matches}
-use Rattle.lra_inline_sound.proofs.Shapes.{tail_node}
 use Rattle.lra_inline_sound.proofs.Split.{trail, named, not_there, receiver_is, no_mark, IsClosed, IsThere, IsSought}
+use Rattle.lra_inline_sound.proofs.{Landing.config, Landing.Matches, Shapes.tail_node}
 use Rattle.lra_interleavings.specs.Writes.{OpWrites}
 use Rattle.lra_interference_sound.proofs.TopWrites.{TopGives, no_end, tail_gives, row_gives, loop_gives, neither, asked_only, any_only}
 

@@ -1,24 +1,13 @@
 -- What a run of a whole program gives, its tree gives, on the same trail.
 use Rattle.std.proofs.Common.{◌≡◌, ℕ, ℤ, List, [], ◌∷◌, length, Some, None, ◌⊎◌, inl, inr, refl, sym, ap, ◌∙◌, subst}
-use Rattle.lra_program.specs.Program.{Program, Stmt, absent, nothing, block, assign, write, call, if, loop, for, break, continue, return, assert, assume}
-use Rattle.lra_program.specs.Program.{switch}
-use Rattle.lra_program.specs.Step.{State, Config, ReturnFrame, Item, CallContext, run, declare, declare_array, all, end_of, next_round, cases, end_switch}
-use Rattle.lra_program.specs.Step.{end_for, return_frame, leave_call}
-use Rattle.lra_program.specs.Step.{havoc}
-use Rattle.lra_program.specs.Run.{start, label_on, Point}
-use Rattle.lra_program.specs.Sites.{sites_of}
-use Rattle.lra_program.specs.Traces.{TraceEvent, visit, Trace, with_visit, Becomes, TracedSteps}
-use Rattle.lra_operations.specs.Tree.{Node}
-use Rattle.lra_operations.specs.Agree.{IsInlinedTree}
-use Rattle.lra_operations.specs.TracesAgree.{KeepsWidth}
-use Rattle.lra_inline_sound.proofs.Landing.{IsBare}
-use Rattle.lra_inline_sound.proofs.Reached.{found}
-use Rattle.lra_interleavings.specs.Writes.{OpWrites, StepWrites}
-use Rattle.lra_interleavings.specs.ThreadModular.{WritesThere}
+use Rattle.lra_program.specs.Program.{Program, Stmt, absent, nothing, block, assign, write, call, if, loop, for, break, continue, return, assert, assume, switch}
+use Rattle.lra_program.specs.Step.{State, Config, ReturnFrame, Item, CallContext, run, declare, declare_array, all, end_of, next_round, cases, end_switch, end_for, return_frame, leave_call, havoc}
+use Rattle.lra_program.specs.{Run.start, Run.label_on, Run.Point, Sites.sites_of, Traces.TraceEvent, Traces.visit, Traces.Trace, Traces.with_visit, Traces.Becomes, Traces.TracedSteps}
+use Rattle.lra_operations.specs.{Agree.IsInlinedTree, TracesAgree.KeepsWidth, Tree.Node}
+use Rattle.lra_inline_sound.proofs.{Landing.IsBare, Reached.found}
+use Rattle.lra_interleavings.specs.{ThreadModular.WritesThere, Writes.OpWrites, Writes.StepWrites}
 use Rattle.lra_interference_sound.specs.WritesAgree.{TreeWrites, AllWritesAgree}
-use Rattle.lra_interference_sound.proofs.TopWrites.{TopGives}
-use Rattle.lra_interference_sound.proofs.Guarded.{Ends, behind_end}
-use Rattle.lra_interference_sound.proofs.WriteHits.{Hit, gifts}
+use Rattle.lra_interference_sound.proofs.{Guarded.Ends, Guarded.behind_end, TopWrites.TopGives, WriteHits.Hit, WriteHits.gifts}
 
 module _ (may : State → State → Type 0) (keeps : KeepsWidth may) (x : ℕ) where
   module _ (P : Program) (g : Node) (is : IsInlinedTree P g) (draws : List ℤ) (a : Trace Point) where

@@ -1,17 +1,14 @@
 -- What a pass among others owes: its values have all stores of the runs, among these others, of the program's own tree.
-use Rattle.std.specs.Prelude.{◌≡◌, ◌<◌, ℕ, ℤ, List, Option, Bool}
 use Rattle.std.specs.List.{Contains}
+use Rattle.std.specs.Prelude.{◌≡◌, ◌<◌, ℕ, ℤ, List, Option, Bool}
 use Rattle.lra_base.specs.declared.case_labels.CaseLabel.{CaseLabel}
-use Rattle.lra_domain.specs.Abstraction.{Abstraction}
-use Rattle.lra_domain.specs.Interference.{Interference, RelyClosure}
-use Rattle.lra_program.specs.Step.{State}
-use Rattle.lra_program.specs.Traces.{Trace}
-use Rattle.lra_operations.specs.Tree.{Node, Arms}
+use Rattle.lra_domain.specs.{Abstraction.Abstraction, Interference.Interference, Interference.RelyClosure}
+use Rattle.lra_program.specs.{Step.State, Traces.Trace}
 use Rattle.lra_operations.specs.Traces.{Stop, by_jump, to_point, to_failure, to_end, stopped, RunsUpTo, ArmsRunUpTo}
-use Rattle.lra_analysis_spec.specs.Plan.{Plan}
-use Rattle.lra_analysis_spec.specs.Pass.{value, failing, recorded, PassResult, jumps_of}
-use Rattle.lra_analysis_spec.specs.UnderInterference.{LossyPass}
+use Rattle.lra_operations.specs.Tree.{Node, Arms}
 use Rattle.lra_analysis_spec.specs.Instrumented.{instrumented, WritesVariable, ArmsWriteVariable}
+use Rattle.lra_analysis_spec.specs.Pass.{value, failing, recorded, PassResult, jumps_of}
+use Rattle.lra_analysis_spec.specs.{Plan.Plan, UnderInterference.LossyPass}
 use Rattle.lra_analysis_spec.proofs.Covers.{Has, SomeHas}
 
 -- what others may do to a run's state: any number of changes of its store, and anything to what arrays hold

@@ -1,29 +1,18 @@
 -- What a step does to the first n variables: nothing, or it gives one of them a value. They stay.
-use Rattle.std.proofs.Common.{◌≡◌, ℕ, ℤ, ◌≤◌, ◌<◌, List, [], ◌∷◌, length, take, set, Option, Some, None, Bool, true, false, ◌⊎◌, inl, inr, refl, sym, ap, ◌∙◌}
-use Rattle.std.proofs.Common.{subst, arith}
+use Rattle.std.proofs.Common.{◌≡◌, ℕ, ℤ, ◌≤◌, ◌<◌, List, [], ◌∷◌, length, take, set, Option, Some, None, Bool, true, false, ◌⊎◌, inl, inr, refl, sym, ap, ◌∙◌, subst, arith}
+use Rattle.std.proofs.{lemmas.List.take-take, lemmas.Option.same_Some, lemmas.Option.none-some}
 use Rattle.std.specs.Prelude.{⊤, slice_get}
-use Rattle.std.proofs.lemmas.Option.{same_Some, none-some}
 use Rattle.lra_base.specs.declared.number_types.NumberType.{NumberType}
-use Rattle.lra_program.specs.declared.receivers.Receiver.{Receiver}
-use Rattle.lra_program.specs.Receivers.{variable_at, waiting_in, nobody}
-use Rattle.lra_program.specs.Program.{Element, Call, Rvalue, value, result, Stmt, absent, nothing, block, assign, write, call, if, loop, for, break, continue}
-use Rattle.lra_program.specs.Program.{return, assert, assume, switch, Cases, no_cases, labelled, stated, no_more, declaration, array, statement, Function}
-use Rattle.lra_program.specs.Program.{Program}
-use Rattle.lra_program.specs.Value.{index_of, Drawn, value_of, Argument, truth_of}
-use Rattle.lra_program.specs.Step.{State, environment_at, Op, append, fill, store_value, store_element, havoc, push, push_for, truncate_to, test, run_any}
-use Rattle.lra_program.specs.Step.{run_op, CallContext}
-use Rattle.lra_program.specs.Step.{ReturnFrame, Item, run, declare, declare_array, all, end_of, next_round, cases, end_switch, end_for, return_frame}
-use Rattle.lra_program.specs.Step.{leave_call, Config, BreakTarget}
-use Rattle.lra_program.specs.Step.{break_target}
-use Rattle.lra_program.specs.Step.{ContinueTarget, continue_target, ReturnTarget, return_target, receiver_of, go, go_by, go_on, branch, arguments_for, enter_by}
-use Rattle.lra_program.specs.Step.{do_rvalue, do_write}
-use Rattle.lra_program.specs.Step.{do_break}
-use Rattle.lra_program.specs.Step.{do_continue, do_leave, do_return, do_switch, chosen, do_stmt, do_declare, next_at}
-use Rattle.lra_program.specs.NextOperation.{RvalueOpIs, WriteOpIs, ReturnOpIs, DeclaratorOpIs}
-use Rattle.lra_program.specs.WrittenVariables.{written_variable}
+use Rattle.lra_program.specs.Program.{Element, Call, Rvalue, value, result, Stmt, absent, nothing, block, assign, write, call, if, loop, for, break, continue, return, assert, assume, switch, Cases}
+use Rattle.lra_program.specs.Program.{no_cases, labelled, stated, no_more, declaration, array, statement, Function, Program}
+use Rattle.lra_program.specs.Step.{State, environment_at, Op, append, fill, store_value, store_element, havoc, push, push_for, truncate_to, test, run_any, run_op, CallContext, ReturnFrame, Item, run}
+use Rattle.lra_program.specs.Step.{declare, declare_array, all, end_of, next_round, cases, end_switch, end_for, return_frame, leave_call, Config, BreakTarget, break_target, ContinueTarget}
+use Rattle.lra_program.specs.Step.{continue_target, ReturnTarget, return_target, receiver_of, go, go_by, go_on, branch, arguments_for, enter_by, do_rvalue, do_write, do_break, do_continue, do_leave}
+use Rattle.lra_program.specs.Step.{do_return, do_switch, chosen, do_stmt, do_declare, next_at}
+use Rattle.lra_program.specs.{NextOperation.RvalueOpIs, NextOperation.WriteOpIs, NextOperation.ReturnOpIs, NextOperation.DeclaratorOpIs, Receivers.variable_at, Receivers.waiting_in, Receivers.nobody}
+use Rattle.lra_program.specs.{Value.index_of, Value.Drawn, Value.value_of, Value.Argument, Value.truth_of, WrittenVariables.written_variable, declared.receivers.Receiver.Receiver}
 use Rattle.lra_interleavings.specs.Writes.{OpWrites, StepWrites}
 use Rattle.lra_interleavings.proofs.Operations.{Wrote, KeepsMany, wrote, kept_long}
-use Rattle.std.proofs.lemmas.List.{take-take}
 
 -- all lengths that items tell are those of stores with the first n variables
 abbrev pub IsDeep : ℕ → List Item → Type 0

@@ -1,28 +1,15 @@
 -- What an operation does to the first n variables of a store: nothing, or it gives one of them a value.
-use Rattle.std.proofs.Common.{◌≡◌, ℕ, ℤ, ◌≤◌, ◌<◌, List, [], ◌∷◌, ◌++◌, length, take, set, Option, Some, None, Bool, true, ◌⊎◌, inl, inr, refl, sym}
-use Rattle.std.proofs.Common.{ap, ◌∙◌, arith}
-use Rattle.std.proofs.Common.{slice_get, length-append, subst}
-use Rattle.std.specs.Prelude.{⊤}
-use Rattle.std.proofs.lemmas.Bool.{cases_lt}
-use Rattle.std.proofs.lemmas.Option.{same_Some, none-some, slice_get-get_or}
+use Rattle.std.proofs.Common.{◌≡◌, ℕ, ℤ, ◌≤◌, ◌<◌, List, [], ◌∷◌, ◌++◌, length, take, set, Option, Some, None, Bool, true, ◌⊎◌, inl, inr, refl, sym, ap, ◌∙◌, arith, slice_get, length-append, subst}
 use Rattle.std.proofs.lemmas.List.{length-set, take-set-le, take-append-le, get_or-set_same, length-take-le, take_all, take-take}
-use Rattle.std.proofs.Math.Seq.{take-set-lt}
-use Rattle.lra_program.specs.declared.receivers.Cell.{Cell}
-use Rattle.lra_program.specs.declared.receivers.Cell.TheVariants.{Variable, Waiting}
-use Rattle.lra_program.specs.declared.receivers.Target.{Target}
-use Rattle.lra_program.specs.declared.receivers.Receiver.{Receiver}
-use Rattle.lra_base.specs.declared.refusals.Place.{Place}
-use Rattle.lra_base.specs.declared.number_types.NumberType.{NumberType}
-use Rattle.lra_program.specs.declared.arrays.Array.{Array}
-use Rattle.lra_program.specs.Program.{Element}
-use Rattle.lra_program.specs.Receivers.{waiting_in, accepts}
+use Rattle.std.proofs.{Math.Seq.take-set-lt, lemmas.Bool.cases_lt, lemmas.Option.same_Some, lemmas.Option.none-some, lemmas.Option.slice_get-get_or}
+use Rattle.std.specs.Prelude.{⊤}
+use Rattle.lra_program.specs.Step.{State, environment_at, Op, append, fill, store_value, store_element, havoc, push, push_for, truncate_to, test, run_op, drawn_for, put_waiting, put_in, put, receive}
 use Rattle.lra_program.specs.Value.{◌>>=◌, number, Drawn, first_draw, draws_of, value_of, values_of, truth_of}
-use Rattle.lra_program.proofs.TypeLaws.{bind_some}
-use Rattle.lra_program.specs.Step.{State, environment_at, Op, append, fill, store_value, store_element, havoc, push, push_for, truncate_to, test, run_op}
-use Rattle.lra_program.specs.Step.{drawn_for}
-use Rattle.lra_program.specs.Step.{put_waiting, put_in, put, receive, pushed, filled, aim, tested}
 use Rattle.lra_program.specs.WrittenVariables.{cell_variable, target_variable, written_variable}
-use Rattle.lra_program.proofs.StepLaws.{aim_keeps, is_kept, store_waiting}
+use Rattle.lra_program.specs.{Program.Element, Receivers.waiting_in, Receivers.accepts, Step.pushed, Step.filled, Step.aim, Step.tested, declared.arrays.Array.Array, declared.receivers.Cell.Cell}
+use Rattle.lra_program.specs.{declared.receivers.Cell.TheVariants.Variable, declared.receivers.Cell.TheVariants.Waiting, declared.receivers.Receiver.Receiver, declared.receivers.Target.Target}
+use Rattle.lra_base.specs.{declared.number_types.NumberType.NumberType, declared.refusals.Place.Place}
+use Rattle.lra_program.proofs.{StepLaws.aim_keeps, StepLaws.is_kept, StepLaws.store_waiting, TypeLaws.bind_some}
 
 -- lists --------------------------------------------------------------------------------------------------------------
 

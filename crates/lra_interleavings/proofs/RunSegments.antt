@@ -1,21 +1,13 @@
 -- From one point to the next: what is met, what is given on the way, and that a run among others goes the same way.
 use Rattle.std.proofs.Common.{◌≡◌, ℕ, zero, suc, ℤ, ◌≤◌, ◌<◌, List, [], ◌∷◌, ◌++◌, length, take, Option, Some, None, inl, inr, refl, sym, ap, ◌∙◌, subst, arith}
+use Rattle.std.proofs.{lemmas.List.length-set, lemmas.List.set-append_left, lemmas.Option.none-some, lemmas.Option.same_Some}
 use Rattle.std.specs.Prelude.{slice_get}
-use Rattle.std.proofs.lemmas.Option.{none-some}
-use Rattle.std.proofs.lemmas.List.{length-set, set-append_left}
-use Rattle.lra_program.specs.Program.{Program, Stmt, absent, nothing, block, assign, write, call, if, loop, for, break, continue, return, assert, assume}
-use Rattle.lra_program.specs.Program.{switch}
-use Rattle.lra_program.specs.Program.{no_cases, labelled, stated, no_more, declaration, array, statement}
-use Rattle.lra_program.specs.Step.{State, CallContext, Item, run, declare, declare_array, all, end_of, next_round, cases, end_switch, end_for, return_frame}
-use Rattle.lra_program.specs.Step.{leave_call, Config, ReturnTarget}
-use Rattle.lra_program.specs.Step.{return_target, do_leave, go, next_at, next}
-use Rattle.std.proofs.lemmas.Option.{same_Some}
-use Rattle.lra_program.specs.Run.{start, label_on, Point}
+use Rattle.lra_program.specs.Program.{Program, Stmt, absent, nothing, block, assign, write, call, if, loop, for, break, continue, return, assert, assume, switch, no_cases, labelled, stated, no_more}
+use Rattle.lra_program.specs.Step.{State, CallContext, Item, run, declare, declare_array, all, end_of, next_round, cases, end_switch, end_for, return_frame, leave_call, Config, ReturnTarget}
 use Rattle.lra_program.specs.Traces.{TraceEvent, visit, Trace, NoChange, with_visit, Becomes, TracedSteps}
+use Rattle.lra_program.specs.{Program.declaration, Program.array, Program.statement, Run.start, Run.label_on, Run.Point, Step.return_target, Step.do_leave, Step.go, Step.next_at, Step.next}
 use Rattle.lra_program.proofs.TraceLaws.{becomes_same, walk_on}
-use Rattle.lra_interleavings.specs.Writes.{StepWrites}
-use Rattle.lra_interleavings.specs.Interleavings.{LeadsOn}
-use Rattle.lra_interleavings.specs.ThreadModular.{WritesThere, RepeatedWrites, none, more}
+use Rattle.lra_interleavings.specs.{Interleavings.LeadsOn, ThreadModular.WritesThere, ThreadModular.RepeatedWrites, ThreadModular.none, ThreadModular.more, Writes.StepWrites}
 use Rattle.lra_interleavings.proofs.MachineSteps.{IsDeep, ChangesOne, step_leaves}
 
 -- changes ------------------------------------------------------------------------------------------------------------

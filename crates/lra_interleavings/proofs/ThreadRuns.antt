@@ -1,27 +1,16 @@
 -- Step by step, for all threads at once: what a thread has done beside the others it has done in a run among others.
-use Rattle.std.proofs.Common.{◌≡◌, ◌≢◌, ℕ, zero, suc, ℤ, ◌≤◌, ◌<◌, List, [], ◌∷◌, ◌++◌, length, map, take, drop, set, Option, Some, None, inl, inr, refl, sym}
-use Rattle.std.proofs.Common.{ap, ◌∙◌, subst, arith}
-use Rattle.std.specs.Prelude.{slice_get, slice_set, IsTrue}
-use Rattle.std.specs.List.{AllByRecursion}
-use Rattle.std.proofs.lemmas.Bool.{cases_eq}
-use Rattle.std.proofs.lemmas.Option.{same_Some, none-some, slice_get_within}
+use Rattle.std.proofs.Common.{◌≡◌, ◌≢◌, ℕ, zero, suc, ℤ, ◌≤◌, ◌<◌, List, [], ◌∷◌, ◌++◌, length, map, take, drop, set, Option, Some, None, inl, inr, refl, sym, ap, ◌∙◌, subst, arith}
 use Rattle.std.proofs.lemmas.List.{length-map, length-take-le, take_all, take-append-drop, length-append}
-use Rattle.std.proofs.Math.Seq.{take-append_seam}
-use Rattle.lra_program.specs.declared.program.GlobalVariable.{GlobalVariable}
-use Rattle.lra_program.specs.Program.{Function, Program}
-use Rattle.lra_program.specs.Value.{is_word}
-use Rattle.lra_program.specs.Step.{State, Config}
-use Rattle.lra_program.specs.Run.{begun, start, label_on, Point, IsOn, IsFailing}
-use Rattle.lra_program.specs.Traces.{TraceEvent, visit, Trace, NoChange, TracedSteps}
-use Rattle.lra_program.specs.Accesses.{IsOutOfBounds}
-use Rattle.lra_interleavings.specs.Interleavings.{thread_program, Thread, Threads, seen_by, sees, own_of, left_by, ended, LeadsOn, RunsThere}
-use Rattle.lra_interleavings.specs.Interleavings.{IsAtFirst, AreBegun, Interleaves, begins, moves, StandsAt, ThreadWritesValue}
-use Rattle.lra_interleavings.specs.ThreadModular.{RepeatedWrites, none, OthersWrite, OthersInterfere, AreAllowed, WritesThere, ThreadWritesUnder, WriteWithin}
-use Rattle.lra_interleavings.specs.ThreadModular.{ArrivesUnder, ViolatesUnder}
+use Rattle.std.proofs.{Math.Seq.take-append_seam, lemmas.Bool.cases_eq, lemmas.Option.same_Some, lemmas.Option.none-some, lemmas.Option.slice_get_within}
+use Rattle.std.specs.{List.AllByRecursion, Prelude.slice_get, Prelude.slice_set, Prelude.IsTrue}
+use Rattle.lra_program.specs.{Accesses.IsOutOfBounds, Program.Function, Program.Program, Run.begun, Run.start, Run.label_on, Run.Point, Run.IsOn, Run.IsFailing, Step.State, Step.Config}
+use Rattle.lra_program.specs.{Traces.TraceEvent, Traces.visit, Traces.Trace, Traces.NoChange, Traces.TracedSteps, Value.is_word, declared.program.GlobalVariable.GlobalVariable}
+use Rattle.lra_interleavings.specs.Interleavings.{thread_program, Thread, Threads, seen_by, sees, own_of, left_by, ended, LeadsOn, RunsThere, IsAtFirst, AreBegun, Interleaves, begins, moves, StandsAt}
+use Rattle.lra_interleavings.specs.Interleavings.{ThreadWritesValue}
+use Rattle.lra_interleavings.specs.ThreadModular.{RepeatedWrites, none, OthersWrite, OthersInterfere, AreAllowed, WritesThere, ThreadWritesUnder, WriteWithin, ArrivesUnder, ViolatesUnder}
 use Rattle.lra_interleavings.specs.ThreadModular.{OutOfBoundsUnder, IsThreadModular, ThreadsAreModular, TestedThreadsAreModular}
-use Rattle.lra_interleavings.proofs.Operations.{set_there}
-use Rattle.lra_interleavings.proofs.MachineSteps.{IsDeep}
 use Rattle.lra_interleavings.proofs.RunSegments.{Comes, piece, given, quiet_of, quiet_walk, still, changes_on, changes_width, changes_before, changes_for}
+use Rattle.lra_interleavings.proofs.{MachineSteps.IsDeep, Operations.set_there}
 
 module _ {A : Type 0} where
   set_elsewhere : (xs : List A) (k q : ℕ) (x : A) → k ≢ q → slice_get (set xs k x) q ≡ slice_get xs q

@@ -1,18 +1,13 @@
 -- Runs of several threads beside each other. A thread is a function without parameters; its program is the whole one
 -- with that function in the place of `main`, so points, steps and what stops a run are those of a program that runs
 -- alone. The threads share the global variables and the global arrays; all else is each one's own.
-use Rattle.std.specs.Prelude.{◌≡◌, ◌⊎◌, ◌<◌, ℕ, suc, ℤ, List, [], ◌∷◌, ◌++◌, length, map, take, drop, Option}
-use Rattle.std.specs.Prelude.{Some, None, slice_get, slice_set, IsTrue}
-use Rattle.std.specs.List.{AllByRecursion}
-use Rattle.lra_program.specs.declared.arrays.Array.{Array}
-use Rattle.lra_program.specs.declared.program.GlobalVariable.{GlobalVariable}
-use Rattle.lra_program.specs.Program.{Function, Program}
-use Rattle.lra_program.specs.Arrays.{Contents, elements_of}
-use Rattle.lra_program.specs.Value.{is_word}
-use Rattle.lra_program.specs.Step.{State, CallContext, Item, Config, next}
+use Rattle.std.specs.Prelude.{◌≡◌, ◌⊎◌, ◌<◌, ℕ, suc, ℤ, List, [], ◌∷◌, ◌++◌, length, map, take, drop, Option, Some}
+use Rattle.std.specs.{List.AllByRecursion, Prelude.None, Prelude.slice_get, Prelude.slice_set, Prelude.IsTrue}
 use Rattle.lra_program.specs.Run.{zeros, start, label_on, Point, IsOn, IsFailing}
-use Rattle.lra_program.specs.Traces.{TraceEvent, visit, NoChange, TracedSteps}
-use Rattle.lra_program.specs.Accesses.{IsOutOfBounds}
+use Rattle.lra_program.specs.{Accesses.IsOutOfBounds, Arrays.Contents, Arrays.elements_of, Program.Function}
+use Rattle.lra_program.specs.{Program.Program, Step.State, Step.CallContext, Step.Item, Step.Config, Step.next}
+use Rattle.lra_program.specs.{Traces.TraceEvent, Traces.visit, Traces.NoChange, Traces.TracedSteps, Value.is_word}
+use Rattle.lra_program.specs.{declared.arrays.Array.Array, declared.program.GlobalVariable.GlobalVariable}
 use Rattle.lra_interleavings.specs.Writes.{StepWrites}
 
 -- the program of the thread whose function this is

@@ -1,19 +1,13 @@
 -- Why each thread runs as one among others. Whenever a point is on top in a run of a program, others may change its
 -- state. Where these changes are what the other threads give the globals, what a thread does beside them is such a run.
-use Rattle.std.specs.Prelude.{◌≡◌, ◌≢◌, ◌<◌, ℕ, ℤ, List, [], ◌∷◌, length, Some, slice_get, slice_set, Bool}
-use Rattle.std.specs.Prelude.{IsTrue}
 use Rattle.std.specs.List.{AllByRecursion}
-use Rattle.lra_program.specs.Program.{Function, Program}
-use Rattle.lra_program.specs.Value.{is_word}
+use Rattle.std.specs.Prelude.{◌≡◌, ◌≢◌, ◌<◌, ℕ, ℤ, List, [], ◌∷◌, length, Some, slice_get, slice_set, Bool, IsTrue}
 use Rattle.lra_program.specs.Step.{State, Op, Config, next_at}
-use Rattle.lra_program.specs.Run.{start, label_on, Point, IsOn}
 use Rattle.lra_program.specs.Traces.{TraceEvent, visit, Trace, with_visit, Becomes, TracedSteps, Arrives}
-use Rattle.lra_program.specs.Traces.{ViolatesAssertion}
-use Rattle.lra_program.specs.NextOperation.{NextOpIs}
-use Rattle.lra_program.specs.Accesses.{OpOutOfBounds}
-use Rattle.lra_interleavings.specs.Writes.{StepWrites}
+use Rattle.lra_program.specs.{Accesses.OpOutOfBounds, NextOperation.NextOpIs, Program.Function, Program.Program}
+use Rattle.lra_program.specs.{Run.start, Run.label_on, Run.Point, Run.IsOn, Traces.ViolatesAssertion, Value.is_word}
 use Rattle.lra_interleavings.specs.Interleavings.{thread_program, AtThread, FailsThread, OutOfBoundsThread}
-use Rattle.lra_interleavings.specs.Interleavings.{ThreadWritesValue}
+use Rattle.lra_interleavings.specs.{Interleavings.ThreadWritesValue, Writes.StepWrites}
 
 -- what runs do ------------------------------------------------------------------------------------------------------
 

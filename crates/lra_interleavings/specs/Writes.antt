@@ -3,9 +3,7 @@
 use Rattle.std.specs.Prelude.{◌≡◌, ◌⊎◌, ℕ, List, ◌∷◌, Some, None}
 use Rattle.lra_program.specs.Program.{Program, return}
 use Rattle.lra_program.specs.Step.{State, Op, havoc, run_op, CallContext, Item, run, return_frame, receiver_of}
-use Rattle.lra_program.specs.Step.{return_target}
-use Rattle.lra_program.specs.NextOperation.{NextOpIs}
-use Rattle.lra_program.specs.WrittenVariables.{written_variable}
+use Rattle.lra_program.specs.{NextOperation.NextOpIs, Step.return_target, WrittenVariables.written_variable}
 
 -- the operation gives the variable x a value, which it has in the state behind it, t
 abbrev pub OpWrites : ℕ → State → Op → State → Type 0

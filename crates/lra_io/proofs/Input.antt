@@ -1,12 +1,9 @@
 -- What is lost of an input that is not read to its end.
 use Rattle.std.proofs.Common.{◌≡◌, ℕ, ◌+◌, ◌-◌, ◌≤◌, List, ◌++◌, length, Option, Result, Ok, Err, Vec, Global, take, arith, length-append}
-use Rattle.std.specs.Prelude.{IsErrAnd}
-use Rattle.std.proofs.lemmas.Grind.{common_steps}
-use Rattle.std.specs.Io.KnownBytes.{Consumes}
-use Rattle.std.proofs.KnownBytes.{Consumes-trans}
-use Rattle.lra_io.specs.ReadErrors.{ReadsWhole}
-use Rattle.lra_io.specs.declared.whole.ReadError.{ReadError}
+use Rattle.std.proofs.{KnownBytes.Consumes-trans, lemmas.Grind.common_steps}
+use Rattle.std.specs.{Io.KnownBytes.Consumes, Prelude.IsErrAnd}
 use Rattle.lra_io.specs.declared.whole.ReadError.TheVariants.{TooLong, Failed, Memory}
+use Rattle.lra_io.specs.{ReadErrors.ReadsWhole, declared.whole.ReadError.ReadError}
 
 -- want of memory for a piece that was read loses that piece with the bytes before it
 pub piece_lost : (a b c : Option (List ℕ)) (xs ys : List ℕ) (limit : ℕ) (result : Result (Vec ℕ Global) ReadError)

@@ -1,9 +1,7 @@
 -- Calls of a source and of a sink in memory.
 use Rattle.std.specs.Prelude.{◌≡◌, ℕ, List, [], ◌∷◌, Contains, Ok, Err, refl}
 use Rattle.std.proofs.Common.{inr, lit<, rules, zero, sym, ap, subst}
-use Rattle.lra_io.specs.Calls.{none, one_more, StopsAtFault}
-use Rattle.lra_io.specs.Causes.{next_count}
-use Rattle.lra_io.specs.Memory.{Feed, FeedReads, FeedGoesOn, FeedStops, Store, StoreWrites}
+use Rattle.lra_io.specs.{Calls.none, Calls.one_more, Calls.StopsAtFault, Causes.next_count, Memory.Feed, Memory.FeedReads, Memory.FeedGoesOn, Memory.FeedStops, Memory.Store, Memory.StoreWrites}
 
 -- three bytes, two a read; the second read is to fail
 abbrev pub feed : List ℕ → ℕ → ℕ → Feed

@@ -1,7 +1,6 @@
 -- When a source or a sink may answer a fault, and what its count of faults says then.
 use Rattle.std.specs.Prelude.{◌≡◌, ◌≤◌, ◌<◌, ◌+◌, ◌-◌, ◌^◌, ◌⊎◌, ℕ, List, length, take, min, OnOk, OnErr, Option}
-use Rattle.std.specs.Prelude.{Result}
-use Rattle.std.specs.Io.KnownBytes.{Appends}
+use Rattle.std.specs.{Io.KnownBytes.Appends, Prelude.Result}
 
 -- the last value of a counter of 64 bits
 abbrev pub last_count : ℕ

@@ -1,11 +1,8 @@
 -- What reading a whole input answers.
 use Rattle.std.specs.Prelude.{◌≡◌, ◌≤◌, ◌+◌, ℕ, List, length, Option, Result, Ok, Err, Vec}
-use Rattle.std.specs.Io.KnownBytes.{Consumes, IsAtEnd}
-use Rattle.std.specs.declared.alloc.Global.{Global}
-use Rattle.lra_io.specs.Calls.{Calls, StopsAtFault}
-use Rattle.lra_io.specs.Causes.{Rose}
-use Rattle.lra_io.specs.declared.whole.ReadError.{ReadError}
+use Rattle.std.specs.{Io.KnownBytes.Consumes, Io.KnownBytes.IsAtEnd, declared.alloc.Global.Global}
 use Rattle.lra_io.specs.declared.whole.ReadError.TheVariants.{TooLong, Failed, Memory}
+use Rattle.lra_io.specs.{Calls.Calls, Calls.StopsAtFault, Causes.Rose, declared.whole.ReadError.ReadError}
 
 -- these are all bytes that were left, no more than the limit
 pub record IsWhole (old new : Option (List ℕ)) (limit : ℕ) (bytes : List ℕ) : Type 0 where

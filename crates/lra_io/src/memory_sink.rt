@@ -1,9 +1,7 @@
 // Sinks in memory: one whose writes fail by a list, and one whose writes fail only where it is full.
 ghost use Rattle.std.specs.Prelude.{◌≡◌, ◌≤◌, ◌<◌, ◌+◌, ℕ, List, length, IfOk, IsOk, OnOk, OnErr, Some, []};
-ghost use Rattle.std.specs.Io.{WritesAtMost};
-ghost use Rattle.std.specs.Io.KnownBytes.{WriteAppends};
-ghost use Rattle.lra_io.specs.Causes.{HasCause};
-ghost use Rattle.lra_io.specs.Memory.{StoreWrites, StoreGoesOn, StoreStops};
+ghost use Rattle.std.specs.{Io.WritesAtMost, Io.KnownBytes.WriteAppends};
+ghost use Rattle.lra_io.specs.{Causes.HasCause, Memory.StoreWrites, Memory.StoreGoesOn, Memory.StoreStops};
 
 use crate::{Failed, Sink};
 use std::alloc::{AllocError, Global};

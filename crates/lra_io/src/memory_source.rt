@@ -1,8 +1,6 @@
 // Sources in memory: one whose reads fail by a list, and one whose reads never fail.
 ghost use Rattle.std.specs.Prelude.{◌≡◌, ◌≤◌, ◌<◌, ◌++◌, ℕ, List, length, min, IfOk, IsOk, OnOk, OnErr, drop, take};
-ghost use Rattle.std.specs.Prelude.{Some, Ok, []};
-ghost use Rattle.std.specs.Io.{ReadsAtMost};
-ghost use Rattle.std.specs.Io.KnownBytes.{ReadConsumes};
+ghost use Rattle.std.specs.{Io.ReadsAtMost, Io.KnownBytes.ReadConsumes, Prelude.Some, Prelude.Ok, Prelude.[]};
 ghost use Rattle.lra_io.specs.Causes.{HasCause};
 ghost use Rattle.lra_io.specs.Memory.{FeedReads, FeedGives, FeedGoesOn, FeedStops};
 

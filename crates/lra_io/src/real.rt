@@ -1,9 +1,7 @@
 // Sources and sinks over the readers and writers of std: the trusted edge.
 ghost use Rattle.std.specs.Prelude.{◌≡◌, ◌<◌, ℕ, List, length, IfOk, OnOk, OnErr, None};
-ghost use Rattle.std.specs.Io.{ReadsAtMost, WritesAtMost};
-ghost use Rattle.std.specs.Io.KnownBytes.{ReadConsumes, WriteAppends};
-ghost use Rattle.lra_io.specs.Causes.{HasCause};
-ghost use Rattle.lra_io.specs.Real.{CountsFault, GoesOn, Stops};
+ghost use Rattle.std.specs.{Io.ReadsAtMost, Io.WritesAtMost, Io.KnownBytes.ReadConsumes, Io.KnownBytes.WriteAppends};
+ghost use Rattle.lra_io.specs.{Causes.HasCause, Real.CountsFault, Real.GoesOn, Real.Stops};
 
 use crate::{Failed, Sink, Source};
 use std::io;

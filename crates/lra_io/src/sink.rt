@@ -1,9 +1,7 @@
 // Where bytes go.
 ghost use Rattle.std.specs.Prelude.{◌≡◌, ℕ, ◌+◌, ◌≤◌, ◌<◌, List, length, IfOk, IsOk, OnOk, OnErr, Option};
-ghost use Rattle.std.specs.Io.{WritesAtMost};
-ghost use Rattle.std.specs.Io.KnownBytes.{Appends, WriteAppends};
-ghost use Rattle.lra_io.specs.Calls.{Calls, StopsAtFault};
-ghost use Rattle.lra_io.specs.Causes.{AppendsPart, HasCause};
+ghost use Rattle.std.specs.{Io.WritesAtMost, Io.KnownBytes.Appends, Io.KnownBytes.WriteAppends};
+ghost use Rattle.lra_io.specs.{Calls.Calls, Calls.StopsAtFault, Causes.AppendsPart, Causes.HasCause};
 
 use crate::Failed;
 

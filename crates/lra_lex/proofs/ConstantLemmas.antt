@@ -1,7 +1,6 @@
 -- Steps of the proofs on constants.
 use Rattle.std.proofs.Common.{◌≡◌, ◌∙◌, ℤ, List, [], ◌∷◌, ◌++◌, Bool, fold, refl, sym}
-use Rattle.lra_syntax.specs.declared.tokens.Token.{Token}
-use Rattle.lra_syntax.specs.Constants.{constants_of, is_minus, literal_at, literals_after, with_constant}
+use Rattle.lra_syntax.specs.{Constants.constants_of, Constants.is_minus, Constants.literal_at, Constants.literals_after, Constants.with_constant, declared.tokens.Token.Token}
 
 -- taken in two goes
 pub taken_both : (so : List ℤ) (xs ys : List ℤ) → fold with_constant so (xs ++ ys) ≡ fold with_constant (fold with_constant so xs) ys

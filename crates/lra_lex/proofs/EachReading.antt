@@ -1,35 +1,20 @@
 -- Each source has a reading: at each place stands a gap, a token, or a fault.
 use Rattle.std.proofs.Common.{◌≡◌, ℕ, zero, suc, ◌+◌, ◌-◌, ◌<◌, ◌≤◌, Bool, true, false, nat_eq, List, [], ◌∷◌, ◌++◌, length, get_or, take, drop, Some, None, bytes_eq, refl, sym, ap, ◌∙◌, subst, arith}
 use Rattle.std.proofs.Common.{inl, inr, ◌⊎◌, codes}
-use Rattle.std.proofs.lemmas.Bool.{cases_Bool, cases_lt, eqb-true, eqb-false}
-use Rattle.std.proofs.lemmas.List.{append-nil, length-drop}
-use Rattle.std.proofs.lemmas.Slice.Eq.{bytes_eq-Decides}
-use Rattle.std.specs.List.{prefix_len}
-use Rattle.std.specs.Prelude.{◌≢◌}
-use Rattle.lra_base.specs.declared.refusals.Place.{Place}
-use Rattle.lra_base.specs.declared.refusals.Cause.{Cause}
+use Rattle.std.proofs.{lemmas.Bool.cases_Bool, lemmas.Bool.cases_lt, lemmas.Bool.eqb-true, lemmas.Bool.eqb-false, lemmas.List.append-nil, lemmas.List.length-drop, lemmas.Slice.Eq.bytes_eq-Decides}
+use Rattle.std.specs.{List.prefix_len, Prelude.◌≢◌}
 use Rattle.lra_base.specs.declared.refusals.Cause.TheVariants.{BadByte, BadLiteral}
-use Rattle.lra_base.specs.declared.refusals.Refusal.{Refusal}
-use Rattle.lra_syntax.specs.declared.tokens.Kind.{Kind}
+use Rattle.lra_base.specs.{Places.place_from, declared.refusals.Cause.Cause, declared.refusals.Place.Place, declared.refusals.Refusal.Refusal}
+use Rattle.lra_syntax.specs.Lexeme.{is_letter, is_digit, is_word_byte, is_name_word, is_among, further_words, suffixes, Base, octal, decimal_base, hexadecimal, number_after, IsLiteral}
+use Rattle.lra_syntax.specs.Lexeme.{greatest_literal, literal_type, mark_text, SpellsToken, name, mark_of, reserved}
+use Rattle.lra_syntax.specs.{Tokens.is_blank, Tokens.bytes_of, Tokens.Lex, Tokens.IsTokenFault, Tokens.end_token, declared.tokens.Kind.Kind, declared.tokens.Token.Token}
 use Rattle.lra_syntax.specs.declared.tokens.Kind.TheVariants as kind
-use Rattle.lra_syntax.specs.declared.tokens.Token.{Token}
-use Rattle.lra_syntax.specs.Lexeme.{is_letter, is_digit, is_word_byte, is_name_word, is_among, further_words, suffixes, Base, octal, decimal_base, hexadecimal}
-use Rattle.lra_syntax.specs.Lexeme.{number_after, IsLiteral, greatest_literal, literal_type}
-use Rattle.lra_syntax.specs.Lexeme.{mark_text, SpellsToken, name, mark_of, reserved}
-use Rattle.lra_base.specs.Places.{place_from}
-use Rattle.lra_syntax.specs.Tokens.{is_blank, bytes_of, Lex, IsTokenFault, end_token}
-use Rattle.lra_lex.specs.declared.lexer.Found.{Found}
-use Rattle.lra_lex.specs.Literal.{base_at}
-use Rattle.lra_lex.specs.Places.{fresh_after_bytes}
 use Rattle.lra_lex.specs.Prefixes.{found_mark, operator_at, opens_comment, IsCloseAt, IsFirstClose, IsInclude, BeginsGap, HasNoGap}
-use Rattle.lra_lex.specs.Read.{BeginsToken, HasFault, BeginsFound, FaultsAt, found_tokens}
-use Rattle.lra_lex.proofs.RunLemmas.{differ}
-use Rattle.lra_lex.proofs.MarkLemmas.{found_is, not_named}
-use Rattle.lra_lex.proofs.LexemeLemmas.{operator_none}
-use Rattle.lra_lex.proofs.LiteralLemmas.{literal_cut, cut_literal, digits_of, suffix_of}
+use Rattle.lra_lex.specs.{Literal.base_at, Places.fresh_after_bytes, Read.BeginsToken, Read.HasFault, Read.BeginsFound, Read.FaultsAt, Read.found_tokens, declared.lexer.Found.Found}
 use Rattle.lra_lex.proofs.GapLemmas.{blank_gap, line_gap, block_gap, no_close, include_is, is_include, include_word, skip_gap, else_no_gap, slash_no_gap}
 use Rattle.lra_lex.proofs.TokenLemmas.{word_at, word_token_is, number_token_is, bad_literal, comment_is, operator_token_is}
-use Rattle.lra_lex.proofs.ReadingLemmas.{IsReadTo, found_token, fault_at, read_on}
+use Rattle.lra_lex.proofs.{LexemeLemmas.operator_none, LiteralLemmas.literal_cut, LiteralLemmas.cut_literal, LiteralLemmas.digits_of, LiteralLemmas.suffix_of, MarkLemmas.found_is}
+use Rattle.lra_lex.proofs.{MarkLemmas.not_named, ReadingLemmas.IsReadTo, ReadingLemmas.found_token, ReadingLemmas.fault_at, ReadingLemmas.read_on, RunLemmas.differ}
 
 -- gaps -----------------------------------------------------------------------------------------------------------------------
 

@@ -1,17 +1,12 @@
 -- Gaps: where one begins, and that none begins elsewhere.
 use Rattle.std.proofs.Common.{◌≡◌, ℕ, ◌+◌, ◌-◌, ◌<◌, Bool, true, false, ◌&&◌, nat_eq, List, [], ◌∷◌, ◌++◌, length, get_or, take, drop, refl, sym, ap, ◌∙◌, subst, arith, length-append, append_assoc}
 use Rattle.std.proofs.lemmas.List.{take_at, drop_at, take-append-drop, length-take, take_more, get_or-take, get_or-append-add}
-use Rattle.std.proofs.lemmas.List.Folds.{list_all-append}
-use Rattle.std.proofs.lemmas.Bool.{and_from, and_parts, eqb-true}
-use Rattle.std.proofs.lemmas.Bool.Decides.{nat_tests}
-use Rattle.std.specs.List.{list_all, prefix_len}
-use Rattle.std.specs.Prelude.{codes}
+use Rattle.std.proofs.{lemmas.Bool.and_from, lemmas.Bool.and_parts, lemmas.Bool.eqb-true, lemmas.Bool.Decides.nat_tests, lemmas.List.Folds.list_all-append}
+use Rattle.std.specs.{List.list_all, List.prefix_len, Prelude.codes}
 use Rattle.lra_syntax.specs.Lexeme.{is_word_byte, IsOpen}
 use Rattle.lra_syntax.specs.Tokens.{is_blank, is_space_or_tab, in_line, IsGap, blank, line_comment, block_comment, skipped_line, NoGap, IsLineEnd, IsLineStart, IsWordEnd}
-use Rattle.lra_lex.specs.Places.{fresh_after_bytes}
-use Rattle.lra_lex.specs.Prefixes.{opens_comment, IsCloseAt, IsFirstClose, IsInclude, BeginsGap, HasNoGap}
-use Rattle.lra_lex.proofs.RunLemmas.{run_is, run_exact, Stops, differ}
-use Rattle.lra_lex.proofs.LineLemmas.{fresh_front, front_fresh}
+use Rattle.lra_lex.specs.{Places.fresh_after_bytes, Prefixes.opens_comment, Prefixes.IsCloseAt, Prefixes.IsFirstClose, Prefixes.IsInclude, Prefixes.BeginsGap, Prefixes.HasNoGap}
+use Rattle.lra_lex.proofs.{LineLemmas.fresh_front, LineLemmas.front_fresh, RunLemmas.run_is, RunLemmas.run_exact, RunLemmas.Stops, RunLemmas.differ}
 
 -- where a comment ends -------------------------------------------------------------------------------------------------------
 

@@ -1,16 +1,13 @@
 -- Longest spellings.
 use Rattle.std.proofs.Common.{◌≡◌, ℕ, ◌≤◌, Bool, true, false, not, ◌||◌, nat_le, List, [], ◌∷◌, ◌++◌, length, get_or, take, drop, Option, Some, None, refl, sym, ap, ◌∙◌, subst, arith, inl, inr, ◌⊎◌}
-use Rattle.std.proofs.Common.{length-append}
-use Rattle.std.proofs.lemmas.List.{append-nil, take_at, take-append-drop, length-take}
 use Rattle.std.proofs.lemmas.Bool.{cases_lt, and_from, and_parts, leb-true, or_left, or_right}
-use Rattle.std.specs.List.{list_all, prefix_len}
-use Rattle.std.specs.Prelude.{codes}
-use Rattle.lra_syntax.specs.declared.tokens.Mark.{Mark}
+use Rattle.std.proofs.{Common.length-append, lemmas.List.append-nil, lemmas.List.take_at, lemmas.List.take-append-drop, lemmas.List.length-take}
+use Rattle.std.specs.{List.list_all, List.prefix_len, Prelude.codes}
 use Rattle.lra_syntax.specs.Lexeme.{is_word_byte, is_letter, is_digit, mark_text, Lexeme, word, number_word, mark_word, unclosed}
-use Rattle.lra_syntax.specs.Tokens.{IsLongest}
+use Rattle.lra_syntax.specs.{Tokens.IsLongest, declared.tokens.Mark.Mark}
 use Rattle.lra_lex.specs.Prefixes.{opens_comment, found_mark, operator_at}
-use Rattle.lra_lex.proofs.RunLemmas.{IsRun, differ, run_longest, run_exact}
 use Rattle.lra_lex.proofs.MarkLemmas.{mark_wordy, mark_short, mark_some, found_is, found_none}
+use Rattle.lra_lex.proofs.RunLemmas.{IsRun, differ, run_longest, run_exact}
 
 pub letter_is : (c : ℕ) → is_letter c ≡ true → is_word_byte c ≡ true
 letter_is c h = or_left (is_letter c) (is_digit c) h

@@ -1,11 +1,8 @@
 -- Places and fronts of lines, a piece at a time.
 use Rattle.std.proofs.Common.{◌≡◌, ℕ, ◌+◌, ◌≤◌, Bool, true, ◌||◌, ◌&&◌, nat_eq, List, [], ◌∷◌, ◌++◌, length, refl, sym, ap, ◌∙◌, subst, arith, inl, inr, ◌⊎◌, append_assoc}
-use Rattle.std.proofs.lemmas.Bool.{and_parts, cases_Bool, or_cases}
-use Rattle.std.proofs.lemmas.List.{append-nil}
-use Rattle.std.proofs.lemmas.Bool.Decides.{nat_tests}
+use Rattle.std.proofs.{lemmas.Bool.and_parts, lemmas.Bool.cases_Bool, lemmas.Bool.or_cases, lemmas.Bool.Decides.nat_tests, lemmas.List.append-nil}
 use Rattle.std.specs.List.{list_all}
-use Rattle.lra_base.specs.declared.refusals.Place.{Place}
-use Rattle.lra_base.specs.Places.{next_place, place_from}
+use Rattle.lra_base.specs.{Places.next_place, Places.place_from, declared.refusals.Place.Place}
 use Rattle.lra_syntax.specs.Tokens.{is_space_or_tab, IsLineStart}
 use Rattle.lra_lex.specs.Places.{fresh_after_bytes}
 

@@ -1,18 +1,13 @@
 -- A literal is cut into its parts in one way.
 use Rattle.std.proofs.Common.{◌≡◌, ℕ, suc, ◌+◌, ◌*◌, ◌<◌, ◌≤◌, Bool, true, false, not, ◌||◌, ◌&&◌, nat_eq, List, [], ◌∷◌, ◌++◌, length, get_or, take, drop, refl, sym, ap, ◌∙◌, subst, arith, inl, inr}
-use Rattle.std.proofs.Common.{append_assoc}
-use Rattle.std.proofs.lemmas.Bool.{and_parts, cases_Bool, eqb-true, not-true, or_cases}
-use Rattle.std.proofs.lemmas.List.{take_at, drop_at, take-append-drop, drop_more}
-use Rattle.std.proofs.lemmas.List.Sums.{prefix_len-le-length}
-use Rattle.std.proofs.lemmas.Bool.Decides.{nat_tests}
-use Rattle.std.specs.List.{list_all, prefix_len}
-use Rattle.std.specs.Prelude.{◌≢◌, if◌then◌else◌}
+use Rattle.std.proofs.{Common.append_assoc, lemmas.Bool.and_parts, lemmas.Bool.cases_Bool, lemmas.Bool.eqb-true, lemmas.Bool.not-true, lemmas.Bool.or_cases, lemmas.Bool.Decides.nat_tests}
+use Rattle.std.proofs.{lemmas.List.take_at, lemmas.List.drop_at, lemmas.List.take-append-drop, lemmas.List.drop_more, lemmas.List.Sums.prefix_len-le-length}
+use Rattle.std.specs.{List.list_all, List.prefix_len, Prelude.◌≢◌, Prelude.if◌then◌else◌}
 use Rattle.lra_base.specs.declared.number_types.NumberType.{NumberType}
-use Rattle.lra_syntax.specs.Lexeme.{Base, octal, decimal_base, hexadecimal, base_number, is_digit_of, is_digit, is_between, digit_value, number_after, IsBasePrefix, IsLiteral, suffixes, is_among, literal_type}
-use Rattle.lra_syntax.specs.Lexeme.{greatest_literal}
+use Rattle.lra_syntax.specs.Lexeme.{Base, octal, decimal_base, hexadecimal, base_number, is_digit_of, is_digit, is_between, digit_value, number_after, IsBasePrefix, IsLiteral, suffixes, is_among}
+use Rattle.lra_syntax.specs.Lexeme.{literal_type, greatest_literal}
 use Rattle.lra_lex.specs.Literal.{base_at, front_size, IsTyped}
-use Rattle.lra_lex.proofs.RunLemmas.{run_is, run_exact, Stops}
-use Rattle.lra_lex.proofs.MarkLemmas.{among_all}
+use Rattle.lra_lex.proofs.{MarkLemmas.among_all, RunLemmas.run_is, RunLemmas.run_exact, RunLemmas.Stops}
 
 -- numbers ------------------------------------------------------------------------------------------------------------------
 

@@ -1,13 +1,10 @@
 -- A spelling has one mark at most, and a search finds it.
 use Rattle.std.proofs.Common.{◌≡◌, ℕ, Bool, true, false, not, ◌||◌, nat_le, List, [], ◌∷◌, length, get_or, Option, Some, None, bytes_eq, find, refl, sym, ap, ◌∙◌, inl, inr}
-use Rattle.std.proofs.lemmas.Bool.{cases_Bool, or_cases}
-use Rattle.std.proofs.lemmas.Slice.Eq.{bytes_eq-Decides}
+use Rattle.std.proofs.{lemmas.Bool.cases_Bool, lemmas.Bool.or_cases, lemmas.Slice.Eq.bytes_eq-Decides}
 use Rattle.std.specs.List.{list_all}
-use Rattle.lra_syntax.specs.declared.tokens.Mark.{Mark}
+use Rattle.lra_syntax.specs.{Lexeme.is_word_byte, Lexeme.is_name_word, Lexeme.is_number_word, Lexeme.mark_text, Lexeme.is_among, Lexeme.named_words, Lexeme.further_words, declared.tokens.Mark.Mark}
 use Rattle.lra_syntax.specs.declared.tokens.Mark.TheVariants as mark
-use Rattle.lra_syntax.specs.Lexeme.{is_word_byte, is_name_word, is_number_word, mark_text, is_among, named_words, further_words}
-use Rattle.lra_lex.specs.declared.marks.TheConstants.{MARKS}
-use Rattle.lra_lex.specs.Prefixes.{found_mark}
+use Rattle.lra_lex.specs.{Prefixes.found_mark, declared.marks.TheConstants.MARKS}
 
 -- no operator and no reserved word that the grammar names
 abbrev pub IsNoMark : List ℕ → Type 0

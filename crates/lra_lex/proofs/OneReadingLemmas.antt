@@ -1,32 +1,19 @@
 -- A source has one reading: at each place one gap, or one token with its spelling, or one fault.
 use Rattle.std.proofs.Common.{◌≡◌, ℕ, ◌+◌, ◌<◌, ◌≤◌, true, false, ◌&&◌, nat_eq, List, [], ◌∷◌, ◌++◌, length, get_or, take, drop, refl, sym, ap, ◌∙◌, subst, arith, inl, inr, ◌⊎◌, append_assoc}
 use Rattle.std.proofs.Common.{length-append}
-use Rattle.std.proofs.lemmas.Bool.{and_parts, cases_Bool, leb-true}
-use Rattle.std.proofs.lemmas.List.{append-nil, take_at, append_cancel_left}
-use Rattle.std.proofs.lemmas.Bool.Decides.{nat_tests}
-use Rattle.std.specs.List.{list_all, prefix_len}
-use Rattle.std.specs.Prelude.{codes, if◌then◌else◌}
-use Rattle.lra_base.specs.declared.refusals.Place.{Place}
-use Rattle.lra_base.specs.declared.refusals.Cause.{Cause}
+use Rattle.std.proofs.{lemmas.Bool.and_parts, lemmas.Bool.cases_Bool, lemmas.Bool.leb-true, lemmas.Bool.Decides.nat_tests, lemmas.List.append-nil, lemmas.List.take_at, lemmas.List.append_cancel_left}
+use Rattle.std.specs.{List.list_all, List.prefix_len, Prelude.codes, Prelude.if◌then◌else◌}
 use Rattle.lra_base.specs.declared.refusals.Cause.TheVariants.{BadByte, BadLiteral}
-use Rattle.lra_base.specs.declared.number_types.NumberType.{NumberType}
-use Rattle.lra_syntax.specs.declared.tokens.Mark.{Mark}
-use Rattle.lra_syntax.specs.declared.tokens.Mark.TheVariants as mark
-use Rattle.lra_syntax.specs.declared.tokens.Kind.{Kind}
-use Rattle.lra_syntax.specs.declared.tokens.Kind.TheVariants as kind
-use Rattle.lra_syntax.specs.declared.tokens.Token.{Token}
-use Rattle.lra_syntax.specs.Lexeme.{is_letter, is_digit, is_word_byte, is_name_word, is_number_word, mark_text, is_among}
-use Rattle.lra_syntax.specs.Lexeme.{named_words, further_words, IsOpen, IsUnclosed, IsLiteral, greatest_literal, Lexeme}
-use Rattle.lra_syntax.specs.Lexeme.{word, number_word, mark_word, unclosed, SpellsToken, name, literal_text, mark_of, reserved, comment}
+use Rattle.lra_base.specs.{Places.place_after, declared.number_types.NumberType.NumberType, declared.refusals.Cause.Cause, declared.refusals.Place.Place}
+use Rattle.lra_syntax.specs.Lexeme.{is_letter, is_digit, is_word_byte, is_name_word, is_number_word, mark_text, is_among, named_words, further_words, IsOpen, IsUnclosed, IsLiteral, greatest_literal}
+use Rattle.lra_syntax.specs.Lexeme.{Lexeme, word, number_word, mark_word, unclosed, SpellsToken, name, literal_text, mark_of, reserved, comment}
 use Rattle.lra_syntax.specs.Tokens.{is_blank, in_line, IsLineEnd, IsGap, blank, line_comment, block_comment, skipped_line, IsLongest, IsToken, Fragment, gap, token, bytes_of, tokens_of, IsReading}
-use Rattle.lra_base.specs.Places.{place_after}
-use Rattle.lra_syntax.specs.Tokens.{IsFaulty, end_token, OneReading}
+use Rattle.lra_syntax.specs.{Tokens.IsFaulty, Tokens.end_token, Tokens.OneReading, declared.tokens.Kind.Kind, declared.tokens.Mark.Mark, declared.tokens.Token.Token}
+use Rattle.lra_syntax.specs.declared.tokens.Mark.TheVariants as mark
+use Rattle.lra_syntax.specs.declared.tokens.Kind.TheVariants as kind
 use Rattle.lra_lex.specs.Prefixes.{opens_comment}
-use Rattle.lra_lex.proofs.RunLemmas.{run_exact, Stops, differ}
 use Rattle.lra_lex.proofs.MarkLemmas.{mark_one, mark_some, mark_named, mark_no_number, mark_no_further, among_all}
-use Rattle.lra_lex.proofs.LexemeLemmas.{not_or}
-use Rattle.lra_lex.proofs.GapLemmas.{include_in_line}
-use Rattle.lra_lex.proofs.LiteralLemmas.{literal_one, type_one}
+use Rattle.lra_lex.proofs.{GapLemmas.include_in_line, LexemeLemmas.not_or, LiteralLemmas.literal_one, LiteralLemmas.type_one, RunLemmas.run_exact, RunLemmas.Stops, RunLemmas.differ}
 
 -- gaps -----------------------------------------------------------------------------------------------------------------------
 

@@ -1,20 +1,12 @@
 -- How far a source is read, a piece at a time.
 use Rattle.std.proofs.Common.{◌≡◌, ℕ, ◌+◌, ◌<◌, ◌≤◌, Bool, true, List, [], ◌∷◌, ◌++◌, length, take, drop, Option, Some, None, refl, sym, ap, ◌∙◌, subst, arith, append_assoc, length-append}
 use Rattle.std.proofs.lemmas.List.{append-nil, take-append-drop}
-use Rattle.lra_base.specs.declared.refusals.Place.{Place}
-use Rattle.lra_base.specs.declared.refusals.Cause.{Cause}
-use Rattle.lra_base.specs.declared.refusals.Cause.TheVariants.{BadByte, BadLiteral}
-use Rattle.lra_base.specs.declared.refusals.Refusal.{Refusal}
-use Rattle.lra_base.specs.Refused.{IfRefusal}
-use Rattle.lra_syntax.specs.declared.tokens.Kind.{Kind}
-use Rattle.lra_syntax.specs.declared.tokens.Token.{Token}
-use Rattle.lra_base.specs.Places.{place_from, place_after}
-use Rattle.lra_syntax.specs.Tokens.{IsGap, NoGap, IsToken, Fragment, gap, token, bytes_of, tokens_of, IsReading, IsFaulty}
-use Rattle.lra_lex.specs.Places.{fresh_after_bytes}
-use Rattle.lra_lex.specs.Prefixes.{HasNoGap}
-use Rattle.lra_lex.specs.Read.{BeginsToken, HasFault, BeginsFound, FaultsAt, found_tokens}
-use Rattle.lra_base.specs.declared.error.SourceError.{SourceError}
 use Rattle.lra_base.specs.declared.error.SourceError.TheVariants.{Refused, Memory}
+use Rattle.lra_base.specs.{Places.place_from, Places.place_after, Refused.IfRefusal, declared.error.SourceError.SourceError, declared.refusals.Cause.Cause, declared.refusals.Cause.TheVariants.BadByte}
+use Rattle.lra_base.specs.{declared.refusals.Cause.TheVariants.BadLiteral, declared.refusals.Place.Place, declared.refusals.Refusal.Refusal}
+use Rattle.lra_syntax.specs.Tokens.{IsGap, NoGap, IsToken, Fragment, gap, token, bytes_of, tokens_of, IsReading, IsFaulty}
+use Rattle.lra_syntax.specs.{declared.tokens.Kind.Kind, declared.tokens.Token.Token}
+use Rattle.lra_lex.specs.{Places.fresh_after_bytes, Prefixes.HasNoGap, Read.BeginsToken, Read.HasFault, Read.BeginsFound, Read.FaultsAt, Read.found_tokens}
 use Rattle.lra_lex.proofs.LineLemmas.{place_from-append, fresh_behind-append, within}
 
 -- what was found -----------------------------------------------------------------------------------------------------------

@@ -1,22 +1,13 @@
 -- The token at the front.
 use Rattle.std.proofs.Common.{◌≡◌, ℕ, suc, ◌<◌, ◌≤◌, true, false, List, [], ◌∷◌, length, get_or, take, drop, Option, Some, None, refl, sym, ap, ◌∙◌, subst, arith, inl, inr, min}
-use Rattle.std.proofs.lemmas.List.{take_at, take_all, length-take}
-use Rattle.std.proofs.lemmas.Bool.{cases_lt, and_from, leb-true}
-use Rattle.std.proofs.lemmas.List.Sums.{prefix_len-le-length}
+use Rattle.std.proofs.{lemmas.Bool.cases_lt, lemmas.Bool.and_from, lemmas.Bool.leb-true, lemmas.List.take_at, lemmas.List.take_all, lemmas.List.length-take, lemmas.List.Sums.prefix_len-le-length}
 use Rattle.std.specs.List.{list_all, prefix_len}
 use Rattle.lra_base.specs.declared.number_types.NumberType.{NumberType}
-use Rattle.lra_syntax.specs.declared.tokens.Mark.{Mark}
-use Rattle.lra_syntax.specs.declared.tokens.Kind.{Kind}
-use Rattle.lra_syntax.specs.declared.tokens.Kind.TheVariants as kind
 use Rattle.lra_syntax.specs.Lexeme.{is_word_byte, is_letter, is_digit, is_name_word, is_number_word, mark_text, IsLiteral, greatest_literal, word, number_word, unclosed, IsUnclosed, SpellsToken}
-use Rattle.lra_syntax.specs.Lexeme.{literal_text}
-use Rattle.lra_syntax.specs.Lexeme.{mark_of, comment, literal_type}
-use Rattle.lra_syntax.specs.Tokens.{IsLongest}
-use Rattle.lra_lex.specs.Prefixes.{opens_comment, found_mark, operator_at}
-use Rattle.lra_lex.specs.Read.{BeginsToken}
-use Rattle.lra_lex.proofs.RunLemmas.{run_is}
-use Rattle.lra_lex.proofs.MarkLemmas.{mark_some}
-use Rattle.lra_lex.proofs.LexemeLemmas.{longest_word, longest_whole, operator_found, letter_is, digit_is}
+use Rattle.lra_syntax.specs.{Lexeme.literal_text, Lexeme.mark_of, Lexeme.comment, Lexeme.literal_type, Tokens.IsLongest, declared.tokens.Kind.Kind, declared.tokens.Mark.Mark}
+use Rattle.lra_syntax.specs.declared.tokens.Kind.TheVariants as kind
+use Rattle.lra_lex.specs.{Prefixes.opens_comment, Prefixes.found_mark, Prefixes.operator_at, Read.BeginsToken}
+use Rattle.lra_lex.proofs.{LexemeLemmas.longest_word, LexemeLemmas.longest_whole, LexemeLemmas.operator_found, LexemeLemmas.letter_is, LexemeLemmas.digit_is, MarkLemmas.mark_some, RunLemmas.run_is}
 
 -- a run of word bytes, where one is there
 run_front : (c : ℕ) (cs : List ℕ) → is_word_byte c ≡ true → take (prefix_len is_word_byte (c ∷ cs)) (c ∷ cs) ≡ c ∷ take (prefix_len is_word_byte cs) cs

@@ -1,13 +1,10 @@
 -- What stands at the front of the bytes that are left.
 use Rattle.std.specs.Prelude.{◌≡◌, ℕ, ◌+◌, ◌-◌, ◌<◌, ◌≤◌, Bool, true, List, ◌++◌, nat_eq, ◌&&◌, Option, codes, length}
 use Rattle.std.specs.Prelude.{slice_index, take, drop, find, bytes_eq}
-use Rattle.std.specs.Option.{option_or}
-use Rattle.lra_lex.specs.declared.marks.TheConstants.{MARKS}
-use Rattle.std.specs.List.{list_all}
-use Rattle.lra_syntax.specs.declared.tokens.Mark.{Mark}
-use Rattle.lra_syntax.specs.Lexeme.{mark_text, IsUnclosed}
+use Rattle.std.specs.{List.list_all, Option.option_or}
+use Rattle.lra_lex.specs.{Places.fresh_after_bytes, declared.marks.TheConstants.MARKS}
 use Rattle.lra_syntax.specs.Tokens.{is_space_or_tab, IsWordEnd, IsGap, NoGap}
-use Rattle.lra_lex.specs.Places.{fresh_after_bytes}
+use Rattle.lra_syntax.specs.{Lexeme.mark_text, Lexeme.IsUnclosed, declared.tokens.Mark.Mark}
 
 -- the mark of this spelling
 abbrev pub found_mark : List ℕ → Option Mark

@@ -1,15 +1,12 @@
 -- What a call found at the front of the bytes that are left.
 use Rattle.std.specs.Prelude.{◌≡◌, ℕ, ◌<◌, ◌≤◌, Bool, true, List, [], ◌∷◌, ◌++◌, length, take, drop, Option, Some, None}
-use Rattle.lra_base.specs.declared.refusals.Place.{Place}
-use Rattle.lra_base.specs.declared.refusals.Cause.{Cause}
 use Rattle.lra_base.specs.declared.refusals.Cause.TheVariants.{BadByte, BadLiteral}
 use Rattle.lra_base.specs.declared.refusals.Refusal.{Refusal}
-use Rattle.lra_syntax.specs.declared.tokens.Kind.{Kind}
-use Rattle.lra_syntax.specs.declared.tokens.Token.{Token}
+use Rattle.lra_base.specs.{declared.refusals.Cause.Cause, declared.refusals.Place.Place}
 use Rattle.lra_syntax.specs.Lexeme.{is_number_word, IsLiteral, greatest_literal, Lexeme, SpellsToken}
 use Rattle.lra_syntax.specs.Tokens.{IsGap, NoGap, IsLongest, IsFaulty}
-use Rattle.lra_lex.specs.declared.lexer.Found.{Found}
-use Rattle.lra_lex.specs.Places.{fresh_after_bytes}
+use Rattle.lra_syntax.specs.{declared.tokens.Kind.Kind, declared.tokens.Token.Token}
+use Rattle.lra_lex.specs.{Places.fresh_after_bytes, declared.lexer.Found.Found}
 
 -- the first n bytes are the longest spelling there, of a token of this kind
 pub record BeginsToken (rest : List ℕ) (n : ℕ) (k : Kind) : Type 0 where

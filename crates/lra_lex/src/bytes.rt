@@ -1,7 +1,6 @@
 //! Bytes and runs of them.
 
-ghost use Rattle.std.specs.Prelude.{◌≡◌};
-ghost use Rattle.std.specs.List.{prefix_len};
+ghost use Rattle.std.specs.{List.prefix_len, Prelude.◌≡◌};
 ghost use Rattle.lra_syntax.specs.Lexeme.{is_letter, is_digit, is_word_byte};
 ghost use Rattle.lra_syntax.specs.Tokens.{is_blank, is_space_or_tab, in_line};
 

@@ -2,8 +2,8 @@
 
 ghost use Rattle.std.specs.Prelude.{◌≡◌, ◌++◌, ◌+◌, ◌<◌, ◌^◌, false, length, slice_index, true, IfNone, IfOk, IfSome};
 ghost use Rattle.std.specs.Prelude.{OnOk};
-ghost use Rattle.lra_base.specs.declared.refusals.Cause.TheVariants.{BadByte, BadLiteral};
 ghost use Rattle.lra_base.specs.Refused.{IfRefused};
+ghost use Rattle.lra_base.specs.declared.refusals.Cause.TheVariants.{BadByte, BadLiteral};
 ghost use Rattle.lra_syntax.specs.Lexeme.{is_digit, is_letter, is_name_word, is_word_byte, IsUnclosed, SpellsToken};
 ghost use Rattle.lra_syntax.specs.Tokens.{IsTokenFault, Lex, OneReading};
 ghost use Rattle.lra_lex.specs.Prefixes.{opens_comment, operator_at};

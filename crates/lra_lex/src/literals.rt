@@ -1,7 +1,7 @@
 //! The types and values of literals (ISO/IEC 9899:2011, 6.4.4.1).
 
-ghost use Rattle.std.specs.Prelude.{◌≡◌, ◌≤◌, ◌<◌, ◌≢◌, ℕ, [], length, true, IfSome, IfNone, IsTrue};
 ghost use Rattle.std.specs.List.{prefix_len};
+ghost use Rattle.std.specs.Prelude.{◌≡◌, ◌≤◌, ◌<◌, ◌≢◌, ℕ, [], length, true, IfSome, IfNone, IsTrue};
 ghost use Rattle.lra_syntax.specs.Lexeme.{IsLiteral, octal, base_number, digit_value, greatest_literal, is_among};
 ghost use Rattle.lra_syntax.specs.Lexeme.{is_digit_of, literal_type, number_after, suffixes};
 ghost use Rattle.lra_lex.specs.Literal.{base_at, base_of, front_size, IsTyped};

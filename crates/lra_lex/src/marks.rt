@@ -1,7 +1,6 @@
 //! Operators and reserved words.
 
-ghost use Rattle.std.specs.Prelude.{◌≡◌, bytes_eq};
-ghost use Rattle.std.specs.List.{list_any};
+ghost use Rattle.std.specs.{List.list_any, Prelude.◌≡◌, Prelude.bytes_eq};
 ghost use Rattle.lra_syntax.specs.Lexeme.{mark_text, is_among, further_words};
 ghost use Rattle.lra_lex.specs.Prefixes.{found_mark};
 

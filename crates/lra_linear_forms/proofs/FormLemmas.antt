@@ -1,10 +1,7 @@
 -- Steps of a form's sum, and the value of an opposite form.
 use Rattle.std.proofs.Common.{◌≡◌, ◌↔◌, ℤ, pos, negsuc, ◌+ℤ◌, ◌*ℤ◌, List, [], ◌∷◌, inl, inr, map, refl, arith, FitsSigned}
-use Rattle.std.specs.Prelude.{◌≤ℤ◌, neg_ℤ}
-use Rattle.std.specs.Int.{w64}
-use Rattle.std.specs.List.{All}
-use Rattle.std.proofs.lemmas.Int.{ints}
-use Rattle.std.proofs.lemmas.List.Elements.{All-cons, All-tail}
+use Rattle.std.proofs.{lemmas.Int.ints, lemmas.List.Elements.All-cons, lemmas.List.Elements.All-tail}
+use Rattle.std.specs.{Int.w64, List.All, Prelude.◌≤ℤ◌, Prelude.neg_ℤ}
 use Rattle.lra_linear_spec.specs.Vectors.{product}
 use Rattle.lra_linear_forms.specs.Form.{Form, form_value, opposite_form, AddsInRange, SummingPasses}
 

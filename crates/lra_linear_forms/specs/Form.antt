@@ -1,12 +1,9 @@
 -- Stores, linear forms over them, and tests of forms.
 -- A store is a list of whole numbers, one for each live variable, the oldest first.
 use Rattle.std.specs.Prelude.{◌≡◌, ℤ, pos, negsuc, neg_ℤ, ◌+ℤ◌, ◌*ℤ◌, ◌≤ℤ◌, List, [], ◌∷◌, map, FitsSigned, ◌⊎◌}
-use Rattle.std.specs.Int.{w64}
-use Rattle.std.specs.List.{All}
-use Rattle.lra_linear_spec.specs.Range.{InRange}
-use Rattle.lra_linear_spec.specs.Vectors.{product}
-use Rattle.lra_linear_spec.specs.declared.ConKind.{ConKind}
+use Rattle.std.specs.{Int.w64, List.All}
 use Rattle.lra_linear_spec.specs.declared.ConKind.TheVariants.{Ge, Eq}
+use Rattle.lra_linear_spec.specs.{Range.InRange, Vectors.product, declared.ConKind.ConKind}
 
 -- a linear form: its constant, and one coefficient for each dimension
 pub record Form : Type 0 where

@@ -1,8 +1,5 @@
 ghost use Rattle.std.specs.Prelude.{◌≡◌, ◌↔◌, ◌∷◌, pos, ◌+ℤ◌, ◌*ℤ◌, neg_ℤ, map, FitsSigned, IfOk, IfSome, IsNone};
-ghost use Rattle.std.specs.Prelude.{MatchOption, if◌then◌else◌};
-ghost use Rattle.std.specs.Int.{w64};
-ghost use Rattle.std.specs.List.{All};
-ghost use Rattle.std.specs.Option.{SomeIff};
+ghost use Rattle.std.specs.{Int.w64, List.All, Option.SomeIff, Prelude.MatchOption, Prelude.if◌then◌else◌};
 ghost use Rattle.lra_linear_spec.specs.Range.{InRange};
 ghost use Rattle.lra_linear_forms.specs.Form.{AddsInRange, FormFits, form_row, form_value, opposite_form};
 ghost use Rattle.lra_linear_forms.specs.Form.{SummingPasses};

@@ -1,5 +1,5 @@
-ghost use Rattle.std.specs.Prelude.{◌≡◌, ◌↔◌, ℤ, List, IfOk, IfSome};
 ghost use Rattle.std.specs.Option.{SomeIff};
+ghost use Rattle.std.specs.Prelude.{◌≡◌, ◌↔◌, ℤ, List, IfOk, IfSome};
 ghost use Rattle.lra_linear_forms.specs.Form.{FormFits, HoldsAt, opposite_form};
 
 use crate::form::LinExpr;

@@ -1,25 +1,17 @@
 -- Pairs of rays that are not adjacent can be left out of a step (Fukuda and Prodon 1996): a pair with a third ray that is tight
 -- wherever both are is a sum of vectors at which more rows are tight, by induction on the number of rows that are not tight.
 use Rattle.std.proofs.Common.{Bool, List, [], ap, arith, cond, false, inl, inr, length, neg_ℤ, negsuc, pos, refl, subst, suc, sym, true, zero, ℕ, ℤ, ◌*ℤ◌, ◌*◌, ◌++◌, ◌+ℤ◌, ◌+◌, ◌<ℤ◌, ◌<◌, ◌∙◌, ◌∷◌}
-use Rattle.std.proofs.Common.{◌≡◌, ◌≤ℤ◌, ◌≤◌, ◌⊎◌}
-use Rattle.std.proofs.Math.IntN.{+ℤ_comm}
-use Rattle.std.proofs.lemmas.Bool.{cases_lt}
-use Rattle.std.proofs.lemmas.Int.{ints}
 use Rattle.std.proofs.lemmas.List.Elements.{Contains-append_cases, Contains-append_left, Contains-append_right}
+use Rattle.std.proofs.{Common.◌≡◌, Common.◌≤ℤ◌, Common.◌≤◌, Common.◌⊎◌, Math.IntN.+ℤ_comm, lemmas.Bool.cases_lt, lemmas.Int.ints}
 use Rattle.std.specs.List.{Contains}
 use borrow.Author.Differences.{down, up}
-use Rattle.lra_linear_spec.specs.Cones.{Generated, Solves}
-use Rattle.lra_linear_spec.proofs.DoubleDescription.{kept, pair, pairs, step_rows}
-use Rattle.lra_linear_spec.proofs.Saturation.{AdjacentStep, TightToo, tight_sum}
-use Rattle.lra_linear_spec.specs.Vectors.{blend, dot, entry, sum_of}
-use Rattle.lra_linear_spec.proofs.AllPairs.{kept_only, pairs_only, step_rows_are}
+use Rattle.lra_linear_spec.specs.{Cones.Generated, Cones.Solves, Vectors.blend, Vectors.dot, Vectors.entry, Vectors.sum_of}
 use Rattle.lra_linear_spec.proofs.Combinations.{generated_divided, generated_plus, generated_row, generated_same, generated_times}
-use Rattle.lra_linear_spec.proofs.LinearMaps.{generated_through, sum_nonneg}
-use Rattle.lra_linear_spec.proofs.Membership.{contains_cases, contains_head, contains_tail}
 use Rattle.lra_linear_spec.proofs.Products.{blend_length, dot_linear, dot_plus, dot_same, dot_scale, entry_blend}
-use Rattle.lra_linear_spec.proofs.Ring.{mul_nonnegative, ring, v, ⊖, ◌⊕◌, ◌⊗◌}
 use Rattle.lra_linear_spec.proofs.Signs.{above_zero, add_nonnegative, as_nat, cases_sign, compare_two, divide_nonnegative, neg_nat, positive_is_nonnegative, positive_nat}
-use Rattle.lra_linear_spec.proofs.Step.{step_complete}
+use Rattle.lra_linear_spec.proofs.{AllPairs.kept_only, AllPairs.pairs_only, AllPairs.step_rows_are, DoubleDescription.kept, DoubleDescription.pair, DoubleDescription.pairs}
+use Rattle.lra_linear_spec.proofs.{DoubleDescription.step_rows, LinearMaps.generated_through, LinearMaps.sum_nonneg, Membership.contains_cases, Membership.contains_head, Membership.contains_tail}
+use Rattle.lra_linear_spec.proofs.{Ring.mul_nonnegative, Ring.ring, Ring.v, Ring.⊖, Ring.◌⊕◌, Ring.◌⊗◌, Saturation.AdjacentStep, Saturation.TightToo, Saturation.tight_sum, Step.step_complete}
 
 -- ---- how many rows are not tight
 -- a test that counts

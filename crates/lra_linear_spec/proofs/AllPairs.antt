@@ -1,17 +1,12 @@
 -- The rows of all pairs are a step.
 use Rattle.std.proofs.Common.{Bool, List, [], ap, arith, cond, false, inl, inr, length, neg_ℤ, pos, refl, subst, sym, true, ℕ, ℤ, ◌*ℤ◌, ◌+ℤ◌, ◌<ℤ◌, ◌∙◌, ◌∷◌, ◌≡◌, ◌≤ℤ◌}
-use Rattle.std.specs.Prelude.{int_le, int_lt}
-use Rattle.std.proofs.lemmas.Int.{ints}
-use Rattle.std.proofs.lemmas.List.Elements.{Contains-append_cases, Contains-append_left, Contains-append_right}
-use Rattle.std.specs.List.{Contains}
-use Rattle.lra_linear_spec.specs.Cones.{Generated}
-use Rattle.lra_linear_spec.proofs.DoubleDescription.{StepOf, kept, pair, pairs, pairs_of, step_rows}
-use Rattle.lra_linear_spec.specs.Vectors.{blend, dot, entry}
+use Rattle.std.proofs.{lemmas.Int.ints, lemmas.List.Elements.Contains-append_cases, lemmas.List.Elements.Contains-append_left, lemmas.List.Elements.Contains-append_right}
+use Rattle.std.specs.{List.Contains, Prelude.int_le, Prelude.int_lt}
+use Rattle.lra_linear_spec.specs.{Cones.Generated, Vectors.blend, Vectors.dot, Vectors.entry}
 use Rattle.lra_linear_spec.proofs.Combinations.{generated_plus, generated_row, generated_same, generated_times}
-use Rattle.lra_linear_spec.proofs.Membership.{contains_cases, contains_head, contains_tail}
-use Rattle.lra_linear_spec.proofs.Products.{dot_linear, dot_same, entry_blend}
-use Rattle.lra_linear_spec.proofs.Ring.{ring, v, ⊖, ◌⊕◌, ◌⊗◌}
-use Rattle.lra_linear_spec.proofs.Signs.{as_nat, neg_nat, positive_is_nonnegative}
+use Rattle.lra_linear_spec.proofs.DoubleDescription.{StepOf, kept, pair, pairs, pairs_of, step_rows}
+use Rattle.lra_linear_spec.proofs.{Membership.contains_cases, Membership.contains_head, Membership.contains_tail, Products.dot_linear, Products.dot_same, Products.entry_blend, Ring.ring, Ring.v}
+use Rattle.lra_linear_spec.proofs.{Ring.⊖, Ring.◌⊕◌, Ring.◌⊗◌, Signs.as_nat, Signs.neg_nat, Signs.positive_is_nonnegative}
 
 -- ---- tests
 -- a test that must answer yes

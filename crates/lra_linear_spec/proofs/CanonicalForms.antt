@@ -2,21 +2,13 @@
 use Rattle.std.proofs.Common.{List, [], ap, append_assoc, arith, inl, inr, length, neg_ℤ, negsuc, pos, refl, subst, sym, ℕ, ℤ, ◌*ℤ◌, ◌++◌, ◌+ℤ◌, ◌<◌, ◌∙◌, ◌∷◌, ◌≡◌}
 use Rattle.std.proofs.lemmas.List.Elements.{Contains-append_cases, Contains-append_left, Contains-append_right}
 use Rattle.std.specs.List.{Contains}
-use Rattle.lra_linear_spec.specs.Canonical.{IsCanonical}
 use Rattle.lra_linear_spec.specs.Cones.{AreDual, Generated, all_rows, both_ways}
-use Rattle.lra_linear_spec.specs.Echelon.{IsEchelon, Spanned}
-use Rattle.lra_linear_spec.proofs.Saturation.{IsExtreme}
-use Rattle.lra_linear_spec.specs.Vectors.{entry, signed_sum, sum_of}
+use Rattle.lra_linear_spec.specs.{Canonical.IsCanonical, Echelon.IsEchelon, Echelon.Spanned, Vectors.entry, Vectors.signed_sum, Vectors.sum_of}
 use Rattle.lra_linear_spec.proofs.Combinations.{generated_divided, generated_plus, generated_row, generated_same, generated_times}
-use Rattle.lra_linear_spec.proofs.ExtremeRays.{Free, Parts, extreme_found, needed_splits, pointed_sum_zero}
-use Rattle.lra_linear_spec.proofs.LinearMaps.{generated_left, generated_right, generated_through, sum_generated}
-use Rattle.lra_linear_spec.proofs.Lines.{described_generated, in_lines, lines_generated}
-use Rattle.lra_linear_spec.proofs.LowestTerms.{same_multiple}
-use Rattle.lra_linear_spec.proofs.Membership.{NoRepeat, at_most, contains_middle, contains_split}
-use Rattle.lra_linear_spec.proofs.Products.{row_same}
-use Rattle.lra_linear_spec.proofs.Ring.{ring, v, ⊖, ◌⊕◌, ◌⊗◌}
-use Rattle.lra_linear_spec.proofs.Signs.{cancel_same}
-use Rattle.lra_linear_spec.proofs.Spans.{all_zero, echelon_unique, spanned_linear, spanned_same}
+use Rattle.lra_linear_spec.proofs.{ExtremeRays.Free, ExtremeRays.Parts, ExtremeRays.extreme_found, ExtremeRays.needed_splits, ExtremeRays.pointed_sum_zero, LinearMaps.generated_left}
+use Rattle.lra_linear_spec.proofs.{LinearMaps.generated_right, LinearMaps.generated_through, LinearMaps.sum_generated, Lines.described_generated, Lines.in_lines, Lines.lines_generated}
+use Rattle.lra_linear_spec.proofs.{LowestTerms.same_multiple, Membership.NoRepeat, Membership.at_most, Membership.contains_middle, Membership.contains_split, Products.row_same, Ring.ring, Ring.v}
+use Rattle.lra_linear_spec.proofs.{Ring.⊖, Ring.◌⊕◌, Ring.◌⊗◌, Saturation.IsExtreme, Signs.cancel_same, Spans.all_zero, Spans.echelon_unique, Spans.spanned_linear, Spans.spanned_same}
 
 Rows : Type 0
 Rows = List (List ℤ)

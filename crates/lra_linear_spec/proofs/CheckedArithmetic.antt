@@ -1,13 +1,9 @@
 -- What checked arithmetic on rows answers: an Ok is the product, or the sum of the two multiples, and in the range.
 use Rattle.std.proofs.Common.{◌≡◌, List, [], ◌∷◌, refl, ap, subst, sym, ◌∙◌, pos, ℤ, ◌+ℤ◌, ◌*ℤ◌, arith, Bool, true, false, cond, Result, Ok, Err, IfOk}
+use Rattle.std.proofs.{Math.IntN.+ℤ_assoc, Math.IntN.+ℤ_idr, Math.IntN.+ℤ_idl, lemmas.Bool.Decides.nat_tests, lemmas.List.Elements.All-from_recursion}
 use Rattle.std.specs.List.{All, AllByRecursion}
-use Rattle.std.proofs.lemmas.List.Elements.{All-from_recursion}
-use Rattle.std.proofs.lemmas.Bool.Decides.{nat_tests}
-use Rattle.std.proofs.Math.IntN.{+ℤ_assoc, +ℤ_idr, +ℤ_idl}
-use Rattle.lra_linear_spec.specs.declared.Excess.{Excess}
-use Rattle.lra_linear_spec.specs.Range.{InRange, in_range}
-use Rattle.lra_linear_spec.specs.Vectors.{product, blend}
 use Rattle.lra_linear_spec.specs.CheckedArithmetic.{checked_product_from, checked_product, checked_entry, then_rest, checked_blend}
+use Rattle.lra_linear_spec.specs.{Range.InRange, Range.in_range, Vectors.product, Vectors.blend, declared.Excess.Excess}
 use Rattle.lra_linear_spec.proofs.Products.{product_none}
 
 -- the test decides the range

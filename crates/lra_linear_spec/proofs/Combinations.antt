@@ -3,11 +3,9 @@
 use Rattle.std.proofs.Common.{List, [], ap, arith, get_or, length, map, pos, refl, subst, suc, sym, zero, ℕ, ℤ, ◌*ℤ◌, ◌*◌, ◌+ℤ◌, ◌+◌, ◌<ℤ◌, ◌<◌, ◌∙◌, ◌∷◌, ◌≡◌, ◌≤ℤ◌}
 use Rattle.std.proofs.lemmas.Int.{ints}
 use Rattle.std.specs.List.{Contains}
-use Rattle.lra_linear_spec.specs.Cones.{Generated}
-use Rattle.lra_linear_spec.specs.Vectors.{entry, sum_of}
-use Rattle.lra_linear_spec.proofs.Membership.{contains_head, contains_tail}
-use Rattle.lra_linear_spec.proofs.Ring.{mul_nonnegative, ring, v, ◌⊕◌, ◌⊗◌}
+use Rattle.lra_linear_spec.specs.{Cones.Generated, Vectors.entry, Vectors.sum_of}
 use Rattle.lra_linear_spec.proofs.Signs.{add_nonnegative, divide_nonnegative, no_product, not_both}
+use Rattle.lra_linear_spec.proofs.{Membership.contains_head, Membership.contains_tail, Ring.mul_nonnegative, Ring.ring, Ring.v, Ring.◌⊕◌, Ring.◌⊗◌}
 
 -- ---- sums of factors
 -- the factors of a sum

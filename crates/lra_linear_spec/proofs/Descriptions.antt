@@ -1,19 +1,14 @@
 -- Descriptions of sets of points as cones: constraints hold at a point where their system is solved, and generators give a point
 -- where their rows generate it. Two dual lists so have the same points.
 use Rattle.std.proofs.Common.{Bool, List, [], ap, arith, cond, false, inl, inr, pos, refl, subst, suc, sym, true, ℕ, ℤ, ◌∙◌, ◌∷◌, ◌≡◌, ◌≤ℤ◌, ◌⊎◌}
-use Rattle.std.proofs.lemmas.Int.{ints}
-use Rattle.std.proofs.lemmas.List.Elements.{Contains-append_cases, Contains-append_left, Contains-append_right}
+use Rattle.std.proofs.{lemmas.Int.ints, lemmas.List.Elements.Contains-append_cases, lemmas.List.Elements.Contains-append_left, lemmas.List.Elements.Contains-append_right}
 use Rattle.std.specs.List.{Contains}
 use Rattle.lra_linear_spec.specs.Cones.{AreDual, Described, Generated, Solves, all_rows, both_ways, with_row}
 use Rattle.lra_linear_spec.specs.Descriptions.{Con, Gen, LinearRow, Holds, HoldsWith, lines_of, rays_of, system_of}
-use Rattle.lra_linear_spec.specs.Points.{SameSet}
-use Rattle.lra_linear_spec.specs.Vectors.{dot, entry, negated, product}
-use Rattle.lra_linear_spec.proofs.Combinations.{generated_row}
-use Rattle.lra_linear_spec.proofs.LinearMaps.{generated_nonneg, generated_through}
+use Rattle.lra_linear_spec.specs.{Points.SameSet, Vectors.dot, Vectors.entry, Vectors.negated, Vectors.product}
 use Rattle.lra_linear_spec.proofs.Lines.{described_generated, generated_described, in_lines, in_lines_negated, signed_from}
-use Rattle.lra_linear_spec.proofs.Membership.{contains_cases, contains_head, contains_none, contains_tail}
-use Rattle.lra_linear_spec.proofs.Products.{negated_dot, product_comm}
-use Rattle.lra_linear_spec.proofs.Signs.{between_opposites, opposite_of_zero}
+use Rattle.lra_linear_spec.proofs.{Combinations.generated_row, LinearMaps.generated_nonneg, LinearMaps.generated_through, Membership.contains_cases, Membership.contains_head, Membership.contains_none}
+use Rattle.lra_linear_spec.proofs.{Membership.contains_tail, Products.negated_dot, Products.product_comm, Signs.between_opposites, Signs.opposite_of_zero}
 
 -- ---- the rows of a list, each equality or line in both directions
 -- where a row of the system comes from

@@ -2,11 +2,9 @@
 -- Fukuda and Prodon 1996): what a further inequality or equality makes of the lines and rays of a cone. Said of what
 -- the new rows generate and contain, so that each way of listing them is a step: all pairs, adjacent pairs, rows in
 -- lowest terms.
-use Rattle.std.specs.Prelude.{◌≡◌, ℕ, ◌<◌, ◌⊎◌, ℤ, pos, ◌+ℤ◌, ◌*ℤ◌, neg_ℤ, ◌≤ℤ◌, ◌<ℤ◌, int_lt, int_le, Bool, cond, List, [], ◌∷◌, ◌++◌, length}
 use Rattle.std.specs.List.{Contains}
-use Rattle.lra_linear_spec.specs.Vectors.{entry, dot, negated, blend}
-use Rattle.lra_linear_spec.specs.LowestTerms.{IsPrimitive}
-use Rattle.lra_linear_spec.specs.Cones.{Generated}
+use Rattle.std.specs.Prelude.{◌≡◌, ℕ, ◌<◌, ◌⊎◌, ℤ, pos, ◌+ℤ◌, ◌*ℤ◌, neg_ℤ, ◌≤ℤ◌, ◌<ℤ◌, int_lt, int_le, Bool, cond, List, [], ◌∷◌, ◌++◌, length}
+use Rattle.lra_linear_spec.specs.{Cones.Generated, LowestTerms.IsPrimitive, Vectors.entry, Vectors.dot, Vectors.negated, Vectors.blend}
 
 -- ---- the inequality c, where each line has product 0 with it
 -- Each row with a product that is not negative can be generated, as can each pair with products of opposite signs,

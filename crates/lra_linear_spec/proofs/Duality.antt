@@ -3,17 +3,11 @@
 use Rattle.std.proofs.Common.{List, ap, arith, inl, inr, length, neg_ℤ, pos, subst, sym, ℕ, ℤ, ◌*ℤ◌, ◌+ℤ◌, ◌∙◌, ◌∷◌, ◌≡◌, ◌≤ℤ◌}
 use Rattle.std.proofs.lemmas.Int.{ints}
 use Rattle.std.specs.List.{Contains}
-use Rattle.lra_linear_spec.specs.Cones.{AreDual, Generated, Solves}
-use Rattle.lra_linear_spec.proofs.DoubleDescription.{LineStepOf, StepOf}
-use Rattle.lra_linear_spec.specs.Vectors.{blend, dot, entry}
+use Rattle.lra_linear_spec.specs.{Cones.AreDual, Cones.Generated, Cones.Solves, Vectors.blend, Vectors.dot, Vectors.entry}
 use Rattle.lra_linear_spec.proofs.Combinations.{generated_divided, generated_more, generated_plus, generated_row, generated_same, generated_times}
-use Rattle.lra_linear_spec.proofs.Elimination.{consequences_after}
-use Rattle.lra_linear_spec.proofs.LinearMaps.{bent, generated_bent, generated_nonneg}
-use Rattle.lra_linear_spec.proofs.Membership.{contains_cases, contains_head, contains_tail}
-use Rattle.lra_linear_spec.proofs.Products.{blend_length, dot_linear, dot_minus, dot_same, entry_blend, product_comm}
-use Rattle.lra_linear_spec.proofs.Ring.{ring, v, ⊖, ◌⊕◌, ◌⊗◌}
-use Rattle.lra_linear_spec.proofs.Signs.{as_nat, positive_nat}
-use Rattle.lra_linear_spec.proofs.Step.{step_complete, step_sound}
+use Rattle.lra_linear_spec.proofs.{DoubleDescription.LineStepOf, DoubleDescription.StepOf, Elimination.consequences_after, LinearMaps.bent, LinearMaps.generated_bent, LinearMaps.generated_nonneg}
+use Rattle.lra_linear_spec.proofs.{Membership.contains_cases, Membership.contains_head, Membership.contains_tail, Products.blend_length, Products.dot_linear, Products.dot_minus, Products.dot_same}
+use Rattle.lra_linear_spec.proofs.{Products.entry_blend, Products.product_comm, Ring.ring, Ring.v, Ring.⊖, Ring.◌⊕◌, Ring.◌⊗◌, Signs.as_nat, Signs.positive_nat, Step.step_complete, Step.step_sound}
 
 -- what the system generates is met by the rows
 pub consequence_met : (w : ℕ) (system rows : List (List ℤ)) → AreDual w system rows → (c : ℕ → ℤ) → Generated system c → Solves rows c

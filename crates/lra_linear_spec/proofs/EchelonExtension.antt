@@ -2,14 +2,10 @@
 use Rattle.std.proofs.Common.{List, [], ap, arith, inl, inr, length, neg_ℤ, pos, refl, subst, sym, ℕ, ℤ, ◌*ℤ◌, ◌++◌, ◌+ℤ◌, ◌<ℤ◌, ◌<◌, ◌∙◌, ◌∷◌, ◌≡◌, ◌⊎◌}
 use Rattle.std.proofs.lemmas.List.Elements.{Contains-append_cases, Contains-append_left, Contains-append_right}
 use Rattle.std.specs.List.{Contains}
-use Rattle.lra_linear_spec.specs.Echelon.{Before, IsEchelon, HasPivot, Spanned}
-use Rattle.lra_linear_spec.specs.LowestTerms.{IsPrimitive}
-use Rattle.lra_linear_spec.specs.Vectors.{entry}
-use Rattle.lra_linear_spec.proofs.LowestTerms.{lowest_exists}
-use Rattle.lra_linear_spec.proofs.Membership.{contains_cases, contains_head, contains_none, contains_tail}
-use Rattle.lra_linear_spec.proofs.Ring.{ring, v, ⊖, ◌⊕◌, ◌⊗◌}
+use Rattle.lra_linear_spec.specs.{Echelon.Before, Echelon.IsEchelon, Echelon.HasPivot, Echelon.Spanned, LowestTerms.IsPrimitive, Vectors.entry}
 use Rattle.lra_linear_spec.proofs.Signs.{as_nat, no_product, not_both, positive_is_nonnegative, positive_nat, positive_part, times_positive}
-use Rattle.lra_linear_spec.proofs.Spans.{spanned_divided, spanned_head, spanned_linear, spanned_row, spanned_same, spanned_through}
+use Rattle.lra_linear_spec.proofs.{LowestTerms.lowest_exists, Membership.contains_cases, Membership.contains_head, Membership.contains_none, Membership.contains_tail, Ring.ring, Ring.v, Ring.⊖}
+use Rattle.lra_linear_spec.proofs.{Ring.◌⊕◌, Ring.◌⊗◌, Spans.spanned_divided, Spans.spanned_head, Spans.spanned_linear, Spans.spanned_row, Spans.spanned_same, Spans.spanned_through}
 
 -- ---- one more row: t is e with 0 at the pivot p of r
 pub record ClearedRow (r : List ℤ) (p : ℕ) (e t : List ℤ) : Type 0 where

@@ -4,15 +4,11 @@
 use Rattle.std.proofs.Common.{List, [], ap, arith, inl, inr, length, neg_ℤ, negsuc, pos, refl, subst, suc, sym, ℕ, ℤ, ◌*ℤ◌, ◌+ℤ◌, ◌<ℤ◌, ◌<◌, ◌∙◌, ◌∷◌, ◌≡◌, ◌≤ℤ◌, ◌⊎◌}
 use Rattle.std.proofs.lemmas.Int.{ints}
 use Rattle.std.specs.List.{Contains}
-use Rattle.lra_linear_spec.specs.Cones.{Generated, Solves}
-use Rattle.lra_linear_spec.proofs.DoubleDescription.{StepOf}
-use Rattle.lra_linear_spec.specs.Vectors.{blend, dot, entry}
+use Rattle.lra_linear_spec.specs.{Cones.Generated, Cones.Solves, Vectors.blend, Vectors.dot, Vectors.entry}
 use Rattle.lra_linear_spec.proofs.Combinations.{generated_divided, generated_more, generated_plus, generated_row, generated_same, generated_times}
-use Rattle.lra_linear_spec.proofs.LinearMaps.{generated_nonneg}
-use Rattle.lra_linear_spec.proofs.Membership.{contains_cases, contains_head, contains_tail}
-use Rattle.lra_linear_spec.proofs.Products.{blend_length, dot_linear, dot_same, entry_blend, product_comm}
-use Rattle.lra_linear_spec.proofs.Ring.{mul_nonnegative, ring, v, ⊖, ◌⊕◌, ◌⊗◌}
 use Rattle.lra_linear_spec.proofs.Signs.{above_zero, add_nonnegative, cases_sign, divide_nonnegative, neg_nat}
+use Rattle.lra_linear_spec.proofs.{DoubleDescription.StepOf, LinearMaps.generated_nonneg, Membership.contains_cases, Membership.contains_head, Membership.contains_tail, Products.blend_length}
+use Rattle.lra_linear_spec.proofs.{Products.dot_linear, Products.dot_same, Products.entry_blend, Products.product_comm, Ring.mul_nonnegative, Ring.ring, Ring.v, Ring.⊖, Ring.◌⊕◌, Ring.◌⊗◌}
 
 -- ---- a / b is the value at which a row with product a at the point and b at the generator is tight
 -- q a - p b

@@ -2,14 +2,10 @@
 -- line, in every list that generates the cone.
 use Rattle.std.proofs.Common.{List, [], ap, arith, inl, inr, neg_ℤ, pos, refl, suc, sym, zero, ℕ, ℤ, ◌*ℤ◌, ◌*◌, ◌++◌, ◌+ℤ◌, ◌+◌, ◌<◌, ◌∙◌, ◌∷◌, ◌≡◌}
 use Rattle.std.specs.List.{Contains}
-use Rattle.lra_linear_spec.specs.Cones.{Generated}
-use Rattle.lra_linear_spec.proofs.Saturation.{Beside, IsExtreme}
-use Rattle.lra_linear_spec.specs.Vectors.{entry, sum_of}
+use Rattle.lra_linear_spec.specs.{Cones.Generated, Vectors.entry, Vectors.sum_of}
 use Rattle.lra_linear_spec.proofs.Combinations.{generated_divided, generated_more, generated_plus, generated_row, generated_same, generated_times}
 use Rattle.lra_linear_spec.proofs.LinearMaps.{generated_left, generated_right, generated_through, sum_generated}
-use Rattle.lra_linear_spec.proofs.Membership.{contains_head, contains_tail}
-use Rattle.lra_linear_spec.proofs.Ring.{ring, v, ⊖, ◌⊕◌, ◌⊗◌}
-use Rattle.lra_linear_spec.proofs.Signs.{compare_two}
+use Rattle.lra_linear_spec.proofs.{Membership.contains_head, Membership.contains_tail, Ring.ring, Ring.v, Ring.⊖, Ring.◌⊕◌, Ring.◌⊗◌, Saturation.Beside, Saturation.IsExtreme, Signs.compare_two}
 
 -- a sum over the row r and the others, and the lines: own r + front + line
 pub record Parts (r : List ℤ) (others lines : List (List ℤ)) (u : ℕ → ℤ) : Type 0 where

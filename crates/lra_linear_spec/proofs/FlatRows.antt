@@ -1,22 +1,13 @@
 -- Rows combined with a line so that their product with c is 0: what they keep of the rows before, and the lines without that line are
 -- again in echelon form.
 use Rattle.std.proofs.Common.{List, [], ap, arith, inl, inr, neg_ℤ, negsuc, pos, refl, subst, suc, sym, unsigned_abs, ℕ, ℤ, ◌*ℤ◌, ◌++◌, ◌+ℤ◌, ◌<ℤ◌, ◌∙◌, ◌∷◌, ◌≡◌, ◌≤ℤ◌, ◌⊎◌}
-use Rattle.std.proofs.lemmas.Int.{ints}
-use Rattle.std.proofs.lemmas.List.Elements.{Contains-append_cases, Contains-append_left, Contains-append_right}
-use Rattle.std.specs.Int.{◌∣◌}
-use Rattle.std.specs.List.{Contains}
-use Rattle.lra_linear_spec.specs.Cones.{Generated, both_ways}
-use Rattle.lra_linear_spec.proofs.DoubleDescription.{Flat, Flats}
-use Rattle.lra_linear_spec.specs.Echelon.{Before, IsEchelon}
-use Rattle.lra_linear_spec.specs.LowestTerms.{IsPrimitive}
-use Rattle.lra_linear_spec.specs.Vectors.{dot, entry, negated}
+use Rattle.std.proofs.{lemmas.Int.ints, lemmas.List.Elements.Contains-append_cases, lemmas.List.Elements.Contains-append_left, lemmas.List.Elements.Contains-append_right}
+use Rattle.std.specs.{Int.◌∣◌, List.Contains}
+use Rattle.lra_linear_spec.specs.{Cones.Generated, Cones.both_ways, Echelon.Before, Echelon.IsEchelon, LowestTerms.IsPrimitive, Vectors.dot, Vectors.entry, Vectors.negated}
 use Rattle.lra_linear_spec.proofs.Combinations.{generated_divided, generated_plus, generated_same, generated_times, generated_zero}
-use Rattle.lra_linear_spec.proofs.LinearMaps.{generated_nonneg}
-use Rattle.lra_linear_spec.proofs.Lines.{line_multiple, signed_from, signed_multiple}
-use Rattle.lra_linear_spec.proofs.Membership.{contains_cases, contains_head, contains_tail}
-use Rattle.lra_linear_spec.proofs.Products.{dot_linear, dot_same, dot_scale, entry_negated}
-use Rattle.lra_linear_spec.proofs.Ring.{ring, v, ⊖, ◌⊕◌, ◌⊗◌}
-use Rattle.lra_linear_spec.proofs.Signs.{as_nat, no_product, not_both, positive_nat, positive_part, times_positive}
+use Rattle.lra_linear_spec.proofs.{DoubleDescription.Flat, DoubleDescription.Flats, LinearMaps.generated_nonneg, Lines.line_multiple, Lines.signed_from, Lines.signed_multiple}
+use Rattle.lra_linear_spec.proofs.{Membership.contains_cases, Membership.contains_head, Membership.contains_tail, Products.dot_linear, Products.dot_same, Products.dot_scale, Products.entry_negated}
+use Rattle.lra_linear_spec.proofs.{Ring.ring, Ring.v, Ring.⊖, Ring.◌⊕◌, Ring.◌⊗◌, Signs.as_nat, Signs.no_product, Signs.not_both, Signs.positive_nat, Signs.positive_part, Signs.times_positive}
 
 Rows : Type 0
 Rows = List (List ℤ)

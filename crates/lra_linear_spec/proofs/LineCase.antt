@@ -1,23 +1,15 @@
 -- The case of a line (Chernikova 1965, Le Verge 1992): the new lists are canonical, and dual to the system with the further row.
 use Rattle.std.proofs.Common.{Bool, List, [], ap, arith, cond, false, inl, inr, length, neg_ℤ, negsuc, pos, refl, subst, suc, sym, true, ℕ, ℤ, ◌*ℤ◌, ◌++◌, ◌+ℤ◌, ◌<ℤ◌, ◌∙◌, ◌∷◌, ◌≡◌, ◌≤ℤ◌, ◌⊎◌}
-use Rattle.std.proofs.lemmas.Int.{ints}
-use Rattle.std.proofs.lemmas.List.Elements.{Contains-append_cases, Contains-append_left, Contains-append_right}
+use Rattle.std.proofs.{lemmas.Int.ints, lemmas.List.Elements.Contains-append_cases, lemmas.List.Elements.Contains-append_left, lemmas.List.Elements.Contains-append_right}
 use Rattle.std.specs.List.{Contains}
-use Rattle.lra_linear_spec.specs.Canonical.{IsCanonical}
-use Rattle.lra_linear_spec.specs.Cones.{AreDual, Generated, all_rows, both_ways}
-use Rattle.lra_linear_spec.proofs.DoubleDescription.{Flat, Flats, LineCase, StepOf}
-use Rattle.lra_linear_spec.specs.LowestTerms.{IsPrimitive}
-use Rattle.lra_linear_spec.specs.Vectors.{dot, entry, negated}
-use Rattle.lra_linear_spec.proofs.Combinations.{generated_row, generated_same, generated_times, generated_zero}
-use Rattle.lra_linear_spec.proofs.Duality.{LineTarget, dual_line_step, dual_step}
+use Rattle.lra_linear_spec.specs.{Canonical.IsCanonical, Cones.AreDual, Cones.Generated, Cones.all_rows, Cones.both_ways, LowestTerms.IsPrimitive, Vectors.dot, Vectors.entry, Vectors.negated}
 use Rattle.lra_linear_spec.proofs.FlatRows.{Dropped, echelon_drop, flat_back, flat_back_negative, flat_back_zero, flat_dot, flat_inside, flat_split, flat_zero, flats_from, flats_to, generated_flat}
 use Rattle.lra_linear_spec.proofs.FlatRows.{lines_inside, member_primitive, signed_primitive}
 use Rattle.lra_linear_spec.proofs.LinearMaps.{generated_left, generated_nonneg, generated_right, generated_through}
-use Rattle.lra_linear_spec.proofs.Lines.{line_multiple, signed_from, signed_multiple, signed_zero}
-use Rattle.lra_linear_spec.proofs.Membership.{contains_cases, contains_head, contains_split, contains_tail}
-use Rattle.lra_linear_spec.proofs.Products.{dot_minus, dot_negated, entry_negated, negated_length}
-use Rattle.lra_linear_spec.proofs.Ring.{ring, v, ⊖, ◌⊕◌, ◌⊗◌}
-use Rattle.lra_linear_spec.proofs.Signs.{not_both}
+use Rattle.lra_linear_spec.proofs.{Combinations.generated_row, Combinations.generated_same, Combinations.generated_times, Combinations.generated_zero, DoubleDescription.Flat, DoubleDescription.Flats}
+use Rattle.lra_linear_spec.proofs.{DoubleDescription.LineCase, DoubleDescription.StepOf, Duality.LineTarget, Duality.dual_line_step, Duality.dual_step, Lines.line_multiple, Lines.signed_from}
+use Rattle.lra_linear_spec.proofs.{Lines.signed_multiple, Lines.signed_zero, Membership.contains_cases, Membership.contains_head, Membership.contains_split, Membership.contains_tail}
+use Rattle.lra_linear_spec.proofs.{Products.dot_minus, Products.dot_negated, Products.entry_negated, Products.negated_length, Ring.ring, Ring.v, Ring.⊖, Ring.◌⊕◌, Ring.◌⊗◌, Signs.not_both}
 
 -- a multiple by 1
 one_times : (rows : List (List ℤ)) (k : List ℤ) → Generated rows (λ j. pos 1 *ℤ entry k j) → Generated rows (entry k)

@@ -3,14 +3,10 @@
 use Rattle.std.proofs.Common.{List, [], ap, arith, inl, inr, pos, subst, sym, ℕ, ℤ, ◌*ℤ◌, ◌++◌, ◌+ℤ◌, ◌<ℤ◌, ◌∙◌, ◌∷◌, ◌≡◌, ◌≤ℤ◌}
 use Rattle.std.proofs.lemmas.Int.{ints}
 use Rattle.std.specs.List.{Contains}
-use Rattle.lra_linear_spec.specs.Cones.{Generated}
-use Rattle.lra_linear_spec.specs.Vectors.{dot, entry, sum_of}
-use Rattle.lra_linear_spec.proofs.Combinations.{generated_divided, generated_more, generated_plus, generated_row, generated_same, generated_times}
-use Rattle.lra_linear_spec.proofs.Combinations.{generated_zero}
-use Rattle.lra_linear_spec.proofs.Membership.{contains_cases, contains_head, contains_tail}
-use Rattle.lra_linear_spec.proofs.Products.{dot_linear, dot_plus, dot_same, dot_scale, dot_zero}
-use Rattle.lra_linear_spec.proofs.Ring.{mul_nonnegative, ring, v, ◌⊕◌, ◌⊗◌}
-use Rattle.lra_linear_spec.proofs.Signs.{add_nonnegative, divide_nonnegative}
+use Rattle.lra_linear_spec.specs.{Cones.Generated, Vectors.dot, Vectors.entry, Vectors.sum_of}
+use Rattle.lra_linear_spec.proofs.Combinations.{generated_divided, generated_more, generated_plus, generated_row, generated_same, generated_times, generated_zero}
+use Rattle.lra_linear_spec.proofs.{Membership.contains_cases, Membership.contains_head, Membership.contains_tail, Products.dot_linear, Products.dot_plus, Products.dot_same, Products.dot_scale}
+use Rattle.lra_linear_spec.proofs.{Products.dot_zero, Ring.mul_nonnegative, Ring.ring, Ring.v, Ring.◌⊕◌, Ring.◌⊗◌, Signs.add_nonnegative, Signs.divide_nonnegative}
 
 -- ---- a linear map that takes each row into a cone takes all that they generate into it
 -- the map u ↦ a u + (c . u) w

@@ -2,11 +2,9 @@
 -- positive multiples of one another are equal.
 use Rattle.std.proofs.Common.{List, [], ap, arith, inl, inr, length, neg_ℤ, negsuc, pos, refl, subst, suc, sym, unsigned_abs, zero, ℕ, ℤ, ◌%◌, ◌*ℤ◌, ◌*◌, ◌+◌, ◌/◌, ◌<◌, ◌∙◌, ◌∷◌, ◌≡◌, ◌≤◌}
 use Rattle.std.proofs.Math.Nat.{dvd-add_iff_right, dvd-mod_iff, dvd-mul_right, dvd-mul_right_of_dvd, dvd_of_mul-dvd-mul_right, mul-div_cancel', mul-dvd-mul_right, one-dvd}
-use Rattle.std.proofs.lemmas.Int.{ints, unsigned_abs-mul}
-use Rattle.std.proofs.lemmas.Nat.Gcd.{dvd-zero, dvd_antisymm, dvd_refl, dvd_trans}
+use Rattle.std.proofs.{lemmas.Int.ints, lemmas.Int.unsigned_abs-mul, lemmas.Nat.Gcd.dvd-zero, lemmas.Nat.Gcd.dvd_antisymm, lemmas.Nat.Gcd.dvd_refl, lemmas.Nat.Gcd.dvd_trans}
 use Rattle.std.specs.Int.{◌∣◌}
-use Rattle.lra_linear_spec.specs.LowestTerms.{IsLowest, IsPrimitive}
-use Rattle.lra_linear_spec.specs.Vectors.{entry}
+use Rattle.lra_linear_spec.specs.{LowestTerms.IsLowest, LowestTerms.IsPrimitive, Vectors.entry}
 use Rattle.lra_linear_spec.proofs.Ring.{ring, v, ⊖, ◌⊗◌}
 
 -- ---- the greatest common divisor, with what it is a multiple of

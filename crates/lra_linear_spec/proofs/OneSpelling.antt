@@ -2,26 +2,17 @@
 -- there is a point p, a ray r is a direction in which p + k r stays in the set for each k, so the points alone determine the cone of
 -- points and rays, and its canonical descriptions are unique.
 use Rattle.std.proofs.Common.{Bool, List, [], ap, arith, false, inl, inr, length, neg_ℤ, negsuc, pos, refl, subst, suc, sym, true, zero, ℕ, ℤ, ◌*ℤ◌, ◌*◌, ◌++◌, ◌+ℤ◌, ◌<ℤ◌, ◌<◌, ◌∙◌, ◌∷◌, ◌≡◌, ◌≢◌}
-use Rattle.std.proofs.Common.{◌≤ℤ◌, ◌⊎◌}
-use Rattle.std.proofs.lemmas.Int.{ints}
-use Rattle.std.proofs.lemmas.List.Elements.{Contains-append_cases, Contains-append_left, Contains-append_right}
+use Rattle.std.proofs.{Common.◌≤ℤ◌, Common.◌⊎◌, lemmas.Int.ints, lemmas.List.Elements.Contains-append_cases, lemmas.List.Elements.Contains-append_left, lemmas.List.Elements.Contains-append_right}
 use Rattle.std.specs.List.{Contains}
 use borrow.Author.Differences.{up}
-use Rattle.lra_linear_spec.specs.Cones.{AreDual, Generated, Solves, all_rows, both_ways}
-use Rattle.lra_linear_spec.specs.Descriptions.{Con, LinearRow, HoldsWith, rows_as}
-use Rattle.lra_linear_spec.specs.Points.{IsPoint, IsWithin, SameSet}
-use Rattle.lra_linear_spec.specs.Polyhedra.{HasPoint, IsPolyhedron, IsWithoutPoint, Polyhedron, falsity, positivity}
-use Rattle.lra_linear_spec.specs.RowOrder.{inequality_cmp, row_cmp}
-use Rattle.lra_linear_spec.specs.Vectors.{blend, dot, entry, negated, product, zeros}
-use Rattle.lra_linear_spec.proofs.CanonicalForms.{one_spelling}
-use Rattle.lra_linear_spec.proofs.Descriptions.{dual_flipped}
-use Rattle.lra_linear_spec.proofs.LinearMaps.{generated_nonneg, generated_through}
-use Rattle.lra_linear_spec.proofs.Lines.{in_lines, in_lines_negated, signed_from, signed_zero}
-use Rattle.lra_linear_spec.proofs.Membership.{contains_cases, contains_head, contains_none, contains_tail, same_ascending}
-use Rattle.lra_linear_spec.proofs.Products.{blend_length, dot_linear, dot_same, entry_blend, negated_dot, product_comm}
-use Rattle.lra_linear_spec.proofs.Ring.{mul_nonnegative, ring, v, ⊖, ◌⊕◌, ◌⊗◌}
-use Rattle.lra_linear_spec.proofs.RowOrder.{inequality_cmp_total, never_both, row_cmp_total}
+use Rattle.lra_linear_spec.specs.{Cones.AreDual, Cones.Generated, Cones.Solves, Cones.all_rows, Cones.both_ways, Descriptions.Con, Descriptions.LinearRow, Descriptions.HoldsWith, Descriptions.rows_as}
+use Rattle.lra_linear_spec.specs.{Points.IsPoint, Points.IsWithin, Points.SameSet, Polyhedra.HasPoint, Polyhedra.IsPolyhedron, Polyhedra.IsWithoutPoint, Polyhedra.Polyhedron, Polyhedra.falsity}
+use Rattle.lra_linear_spec.specs.{Polyhedra.positivity, RowOrder.inequality_cmp, RowOrder.row_cmp, Vectors.blend, Vectors.dot, Vectors.entry, Vectors.negated, Vectors.product, Vectors.zeros}
 use Rattle.lra_linear_spec.proofs.Signs.{add_nonnegative, between_opposites, not_both, opposite_of_zero, zero_at_least}
+use Rattle.lra_linear_spec.proofs.{CanonicalForms.one_spelling, Descriptions.dual_flipped, LinearMaps.generated_nonneg, LinearMaps.generated_through, Lines.in_lines, Lines.in_lines_negated}
+use Rattle.lra_linear_spec.proofs.{Lines.signed_from, Lines.signed_zero, Membership.contains_cases, Membership.contains_head, Membership.contains_none, Membership.contains_tail}
+use Rattle.lra_linear_spec.proofs.{Membership.same_ascending, Products.blend_length, Products.dot_linear, Products.dot_same, Products.entry_blend, Products.negated_dot, Products.product_comm}
+use Rattle.lra_linear_spec.proofs.{Ring.mul_nonnegative, Ring.ring, Ring.v, Ring.⊖, Ring.◌⊕◌, Ring.◌⊗◌, RowOrder.inequality_cmp_total, RowOrder.never_both, RowOrder.row_cmp_total}
 
 -- ---- rows of one kind
 pub given_from : (b : Bool) (rows : List (List ℤ)) (g : LinearRow) → Contains (rows_as b rows) g → (g.equal ≡ b) × Contains rows g.row

@@ -1,15 +1,10 @@
 -- The pivot of a row is a function of the row: where a row leads in a column, that column is its pivot. In an echelon form each row is
 -- positive at its pivot, and the others are 0 there, row by row.
 use Rattle.std.proofs.Common.{Bool, List, [], ap, arith, cond, false, inl, inr, length, pos, refl, subst, suc, sym, true, zero, ℕ, ℤ, ◌++◌, ◌+◌, ◌<ℤ◌, ◌<◌, ◌∙◌, ◌∷◌, ◌≡◌, ◌≢◌}
-use Rattle.std.specs.Prelude.{slice_index_or}
 use Rattle.std.proofs.lemmas.List.Elements.{Contains-append_right, Contains-get_or}
-use Rattle.std.specs.Cmp.{signed_Decides}
-use Rattle.std.specs.List.{Contains}
-use Rattle.std.specs.Ordering.{int_eq}
-use Rattle.lra_linear_spec.specs.Echelon.{IsEchelon, HasPivot, lead_from, pivot}
-use Rattle.lra_linear_spec.specs.Vectors.{entry}
-use Rattle.lra_linear_spec.proofs.Membership.{contains_cases, contains_head, contains_none, contains_tail}
-use Rattle.lra_linear_spec.proofs.Signs.{not_both}
+use Rattle.std.specs.{Cmp.signed_Decides, List.Contains, Ordering.int_eq, Prelude.slice_index_or}
+use Rattle.lra_linear_spec.specs.{Echelon.IsEchelon, Echelon.HasPivot, Echelon.lead_from, Echelon.pivot, Vectors.entry}
+use Rattle.lra_linear_spec.proofs.{Membership.contains_cases, Membership.contains_head, Membership.contains_none, Membership.contains_tail, Signs.not_both}
 
 -- ---- the first column other than 0
 lead_none : (xs : List ℤ) (j : ℕ) → ((i : ℕ) → entry xs i ≡ pos 0) → lead_from j xs ≡ 0

@@ -2,16 +2,11 @@
 use Rattle.std.proofs.Common.{Bool, List, [], ap, cond, false, inl, inr, pos, refl, subst, sym, true, ℕ, ℤ, ◌++◌, ◌+ℤ◌, ◌∙◌, ◌∷◌, ◌≡◌}
 use Rattle.std.proofs.lemmas.List.Elements.{Contains-append_cases}
 use Rattle.std.specs.List.{Contains}
-use Rattle.lra_linear_spec.specs.Cones.{Described, Generated, all_rows}
 use Rattle.lra_linear_spec.specs.Descriptions.{AreGenerators, Con, Gen, LinearRow, rows_as, lines_of, rays_of}
-use Rattle.lra_linear_spec.specs.Points.{IsPoint, PointSet, SameSet}
 use Rattle.lra_linear_spec.specs.Polyhedra.{HasPoint, IsPolyhedron, IsPolyhedronOf, Polyhedron, falsity}
-use Rattle.lra_linear_spec.specs.Vectors.{entry, signed_sum, sum_of}
-use Rattle.lra_linear_spec.proofs.LinearMaps.{generated_nonneg}
-use Rattle.lra_linear_spec.proofs.Lines.{described_generated, generated_described}
-use Rattle.lra_linear_spec.proofs.Membership.{contains_head, contains_none}
-use Rattle.lra_linear_spec.proofs.OneSpelling.{cone_solved, falsity_never, given_from, rows_hold, same_points_same_lists}
-use Rattle.lra_linear_spec.proofs.Signs.{no_product, not_both}
+use Rattle.lra_linear_spec.specs.{Cones.Described, Cones.Generated, Cones.all_rows, Points.IsPoint, Points.PointSet, Points.SameSet, Vectors.entry, Vectors.signed_sum, Vectors.sum_of}
+use Rattle.lra_linear_spec.proofs.{LinearMaps.generated_nonneg, Lines.described_generated, Lines.generated_described, Membership.contains_head, Membership.contains_none, OneSpelling.cone_solved}
+use Rattle.lra_linear_spec.proofs.{OneSpelling.falsity_never, OneSpelling.given_from, OneSpelling.rows_hold, OneSpelling.same_points_same_lists, Signs.no_product, Signs.not_both}
 
 -- ---- lines and rays of joined lists
 -- joined lists

@@ -3,17 +3,10 @@
 use Rattle.std.proofs.Common.{List, [], ap, arith, inl, inr, length, neg_ℤ, negsuc, pos, refl, subst, suc, sym, zero, ℕ, ℤ, ◌*ℤ◌, ◌+ℤ◌, ◌∙◌, ◌∷◌, ◌≡◌, ◌≢◌, ◌≤ℤ◌}
 use Rattle.std.proofs.lemmas.Int.{ints}
 use Rattle.lra_linear_spec.specs.Descriptions.{Con, Gen, LinearRow, equality, generator, inequality, line}
-use Rattle.lra_linear_spec.specs.OperationStrain.{tight_on}
 use Rattle.lra_linear_spec.specs.Points.{IsWithin, SameSet}
-use Rattle.lra_linear_spec.specs.Polyhedra.{Polyhedron}
-use Rattle.lra_linear_spec.specs.SetOperations.{Hull, Union}
-use Rattle.lra_linear_spec.specs.Vectors.{entry, product}
-use Rattle.lra_linear_spec.specs.Widening.{StandardWidening}
+use Rattle.lra_linear_spec.specs.{OperationStrain.tight_on, Polyhedra.Polyhedron, SetOperations.Hull, SetOperations.Union, Vectors.entry, Vectors.product, Widening.StandardWidening}
 use Rattle.lra_linear_spec.proofs.Descriptions.{con_cons, con_head, con_none, con_tail}
-use Rattle.lra_linear_spec.proofs.OneSpelling.{far}
-use Rattle.lra_linear_spec.proofs.Ring.{mul_nonnegative, ring, v, ⊖, ◌⊕◌, ◌⊗◌}
-use Rattle.lra_linear_spec.proofs.Signs.{add_nonnegative}
-use Rattle.lra_linear_spec.proofs.Widening.{holds_on_generators, standard_con}
+use Rattle.lra_linear_spec.proofs.{OneSpelling.far, Ring.mul_nonnegative, Ring.ring, Ring.v, Ring.⊖, Ring.◌⊕◌, Ring.◌⊗◌, Signs.add_nonnegative, Widening.holds_on_generators, Widening.standard_con}
 
 -- ---- products of three columns
 pub product_three : (c x : List ℤ) → length c ≡ 3 → product c x ≡ (entry c 0 *ℤ entry x 0) +ℤ ((entry c 1 *ℤ entry x 1) +ℤ (entry c 2 *ℤ entry x 2))

@@ -1,12 +1,8 @@
 -- The orders of rows are total orders.
 use Rattle.std.proofs.Common.{◌≡◌, sym, ◌∙◌, ap}
 use Rattle.std.specs.Cmp.{IsTotalOrder, on_total, back_total, then_total, int_cmp_total, nat_cmp_total}
-use Rattle.std.specs.Cmp.Lexicographic.{lists_total}
-use Rattle.std.specs.Ordering.{ordering_reverse}
-use Rattle.std.specs.declared.cmp.Ordering.{Ordering}
-use Rattle.std.specs.declared.cmp.Ordering.TheVariants.{Less}
-use Rattle.lra_linear_spec.specs.Echelon.{pivot}
-use Rattle.lra_linear_spec.specs.RowOrder.{constant_last, row_cmp, inequality_cmp}
+use Rattle.std.specs.{Cmp.Lexicographic.lists_total, Ordering.ordering_reverse, declared.cmp.Ordering.Ordering, declared.cmp.Ordering.TheVariants.Less}
+use Rattle.lra_linear_spec.specs.{Echelon.pivot, RowOrder.constant_last, RowOrder.row_cmp, RowOrder.inequality_cmp}
 
 -- rows
 pub row_cmp_total : IsTotalOrder row_cmp

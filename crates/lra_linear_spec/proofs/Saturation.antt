@@ -3,12 +3,9 @@
 use Rattle.std.proofs.Common.{List, [], arith, inl, inr, length, neg_ℤ, negsuc, pos, refl, subst, suc, sym, zero, ℕ, ℤ, ◌*ℤ◌, ◌*◌, ◌++◌, ◌+ℤ◌, ◌+◌, ◌<ℤ◌, ◌<◌, ◌∙◌, ◌∷◌, ◌≡◌, ◌≤ℤ◌, ◌≤◌, ◌⊎◌}
 use Rattle.std.proofs.lemmas.Int.{ints}
 use Rattle.std.specs.List.{Contains}
-use Rattle.lra_linear_spec.specs.Cones.{AreDual, Generated, Solves}
-use Rattle.lra_linear_spec.specs.Vectors.{dot, entry}
-use Rattle.lra_linear_spec.proofs.DoubleDescription.{pair}
+use Rattle.lra_linear_spec.specs.{Cones.AreDual, Cones.Generated, Cones.Solves, Vectors.dot, Vectors.entry}
 use Rattle.lra_linear_spec.proofs.Membership.{contains_cases, contains_head, contains_tail}
-use Rattle.lra_linear_spec.proofs.Products.{dot_linear}
-use Rattle.lra_linear_spec.proofs.Ring.{ring, v, ⊖, ◌⊕◌, ◌⊗◌}
+use Rattle.lra_linear_spec.proofs.{DoubleDescription.pair, Products.dot_linear, Ring.ring, Ring.v, Ring.⊖, Ring.◌⊕◌, Ring.◌⊗◌}
 
 -- ---- what is said of rays
 -- each row of the system that is tight at u is tight at w: w saturates each row that u saturates

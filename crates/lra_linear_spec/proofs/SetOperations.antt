@@ -1,24 +1,17 @@
 -- The set operations on descriptions: the meet has the constraints of both, the preimage the substituted ones, and the hull the
 -- generators of both (by Farkas 1902: what all valid inequalities allow is what the generators generate).
 use Rattle.std.proofs.Common.{List, [], ap, arith, inl, inr, length, pos, refl, subst, suc, sym, zero, ℕ, ℤ, ◌*ℤ◌, ◌++◌, ◌+ℤ◌, ◌<ℤ◌, ◌<◌, ◌∙◌, ◌∷◌, ◌≡◌, ◌≤ℤ◌, ◌⊎◌}
-use Rattle.std.specs.Prelude.{slice_set}
 use Rattle.std.proofs.lemmas.List.Elements.{Contains-append_cases, Contains-append_left, Contains-append_right}
-use Rattle.std.specs.List.{Contains}
-use Rattle.lra_linear_spec.specs.Cones.{AreDual, all_rows, both_ways}
+use Rattle.std.specs.{List.Contains, Prelude.slice_set}
 use Rattle.lra_linear_spec.specs.Descriptions.{Con, Gen, LinearRow, Holds, HoldsWith, lines_of, rays_of, system_of}
-use Rattle.lra_linear_spec.specs.OperationStrain.{substituted_rows}
-use Rattle.lra_linear_spec.specs.Points.{IsPoint, IsWithin, PointSet, SameSet}
-use Rattle.lra_linear_spec.specs.Polyhedra.{HasPoint, Polyhedron}
-use Rattle.lra_linear_spec.specs.SetOperations.{Hull, Meet, Preimage, Union, assigned}
 use Rattle.lra_linear_spec.specs.Vectors.{blend, cleared, entry, product, substituted}
+use Rattle.lra_linear_spec.specs.{Cones.AreDual, Cones.all_rows, Cones.both_ways, OperationStrain.substituted_rows, Points.IsPoint, Points.IsWithin, Points.PointSet, Points.SameSet}
+use Rattle.lra_linear_spec.specs.{Polyhedra.HasPoint, Polyhedra.Polyhedron, SetOperations.Hull, SetOperations.Meet, SetOperations.Preimage, SetOperations.Union, SetOperations.assigned}
 use Rattle.lra_linear_spec.proofs.Combinations.{generated_plus, generated_row, generated_same, generated_times}
 use Rattle.lra_linear_spec.proofs.Descriptions.{gen_generated, generated_gen, in_all_rows, in_system, system_from, system_there}
-use Rattle.lra_linear_spec.proofs.LinearMaps.{generated_nonneg, generated_through}
-use Rattle.lra_linear_spec.proofs.Membership.{map_from, map_has}
 use Rattle.lra_linear_spec.proofs.OneSpelling.{columns_of, far, gone, gone_divisor, gone_entry, gone_product, some_member}
-use Rattle.lra_linear_spec.proofs.Polyhedra.{generators_lines, generators_rays}
-use Rattle.lra_linear_spec.proofs.Products.{blend_length, dot_linear, dot_same, entry_blend, product_comm}
-use Rattle.lra_linear_spec.proofs.Ring.{ring, v, ◌⊕◌, ◌⊗◌}
+use Rattle.lra_linear_spec.proofs.{LinearMaps.generated_nonneg, LinearMaps.generated_through, Membership.map_from, Membership.map_has, Polyhedra.generators_lines, Polyhedra.generators_rays}
+use Rattle.lra_linear_spec.proofs.{Products.blend_length, Products.dot_linear, Products.dot_same, Products.entry_blend, Products.product_comm, Ring.ring, Ring.v, Ring.◌⊕◌, Ring.◌⊗◌}
 
 -- ---- meet
 pub meet_con : (n : ℕ) (rows more : List LinearRow) → SameSet n (Meet (Con rows) (Con more)) (Con (rows ++ more))

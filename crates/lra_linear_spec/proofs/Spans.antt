@@ -1,15 +1,11 @@
 -- What rows span, and one reduced echelon form for one span.
 use Rattle.std.proofs.Common.{List, [], ap, arith, inl, inr, length, neg_ℤ, pos, refl, subst, suc, sym, zero, ℕ, ℤ, ◌*ℤ◌, ◌*◌, ◌+ℤ◌, ◌+◌, ◌<ℤ◌, ◌<◌, ◌∙◌, ◌∷◌, ◌≡◌, ◌≤◌, ◌⊎◌}
-use Rattle.std.proofs.lemmas.Bool.{cases_lt}
-use Rattle.std.proofs.lemmas.Int.{ints}
+use Rattle.std.proofs.{lemmas.Bool.cases_lt, lemmas.Int.ints}
 use Rattle.std.specs.List.{Contains}
-use Rattle.lra_linear_spec.specs.Echelon.{Before, IsEchelon, HasPivot, Spanned}
-use Rattle.lra_linear_spec.specs.Vectors.{entry, signed_sum, zeros}
-use Rattle.lra_linear_spec.proofs.LowestTerms.{same_multiple}
+use Rattle.lra_linear_spec.specs.{Echelon.Before, Echelon.IsEchelon, Echelon.HasPivot, Echelon.Spanned, Vectors.entry, Vectors.signed_sum, Vectors.zeros}
 use Rattle.lra_linear_spec.proofs.Membership.{contains_cases, contains_head, contains_none, contains_tail}
-use Rattle.lra_linear_spec.proofs.Products.{entry_past, row_same}
-use Rattle.lra_linear_spec.proofs.Ring.{ring, v, ⊖, ◌⊕◌, ◌⊗◌}
 use Rattle.lra_linear_spec.proofs.Signs.{as_nat, cancel_same, no_factor, no_product, not_both, positive_nat}
+use Rattle.lra_linear_spec.proofs.{LowestTerms.same_multiple, Products.entry_past, Products.row_same, Ring.ring, Ring.v, Ring.⊖, Ring.◌⊕◌, Ring.◌⊗◌}
 
 -- ---- sums at a column where the rows are 0
 -- no rows, no sum

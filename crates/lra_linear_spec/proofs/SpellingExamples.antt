@@ -2,24 +2,13 @@
 -- all points with x1 and x2 at least 0. The canonical lists of the one are those of the other.
 use Rattle.std.proofs.Common.{List, [], ap, arith, inl, inr, length, neg_ℤ, pos, refl, subst, suc, sym, unsigned_abs, zero, ℕ, ℤ, ◌*ℤ◌, ◌+ℤ◌, ◌<ℤ◌, ◌∙◌, ◌∷◌, ◌≡◌, ◌≢◌, ◌≤ℤ◌, ◌⊎◌}
 use Rattle.std.proofs.lemmas.Int.{ints}
-use Rattle.std.specs.List.{Contains}
-use Rattle.std.specs.declared.cmp.Ordering.TheVariants.{Less}
-use Rattle.lra_linear_spec.specs.Canonical.{IsCanonical}
-use Rattle.lra_linear_spec.specs.Cones.{AreDual, Generated, all_rows}
-use Rattle.lra_linear_spec.specs.Descriptions.{Con, LinearRow, generator, inequality}
-use Rattle.lra_linear_spec.specs.LowestTerms.{IsPrimitive}
-use Rattle.lra_linear_spec.specs.Points.{SameSet}
+use Rattle.std.specs.{List.Contains, declared.cmp.Ordering.TheVariants.Less}
 use Rattle.lra_linear_spec.specs.Polyhedra.{HasPoint, IsPolyhedronOf, Polyhedron, positivity}
-use Rattle.lra_linear_spec.specs.RowOrder.{inequality_cmp, row_cmp}
-use Rattle.lra_linear_spec.specs.Vectors.{entry, product}
-use Rattle.lra_linear_spec.proofs.Combinations.{not_from_above, not_from_zero}
-use Rattle.lra_linear_spec.proofs.Descriptions.{con_cons, con_head, con_none, con_tail}
-use Rattle.lra_linear_spec.proofs.LowestTerms.{primitive_at}
+use Rattle.lra_linear_spec.specs.{Canonical.IsCanonical, Cones.AreDual, Cones.Generated, Cones.all_rows, Descriptions.Con, Descriptions.LinearRow, Descriptions.generator, Descriptions.inequality}
+use Rattle.lra_linear_spec.specs.{LowestTerms.IsPrimitive, Points.SameSet, RowOrder.inequality_cmp, RowOrder.row_cmp, Vectors.entry, Vectors.product}
 use Rattle.lra_linear_spec.proofs.Membership.{contains_head, contains_none, contains_tail, each_one, each_three, each_two, split_three}
-use Rattle.lra_linear_spec.proofs.Polyhedra.{polyhedron_unique}
-use Rattle.lra_linear_spec.proofs.Products.{entry_past}
-use Rattle.lra_linear_spec.proofs.Ring.{ring, v, ◌⊕◌, ◌⊗◌}
-use Rattle.lra_linear_spec.proofs.Signs.{as_nat}
+use Rattle.lra_linear_spec.proofs.{Combinations.not_from_above, Combinations.not_from_zero, Descriptions.con_cons, Descriptions.con_head, Descriptions.con_none, Descriptions.con_tail}
+use Rattle.lra_linear_spec.proofs.{LowestTerms.primitive_at, Polyhedra.polyhedron_unique, Products.entry_past, Ring.ring, Ring.v, Ring.◌⊕◌, Ring.◌⊗◌, Signs.as_nat}
 
 -- ---- the quadrant
 abbrev e0 : List ℤ

@@ -2,18 +2,14 @@
 -- system, the rows of the step with c generate the solutions of the system with c. A sum of rows is a vector of the target and a sum
 -- of rows with negative products, which are taken in one at a time.
 use Rattle.std.proofs.Common.{List, [], ap, arith, inl, inr, neg_ℤ, negsuc, pos, refl, subst, suc, sym, zero, ℕ, ℤ, ◌*ℤ◌, ◌+ℤ◌, ◌<ℤ◌, ◌∙◌, ◌∷◌, ◌≡◌, ◌≤ℤ◌}
-use Rattle.std.proofs.Math.IntN.{+ℤ_assoc, +ℤ_comm}
-use Rattle.std.proofs.lemmas.Int.{ints}
+use Rattle.std.proofs.{Math.IntN.+ℤ_assoc, Math.IntN.+ℤ_comm, lemmas.Int.ints}
 use Rattle.std.specs.List.{Contains}
-use Rattle.lra_linear_spec.specs.Cones.{Generated, Solves}
-use Rattle.lra_linear_spec.proofs.DoubleDescription.{StepOf}
-use Rattle.lra_linear_spec.specs.Vectors.{dot, entry, sum_of}
+use Rattle.lra_linear_spec.specs.{Cones.Generated, Cones.Solves, Vectors.dot, Vectors.entry, Vectors.sum_of}
 use Rattle.lra_linear_spec.proofs.Combinations.{generated_divided, generated_plus, generated_row, generated_same, generated_times, generated_zero}
 use Rattle.lra_linear_spec.proofs.LinearMaps.{bent, generated_bent, generated_nonneg, generated_through}
-use Rattle.lra_linear_spec.proofs.Membership.{contains_cases, contains_head, contains_tail}
-use Rattle.lra_linear_spec.proofs.Products.{dot_add, dot_plus, dot_same, dot_scale, dot_zero}
-use Rattle.lra_linear_spec.proofs.Ring.{mul_nonnegative, ring, v, ⊖, ◌⊕◌, ◌⊗◌}
 use Rattle.lra_linear_spec.proofs.Signs.{above_zero, add_nonpositive, as_nat, cases_sign, neg_nat, positive_nat, times_nonpositive}
+use Rattle.lra_linear_spec.proofs.{DoubleDescription.StepOf, Membership.contains_cases, Membership.contains_head, Membership.contains_tail, Products.dot_add, Products.dot_plus, Products.dot_same}
+use Rattle.lra_linear_spec.proofs.{Products.dot_scale, Products.dot_zero, Ring.mul_nonnegative, Ring.ring, Ring.v, Ring.⊖, Ring.◌⊕◌, Ring.◌⊗◌}
 
 -- where the sum of parts is not negative and some parts are not positive
 front_nonneg : (a b d : ℤ) → b ≤ℤ pos 0 → d ≤ℤ pos 0 → pos 0 ≤ℤ (a +ℤ (b +ℤ d)) → pos 0 ≤ℤ a

@@ -2,35 +2,17 @@
 -- numbers passes the range, and one whose numbers just fit; two points that fit, since a line isn't taken with itself; and an
 -- inclusion that fails at a line. M is the greatest number of the range.
 use Rattle.std.proofs.Common.{Bool, Err, List, Ok, Result, [], ap, arith, inl, inr, length, neg_ℤ, negsuc, pos, refl, subst, suc, sym, true, zero, ℕ, ℤ, ◌*ℤ◌, ◌+ℤ◌, ◌++◌, ◌-◌, ◌<◌, ◌^◌, ◌∙◌, ◌∷◌, ◌≡◌}
-use Rattle.std.proofs.Common.{◌≤ℤ◌, ◌⊎◌}
-use Rattle.std.specs.Prelude.{is_ok, ◌&&◌}
-use Rattle.std.proofs.lemmas.Int.{ints}
-use Rattle.std.specs.List.{Contains, list_all}
-use Rattle.std.proofs.lemmas.Bool.{and_parts}
-use Rattle.lra_linear_spec.specs.Canonical.{IsCanonical}
-use Rattle.lra_linear_spec.specs.CheckedArithmetic.{checked_blend, checked_product}
+use Rattle.std.proofs.{Common.◌≤ℤ◌, Common.◌⊎◌, lemmas.Bool.and_parts, lemmas.Int.ints}
+use Rattle.std.specs.{List.Contains, List.list_all, Prelude.is_ok, Prelude.◌&&◌}
 use Rattle.lra_linear_spec.specs.ConeStrain.{PairAcross, PairPasses, ProductPasses}
-use Rattle.lra_linear_spec.specs.Cones.{AreDual, Generated, all_rows}
 use Rattle.lra_linear_spec.specs.Descriptions.{Con, Gen, LinearRow, equality, generator, inequality, line, system_of}
-use Rattle.lra_linear_spec.specs.Echelon.{Before, HasPivot}
-use Rattle.lra_linear_spec.specs.LowestTerms.{IsPrimitive}
-use Rattle.lra_linear_spec.specs.OperationStrain.{ImageStrains, with_positivity}
-use Rattle.lra_linear_spec.specs.Points.{IsWithin}
-use Rattle.lra_linear_spec.specs.Polyhedra.{Polyhedron, positivity}
-use Rattle.lra_linear_spec.specs.Strain.{InOther, Strains}
-use Rattle.lra_linear_spec.specs.Vectors.{entry, negated, product}
+use Rattle.lra_linear_spec.specs.{Canonical.IsCanonical, CheckedArithmetic.checked_blend, CheckedArithmetic.checked_product, Cones.AreDual, Cones.Generated, Cones.all_rows, Echelon.Before}
+use Rattle.lra_linear_spec.specs.{Echelon.HasPivot, LowestTerms.IsPrimitive, OperationStrain.ImageStrains, OperationStrain.with_positivity, Points.IsWithin, Polyhedra.Polyhedron, Polyhedra.positivity}
+use Rattle.lra_linear_spec.specs.{Strain.InOther, Strain.Strains, Vectors.entry, Vectors.negated, Vectors.product, declared.Cause.TheVariants.Excess, declared.Operation.TheVariants.Product}
 use Rattle.lra_linear_spec.specs.declared.Excess as E
-use Rattle.lra_linear_spec.specs.declared.Cause.TheVariants.{Excess}
-use Rattle.lra_linear_spec.specs.declared.Operation.TheVariants.{Product}
-use Rattle.lra_linear_spec.proofs.Combinations.{not_from_above, not_from_zero}
-use Rattle.lra_linear_spec.proofs.Descriptions.{con_head}
-use Rattle.lra_linear_spec.proofs.LinearMaps.{separated}
-use Rattle.lra_linear_spec.proofs.Lines.{generated_described}
-use Rattle.lra_linear_spec.proofs.LowestTerms.{primitive_at}
 use Rattle.lra_linear_spec.proofs.Membership.{contains_cases, contains_head, contains_none, contains_tail, each_one, each_three, each_two, list_all_at, split_none, split_one, split_two}
-use Rattle.lra_linear_spec.proofs.Products.{entry_past, negated_twice}
-use Rattle.lra_linear_spec.proofs.Ring.{ring, v, ⊖, ◌⊕◌, ◌⊗◌}
-use Rattle.lra_linear_spec.proofs.Signs.{as_nat}
+use Rattle.lra_linear_spec.proofs.{Combinations.not_from_above, Combinations.not_from_zero, Descriptions.con_head, LinearMaps.separated, Lines.generated_described, LowestTerms.primitive_at}
+use Rattle.lra_linear_spec.proofs.{Products.entry_past, Products.negated_twice, Ring.ring, Ring.v, Ring.⊖, Ring.◌⊕◌, Ring.◌⊗◌, Signs.as_nat}
 
 abbrev pub greatest : ℕ
 greatest = 2 ^ 127 - 1

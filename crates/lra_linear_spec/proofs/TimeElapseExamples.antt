@@ -3,16 +3,11 @@
 use Rattle.std.proofs.Common.{List, [], ap, arith, neg_ℤ, negsuc, pos, refl, subst, suc, sym, zero, ℕ, ℤ, ◌*ℤ◌, ◌*◌, ◌+ℤ◌, ◌<ℤ◌, ◌<◌, ◌∙◌, ◌∷◌, ◌≡◌, ◌≢◌, ◌≤ℤ◌}
 use Rattle.std.proofs.lemmas.Int.{ints}
 use Rattle.lra_linear_spec.specs.Descriptions.{Con, Gen, LinearRow, equality, generator, inequality}
-use Rattle.lra_linear_spec.specs.Points.{IsPoint, IsWithin, SamePoint, SameSet}
 use Rattle.lra_linear_spec.specs.SetOperations.{Forget, Image, OnTheWay, Preimage, TimeElapse, assigned}
-use Rattle.lra_linear_spec.specs.Vectors.{entry, product}
-use Rattle.lra_linear_spec.proofs.Descriptions.{con_cons, con_head, con_none, con_tail}
-use Rattle.lra_linear_spec.proofs.OneSpelling.{far}
-use Rattle.lra_linear_spec.proofs.PolyhedronExamples.{product_three}
-use Rattle.lra_linear_spec.proofs.Products.{entry_past, entry_set_other, entry_set_same}
-use Rattle.lra_linear_spec.proofs.Ring.{mul_nonnegative, ring, v, ⊖, ◌⊕◌, ◌⊗◌}
+use Rattle.lra_linear_spec.specs.{Points.IsPoint, Points.IsWithin, Points.SamePoint, Points.SameSet, Vectors.entry, Vectors.product}
 use Rattle.lra_linear_spec.proofs.Signs.{add_nonnegative, as_nat, cancel_same, divide_nonnegative, positive_is_nonnegative, positive_nat, times_positive}
-use Rattle.lra_linear_spec.proofs.Widening.{holds_on_generators}
+use Rattle.lra_linear_spec.proofs.{Descriptions.con_cons, Descriptions.con_head, Descriptions.con_none, Descriptions.con_tail, OneSpelling.far, PolyhedronExamples.product_three, Products.entry_past}
+use Rattle.lra_linear_spec.proofs.{Products.entry_set_other, Products.entry_set_same, Ring.mul_nonnegative, Ring.ring, Ring.v, Ring.⊖, Ring.◌⊕◌, Ring.◌⊗◌, Widening.holds_on_generators}
 
 -- ---- the time-elapse of the origin by (1, 2) is the half line 2 x1 = x2, x2 at least 0
 abbrev origin : List LinearRow

@@ -1,16 +1,9 @@
 -- Rows with one entry other than 0: how long they are, what stands in them, and their products.
 use Rattle.std.proofs.Common.{◌≡◌, ◌≢◌, ℕ, zero, suc, ◌+◌, ◌<◌, List, [], ◌∷◌, length, replicate, refl, ap, ◌∙◌, arith, pos, negsuc, ℤ, ◌*ℤ◌}
-use Rattle.std.specs.Prelude.{slice_set}
-use Rattle.std.specs.List.{All}
-use Rattle.std.proofs.lemmas.Int.{ints}
-use Rattle.std.proofs.lemmas.List.{length-set}
-use Rattle.std.proofs.lemmas.List.Elements.{All-cons, All-nil}
-use Rattle.lra_linear_spec.specs.OperationStrain.{unit_row}
-use Rattle.lra_linear_spec.specs.Range.{InRange}
-use Rattle.lra_linear_spec.specs.Vectors.{dot, entry, product, zeros}
-use Rattle.lra_linear_spec.proofs.Lines.{zeros_length, entry_zeros}
-use Rattle.lra_linear_spec.proofs.OneSpelling.{dot_zeros}
-use Rattle.lra_linear_spec.proofs.Products.{entry_set_same, entry_set_other}
+use Rattle.std.proofs.{lemmas.Int.ints, lemmas.List.length-set, lemmas.List.Elements.All-cons, lemmas.List.Elements.All-nil}
+use Rattle.std.specs.{List.All, Prelude.slice_set}
+use Rattle.lra_linear_spec.specs.{OperationStrain.unit_row, Range.InRange, Vectors.dot, Vectors.entry, Vectors.product, Vectors.zeros}
+use Rattle.lra_linear_spec.proofs.{Lines.zeros_length, Lines.entry_zeros, OneSpelling.dot_zeros, Products.entry_set_same, Products.entry_set_other}
 
 -- ---- rows of zeros, as std makes them and as they are defined
 pub zeros_are : (n : ℕ) → replicate n (pos 0) ≡ zeros n

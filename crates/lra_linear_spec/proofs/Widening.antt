@@ -1,26 +1,15 @@
 -- Tests on generators decide where a constraint is valid, and the standard widening is the set of the rows that are tight.
 use Rattle.std.proofs.Common.{Bool, List, [], ap, arith, cond, false, inl, inr, neg_ℤ, pos, refl, subst, sym, true, ℕ, ℤ, ◌++◌, ◌∙◌, ◌∷◌, ◌≡◌, ◌≢◌, ◌≤ℤ◌}
-use Rattle.std.specs.Prelude.{int_le, ◌&&◌, ◌||◌}
-use Rattle.std.proofs.lemmas.Int.{ints}
-use Rattle.std.proofs.lemmas.List.Elements.{Contains-append_cases, Contains-append_left, Contains-append_right}
-use Rattle.std.specs.Cmp.{signed_Decides}
-use Rattle.std.specs.List.{Contains, list_all}
-use Rattle.std.specs.Ordering.{int_eq}
-use Rattle.std.proofs.lemmas.Bool.{and_parts}
+use Rattle.std.proofs.{lemmas.Bool.and_parts, lemmas.Int.ints, lemmas.List.Elements.Contains-append_cases, lemmas.List.Elements.Contains-append_left, lemmas.List.Elements.Contains-append_right}
+use Rattle.std.specs.{Cmp.signed_Decides, List.Contains, List.list_all, Ordering.int_eq, Prelude.int_le, Prelude.◌&&◌, Prelude.◌||◌}
 use Rattle.lra_linear_spec.specs.Descriptions.{Con, Gen, LinearRow, Holds, HoldsWith, system_of}
-use Rattle.lra_linear_spec.specs.OperationStrain.{tight_on, valid_on}
-use Rattle.lra_linear_spec.specs.Points.{IsPoint, SameSet}
-use Rattle.lra_linear_spec.specs.Polyhedra.{HasPoint, Polyhedron}
-use Rattle.lra_linear_spec.specs.SetOperations.{ValidOn}
 use Rattle.lra_linear_spec.specs.Vectors.{dot, entry, negated, product}
 use Rattle.lra_linear_spec.specs.Widening.{LimitedWidening, StandardWidening, StandardFrom, holds_with, is_tight, is_valid}
+use Rattle.lra_linear_spec.specs.{OperationStrain.tight_on, OperationStrain.valid_on, Points.IsPoint, Points.SameSet, Polyhedra.HasPoint, Polyhedra.Polyhedron, SetOperations.ValidOn}
 use Rattle.lra_linear_spec.proofs.Descriptions.{gen_generated, holds_at_least, system_from, system_has, system_has_negated}
-use Rattle.lra_linear_spec.proofs.LinearMaps.{generated_nonneg}
 use Rattle.lra_linear_spec.proofs.Membership.{contains_none, filter_from, filter_has, list_all_at, list_all_from}
-use Rattle.lra_linear_spec.proofs.Polyhedra.{con_gen}
-use Rattle.lra_linear_spec.proofs.Products.{dot_negated, negated_dot}
 use Rattle.lra_linear_spec.proofs.SetOperations.{HasVertex, has_vertex, valid_on_rows}
-use Rattle.lra_linear_spec.proofs.Signs.{between_opposites, opposite_of_zero}
+use Rattle.lra_linear_spec.proofs.{LinearMaps.generated_nonneg, Polyhedra.con_gen, Products.dot_negated, Products.negated_dot, Signs.between_opposites, Signs.opposite_of_zero}
 
 -- ---- tests of numbers
 -- what the tests say

@@ -3,10 +3,8 @@
 -- in each column the products come before the sum. That an Ok is the product, or the sum of the two multiples, is
 -- proved in proofs/CheckedArithmetic.
 use Rattle.std.specs.Prelude.{ℕ, ℤ, pos, ◌+ℤ◌, ◌*ℤ◌, neg_ℤ, List, [], ◌∷◌, Result, Ok, Err, cond}
-use Rattle.lra_linear_spec.specs.declared.Excess.{Excess}
 use Rattle.lra_linear_spec.specs.declared.Operation.TheVariants.{Product, Sum}
-use Rattle.lra_linear_spec.specs.Range.{in_range}
-use Rattle.lra_linear_spec.specs.Vectors.{entry, cleared}
+use Rattle.lra_linear_spec.specs.{Range.in_range, Vectors.entry, Vectors.cleared, declared.Excess.Excess}
 
 -- the sum and the product of two rows, or the first product or partial sum that passes
 abbrev pub checked_product_from : ℤ → List ℤ → List ℤ → Result ℤ Excess

@@ -1,14 +1,12 @@
 -- What strains a cone of lines and rays when a further row c is taken in: a product of c with one of its rows passes
 -- the range, or the combination of two of them; or the cone with c has more rays than a description may have. A
 -- coefficient past the range is no strain by itself, only in such a product or combination.
-use Rattle.std.specs.Prelude.{◌≡◌, ◌≢◌, ℕ, ◌<◌, ℤ, pos, neg_ℤ, ◌<ℤ◌, Bool, List, length, Ok, Err}
 use Rattle.std.specs.List.{Contains}
+use Rattle.std.specs.Prelude.{◌≡◌, ◌≢◌, ℕ, ◌<◌, ℤ, pos, neg_ℤ, ◌<ℤ◌, Bool, List, length, Ok, Err}
 use Rattle.lra_linear_spec.specs.declared.Excess as E
-use Rattle.lra_linear_spec.specs.Vectors.{product, negated}
 use Rattle.lra_linear_spec.specs.CheckedArithmetic.{checked_product, checked_blend}
-use Rattle.lra_linear_spec.specs.LowestTerms.{IsLowest}
 use Rattle.lra_linear_spec.specs.Cones.{all_rows, AreDual, with_row}
-use Rattle.lra_linear_spec.specs.Canonical.{IsCanonical}
+use Rattle.lra_linear_spec.specs.{Canonical.IsCanonical, LowestTerms.IsLowest, Vectors.product, Vectors.negated}
 
 -- the most inequalities, and the most points and rays together, of a description; equalities and lines are not counted,
 -- the positivity row is where it isn't redundant

@@ -1,8 +1,8 @@
 -- Convex cones of vectors of whole numbers, by inequalities and by generators (Minkowski 1896, Weyl 1935, Farkas 1902).
 -- A vector counts as generated where some positive whole multiple of it is a sum of the rows with whole factors, so no
 -- fraction is needed. A line is a row that may be taken with a factor of either sign.
-use Rattle.std.specs.Prelude.{◌≡◌, ℕ, ◌<◌, ℤ, pos, ◌+ℤ◌, ◌*ℤ◌, ◌≤ℤ◌, Bool, cond, List, [], ◌∷◌, ◌++◌, length}
 use Rattle.std.specs.List.{Contains}
+use Rattle.std.specs.Prelude.{◌≡◌, ℕ, ◌<◌, ℤ, pos, ◌+ℤ◌, ◌*ℤ◌, ◌≤ℤ◌, Bool, cond, List, [], ◌∷◌, ◌++◌, length}
 use Rattle.lra_linear_spec.specs.Vectors.{entry, dot, negated, sum_of, signed_sum}
 
 -- some positive multiple of u is a sum of the rows, with factors that are not negative

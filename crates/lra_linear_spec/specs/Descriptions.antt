@@ -1,9 +1,7 @@
 -- The two descriptions of a set of points (Minkowski 1896, Weyl 1935): by constraints, and by points, rays and lines.
-use Rattle.std.specs.Prelude.{◌≡◌, ◌⊎◌, ℤ, pos, ◌≤ℤ◌, ◌<ℤ◌, Bool, true, false, cond, List, [], ◌∷◌}
 use Rattle.std.specs.List.{Contains}
-use Rattle.lra_linear_spec.specs.Vectors.{entry, product}
-use Rattle.lra_linear_spec.specs.Cones.{Described, with_row}
-use Rattle.lra_linear_spec.specs.Points.{PointSet}
+use Rattle.std.specs.Prelude.{◌≡◌, ◌⊎◌, ℤ, pos, ◌≤ℤ◌, ◌<ℤ◌, Bool, true, false, cond, List, [], ◌∷◌}
+use Rattle.lra_linear_spec.specs.{Cones.Described, Cones.with_row, Points.PointSet, Vectors.entry, Vectors.product}
 
 -- A row of a description. A constraint c0, .., cn is an inequality or, with `equal`, an equality. A generator is a
 -- point or a ray, or with `equal` a line; `IsGenerator` says what column 0 then holds.

@@ -1,10 +1,8 @@
 -- Spans of rows and their reduced echelon form. The columns are taken in the order 1, 2, 3 and on, and column 0 last,
 -- since column 0 holds a constraint's constant or a point's divisor.
 use Rattle.std.specs.Prelude.{◌≡◌, ℕ, suc, ◌<◌, ◌⊎◌, ℤ, pos, ◌*ℤ◌, ◌<ℤ◌, List, [], ◌∷◌, cond}
-use Rattle.std.specs.Ordering.{int_eq}
-use Rattle.std.specs.List.{Contains}
-use Rattle.lra_linear_spec.specs.Vectors.{entry, signed_sum}
-use Rattle.lra_linear_spec.specs.LowestTerms.{IsPrimitive}
+use Rattle.std.specs.{List.Contains, Ordering.int_eq}
+use Rattle.lra_linear_spec.specs.{LowestTerms.IsPrimitive, Vectors.entry, Vectors.signed_sum}
 
 -- some positive multiple of u is a sum of the rows, with factors of either sign
 pub record Spanned (rows : List (List ℤ)) (u : ℕ → ℤ) : Type 0 where

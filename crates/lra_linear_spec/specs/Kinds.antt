@@ -1,8 +1,7 @@
 -- The kinds of constraints and tests, an inequality or an equality, and of generators.
 use Rattle.std.specs.Prelude.{Bool, true, false}
-use Rattle.lra_linear_spec.specs.declared.ConKind.{ConKind}
+use Rattle.lra_linear_spec.specs.{declared.ConKind.ConKind, declared.GenKind.GenKind}
 use Rattle.lra_linear_spec.specs.declared.ConKind.TheVariants as con
-use Rattle.lra_linear_spec.specs.declared.GenKind.{GenKind}
 use Rattle.lra_linear_spec.specs.declared.GenKind.TheVariants as gen
 
 abbrev pub is_equality : ConKind → Bool

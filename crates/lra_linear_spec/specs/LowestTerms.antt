@@ -1,6 +1,6 @@
 -- Rows in lowest terms.
-use Rattle.std.specs.Prelude.{◌≡◌, ℕ, ◌<◌, ◌⊎◌, ℤ, pos, ◌*ℤ◌, List, length, unsigned_abs}
 use Rattle.std.specs.Int.{◌∣◌}
+use Rattle.std.specs.Prelude.{◌≡◌, ℕ, ◌<◌, ◌⊎◌, ℤ, pos, ◌*ℤ◌, List, length, unsigned_abs}
 use Rattle.lra_linear_spec.specs.Vectors.{entry}
 
 -- only 1 divides each entry

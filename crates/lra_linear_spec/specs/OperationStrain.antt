@@ -4,19 +4,16 @@
 -- their products passes. Polyhedra stand here by their canonical lists, so the strain of an operation depends on the
 -- sets alone. Rows are taken in as they are formed, not in lowest terms; k is a column, from 1 to n.
 use Rattle.std.specs.Prelude.{◌≡◌, ℕ, suc, ◌+◌, ◌-◌, ◌&&◌, ◌⊎◌, ℤ, pos, true, List, [], ◌∷◌, ◌++◌, take, slice_set}
-use Rattle.std.specs.Prelude.{Result, Err, map}
-use Rattle.std.specs.List.{Contains, filter}
+use Rattle.std.specs.{List.Contains, List.filter, Prelude.Result, Prelude.Err, Prelude.map}
 use Rattle.lra_linear_spec.specs.declared.Excess as E
-use Rattle.lra_linear_spec.specs.declared.Cause.TheVariants.{Excess}
-use Rattle.lra_linear_spec.specs.Vectors.{cleared, substituted, zeros, units}
 use Rattle.lra_linear_spec.specs.CheckedArithmetic.{checked_product, checked_substitution}
-use Rattle.lra_linear_spec.specs.Points.{PointSet}
 use Rattle.lra_linear_spec.specs.Descriptions.{LinearRow, inequality, line, rows_as, Holds, Con, Gen}
+use Rattle.lra_linear_spec.specs.Polyhedra.{Polyhedron, positivity, IsPolyhedronOf}
 use Rattle.lra_linear_spec.specs.SetOperations.{Meet, Union, Hull, assigned, Image, Preimage, Forget, Embed, RemoveLast}
 use Rattle.lra_linear_spec.specs.SetOperations.{TimeElapse}
-use Rattle.lra_linear_spec.specs.Polyhedra.{Polyhedron, positivity, IsPolyhedronOf}
+use Rattle.lra_linear_spec.specs.Vectors.{cleared, substituted, zeros, units}
 use Rattle.lra_linear_spec.specs.Widening.{is_tight, is_valid, StandardWidening, LimitedWidening}
-use Rattle.lra_linear_spec.specs.Strain.{Loss, Strains}
+use Rattle.lra_linear_spec.specs.{Points.PointSet, Strain.Loss, Strain.Strains, declared.Cause.TheVariants.Excess}
 
 -- ---- lists taken in
 abbrev pub with_positivity : ℕ → List LinearRow → List LinearRow

@@ -2,14 +2,12 @@
 -- columns: that of all valid constraints, and that of all generators. The positivity row, which says that column 0 is
 -- at least 0, is always valid, and is left out of the list. A polyhedron without a point has the one row -1 >= 0 and no
 -- generator.
-use Rattle.std.specs.Prelude.{◌≡◌, ◌≢◌, ℕ, suc, ◌⊎◌, ℤ, pos, negsuc, ◌<ℤ◌, true, false, List, [], ◌∷◌, ◌++◌}
 use Rattle.std.specs.List.{Contains}
-use Rattle.lra_linear_spec.specs.Vectors.{entry, zeros}
-use Rattle.lra_linear_spec.specs.Cones.{all_rows, AreDual}
-use Rattle.lra_linear_spec.specs.Canonical.{IsCanonical}
-use Rattle.lra_linear_spec.specs.RowOrder.{row_cmp, inequality_cmp, Ascends}
-use Rattle.lra_linear_spec.specs.Points.{PointSet, SameSet}
+use Rattle.std.specs.Prelude.{◌≡◌, ◌≢◌, ℕ, suc, ◌⊎◌, ℤ, pos, negsuc, ◌<ℤ◌, true, false, List, [], ◌∷◌, ◌++◌}
 use Rattle.lra_linear_spec.specs.Descriptions.{LinearRow, inequality, rows_as, Con}
+use Rattle.lra_linear_spec.specs.Points.{PointSet, SameSet}
+use Rattle.lra_linear_spec.specs.RowOrder.{row_cmp, inequality_cmp, Ascends}
+use Rattle.lra_linear_spec.specs.{Canonical.IsCanonical, Cones.all_rows, Cones.AreDual, Vectors.entry, Vectors.zeros}
 
 -- what a value shows: its dimensions, constraints and generators
 pub record Polyhedron : Type 0 where

@@ -1,12 +1,9 @@
 -- Reductions of a row by an echelon form: chains of steps, each of which makes the entry in one pivot's column 0, and
 -- where in such a chain a number passes the range.
-use Rattle.std.specs.Prelude.{◌≡◌, ℕ, ◌<◌, ℤ, pos, neg_ℤ, List, [], ◌∷◌, length, Result, Ok, Err}
 use Rattle.std.specs.List.{Contains}
-use Rattle.lra_linear_spec.specs.declared.Excess.{Excess}
-use Rattle.lra_linear_spec.specs.Vectors.{entry}
-use Rattle.lra_linear_spec.specs.LowestTerms.{IsLowest}
-use Rattle.lra_linear_spec.specs.Echelon.{pivot}
+use Rattle.std.specs.Prelude.{◌≡◌, ℕ, ◌<◌, ℤ, pos, neg_ℤ, List, [], ◌∷◌, length, Result, Ok, Err}
 use Rattle.lra_linear_spec.specs.CheckedArithmetic.{checked_blend}
+use Rattle.lra_linear_spec.specs.{Echelon.pivot, LowestTerms.IsLowest, Vectors.entry, declared.Excess.Excess}
 
 -- (the line's entry at its pivot) r - (r's entry there) line: 0 at the pivot; or the first number that passes. The two
 -- factors are taken as they are, not divided by what divides both.

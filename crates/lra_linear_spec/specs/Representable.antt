@@ -1,11 +1,8 @@
 -- A polyhedron as a value holds it: its lists are the canonical ones, keep the limit of a description, and have numbers
 -- of the range alone.
-use Rattle.std.specs.Prelude.{◌≤◌, ◌⊎◌, List, ◌++◌, length}
-use Rattle.std.specs.List.{All, Contains}
-use Rattle.lra_linear_spec.specs.Range.{InRange}
-use Rattle.lra_linear_spec.specs.Descriptions.{LinearRow}
+use Rattle.std.specs.{List.All, List.Contains, Prelude.◌≤◌, Prelude.◌⊎◌, Prelude.List, Prelude.◌++◌, Prelude.length}
 use Rattle.lra_linear_spec.specs.Polyhedra.{HasPoint, IsPolyhedron, IsWithoutPoint, Polyhedron}
-use Rattle.lra_linear_spec.specs.ConeStrain.{row_limit}
+use Rattle.lra_linear_spec.specs.{ConeStrain.row_limit, Descriptions.LinearRow, Range.InRange}
 
 -- each number of each row lies in the range
 abbrev pub AreInRange : List LinearRow → Type 0

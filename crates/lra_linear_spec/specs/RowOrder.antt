@@ -1,11 +1,8 @@
 -- The orders of the lists that are shown. Rows are compared by the entries of columns 1, 2, 3 and on, and by that of
 -- column 0 last.
-use Rattle.std.specs.Prelude.{◌≡◌, ℤ, List, [], ◌∷◌, ◌++◌}
 use Rattle.std.specs.Ordering.{int_cmp, nat_cmp, ordering_then}
-use Rattle.std.specs.Cmp.Lexicographic.{slice_cmp}
-use Rattle.std.specs.List.{Contains}
-use Rattle.std.specs.declared.cmp.Ordering.{Ordering}
-use Rattle.std.specs.declared.cmp.Ordering.TheVariants.{Less}
+use Rattle.std.specs.{Cmp.Lexicographic.slice_cmp, List.Contains, Prelude.◌≡◌, Prelude.ℤ, Prelude.List, Prelude.[]}
+use Rattle.std.specs.{Prelude.◌∷◌, Prelude.◌++◌, declared.cmp.Ordering.Ordering, declared.cmp.Ordering.TheVariants.Less}
 use Rattle.lra_linear_spec.specs.Echelon.{pivot}
 
 -- the entries with that of column 0 last

@@ -4,9 +4,8 @@
 -- coordinate may be anything, k is a column, from 1 to n: the dimension that is k - 1 when counted from 0. Column 0 is
 -- the divisor.
 use Rattle.std.specs.Prelude.{◌≡◌, ◌≢◌, ℕ, suc, ◌+◌, ◌<◌, ◌⊎◌, ℤ, pos, ◌+ℤ◌, ◌*ℤ◌, ◌≤ℤ◌, List, length, take, slice_set}
-use Rattle.lra_linear_spec.specs.Vectors.{entry, product}
 use Rattle.lra_linear_spec.specs.Points.{IsPoint, SamePoint, PointSet}
-use Rattle.lra_linear_spec.specs.Descriptions.{LinearRow, Holds}
+use Rattle.lra_linear_spec.specs.{Descriptions.LinearRow, Descriptions.Holds, Vectors.entry, Vectors.product}
 
 abbrev pub Meet : PointSet → PointSet → PointSet
 Meet P Q x = P x × Q x

@@ -14,18 +14,14 @@
 -- No row of a form is cleared by itself in that form; a row of S that equals it is another row.
 -- Each is said with its witness: the lists, the rows, the steps before the one that passes.
 use Rattle.std.specs.Prelude.{◌≡◌, ◌≢◌, ℕ, ◌<◌, ◌⊎◌, ℤ, pos, Bool, true, false, cond, List, [], ◌∷◌, ◌++◌, length, take}
-use Rattle.std.specs.Ordering.{int_eq}
-use Rattle.std.specs.List.{Contains}
+use Rattle.std.specs.{List.Contains, Ordering.int_eq}
 use Rattle.lra_linear_spec.specs.declared.Excess as E
-use Rattle.lra_linear_spec.specs.declared.Cause.{Cause}
-use Rattle.lra_linear_spec.specs.declared.Cause.TheVariants.{Excess, TooMany}
-use Rattle.lra_linear_spec.specs.Vectors.{product}
-use Rattle.lra_linear_spec.specs.Cones.{both_ways, all_rows, AreDual, with_row}
-use Rattle.lra_linear_spec.specs.Echelon.{IsEchelonOf}
 use Rattle.lra_linear_spec.specs.Canonical.{IsCanonical, IsCanonicalOf}
-use Rattle.lra_linear_spec.specs.Descriptions.{LinearRow, rows_of, system_of}
-use Rattle.lra_linear_spec.specs.Reduction.{ReductionPasses}
 use Rattle.lra_linear_spec.specs.ConeStrain.{row_limit, ProductPasses, PairPasses, IsPairOf, HasTooMany}
+use Rattle.lra_linear_spec.specs.Cones.{both_ways, all_rows, AreDual, with_row}
+use Rattle.lra_linear_spec.specs.Descriptions.{LinearRow, rows_of, system_of}
+use Rattle.lra_linear_spec.specs.declared.Cause.TheVariants.{Excess, TooMany}
+use Rattle.lra_linear_spec.specs.{Echelon.IsEchelonOf, Reduction.ReductionPasses, Vectors.product, declared.Cause.Cause}
 
 -- what is told of a row that was left out: the rows taken before it, the row, and what passed
 pub record Loss : Type 0 where

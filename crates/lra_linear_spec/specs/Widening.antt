@@ -2,14 +2,9 @@
 -- depend on the two sets alone. A row is tight on P where the generators of P with which its product is 0 are all of
 -- P's, or are exactly those with which some row of P has product 0.
 use Rattle.std.specs.Prelude.{pos, Bool, ◌||◌, cond, int_le, IsTrue, List, [], ◌∷◌}
-use Rattle.std.specs.List.{Contains, list_all, list_any}
-use Rattle.std.specs.Ordering.{int_eq}
-use Rattle.std.specs.Bool.{beq}
-use Rattle.lra_linear_spec.specs.Vectors.{product}
-use Rattle.lra_linear_spec.specs.Points.{PointSet}
+use Rattle.std.specs.{Bool.beq, List.Contains, List.list_all, List.list_any, Ordering.int_eq}
 use Rattle.lra_linear_spec.specs.Descriptions.{LinearRow, Holds, Con}
-use Rattle.lra_linear_spec.specs.SetOperations.{ValidOn}
-use Rattle.lra_linear_spec.specs.Polyhedra.{Polyhedron}
+use Rattle.lra_linear_spec.specs.{Points.PointSet, Polyhedra.Polyhedron, SetOperations.ValidOn, Vectors.product}
 
 -- the generator saturates the row
 abbrev pub saturates : LinearRow → LinearRow → Bool

@@ -2,8 +2,7 @@
 #![tactic(auto)]
 
 ghost use Rattle.std.specs.Prelude.{◌≡◌, ◌↔◌, IsTrue};
-ghost use Rattle.lra_linear_spec.specs.Descriptions.{HoldsWith};
-ghost use Rattle.lra_linear_spec.specs.Kinds.{is_equality, is_line};
+ghost use Rattle.lra_linear_spec.specs.{Descriptions.HoldsWith, Kinds.is_equality, Kinds.is_line};
 
 /// Which of the two operations of a product of rows passes the range.
 #[derive(Clone, Copy, Debug, PartialEq, Eq)]

@@ -1,16 +1,14 @@
 -- Steps of the proofs on tests and conditions.
 use Rattle.std.proofs.Common.{rules, Box, Vec, Global, ◌≡◌, ℕ, ℤ, pos, List, [], ◌∷◌, Option, Some, None, true, false, length, map, refl, sym, ap, ◌∙◌, subst, arith}
-use Rattle.std.specs.Prelude.{◌-ℤ◌, replicate}
 use Rattle.std.proofs.lemmas.Int.{ints}
+use Rattle.std.specs.Prelude.{◌-ℤ◌, replicate}
 use Rattle.lra_linear_forms.specs.Form.{Form}
 use Rattle.lra_base.specs.Operators.{minus}
-use Rattle.lra_program.specs.Program.{Expr, binary, Cond}
-use Rattle.lra_program.specs.declared.program.Cond as declared_cond
-use Rattle.lra_program.specs.declared.program.Cond.{All, Any, the_lemmas}
 use Rattle.lra_program.specs.ProgramViews.{all_of, any_of, cond_view}
-use Rattle.lra_analysis_spec.specs.Linear.{entrywise, combined_forms, fitting, constant_form, less_by, form_of, difference_form}
+use Rattle.lra_program.specs.{Program.Expr, Program.binary, Program.Cond, declared.program.Cond.All, declared.program.Cond.Any, declared.program.Cond.the_lemmas}
+use Rattle.lra_program.specs.declared.program.Cond as declared_cond
+use Rattle.lra_analysis_spec.specs.{Linear.entrywise, Linear.combined_forms, Linear.fitting, Linear.constant_form, Linear.less_by, Linear.form_of, Linear.difference_form, MovesOf.guard}
 use Rattle.lra_domain.specs.Moves.{Moves, first_then, join_of}
-use Rattle.lra_analysis_spec.specs.MovesOf.{guard}
 use Rattle.lra_analysis_spec.proofs.FormLemmas.{form_wide}
 use Rattle.lra_linearize.specs.Conditions.{in_turn_of}
 use Rattle.lra_linearize.specs.Conditions as chains

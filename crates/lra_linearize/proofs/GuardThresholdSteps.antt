@@ -1,23 +1,18 @@
 -- Steps of the proofs on given rows.
-use Rattle.std.proofs.Common.{◌≡◌, ℕ, suc, ℤ, pos, negsuc, ◌*ℤ◌, List, [], ◌∷◌, ◌++◌, Option, Some, None, Bool, length, map, take, get_or, ◌+◌, ◌<◌, refl, sym, ap, subst, ◌∙◌}
-use Rattle.std.proofs.Common.{append_assoc, append-nil}
+use Rattle.std.proofs.Common.{◌≡◌, ℕ, suc, ℤ, pos, negsuc, ◌*ℤ◌, List, [], ◌∷◌, ◌++◌, Option, Some, None, Bool, length, map, take, get_or, ◌+◌, ◌<◌, refl, sym, ap, subst, ◌∙◌, append_assoc}
+use Rattle.std.proofs.{Common.append-nil, lemmas.List.map-append, lemmas.List.map_more, lemmas.List.length-map}
 use Rattle.std.specs.Prelude.{◌-ℤ◌, neg_ℤ}
-use Rattle.std.proofs.lemmas.List.{map-append, map_more, length-map}
-use Rattle.lra_analysis_spec.proofs.FormLemmas.{fitting_same}
-use Rattle.lra_analysis_spec.proofs.Keeping.{some_is}
-use Rattle.lra_linear_forms.specs.Form.{Form, opposite_form}
-use Rattle.lra_linear_forms.specs.declared.test.Test.{Test}
+use Rattle.lra_analysis_spec.proofs.{FormLemmas.fitting_same, Keeping.some_is}
+use Rattle.lra_linear_forms.specs.{Form.Form, Form.opposite_form, declared.test.Test.Test}
 use Rattle.lra_systems.specs.LinearSystems.{LinearSystem}
-use Rattle.lra_linear_spec.specs.declared.ConKind.{ConKind}
-use Rattle.lra_linear_spec.specs.declared.ConKind.TheVariants.{Ge, Eq}
+use Rattle.lra_linear_spec.specs.{declared.ConKind.ConKind, declared.ConKind.TheVariants.Ge, declared.ConKind.TheVariants.Eq}
 use Rattle.lra_base.specs.declared.operators.Comparison as declared
-use Rattle.lra_base.specs.declared.operators.Comparison.TheVariants.{Below, AtMost, Above, AtLeast, Equal, Differs}
 use Rattle.lra_base.specs.OperatorViews.{comparison_view}
+use Rattle.lra_base.specs.declared.operators.Comparison.TheVariants.{Below, AtMost, Above, AtLeast, Equal, Differs}
 use Rattle.lra_program.specs.declared.program.Cond as declared_cond
-use Rattle.lra_program.specs.ProgramViews.{all_of, any_of, cond_view}
-use Rattle.lra_program.specs.Program.{Cond}
-use Rattle.lra_analysis_spec.specs.Linear.{fitting, at_least_zero, comparison_test}
+use Rattle.lra_program.specs.{Program.Cond, ProgramViews.all_of, ProgramViews.any_of, ProgramViews.cond_view}
 use Rattle.lra_analysis_spec.specs.GuardThresholds.{row_of, test_rows, comparison_rows, guard_rows}
+use Rattle.lra_analysis_spec.specs.Linear.{fitting, at_least_zero, comparison_test}
 use Rattle.lra_linearize.specs.GuardThresholds.{HasMore}
 
 -- more and more

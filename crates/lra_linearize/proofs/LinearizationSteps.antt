@@ -1,22 +1,15 @@
 -- Steps of the proofs on what is seen of expressions.
-use Rattle.std.proofs.Common.{◌≡◌, ◌++◌, ℕ, ℤ, pos, negsuc, List, [], ◌∷◌, Option, Some, None, Bool, true, false, length, map}
-use Rattle.std.proofs.Common.{refl, sym, ap, subst, ◌∙◌, append_assoc}
+use Rattle.std.proofs.Common.{◌≡◌, ◌++◌, ℕ, ℤ, pos, negsuc, List, [], ◌∷◌, Option, Some, None, Bool, true, false, length, map, refl, sym, ap, subst, ◌∙◌, append_assoc}
+use Rattle.std.proofs.lemmas.List.{map-append}
 use Rattle.std.specs.Prelude.{◌-ℤ◌, ◌&&◌, if◌then◌else◌, int_le, IfOk}
 use Rattle.std.specs.Prelude as handed
-use Rattle.std.proofs.lemmas.List.{map-append}
 use Rattle.lra_linear_forms.specs.Form.{Form, opposite_form}
-use Rattle.lra_base.specs.Operators.{Operator}
-use Rattle.lra_base.specs.OperatorViews.{operator_view}
-use Rattle.lra_program.specs.Program.{Expr, binary}
-use Rattle.lra_program.specs.Value.{◌>>=◌}
-use Rattle.lra_program.specs.declared.program.Operation.{Operation}
-use Rattle.lra_program.specs.ProgramViews.{chained, expr_view, operation_view}
-use Rattle.lra_analysis_spec.specs.declared.linearization.Division.{Division}
-use Rattle.lra_analysis_spec.specs.declared.linearization.Linearized.{Linearized}
-use Rattle.lra_analysis_spec.specs.declared.linearization.Linearized.TheVariants.{Linear, Divided, Unseen}
+use Rattle.lra_base.specs.{OperatorViews.operator_view, Operators.Operator}
+use Rattle.lra_program.specs.{Program.Expr, Program.binary, ProgramViews.chained, ProgramViews.expr_view, ProgramViews.operation_view, Value.◌>>=◌, declared.program.Operation.Operation}
 use Rattle.lra_analysis_spec.specs.Linear.{fitting, combined_forms, is_constant, constant_form, form_of}
-use Rattle.lra_analysis_spec.specs.Linearization.{extended, form_plus_one, division, share_form, share_of, linearized_from, linearized, linear_if, divided_if}
-use Rattle.lra_analysis_spec.specs.Linearization.{subtracted, linearized_difference}
+use Rattle.lra_analysis_spec.specs.Linearization.{extended, form_plus_one, division, share_form, share_of, linearized_from, linearized, linear_if, divided_if, subtracted, linearized_difference}
+use Rattle.lra_analysis_spec.specs.declared.linearization.Linearized.TheVariants.{Linear, Divided, Unseen}
+use Rattle.lra_analysis_spec.specs.{declared.linearization.Division.Division, declared.linearization.Linearized.Linearized}
 use Rattle.lra_linearize.specs.Forms.{rest_form, share_by}
 use Rattle.lra_linearize.proofs.FormSteps.{operation_is, chain_form, chain_none}
 

@@ -1,28 +1,19 @@
 -- Steps of the proofs on the rows that thresholds give.
-use Rattle.std.proofs.Common.{◌≡◌, ◌∙◌, ◌+◌, ◌<◌, ◌≤◌, ℕ, zero, suc, ℤ, not, List, [], ◌∷◌, ◌++◌, fold, length, map, take, get_or, refl, sym, ap, subst}
-use Rattle.std.proofs.Common.{append_assoc, append-nil, arith, FitsSigned, pos, to_z, of_z, ◌+ℤ◌}
-use Rattle.std.specs.Prelude.{◌-ℤ◌, neg_ℤ}
-use Rattle.std.specs.Int.{w64, w128}
-use Rattle.std.proofs.lemmas.Int.{ints, to_z-of_z}
-use Rattle.std.specs.List.{filter, flat_map}
-use Rattle.std.proofs.lemmas.List.{length-map, map-append, map_more, take_all}
-use Rattle.std.proofs.lemmas.List.Elements.{filter-append}
+use Rattle.std.proofs.Common.{◌≡◌, ◌∙◌, ◌+◌, ◌<◌, ◌≤◌, ℕ, zero, suc, ℤ, not, List, [], ◌∷◌, ◌++◌, fold, length, map, take, get_or, refl, sym, ap, subst, append_assoc, append-nil, arith, FitsSigned}
+use Rattle.std.proofs.Common.{pos, to_z, of_z, ◌+ℤ◌}
+use Rattle.std.proofs.{lemmas.Int.ints, lemmas.Int.to_z-of_z, lemmas.List.length-map, lemmas.List.map-append, lemmas.List.map_more, lemmas.List.take_all, lemmas.List.Elements.filter-append}
+use Rattle.std.specs.{Int.w64, Int.w128, List.filter, List.flat_map, Prelude.◌-ℤ◌, Prelude.neg_ℤ}
 use Rattle.lra_systems.specs.LinearSystems.{LinearSystem}
-use Rattle.lra_linear_spec.specs.declared.ConKind.{ConKind}
-use Rattle.lra_linear_spec.specs.declared.ConKind.TheVariants.{Ge}
+use Rattle.lra_linear_spec.specs.{declared.ConKind.ConKind, declared.ConKind.TheVariants.Ge}
 use Rattle.lra_operations.specs.declared.tree.Node as declared
 use Rattle.lra_operations.specs.Tree as graph
 use Rattle.lra_operations.specs.TreeViews.{node_view, row}
 use Rattle.lra_program.specs.declared.program.Cond as declared_cond
-use Rattle.lra_program.specs.Program.{Cond}
-use Rattle.lra_program.specs.ProgramViews.{all_of, any_of, cond_view}
+use Rattle.lra_program.specs.{Program.Cond, ProgramViews.all_of, ProgramViews.any_of, ProgramViews.cond_view}
 use Rattle.lra_linear_forms.specs.Form.{Form}
-use Rattle.lra_analysis_spec.specs.GuardThresholds.{inequalities, row_of}
-use Rattle.lra_analysis_spec.specs.Linear.{variable_form}
 use Rattle.lra_analysis_spec.specs.Thresholds.{all_threshold_rows, condition_rows, constant_rows, is_among, round_rows, row_against, constant_rows_at, rows_from, rows_in, rows_once}
-use Rattle.lra_analysis_spec.specs.Thresholds.{with_threshold_row}
-use Rattle.lra_linearize.specs.GuardThresholds.{HasMore}
-use Rattle.lra_linearize.specs.Thresholds.{HasTaken}
+use Rattle.lra_analysis_spec.specs.{GuardThresholds.inequalities, GuardThresholds.row_of, Linear.variable_form, Thresholds.with_threshold_row}
+use Rattle.lra_linearize.specs.{GuardThresholds.HasMore, Thresholds.HasTaken}
 use Rattle.lra_linearize.proofs.GuardThresholdSteps.{more_both}
 
 -- ---- numbers of a row: those of a form with a constant of 64 bits have 128

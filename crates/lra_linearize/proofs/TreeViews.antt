@@ -1,24 +1,18 @@
 -- What each form of a tree of operations is seen as.
 use Rattle.std.proofs.Common.{rules, Box, Vec, Global, ◌≡◌, ◌∙◌, ◌++◌, ◌+◌, ◌<◌, ◌≤◌, ℕ, ℤ, List, ◌∷◌, length, map, take, drop, get_or, refl, ap, subst, sym}
-use Rattle.std.specs.Prelude as outcome_or
-use Rattle.std.specs.Prelude.{OnOk}
-use Rattle.std.specs.List.{flat_map}
 use Rattle.std.proofs.lemmas.List.{drop_all, drop_more}
+use Rattle.std.specs.Prelude as outcome_or
+use Rattle.std.specs.{List.flat_map, Prelude.OnOk}
 use Rattle.lra_systems.specs.LinearSystems.{LinearSystem}
 use Rattle.lra_linear_spec.specs.declared.ConKind.{ConKind}
 use Rattle.lra_operations.specs.declared.probes.Probe as aside
-use Rattle.lra_operations.specs.declared.tree.Exit.{Exit}
-use Rattle.lra_operations.specs.declared.tree.Op.{Op}
+use Rattle.lra_operations.specs.TreeViews.{exit_view, node_view, op_view, row, ArmPart, arm_view, arms_of}
 use Rattle.lra_operations.specs.declared.tree.Node.{Node, Empty, Point, Probe, Act, Check, Seq, Choose, Iterate, Catch, Leave, Select, the_lemmas}
-use Rattle.lra_operations.specs.declared.tree.Arm.{Arm}
-use Rattle.lra_operations.specs.declared.tree.Arm.TheVariants.{Entry, Tree}
+use Rattle.lra_operations.specs.{declared.tree.Arm.Arm, declared.tree.Arm.TheVariants.Entry, declared.tree.Arm.TheVariants.Tree, declared.tree.Exit.Exit, declared.tree.Op.Op}
 use Rattle.lra_base.specs.declared.case_labels.CaseLabel.{CaseLabel}
 use Rattle.lra_operations.specs.Tree as graph
 use Rattle.lra_operations.proofs.ArmViews.{entry_view, tree_view}
-use Rattle.lra_operations.specs.TreeViews.{exit_view, node_view, op_view, row, ArmPart, arm_view, arms_of}
-use Rattle.lra_program.specs.declared.program.Expr.{Expr}
-use Rattle.lra_program.specs.declared.program.Cond.{Cond}
-use Rattle.lra_program.specs.ProgramViews.{cond_view, expr_view}
+use Rattle.lra_program.specs.{ProgramViews.cond_view, ProgramViews.expr_view, declared.program.Cond.Cond, declared.program.Expr.Expr}
 use Rattle.lra_analysis_spec.specs.Thresholds.{round_rows, rows_in, rows_in_arms}
 use Rattle.lra_linearize.specs.Thresholds.{HasTaken}
 use Rattle.lra_linearize.proofs.ThresholdSteps.{row_taken, then_taken}

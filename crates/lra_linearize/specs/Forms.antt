@@ -2,11 +2,9 @@
 use Rattle.std.specs.Prelude.{ℕ, List, [], ◌∷◌, ℤ, ◌+ℤ◌, ◌-ℤ◌, Bool, true, false, Option, Some}
 use Rattle.lra_linear_forms.specs.Form.{Form}
 use Rattle.lra_base.specs.Operators.{Operator}
-use Rattle.lra_program.specs.Program.{Expr}
-use Rattle.lra_program.specs.Value.{◌>>=◌}
-use Rattle.lra_analysis_spec.specs.declared.linearization.Division.{Division}
+use Rattle.lra_program.specs.{Program.Expr, Value.◌>>=◌}
+use Rattle.lra_analysis_spec.specs.{Linearization.division, declared.linearization.Division.Division}
 use Rattle.lra_analysis_spec.specs.Linear as linear
-use Rattle.lra_analysis_spec.specs.Linearization.{division}
 
 -- plus, or minus
 abbrev pub sum_or_difference : Bool → ℤ → ℤ → ℤ

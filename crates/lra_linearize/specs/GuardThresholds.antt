@@ -1,8 +1,7 @@
 -- Rows that are added to a list.
 use Rattle.std.specs.Prelude.{◌≡◌, ℤ, List, ◌++◌, map}
 use Rattle.lra_systems.specs.LinearSystems.{LinearSystem}
-use Rattle.lra_linear_spec.specs.declared.ConKind.{ConKind}
-use Rattle.lra_linear_spec.specs.declared.ConKind.TheVariants.{Ge}
+use Rattle.lra_linear_spec.specs.{declared.ConKind.ConKind, declared.ConKind.TheVariants.Ge}
 
 -- the list has these inequalities more, behind the others
 pub record HasMore (old new : LinearSystem ConKind) (rows : List (List ℤ)) : Type 0 where

@@ -1,8 +1,7 @@
 -- Rows that are taken into a list, each once.
 use Rattle.std.specs.Prelude.{◌≡◌, ℤ, List, fold, map}
 use Rattle.lra_systems.specs.LinearSystems.{LinearSystem}
-use Rattle.lra_linear_spec.specs.declared.ConKind.{ConKind}
-use Rattle.lra_linear_spec.specs.declared.ConKind.TheVariants.{Ge}
+use Rattle.lra_linear_spec.specs.{declared.ConKind.ConKind, declared.ConKind.TheVariants.Ge}
 use Rattle.lra_analysis_spec.specs.Thresholds.{with_threshold_row}
 
 -- the list has these inequalities more, behind the others: those that aren't there, and are narrow

@@ -1,14 +1,13 @@
 //! The rows that a loop's condition gives to its head.
 
 ghost use Rattle.std.specs.Prelude.{◌≡◌, ◌<◌, ◌^◌, ℤ, pos, ◌+ℤ◌, ◌≤ℤ◌, neg_ℤ, ◌∷◌, ◌++◌, [], suc, map, length, IfOk};
-ghost use Rattle.std.specs.Prelude.{OnOk, Some, option_map, if◌then◌else◌};
-ghost use Rattle.std.specs.List.{All};
+ghost use Rattle.std.specs.{List.All, Prelude.OnOk, Prelude.Some, Prelude.option_map, Prelude.if◌then◌else◌};
 ghost use Rattle.lra_linear_spec.specs.Range.{InRange};
 ghost use Rattle.lra_base.specs.OperatorViews.{comparison_view};
 ghost use Rattle.lra_program.specs.ProgramViews.{all_of, expr_view, cond_view};
-ghost use Rattle.lra_analysis_spec.specs.Linear.{difference_form, comparison_test};
 ghost use Rattle.lra_analysis_spec.specs.GuardThresholds.{row_of, opposite_row, test_rows, comparison_rows, guard_rows};
 ghost use Rattle.lra_analysis_spec.specs.GuardThresholds.{guard_thresholds};
+ghost use Rattle.lra_analysis_spec.specs.Linear.{difference_form, comparison_test};
 ghost use Rattle.lra_linearize.specs.GuardThresholds.{HasMore};
 
 use crate::comparisons::{comparison_where, difference_of, test_of};

@@ -7,10 +7,9 @@ ghost use Rattle.lra_linear_forms.specs.Form.{opposite_form};
 ghost use Rattle.lra_analysis_spec.specs.Linear.{fitting, is_constant, constant_form, form_of};
 ghost use Rattle.lra_linearize.specs.Forms as forms;
 ghost use Rattle.lra_analysis_spec.specs.Linearization.{extended, behind_form, form_plus_one, division, share_form};
-ghost use Rattle.lra_analysis_spec.specs.Linearization.{share_of};
-ghost use Rattle.lra_analysis_spec.specs.Linearization.{linearized_from, linearized};
+ghost use Rattle.lra_analysis_spec.specs.Linearization.{share_of, linearized_from, linearized, linear_if, divided_if};
+ghost use Rattle.lra_analysis_spec.specs.Linearization.{subtracted, linearized_difference};
 ghost use Rattle.lra_analysis_spec.specs.declared.linearization.Linearized.TheVariants.{Linear, Divided};
-ghost use Rattle.lra_analysis_spec.specs.Linearization.{linear_if, divided_if, subtracted, linearized_difference};
 
 use crate::forms::{constant_of, form_of_chain, form_of_expression, has_no_variable, sum_of_forms};
 use lra_analysis_spec::{Division, Linearized};

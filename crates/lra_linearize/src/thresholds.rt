@@ -1,22 +1,17 @@
 //! The rows that thresholds give to a loop: around the comparisons of its conditions, and at the program's constants.
 
 ghost use Rattle.std.specs.Prelude.{◌≡◌, ◌<◌, ◌^◌, ◌+ℤ◌, [], ◌∷◌, ◌++◌, suc, neg_ℤ, map, not, length, IfOk, OnOk, Some};
-ghost use Rattle.std.specs.Cmp.Lexicographic.{pointwise};
-ghost use Rattle.std.specs.List.{filter};
-ghost use Rattle.std.specs.Ordering.{int_eq};
-ghost use Rattle.lra_linear_spec.specs.Range.{InRange};
+ghost use Rattle.std.specs.{Cmp.Lexicographic.pointwise, List.filter, Ordering.int_eq};
+ghost use Rattle.lra_linear_spec.specs.{Range.InRange, declared.ConKind.ConKind};
 ghost use Rattle.lra_systems.specs.LinearSystems.{LinearSystem};
-ghost use Rattle.lra_linear_spec.specs.declared.ConKind.{ConKind};
 ghost use Rattle.lra_operations.specs.Tree.{Arms};
 ghost use Rattle.lra_operations.specs.TreeViews.{node_view, op_view, row, arm_view, arms_of};
 ghost use Rattle.lra_program.specs.ProgramViews.{all_of, cond_view, expr_view};
-ghost use Rattle.lra_analysis_spec.specs.GuardThresholds.{inequalities, row_of};
-ghost use Rattle.lra_analysis_spec.specs.Linear.{difference_form, variable_form};
-ghost use Rattle.lra_analysis_spec.specs.Thresholds.{condition_rows, is_among, has_small_numbers, op_rows, round_rows, row_against};
-ghost use Rattle.lra_analysis_spec.specs.Thresholds.{rows_around, constant_rows_at, rows_in, rows_in_arms, rows_once};
-ghost use Rattle.lra_analysis_spec.specs.Thresholds.{threshold_rows};
-ghost use Rattle.lra_linearize.specs.GuardThresholds.{HasMore};
-ghost use Rattle.lra_linearize.specs.Thresholds.{HasTaken};
+ghost use Rattle.lra_analysis_spec.specs.Thresholds.{condition_rows, is_among, has_small_numbers, op_rows, round_rows};
+ghost use Rattle.lra_analysis_spec.specs.Thresholds.{row_against, rows_around, constant_rows_at, rows_in, rows_in_arms};
+ghost use Rattle.lra_analysis_spec.specs.{GuardThresholds.inequalities, GuardThresholds.row_of, Linear.difference_form};
+ghost use Rattle.lra_analysis_spec.specs.{Linear.variable_form, Thresholds.rows_once, Thresholds.threshold_rows};
+ghost use Rattle.lra_linearize.specs.{GuardThresholds.HasMore, Thresholds.HasTaken};
 
 use crate::comparisons::difference_of;
 use crate::forms::unit_form;

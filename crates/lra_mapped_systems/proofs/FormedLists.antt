@@ -1,21 +1,12 @@
 -- Constraints formed of the rows of a list, place by place, without those in which a number passes.
-use Rattle.std.proofs.Common.{◌≡◌, ℕ, suc, ◌<◌, ◌≤◌, ◌+◌, add-one, List, [], ◌∷◌, ◌++◌, length, take, drop, get_or}
-use Rattle.std.proofs.Common.{arith, ap, sym, ◌∙◌, subst, ℤ, pos, Option, None, Some, Result, Ok, Err, inl, inr, ◌⊎◌}
-use Rattle.std.specs.Prelude.{IfNone, OnOk, false, is_none}
-use Rattle.std.specs.List.{Contains}
-use Rattle.std.proofs.lemmas.List.{length-set, map-append, take_all}
+use Rattle.std.proofs.Common.{◌≡◌, ℕ, suc, ◌<◌, ◌≤◌, ◌+◌, add-one, List, [], ◌∷◌, ◌++◌, length, take, drop, get_or, arith, ap, sym, ◌∙◌, subst, ℤ, pos, Option, None, Some, Result, Ok, Err, inl, inr}
 use Rattle.std.proofs.lemmas.List.Elements.{Contains-append_cases, Contains-append_left, Contains-append_right}
-use Rattle.lra_linear_spec.specs.CheckedArithmetic.{checked_substitution}
+use Rattle.std.proofs.{Common.◌⊎◌, lemmas.List.length-set, lemmas.List.map-append, lemmas.List.take_all}
+use Rattle.std.specs.{List.Contains, Prelude.IfNone, Prelude.OnOk, Prelude.false, Prelude.is_none}
+use Rattle.lra_linear_spec.specs.{CheckedArithmetic.checked_substitution, Descriptions.LinearRow, Kinds.is_equality, OperationStrain.FormingPasses, OperationStrain.substituted_rows, Strain.Loss}
+use Rattle.lra_linear_spec.specs.{Vectors.cleared, Vectors.entry, Vectors.substituted, declared.ConKind.ConKind, declared.ConKind.TheVariants.Ge}
 use Rattle.lra_linear_spec.specs.declared.Excess as E
-use Rattle.lra_linear_spec.specs.declared.ConKind.{ConKind}
-use Rattle.lra_linear_spec.specs.declared.ConKind.TheVariants.{Ge}
-use Rattle.lra_linear_spec.specs.Descriptions.{LinearRow}
-use Rattle.lra_linear_spec.specs.Kinds.{is_equality}
-use Rattle.lra_linear_spec.specs.OperationStrain.{FormingPasses, substituted_rows}
-use Rattle.lra_linear_spec.specs.Strain.{Loss}
-use Rattle.lra_linear_spec.specs.Vectors.{cleared, entry, substituted}
-use Rattle.lra_linear_spec.proofs.Membership.{contains_cases, contains_head, contains_none, map_has}
-use Rattle.lra_linear_spec.proofs.Products.{blend_length}
+use Rattle.lra_linear_spec.proofs.{Membership.contains_cases, Membership.contains_head, Membership.contains_none, Membership.map_has, Products.blend_length}
 use Rattle.lra_systems.specs.LinearSystems.{LinearSystem, constraints, rows_by_kind}
 use Rattle.lra_systems.proofs.FirstMembers.{front, given_more, given_split, member}
 use Rattle.lra_descriptions.proofs.SeveralKinds.{given_append}

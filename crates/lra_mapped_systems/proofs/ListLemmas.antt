@@ -1,20 +1,12 @@
 -- Lists of generators, each mapped, or with a line behind them.
-use Rattle.std.proofs.Common.{◌≡◌, ℕ, zero, suc, ◌+◌, ◌<◌, ◌≤◌, get_or, List, [], ◌∷◌, ◌++◌, length, map, take, ap}
-use Rattle.std.proofs.Common.{refl, sym, ◌∙◌, subst, ℤ, pos, ◌<ℤ◌, add-one, arith}
+use Rattle.std.proofs.Common.{◌≡◌, ℕ, zero, suc, ◌+◌, ◌<◌, ◌≤◌, get_or, List, [], ◌∷◌, ◌++◌, length, map, take, ap, refl, sym, ◌∙◌, subst, ℤ, pos, ◌<ℤ◌, add-one, arith}
+use Rattle.std.proofs.{Math.Seq.take-suc, lemmas.List.map-append, lemmas.List.take_all}
 use Rattle.std.specs.List.{Contains}
-use Rattle.std.proofs.Math.Seq.{take-suc}
-use Rattle.std.proofs.lemmas.List.{map-append, take_all}
-use Rattle.lra_linear_spec.specs.Descriptions.{LinearRow, line}
-use Rattle.lra_linear_spec.specs.OperationStrain.{unit_row}
-use Rattle.lra_linear_spec.specs.Vectors.{cleared, entry, zeros}
-use Rattle.lra_linear_spec.proofs.Lines.{entry_zeros}
-use Rattle.lra_linear_spec.proofs.Membership.{contains_head, contains_tail}
-use Rattle.lra_linear_spec.specs.Kinds.{is_line}
-use Rattle.lra_systems.specs.LinearSystems.{FitKinds, FitsKind, LinearSystem, generators, rows_by_kind}
-use Rattle.lra_linear_spec.specs.declared.GenKind.{GenKind}
 use Rattle.lra_linear_spec.specs.declared.GenKind.TheVariants.{Line, Point, Ray}
+use Rattle.lra_linear_spec.specs.{Descriptions.LinearRow, Descriptions.line, Kinds.is_line, OperationStrain.unit_row, Vectors.cleared, Vectors.entry, Vectors.zeros, declared.GenKind.GenKind}
+use Rattle.lra_linear_spec.proofs.{Lines.entry_zeros, Membership.contains_head, Membership.contains_tail, UnitRows.unit_other}
+use Rattle.lra_systems.specs.LinearSystems.{FitKinds, FitsKind, LinearSystem, generators, rows_by_kind}
 use Rattle.lra_descriptions.proofs.SeveralKinds.{fit_append, given_append}
-use Rattle.lra_linear_spec.proofs.UnitRows.{unit_other}
 use Rattle.lra_mapped_systems.proofs.Sums.{mapped_by}
 
 -- ---- mapped row by row

@@ -1,17 +1,9 @@
 -- What is told of a row of a list where a number passes as it is formed.
-use Rattle.std.proofs.Common.{◌≡◌, ℕ, zero, suc, ◌<◌, List, [], ◌∷◌, ◌++◌, length, map, drop, get_or, arith, ap, refl, sym}
-use Rattle.std.proofs.Common.{◌∙◌, subst, ℤ, Result, Err}
-use Rattle.lra_linear_spec.specs.declared.Cause.TheVariants.{Excess}
-use Rattle.lra_linear_spec.specs.declared.ConKind.{ConKind}
-use Rattle.lra_linear_spec.specs.declared.ConKind.TheVariants.{Ge}
+use Rattle.std.proofs.Common.{◌≡◌, ℕ, zero, suc, ◌<◌, List, [], ◌∷◌, ◌++◌, length, map, drop, get_or, arith, ap, refl, sym, ◌∙◌, subst, ℤ, Result, Err}
+use Rattle.lra_linear_spec.specs.{Descriptions.LinearRow, Kinds.is_equality, OperationStrain.FormingPasses, Strain.Loss, declared.Cause.TheVariants.Excess, declared.ConKind.ConKind}
+use Rattle.lra_linear_spec.specs.{declared.ConKind.TheVariants.Ge, declared.GenKind.GenKind}
 use Rattle.lra_linear_spec.specs.declared.Excess as E
-use Rattle.lra_linear_spec.specs.declared.GenKind.{GenKind}
-use Rattle.lra_linear_spec.specs.Descriptions.{LinearRow}
-use Rattle.lra_linear_spec.specs.Kinds.{is_equality}
-use Rattle.lra_linear_spec.specs.OperationStrain.{FormingPasses}
-use Rattle.lra_linear_spec.specs.Strain.{Loss}
-use Rattle.lra_row.specs.Rows.{IsExcessOf}
-use Rattle.lra_row.specs.declared.error.RowError.{RowError}
+use Rattle.lra_row.specs.{Rows.IsExcessOf, declared.error.RowError.RowError}
 use Rattle.lra_row.specs.declared.error.RowError.TheVariants as of_row
 use Rattle.lra_systems.specs.LinearSystems.{LinearSystem, constraints, generators, rows_by_kind}
 use Rattle.lra_systems.proofs.FirstMembers.{front, given_split, member}

@@ -1,19 +1,11 @@
 -- The image of a polyhedron under a map of points that is linear in their rows: its generators, mapped.
 use Rattle.std.proofs.Common.{◌≡◌, ℕ, suc, ◌<◌, List, length, map, ap, sym, ◌∙◌, subst, ℤ, pos, ◌*ℤ◌, ◌<ℤ◌, arith, inl, inr}
-use Rattle.std.specs.List.{Contains}
 use Rattle.std.proofs.lemmas.Int.{ints}
-use Rattle.lra_linear_spec.specs.Cones.{Generated}
+use Rattle.std.specs.List.{Contains}
 use Rattle.lra_linear_spec.specs.Descriptions.{Gen, LinearRow, system_of}
-use Rattle.lra_linear_spec.specs.Points.{IsPoint, PointSet, SamePoint}
-use Rattle.lra_linear_spec.specs.Polyhedra.{IsPolyhedron, Polyhedron}
-use Rattle.lra_linear_spec.specs.Vectors.{entry, negated, sum_of}
-use Rattle.lra_linear_spec.proofs.Combinations.{generated_same}
+use Rattle.lra_linear_spec.specs.{Cones.Generated, Points.IsPoint, Points.PointSet, Points.SamePoint, Polyhedra.IsPolyhedron, Polyhedra.Polyhedron, Vectors.entry, Vectors.negated, Vectors.sum_of}
 use Rattle.lra_linear_spec.proofs.Descriptions.{gen_generated, generated_gen}
-use Rattle.lra_linear_spec.proofs.LinearMaps.{sum_generated}
-use Rattle.lra_linear_spec.proofs.Membership.{contains_none}
-use Rattle.lra_linear_spec.proofs.Ring.{ring, v, ◌⊗◌}
-use Rattle.lra_linear_spec.proofs.SetOperations.{has_vertex}
-use Rattle.lra_linear_spec.proofs.Signs.{times_positive}
+use Rattle.lra_linear_spec.proofs.{Combinations.generated_same, LinearMaps.sum_generated, Membership.contains_none, Ring.ring, Ring.v, Ring.◌⊗◌, SetOperations.has_vertex, Signs.times_positive}
 use Rattle.lra_mapped_systems.proofs.Sums.{IsLinear, generated_mapped, generated_same_point, mapped_by, row_of_sum, sum_mapped, system_mapped}
 
 -- the rows m r are those of a linear map f that keeps column 0

@@ -1,21 +1,14 @@
 -- A canonical description under a linear map that can be taken back, made canonical again: an echelon form of the mapped
 -- lines, and the mapped rays reduced by it.
 use Rattle.std.proofs.Common.{◌≡◌, ℕ, List, [], ◌∷◌, ◌++◌, length, map, drop, get_or, ap, refl, sym, ◌∙◌, subst, ℤ, pos, neg_ℤ, ◌+ℤ◌, ◌*ℤ◌, arith, inl, inr}
+use Rattle.std.proofs.{lemmas.List.map-append, lemmas.List.Elements.Contains-append_cases, lemmas.List.Elements.Contains-append_left}
 use Rattle.std.specs.List.{Contains}
-use Rattle.std.proofs.lemmas.List.{map-append}
-use Rattle.std.proofs.lemmas.List.Elements.{Contains-append_cases, Contains-append_left}
-use Rattle.lra_linear_spec.specs.Canonical.{IsCanonical}
-use Rattle.lra_linear_spec.specs.Cones.{Generated, all_rows, both_ways}
 use Rattle.lra_linear_spec.specs.Echelon.{IsEchelon, IsEchelonOf, Spanned, pivot}
-use Rattle.lra_linear_spec.specs.Vectors.{entry, negated, signed_sum}
+use Rattle.lra_linear_spec.specs.{Canonical.IsCanonical, Cones.Generated, Cones.all_rows, Cones.both_ways, Vectors.entry, Vectors.negated, Vectors.signed_sum}
 use Rattle.lra_linear_spec.proofs.CanonicalForms.{spanned_in_cone, spanned_negative}
 use Rattle.lra_linear_spec.proofs.Combinations.{generated_divided, generated_plus, generated_row, generated_same, generated_times, generated_zero}
-use Rattle.lra_linear_spec.proofs.Lines.{signed_from}
 use Rattle.lra_linear_spec.proofs.Membership.{contains_cases, contains_head, contains_middle, contains_none, contains_split, contains_tail, map_from}
-use Rattle.lra_linear_spec.proofs.Pivots.{pivot_is}
-use Rattle.lra_linear_spec.proofs.Products.{entry_negated}
-use Rattle.lra_linear_spec.proofs.Ring.{ring, v, ⊖, ◌⊕◌, ◌⊗◌}
-use Rattle.lra_linear_spec.proofs.Spans.{spanned_row, spanned_same}
+use Rattle.lra_linear_spec.proofs.{Lines.signed_from, Pivots.pivot_is, Products.entry_negated, Ring.ring, Ring.v, Ring.⊖, Ring.◌⊕◌, Ring.◌⊗◌, Spans.spanned_row, Spans.spanned_same}
 use Rattle.lra_canonical.specs.Reduced.{IsAlong, IsReducedBy}
 use Rattle.lra_description_pair.specs.OwnLists.{AreReducedBy}
 use Rattle.lra_description_pair.proofs.TightRows.{reduced_from}

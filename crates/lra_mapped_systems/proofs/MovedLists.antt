@@ -1,8 +1,7 @@
 -- The rows of a list moved one by one, its lines apart.
 use Rattle.std.proofs.Common.{◌≡◌, ℕ, suc, ◌<◌, ◌+◌, add-one, Bool, true, false, cond, List, [], ◌∷◌, ◌++◌, length, map, get_or, ap, refl, sym, ◌∙◌, subst, ℤ, inl, inr}
+use Rattle.std.proofs.{lemmas.List.map-append, lemmas.List.Elements.All-contains}
 use Rattle.std.specs.List.{All, Contains}
-use Rattle.std.proofs.lemmas.List.{map-append}
-use Rattle.std.proofs.lemmas.List.Elements.{All-contains}
 use Rattle.lra_linear_spec.specs.Descriptions.{LinearRow, lines_of, rays_of}
 use Rattle.lra_linear_spec.proofs.Membership.{contains_cases, contains_head, contains_none, contains_tail, map_from}
 use Rattle.lra_linear_spec.proofs.Polyhedra.{lines_of_append, rays_of_append}

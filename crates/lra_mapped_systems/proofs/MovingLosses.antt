@@ -1,17 +1,12 @@
 -- Numbers that pass as a list is moved and made canonical anew.
 use Rattle.std.proofs.Common.{◌≡◌, ℕ, ◌<◌, List, ◌∷◌, length, map, drop, get_or, ap, sym, ◌∙◌, subst, ℤ, inl, inr, Bool, false, IsTrue, Result, Err, suc}
-use Rattle.std.specs.List.{Contains}
 use Rattle.std.proofs.lemmas.List.Elements.{Contains-append_right}
+use Rattle.std.specs.List.{Contains}
 use Rattle.lra_linear_spec.specs.declared.Excess as E
 use Rattle.lra_linear_spec.specs.CheckedArithmetic.{checked_product, checked_substitution}
-use Rattle.lra_linear_spec.specs.Descriptions.{LinearRow, lines_of, rays_of}
-use Rattle.lra_linear_spec.specs.Echelon.{IsEchelonOf}
-use Rattle.lra_linear_spec.specs.SetOperations.{assigned}
-use Rattle.lra_linear_spec.specs.Vectors.{substituted}
+use Rattle.lra_linear_spec.specs.{Descriptions.LinearRow, Descriptions.lines_of, Descriptions.rays_of, Echelon.IsEchelonOf, SetOperations.assigned, Vectors.substituted}
 use Rattle.lra_linear_spec.proofs.Membership.{contains_head}
-use Rattle.lra_row.specs.Rows.{IsExcessOf}
-use Rattle.lra_row.specs.declared.error.RowError.{RowError}
-use Rattle.lra_row.specs.declared.error.RowError.TheVariants.{Excess, Memory}
+use Rattle.lra_row.specs.{Rows.IsExcessOf, declared.error.RowError.RowError, declared.error.RowError.TheVariants.Excess, declared.error.RowError.TheVariants.Memory}
 use Rattle.lra_canonical.specs.Echelons.{IsEchelonExcess}
 use Rattle.lra_systems.specs.LinearSystems.{rows_by_kind}
 use Rattle.lra_systems.proofs.FirstMembers.{front, given_split, member}

@@ -1,17 +1,11 @@
 -- Generators taken to a list one by one: directions, and lines along new dimensions.
-use Rattle.std.proofs.Common.{◌≡◌, ℕ, zero, suc, ◌<◌, ◌≤◌, ◌+◌, Bool, true, List, [], ◌∷◌, ◌++◌, append_assoc, add-one}
-use Rattle.std.proofs.Common.{length, map, take, get_or, ap, refl, sym, ◌∙◌, subst, ℤ, pos, arith}
+use Rattle.std.proofs.Common.{◌≡◌, ℕ, zero, suc, ◌<◌, ◌≤◌, ◌+◌, Bool, true, List, [], ◌∷◌, ◌++◌, append_assoc, add-one, length, map, take, get_or, ap, refl, sym, ◌∙◌, subst, ℤ, pos, arith}
+use Rattle.std.proofs.{Math.Seq.take-suc, lemmas.List.length-append, lemmas.List.map-append, lemmas.List.take_all}
 use Rattle.std.specs.Prelude.{slice_set}
-use Rattle.std.proofs.Math.Seq.{take-suc}
-use Rattle.std.proofs.lemmas.List.{length-append, map-append, take_all}
-use Rattle.lra_linear_spec.specs.Descriptions.{LinearRow, rows_as, line}
-use Rattle.lra_linear_spec.specs.OperationStrain.{as_directions, unit_row}
-use Rattle.lra_linear_spec.specs.Vectors.{behind_zero, cleared, units, zeros}
+use Rattle.lra_linear_spec.specs.{Descriptions.LinearRow, Descriptions.rows_as, Descriptions.line, Kinds.is_line, OperationStrain.as_directions, OperationStrain.unit_row, Vectors.behind_zero}
+use Rattle.lra_linear_spec.specs.{Vectors.cleared, Vectors.units, Vectors.zeros, declared.GenKind.GenKind, declared.GenKind.TheVariants.Line, declared.GenKind.TheVariants.Point}
 use Rattle.lra_linear_spec.proofs.Lines.{zeros_length}
-use Rattle.lra_linear_spec.specs.Kinds.{is_line}
 use Rattle.lra_systems.specs.LinearSystems.{FitKinds, FitsKind, LinearSystem, generators, rows_by_kind}
-use Rattle.lra_linear_spec.specs.declared.GenKind.{GenKind}
-use Rattle.lra_linear_spec.specs.declared.GenKind.TheVariants.{Line, Point}
 use Rattle.lra_systems.proofs.FirstMembers.{front, given_more, member}
 use Rattle.lra_descriptions.proofs.SeveralKinds.{fit_append, given_append}
 

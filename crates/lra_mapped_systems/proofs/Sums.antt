@@ -1,17 +1,12 @@
 -- Sums of joined and of mapped lists of rows.
 use Rattle.std.proofs.Common.{◌≡◌, ℕ, ◌<◌, Bool, true, false, List, [], ◌∷◌, ◌++◌, length, map, drop, ap, refl, sym, ◌∙◌, subst, ℤ, pos, neg_ℤ, ◌+ℤ◌, ◌*ℤ◌, ◌<ℤ◌, ◌≤ℤ◌, arith}
-use Rattle.std.specs.List.{Contains}
 use Rattle.std.proofs.lemmas.Int.{ints}
-use Rattle.lra_linear_spec.specs.Cones.{Generated, with_row}
-use Rattle.lra_linear_spec.specs.Descriptions.{LinearRow, line, system_of}
-use Rattle.lra_linear_spec.specs.Points.{SamePoint}
+use Rattle.std.specs.List.{Contains}
 use Rattle.lra_linear_spec.specs.Vectors.{blend, entry, negated, sum_of, zeros}
+use Rattle.lra_linear_spec.specs.{Cones.Generated, Cones.with_row, Descriptions.LinearRow, Descriptions.line, Descriptions.system_of, Points.SamePoint}
 use Rattle.lra_linear_spec.proofs.Combinations.{generated_divided, generated_plus, generated_same, generated_times, generated_zero}
-use Rattle.lra_linear_spec.proofs.Membership.{contains_head, contains_tail}
-use Rattle.lra_linear_spec.proofs.Products.{blend_length, entry_blend, entry_negated}
-use Rattle.lra_linear_spec.proofs.Ring.{ring, v, ⊖, ◌⊕◌, ◌⊗◌}
-use Rattle.lra_linear_spec.proofs.Signs.{as_nat, positive_nat}
-use Rattle.lra_linear_spec.proofs.Lines.{entry_zeros, zeros_length}
+use Rattle.lra_linear_spec.proofs.{Lines.entry_zeros, Lines.zeros_length, Membership.contains_head, Membership.contains_tail, Products.blend_length, Products.entry_blend, Products.entry_negated}
+use Rattle.lra_linear_spec.proofs.{Ring.ring, Ring.v, Ring.⊖, Ring.◌⊕◌, Ring.◌⊗◌, Signs.as_nat, Signs.positive_nat}
 use Rattle.lra_canonical.proofs.Solutions.{sum_none}
 use Rattle.lra_descriptions.proofs.SeveralKinds.{system_append}
 

@@ -1,21 +1,14 @@
 -- Assignments of forms that can be taken back: with 1 or -1 at the coordinate. The generators of a polyhedron are mapped
 -- by the form, its constraints by the form that takes it back, and both stay dual.
 use Rattle.std.proofs.Common.{◌≡◌, ◌≢◌, ℕ, zero, suc, ◌<◌, List, [], ◌∷◌, length, map, ap, refl, sym, ◌∙◌, subst, ℤ, pos, negsuc, neg_ℤ, ◌+ℤ◌, ◌*ℤ◌, ◌≤ℤ◌, arith, inl, inr}
+use Rattle.std.proofs.{lemmas.Bool.cases_eq, lemmas.List.length-set}
 use Rattle.std.specs.Prelude.{slice_set}
-use Rattle.std.proofs.lemmas.List.{length-set}
-use Rattle.std.proofs.lemmas.Bool.{cases_eq}
-use Rattle.lra_linear_spec.specs.Cones.{AreDual}
-use Rattle.lra_linear_spec.specs.SetOperations.{assigned}
-use Rattle.lra_linear_spec.specs.Vectors.{cleared, dot, entry, negated, product, substituted}
-use Rattle.lra_linear_spec.proofs.Combinations.{generated_same}
-use Rattle.lra_linear_spec.proofs.Membership.{map_from, map_has}
+use Rattle.lra_linear_spec.specs.{Cones.AreDual, SetOperations.assigned, Vectors.cleared, Vectors.dot, Vectors.entry, Vectors.negated, Vectors.product, Vectors.substituted}
 use Rattle.lra_linear_spec.proofs.Products.{blend_length, dot_same, entry_blend, entry_negated, entry_set_other, entry_set_same, negated_length, product_comm, row_same}
-use Rattle.lra_linear_spec.proofs.Ring.{ring, v, ⊖, ◌⊕◌, ◌⊗◌}
-use Rattle.lra_linear_spec.proofs.SetOperations.{substituted_product}
+use Rattle.lra_linear_spec.proofs.{Combinations.generated_same, Membership.map_from, Membership.map_has, Ring.ring, Ring.v, Ring.⊖, Ring.◌⊕◌, Ring.◌⊗◌, SetOperations.substituted_product}
 use Rattle.lra_mapped_systems.specs.Moving.{IsInverse}
-use Rattle.lra_mapped_systems.proofs.MovedForms.{IsReversible}
-use Rattle.lra_mapped_systems.proofs.Sums.{IsLinear, generated_mapped}
 use Rattle.lra_mapped_systems.proofs.Assigning.{assigning, assigning_linear, put, put_nothing, put_plus, put_same, set_entry}
+use Rattle.lra_mapped_systems.proofs.{MovedForms.IsReversible, Sums.IsLinear, Sums.generated_mapped}
 
 pub put_at : (k : ℕ) (z : ℤ) (u : ℕ → ℤ) → put k z u k ≡ z
 put_at zero z u = refl

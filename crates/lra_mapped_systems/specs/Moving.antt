@@ -1,17 +1,13 @@
 -- Assignments that can be taken back, and the canonical lists that are made of a polyhedron's by one.
-use Rattle.std.specs.Prelude.{◌≡◌, ◌≢◌, ◌⊎◌, ℕ, suc, ◌<◌, ℤ, pos, negsuc, neg_ℤ, ◌*ℤ◌, List, length, map, Err}
 use Rattle.std.specs.List.{Contains}
+use Rattle.std.specs.Prelude.{◌≡◌, ◌≢◌, ◌⊎◌, ℕ, suc, ◌<◌, ℤ, pos, negsuc, neg_ℤ, ◌*ℤ◌, List, length, map, Err}
 use Rattle.lra_linear_spec.specs.declared.Excess as E
 use Rattle.lra_linear_spec.specs.CheckedArithmetic.{checked_product, checked_substitution}
 use Rattle.lra_linear_spec.specs.Descriptions.{Con, LinearRow, lines_of, rays_of}
-use Rattle.lra_linear_spec.specs.Echelon.{IsEchelonOf}
-use Rattle.lra_linear_spec.specs.Points.{IsEmptySet}
-use Rattle.lra_linear_spec.specs.Polyhedra.{Polyhedron}
-use Rattle.lra_linear_spec.specs.SetOperations.{assigned}
 use Rattle.lra_linear_spec.specs.Vectors.{entry, substituted}
-use Rattle.lra_linear_spec.specs.declared.ConKind.{ConKind}
+use Rattle.lra_linear_spec.specs.{Echelon.IsEchelonOf, Points.IsEmptySet, Polyhedra.Polyhedron, SetOperations.assigned}
+use Rattle.lra_linear_spec.specs.{declared.ConKind.ConKind, declared.GenKind.GenKind}
 use Rattle.lra_systems.specs.LinearSystems.{LinearSystem}
-use Rattle.lra_linear_spec.specs.declared.GenKind.{GenKind}
 use Rattle.lra_row.specs.declared.error.RowError.{RowError}
 use Rattle.lra_row.specs.declared.error.RowError.TheVariants.{Excess, Memory}
 use Rattle.lra_canonical.specs.Echelons.{HaveWidth, IsEchelonExcess}

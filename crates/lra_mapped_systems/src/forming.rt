@@ -1,12 +1,10 @@
 //! Generators and constraints formed anew by a form, which takes the place of a coordinate.
 
-ghost use Rattle.std.specs.Prelude.{◌≡◌, ◌<◌, ◌+◌, suc, take, length, IfOk, IfErr, IfNone, IfSome, OnOk};
 ghost use Rattle.std.specs.List.{Contains};
+ghost use Rattle.std.specs.Prelude.{◌≡◌, ◌<◌, ◌+◌, suc, take, length, IfOk, IfErr, IfNone, IfSome, OnOk};
 ghost use Rattle.lra_linear_spec.specs.CheckedArithmetic.{checked_product, checked_substitution};
-ghost use Rattle.lra_linear_spec.specs.Descriptions.{LinearRow};
-ghost use Rattle.lra_linear_spec.specs.Kinds.{is_equality};
 ghost use Rattle.lra_linear_spec.specs.OperationStrain.{FormingPasses, mapped, substituted_rows};
-ghost use Rattle.lra_linear_spec.specs.SetOperations.{assigned};
+ghost use Rattle.lra_linear_spec.specs.{Descriptions.LinearRow, Kinds.is_equality, SetOperations.assigned};
 ghost use Rattle.lra_row.specs.Rows.{IsExcessOf};
 ghost use Rattle.lra_systems.specs.Dimensions.{too_many_dimensions};
 ghost use Rattle.lra_systems.specs.LinearSystems.{constraints, generators, rows_by_kind, FitKinds};

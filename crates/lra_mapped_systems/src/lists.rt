@@ -2,11 +2,10 @@
 
 ghost use Rattle.std.specs.Prelude.{◌≡◌, ◌++◌, ◌∷◌, [], ◌<◌, ◌≤◌, ◌+◌, suc, take, length, map, List, ℤ, pos, true};
 ghost use Rattle.std.specs.Prelude.{IfOk};
-ghost use Rattle.lra_linear_spec.specs.Descriptions.{rows_as, line};
 ghost use Rattle.lra_linear_spec.specs.OperationStrain.{as_directions, shortened, unit_row};
 ghost use Rattle.lra_linear_spec.specs.Vectors.{cleared, entry, units, zeros};
+ghost use Rattle.lra_linear_spec.specs.{Descriptions.rows_as, Descriptions.line, Kinds.is_line};
 ghost use Rattle.lra_systems.specs.Dimensions.{too_many_dimensions};
-ghost use Rattle.lra_linear_spec.specs.Kinds.{is_line};
 ghost use Rattle.lra_systems.specs.LinearSystems.{generators, FitKinds, FitsKind};
 
 use lra_row::Row;

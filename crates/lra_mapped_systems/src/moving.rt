@@ -1,17 +1,15 @@
 //! Both lists of a polyhedron under a form that can be taken back, each made canonical anew.
 
+ghost use Rattle.std.specs.List.{Contains};
 ghost use Rattle.std.specs.Prelude.{◌≡◌, ◌↔◌, ◌<◌, ◌++◌, ◌∷◌, [], IsTrue, cond, suc, pos, negsuc, map, length};
 ghost use Rattle.std.specs.Prelude.{slice_set, Err, IfErr, IfOk, IfSome, IfNone, OnOk};
 ghost use Rattle.lra_canonical.specs.Echelons.{HaveWidth};
-ghost use Rattle.std.specs.List.{Contains};
 ghost use Rattle.lra_linear_spec.specs.CheckedArithmetic.{checked_product, checked_substitution};
 ghost use Rattle.lra_linear_spec.specs.Descriptions.{LinearRow, lines_of, rays_of};
-ghost use Rattle.lra_linear_spec.specs.Echelon.{IsEchelonOf};
-ghost use Rattle.lra_linear_spec.specs.SetOperations.{assigned};
 ghost use Rattle.lra_linear_spec.specs.Vectors.{entry, negated, substituted};
-ghost use Rattle.lra_mapped_systems.specs.Moving.{IsInverse, IsSubstitutedList, IsAssignedList};
-ghost use Rattle.lra_mapped_systems.specs.Moving.{AssignmentPasses, CanonicalPasses, HasUnit, OnExcess};
-ghost use Rattle.lra_mapped_systems.specs.Moving.{SubstitutionPasses};
+ghost use Rattle.lra_linear_spec.specs.{Echelon.IsEchelonOf, SetOperations.assigned};
+ghost use Rattle.lra_mapped_systems.specs.Moving.{IsInverse, IsSubstitutedList, IsAssignedList, AssignmentPasses};
+ghost use Rattle.lra_mapped_systems.specs.Moving.{CanonicalPasses, HasUnit, OnExcess, SubstitutionPasses};
 ghost use Rattle.lra_description_pair.specs.OwnLists.{AreReducedBy};
 ghost use Rattle.lra_systems.specs.Dimensions.{too_many_dimensions};
 ghost use Rattle.lra_systems.specs.LinearSystems.{constraints, generators};

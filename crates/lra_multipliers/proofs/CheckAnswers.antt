@@ -1,17 +1,13 @@
 -- The check of listed constraints, from the check of their rows and of their kinds.
 use Rattle.std.proofs.Common.{◌≡◌, ℕ, suc, ℤ, pos, Bool, List, [], ◌∷◌, length, Option, refl, ap, sym, ◌∙◌, subst, arith}
-use Rattle.std.specs.Prelude.{◌&&◌, int_le}
-use Rattle.std.specs.List.{All, AllByRecursion, Contains}
 use Rattle.std.proofs.lemmas.List.Elements.{All-contains}
-use Rattle.lra_linear_spec.specs.Descriptions.{rows_of}
-use Rattle.lra_linear_spec.specs.Kinds.{is_equality}
-use Rattle.lra_linear_spec.specs.declared.ConKind.{ConKind}
+use Rattle.std.specs.{List.All, List.AllByRecursion, List.Contains, Prelude.◌&&◌, Prelude.int_le}
+use Rattle.lra_linear_spec.specs.{Descriptions.rows_of, Kinds.is_equality, declared.ConKind.ConKind}
 use Rattle.lra_linear_spec.proofs.Membership.{contains_head, contains_tail}
 use Rattle.lra_systems.specs.LinearSystems.{LinearSystem, constraints, rows_by_kind}
-use Rattle.lra_multipliers.specs.Multipliers.{Multipliers, Answer, IsAnswer, may_show, checked}
 use Rattle.lra_multipliers.specs.Columns.{column_agrees, ColumnsTell, kinds_show, answer_told}
-use Rattle.lra_multipliers.proofs.CheckSteps.{AreWide, checked_told, checked_exact}
-use Rattle.lra_multipliers.proofs.CheckLoops.{kinds_signed_is}
+use Rattle.lra_multipliers.specs.Multipliers.{Multipliers, Answer, IsAnswer, may_show, checked}
+use Rattle.lra_multipliers.proofs.{CheckLoops.kinds_signed_is, CheckSteps.AreWide, CheckSteps.checked_told, CheckSteps.checked_exact}
 
 by_recursion : {A : Type 0} (Q : A → Type 0) (xs : List A) → ((x : A) → Contains xs x → Q x) → AllByRecursion Q xs
 by_recursion Q [] h = tt

@@ -1,20 +1,11 @@
 -- The loops of the check, place by place and column by column.
-use Rattle.std.proofs.Common.{◌≡◌, ℕ, ◌<◌, ◌≤◌, ◌+◌, ℤ, pos, ◌*ℤ◌, Bool, true, false, List, [], ◌∷◌, ◌++◌, length, get_or, drop, Option, Some, None}
-use Rattle.std.proofs.Common.{arith, refl, ap, sym, ◌∙◌, subst, append_assoc, length-drop}
-use Rattle.std.specs.Prelude.{◌&&◌, option_and_then, if◌then◌else◌}
-use Rattle.std.specs.List.{AllByRecursion}
-use Rattle.std.specs.Ordering.{int_eq}
-use Rattle.std.proofs.lemmas.Bool.Decides.{Decides-int_eq}
+use Rattle.std.proofs.Common.{◌≡◌, ℕ, ◌<◌, ◌≤◌, ◌+◌, ℤ, pos, ◌*ℤ◌, Bool, true, false, List, [], ◌∷◌, ◌++◌, length, get_or, drop, Option, Some, None, arith, refl, ap, sym, ◌∙◌, subst, append_assoc}
 use Rattle.std.proofs.lemmas.List.{drop_more, drop_all, append-nil, get_or_default}
-use Rattle.std.proofs.lemmas.List.Elements.{All-get_or, All-from_recursion}
-use Rattle.lra_linear_spec.specs.Kinds.{is_equality}
-use Rattle.lra_linear_spec.specs.Range.{InRange}
-use Rattle.lra_linear_spec.specs.declared.ConKind.{ConKind}
-use Rattle.lra_linear_spec.specs.declared.ConKind.TheVariants.{Ge}
-use Rattle.lra_linear_spec.specs.Vectors.{entry}
+use Rattle.std.proofs.{Common.length-drop, lemmas.Bool.Decides.Decides-int_eq, lemmas.List.Elements.All-get_or, lemmas.List.Elements.All-from_recursion}
+use Rattle.std.specs.{List.AllByRecursion, Ordering.int_eq, Prelude.◌&&◌, Prelude.option_and_then, Prelude.if◌then◌else◌}
+use Rattle.lra_linear_spec.specs.{Kinds.is_equality, Range.InRange, Vectors.entry, declared.ConKind.ConKind, declared.ConKind.TheVariants.Ge}
 use Rattle.lra_systems.specs.LinearSystems.{rows_by_kind}
-use Rattle.lra_multipliers.specs.Multipliers.{is_signed, are_signed}
-use Rattle.lra_multipliers.specs.Columns.{added_to, column_sum, kinds_signed, used_from}
+use Rattle.lra_multipliers.specs.{Columns.added_to, Columns.column_sum, Columns.kinds_signed, Columns.used_from, Multipliers.is_signed, Multipliers.are_signed}
 use Rattle.lra_multipliers.proofs.CheckSteps.{zero_leaves, added_in}
 
 -- the signs from this place on

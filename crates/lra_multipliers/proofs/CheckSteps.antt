@@ -1,36 +1,17 @@
 -- What the check answers, told from its columns.
-use Rattle.std.proofs.Common.{◌≡◌, ℕ, zero, suc, ◌<◌, ◌≤◌, ◌+◌, ℤ, pos, ◌+ℤ◌, ◌*ℤ◌, ◌<ℤ◌, ◌≤ℤ◌, Bool, true, false, cond, List, [], ◌∷◌, length, Option, Some}
-use Rattle.std.proofs.Common.{None, Result, Ok, Err, refl, ap, sym, ◌∙◌, subst, arith, inl, inr, ◌⊎◌, nat_eq, FitsSigned, to_z, of_z}
-use Rattle.std.specs.Prelude.{if◌then◌else◌, int_le, ◌&&◌, option_and_then, IfSome}
-use Rattle.std.specs.Ordering.{int_eq}
-use Rattle.std.specs.Option.{SomeIff}
-use Rattle.std.specs.List.{AllByRecursion}
-use Rattle.std.specs.Cmp.Lexicographic.{pointwise}
-use Rattle.std.specs.Cmp.Rules.{signed_items}
-use Rattle.std.proofs.Math.IntN.{+ℤ_idl, +ℤ_idr, +ℤ_assoc}
-use Rattle.std.proofs.lemmas.Bool.{cases_lt}
-use Rattle.std.specs.Bool.{Decides}
+use Rattle.std.proofs.Common.{◌≡◌, ℕ, zero, suc, ◌<◌, ◌≤◌, ◌+◌, ℤ, pos, ◌+ℤ◌, ◌*ℤ◌, ◌<ℤ◌, ◌≤ℤ◌, Bool, true, false, cond, List, [], ◌∷◌, length, Option, Some, None, Result, Ok, Err, refl, ap, sym, ◌∙◌}
+use Rattle.std.proofs.Common.{subst, arith, inl, inr, ◌⊎◌, nat_eq, FitsSigned, to_z, of_z}
 use Rattle.std.proofs.lemmas.Bool.Decides.{nat_tests, Decides-int_eq, Decides-and, Decides-like, Decides-eqb, same_from_decides}
+use Rattle.std.proofs.{Math.IntN.+ℤ_idl, Math.IntN.+ℤ_idr, Math.IntN.+ℤ_assoc, lemmas.Bool.cases_lt, lemmas.Int.ints, lemmas.Int.to_z-of_z, lemmas.Option.same_Some, lemmas.Option.none-some}
+use Rattle.std.specs.Prelude.{if◌then◌else◌, int_le, ◌&&◌, option_and_then, IfSome}
+use Rattle.std.specs.{Bool.Decides, Cmp.Lexicographic.pointwise, Cmp.Rules.signed_items, Int.w128, List.AllByRecursion, Option.SomeIff, Ordering.int_eq}
 use borrow.Author.Count.{below_more}
-use Rattle.std.specs.Int.{w128}
-use Rattle.std.proofs.lemmas.Int.{ints, to_z-of_z}
-use Rattle.std.proofs.lemmas.Option.{same_Some, none-some}
-use Rattle.lra_linear_spec.specs.declared.Excess.{Excess}
-use Rattle.lra_linear_spec.specs.CheckedArithmetic.{checked_added_entry, checked_added, then_rest, and_then}
-use Rattle.lra_linear_spec.specs.Descriptions.{LinearRow, rows_of}
-use Rattle.lra_linear_spec.specs.Polyhedra.{positivity}
-use Rattle.lra_linear_spec.specs.Range.{InRange, in_range}
-use Rattle.lra_linear_spec.specs.Vectors.{entry, zeros, signed_sum}
-use Rattle.lra_linear_spec.proofs.CheckedArithmetic.{in_range_yes, in_range_no}
-use Rattle.lra_linear_spec.proofs.Lines.{entry_zeros}
-use Rattle.lra_linear_spec.proofs.Products.{entry_past, row_same}
-use Rattle.lra_linear_spec.proofs.Ring.{ring, v, ◌⊕◌, ◌⊗◌}
-use Rattle.lra_multipliers.specs.Symbols.{constant_row}
-use Rattle.lra_multipliers.specs.Multipliers.{Multipliers, IsSigned, AreSigned, IsFarkasCertificate, checked_multiple, checked_sum, premises_sum, IsCheckWide}
-use Rattle.lra_multipliers.specs.Multipliers.{wide, IsAnswer}
-use Rattle.lra_multipliers.specs.Multipliers.{is_signed, are_signed, may_show, shown_if, compared, checked}
-use Rattle.lra_multipliers.specs.Columns.{within_range, added_to, column_sum, first_of, premises_column, both, column_agrees}
-use Rattle.lra_multipliers.specs.Columns.{AgreeBelow, ColumnsTell, answer_told}
+use Rattle.lra_linear_spec.specs.{CheckedArithmetic.checked_added_entry, CheckedArithmetic.checked_added, CheckedArithmetic.then_rest, CheckedArithmetic.and_then, Descriptions.LinearRow}
+use Rattle.lra_linear_spec.specs.{Descriptions.rows_of, Polyhedra.positivity, Range.InRange, Range.in_range, Vectors.entry, Vectors.zeros, Vectors.signed_sum, declared.Excess.Excess}
+use Rattle.lra_linear_spec.proofs.{CheckedArithmetic.in_range_yes, CheckedArithmetic.in_range_no, Lines.entry_zeros, Products.entry_past, Products.row_same, Ring.ring, Ring.v, Ring.◌⊕◌, Ring.◌⊗◌}
+use Rattle.lra_multipliers.specs.Columns.{within_range, added_to, column_sum, first_of, premises_column, both, column_agrees, AgreeBelow, ColumnsTell, answer_told}
+use Rattle.lra_multipliers.specs.Multipliers.{Multipliers, IsSigned, AreSigned, IsFarkasCertificate, checked_multiple, checked_sum, premises_sum, IsCheckWide, wide, IsAnswer, is_signed, are_signed}
+use Rattle.lra_multipliers.specs.{Multipliers.may_show, Multipliers.shown_if, Multipliers.compared, Multipliers.checked, Symbols.constant_row}
 
 -- ---- one number
 abbrev kept : ℤ → Bool → Option ℤ

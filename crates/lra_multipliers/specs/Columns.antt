@@ -1,11 +1,8 @@
 -- The check of multipliers column by column, as it is made without memory.
+use Rattle.std.specs.Ordering.{int_eq}
 use Rattle.std.specs.Prelude.{◌≡◌, ◌<◌, ℕ, zero, suc, ◌+◌, ℤ, pos, ◌+ℤ◌, ◌*ℤ◌, Bool, true, false, ◌&&◌, List, [], ◌∷◌}
 use Rattle.std.specs.Prelude.{Option, Some, None, if◌then◌else◌, option_and_then, int_le}
-use Rattle.std.specs.Ordering.{int_eq}
-use Rattle.lra_linear_spec.specs.declared.ConKind.{ConKind}
-use Rattle.lra_linear_spec.specs.Kinds.{is_equality}
-use Rattle.lra_linear_spec.specs.Range.{in_range}
-use Rattle.lra_linear_spec.specs.Vectors.{entry}
+use Rattle.lra_linear_spec.specs.{Kinds.is_equality, Range.in_range, Vectors.entry, declared.ConKind.ConKind}
 use Rattle.lra_multipliers.specs.Multipliers.{Multipliers, Answer, wide, is_signed, shown_if}
 
 -- a number of the range

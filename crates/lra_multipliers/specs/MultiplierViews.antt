@@ -1,7 +1,6 @@
 -- What multipliers of the code, and the answer to them, stand for.
-use Rattle.lra_multipliers.specs.declared.columns.Answer.{Answer}
 use Rattle.lra_multipliers.specs.declared.columns.Answer.TheVariants.{Yes, No, Wide}
-use Rattle.lra_multipliers.specs.declared.multipliers.Multipliers.{Multipliers}
+use Rattle.lra_multipliers.specs.{declared.columns.Answer.Answer, declared.multipliers.Multipliers.Multipliers}
 use Rattle.lra_multipliers.specs.Multipliers as multipliers
 
 abbrev pub answer_view : Answer → multipliers.Answer

@@ -1,13 +1,10 @@
 -- Whole multipliers that show an inequality (Farkas 1902), and the check of them.
-use Rattle.std.specs.Prelude.{◌≡◌, ◌⊎◌, ℕ, ℤ, pos, ◌+ℤ◌, ◌*ℤ◌, ◌≤ℤ◌, ◌<ℤ◌, Bool, true, false, ⊤, List, [], ◌∷◌}
-use Rattle.std.specs.Prelude.{length, Result, Ok, Err, int_le, ◌&&◌}
-use Rattle.std.specs.Ordering.{int_eq}
-use Rattle.std.specs.Cmp.Lexicographic.{pointwise}
-use Rattle.lra_linear_spec.specs.declared.Excess.{Excess}
-use Rattle.lra_linear_spec.specs.CheckedArithmetic.{checked_added, and_then}
-use Rattle.lra_linear_spec.specs.Descriptions.{LinearRow, rows_of, Con}
-use Rattle.lra_linear_spec.specs.Polyhedra.{positivity}
+use Rattle.std.specs.Prelude.{◌≡◌, ◌⊎◌, ℕ, ℤ, pos, ◌+ℤ◌, ◌*ℤ◌, ◌≤ℤ◌, ◌<ℤ◌, Bool, true, false, ⊤, List, [], ◌∷◌, length}
+use Rattle.std.specs.Prelude.{Result, Ok, Err, int_le, ◌&&◌}
+use Rattle.std.specs.{Cmp.Lexicographic.pointwise, Ordering.int_eq}
 use Rattle.lra_linear_spec.specs.Vectors.{entry, zeros, signed_sum, product}
+use Rattle.lra_linear_spec.specs.{CheckedArithmetic.checked_added, CheckedArithmetic.and_then, Descriptions.LinearRow}
+use Rattle.lra_linear_spec.specs.{Descriptions.rows_of, Descriptions.Con, Polyhedra.positivity, declared.Excess.Excess}
 use Rattle.lra_multipliers.specs.Symbols.{constant_row}
 
 -- of the claim, of 1 >= 0, and of each premise

@@ -1,12 +1,9 @@
 -- What a path does to its variables, as rows over symbols: one symbol for each variable at its source, and a new one
 -- for each value of which nothing is told. Column 0 of a row is its constant. All rows of a path have one width.
-use Rattle.std.specs.Prelude.{ℕ, suc, ◌+◌, ◌-◌, ℤ, pos, List, [], ◌∷◌, ◌++◌, map, length, take, slice_set, Result, Ok}
 use Rattle.std.specs.List.{range_with_len}
-use Rattle.lra_linear_spec.specs.declared.Excess.{Excess}
+use Rattle.std.specs.Prelude.{ℕ, suc, ◌+◌, ◌-◌, ℤ, pos, List, [], ◌∷◌, ◌++◌, map, length, take, slice_set, Result, Ok}
 use Rattle.lra_linear_spec.specs.CheckedArithmetic.{checked_added, and_then}
-use Rattle.lra_linear_spec.specs.Descriptions.{LinearRow}
-use Rattle.lra_linear_spec.specs.Kinds.{is_equality}
-use Rattle.lra_linear_spec.specs.Vectors.{zeros}
+use Rattle.lra_linear_spec.specs.{Descriptions.LinearRow, Kinds.is_equality, Vectors.zeros, declared.Excess.Excess}
 use Rattle.lra_linear_forms.specs.Form.{form_row}
 use Rattle.lra_domain.specs.Actions.{Action, assign, forget, test, embed, remove_last}
 

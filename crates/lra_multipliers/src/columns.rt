@@ -1,14 +1,13 @@
 //! The check of multipliers, column by column.
 
-ghost use Rattle.std.specs.Prelude.{◌≡◌, ◌<◌, length, suc, ◌*ℤ◌, IfSome};
 ghost use Rattle.std.specs.List.{All};
-ghost use Rattle.lra_linear_spec.specs.Kinds.{is_equality};
-ghost use Rattle.lra_linear_spec.specs.Range.{InRange};
+ghost use Rattle.std.specs.Prelude.{◌≡◌, ◌<◌, length, suc, ◌*ℤ◌, IfSome};
+ghost use Rattle.lra_linear_spec.specs.{Kinds.is_equality, Range.InRange};
 ghost use Rattle.lra_systems.specs.LinearSystems.{constraints};
-ghost use Rattle.lra_multipliers.specs.Multipliers.{IsAnswer, is_signed, checked};
 ghost use Rattle.lra_multipliers.specs.Columns.{added_to, column_sum, column_agrees, ColumnsTell, first_of};
 ghost use Rattle.lra_multipliers.specs.Columns.{kinds_signed, kinds_show, answer_told, used_from, within_range};
 ghost use Rattle.lra_multipliers.specs.MultiplierViews.{answer_view, multipliers_view};
+ghost use Rattle.lra_multipliers.specs.Multipliers.{IsAnswer, is_signed, checked};
 
 use crate::multipliers::Multipliers;
 use lra_linear_spec::ConKind;

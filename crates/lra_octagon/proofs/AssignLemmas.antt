@@ -1,63 +1,29 @@
 -- What assignments give: x as a signed variable plus a number, and x in the bounds of a form.
-use Rattle.std.proofs.Common.{◌≡◌, ◌≢◌, ℕ, zero, suc, ◌+◌, ◌*◌, ◌/◌, ◌%◌, ◌<◌, ◌⊎◌, inl, inr, ℤ, pos, ◌+ℤ◌, ◌*ℤ◌, List, length, Option, None, Some, refl, ap, sym, ◌∙◌, subst, arith}
-use Rattle.std.proofs.Common.{cond, Bool, true, false, replicate}
-use Rattle.std.specs.List.{All}
-use Rattle.std.specs.Prelude.{◌==◌, ◌-ℤ◌, neg_ℤ, slice_set, slice_index_or}
-use Rattle.std.proofs.Math.ListN.{length-set}
-use Rattle.std.proofs.lemmas.Int.{ints}
-use Rattle.std.proofs.lemmas.List.{get_or-set_same, get_or-set_other, get_or-replicate}
-use Rattle.std.proofs.lemmas.Bool.Decides.{eqb_tells}
-use Rattle.lra_linear_spec.specs.Range.{InRange}
-use Rattle.lra_linear_spec.specs.Vectors.{entry, product}
+use Rattle.std.proofs.Common.{◌≡◌, ◌≢◌, ℕ, zero, suc, ◌+◌, ◌*◌, ◌/◌, ◌%◌, ◌<◌, ◌⊎◌, inl, inr, ℤ, pos, ◌+ℤ◌, ◌*ℤ◌, List, length, Option, None, Some, refl, ap, sym, ◌∙◌, subst, arith, cond, Bool, true}
+use Rattle.std.proofs.Common.{false, replicate}
+use Rattle.std.proofs.{Math.ListN.length-set, lemmas.Bool.Decides.eqb_tells, lemmas.Int.ints, lemmas.List.get_or-set_same, lemmas.List.get_or-set_other, lemmas.List.get_or-replicate}
+use Rattle.std.specs.{List.All, Prelude.◌==◌, Prelude.◌-ℤ◌, Prelude.neg_ℤ, Prelude.slice_set, Prelude.slice_index_or}
+use Rattle.lra_linear_spec.specs.{Range.InRange, Vectors.entry, Vectors.product}
 use Rattle.lra_linear_spec.proofs.Products.{entry_set_same}
 use Rattle.lra_linear_forms.specs.Form.{Form, form_value}
-use Rattle.lra_domain.specs.Actions.{assign}
-use Rattle.lra_domain.specs.Abstraction.{TransfersTo}
-use Rattle.lra_domain.specs.declared.Exactness.{Exactness}
-use Rattle.lra_domain.specs.declared.Exactness.TheVariants.{Exact, Flagged}
-use Rattle.lra_box.specs.declared.interval.Interval.{Interval}
-use Rattle.lra_box.specs.declared.interval.Side.TheVariants.{Low, High}
-use Rattle.lra_box.specs.declared.ends.Bound.{Bound as End}
+use Rattle.lra_domain.specs.{Abstraction.TransfersTo, Actions.assign, declared.Exactness.Exactness, declared.Exactness.TheVariants.Exact, declared.Exactness.TheVariants.Flagged}
 use Rattle.lra_box.specs.Bounds.{form, full_interval, InInterval, EndsInRange, end_sum, SumPasses, IsBound}
-use Rattle.lra_box.specs.Tables.{IntervalWithin, IntervalsWithin}
-use Rattle.lra_box.specs.Covering.{intervals_within_refl}
-use Rattle.lra_box.proofs.WithinLemmas.{set_within}
-use Rattle.lra_box.proofs.BoxLemmas.{bound_holds}
-use Rattle.lra_box.specs.Sums.{end_sum_holds}
-use Rattle.lra_box.proofs.AssignLemmas.{low_covers, high_covers}
-use Rattle.lra_dbm.specs.Answers.{is_flagged}
-use Rattle.lra_dbm.specs.Entry.{◌⊑◌, ◌⊞◌}
-use Rattle.lra_dbm.specs.Tight.{Entries, opposite, with_sign, signed_value, IsStore}
-use Rattle.lra_dbm.specs.Cells.{Cells, entries, entered}
-use Rattle.lra_dbm.specs.Cells.{DbmContent as Matrix}
-use Rattle.lra_dbm.specs.Closure.{IsClosure}
-use Rattle.lra_dbm.specs.Shifting.{added_to, origin, shifted, ShiftedTo}
-use Rattle.lra_dbm.proofs.EntryLemmas.{le_same, le_none, le_trans, sum_grows}
-use Rattle.lra_dbm.proofs.Lowering.{enter_matrix, le_within_range}
-use Rattle.lra_dbm.proofs.CellLemmas.{inside_or_out}
-use Rattle.lra_dbm.proofs.Closed.{signed_opposite}
-use Rattle.lra_dbm.proofs.Clears.{in_pair, opposite_plus}
+use Rattle.lra_box.specs.declared.interval.Side.TheVariants.{Low, High}
+use Rattle.lra_box.specs.{Covering.intervals_within_refl, Sums.end_sum_holds, Tables.IntervalWithin, Tables.IntervalsWithin, declared.ends.Bound.Bound as End, declared.interval.Interval.Interval}
+use Rattle.lra_box.proofs.{AssignLemmas.low_covers, AssignLemmas.high_covers, BoxLemmas.bound_holds, WithinLemmas.set_within}
+use Rattle.lra_dbm.specs.{Answers.is_flagged, Cells.Cells, Cells.entries, Cells.entered, Cells.DbmContent as Matrix, Closure.IsClosure, Entry.◌⊑◌, Entry.◌⊞◌, Shifting.added_to, Shifting.origin}
+use Rattle.lra_dbm.specs.{Shifting.shifted, Shifting.ShiftedTo, Tight.Entries, Tight.opposite, Tight.with_sign, Tight.signed_value, Tight.IsStore}
 use Rattle.lra_dbm.proofs.Shifts.{added_plus, added_minus, added_other, source_other, source_below, shifted_diagonal}
-use Rattle.lra_dbm.proofs.PointwiseLemmas.{within_refl, entries_within}
-use Rattle.lra_octagon.specs.declared.assigning.Assignment.{Assignment}
-use Rattle.lra_octagon.specs.declared.assigning.Assignment.TheVariants.{Equate, Shift, Bound}
-use Rattle.lra_octagon.specs.declared.forms.FormShape.{FormShape}
-use Rattle.lra_octagon.specs.declared.forms.FormShape.TheVariants.{Constant, One, Two, Other}
-use Rattle.lra_octagon.specs.Forms.{terms_from, shape_of, shape}
-use Rattle.lra_octagon.specs.Content.{content, matrix_view, IsOctagon, has_store, MatrixWithin}
+use Rattle.lra_dbm.proofs.{CellLemmas.inside_or_out, Clears.in_pair, Clears.opposite_plus, Closed.signed_opposite, EntryLemmas.le_same, EntryLemmas.le_none, EntryLemmas.le_trans}
+use Rattle.lra_dbm.proofs.{EntryLemmas.sum_grows, Lowering.enter_matrix, Lowering.le_within_range, PointwiseLemmas.within_refl, PointwiseLemmas.entries_within}
 use Rattle.lra_octagon.specs.Tables.{upper_of, upper, alone, intervals, form_interval, equated, Forgets, assignment_of, AssignsTo, MatrixAssignPasses, SomePasses, BoundedPasses, bounded}
-use Rattle.lra_octagon.specs.Closed.{EquatedTo}
-use Rattle.lra_octagon.specs.Answers.{MatrixAssignedTo, ConfinedTo}
-use Rattle.lra_octagon.specs.Abstraction.{octagon_abstraction}
-use Rattle.lra_octagon.specs.Single.{one_forgets}
+use Rattle.lra_octagon.specs.declared.assigning.Assignment.TheVariants.{Equate, Shift, Bound}
+use Rattle.lra_octagon.specs.declared.forms.FormShape.TheVariants.{Constant, One, Two, Other}
+use Rattle.lra_octagon.specs.{Abstraction.octagon_abstraction, Answers.MatrixAssignedTo, Answers.ConfinedTo, Closed.EquatedTo, Content.content, Content.matrix_view, Content.IsOctagon}
+use Rattle.lra_octagon.specs.{Content.has_store, Content.MatrixWithin, FormValues.one_value, FormValues.plus_value, FormValues.minus_value, Forms.terms_from, Forms.shape_of, Forms.shape}
+use Rattle.lra_octagon.specs.{Single.one_forgets, StoreBounds.in_intervals, StoreBounds.length_intervals, declared.assigning.Assignment.Assignment, declared.forms.FormShape.FormShape}
 use Rattle.lra_octagon.proofs.StoreLemmas.{signed_other, forgotten_store}
-use Rattle.lra_octagon.proofs.EnterLemmas.{entered_store}
-use Rattle.lra_octagon.proofs.FormLemmas.{one_in_range}
-use Rattle.lra_octagon.specs.FormValues.{one_value, plus_value, minus_value}
-use Rattle.lra_octagon.proofs.UnaryLemmas.{side_holds}
-use Rattle.lra_octagon.specs.StoreBounds.{in_intervals, length_intervals}
-use Rattle.lra_octagon.proofs.TestLemmas.{none_below, closed_below}
-use Rattle.lra_octagon.proofs.OtherLemmas.{bounds_below}
+use Rattle.lra_octagon.proofs.{EnterLemmas.entered_store, FormLemmas.one_in_range, OtherLemmas.bounds_below, TestLemmas.none_below, TestLemmas.closed_below, UnaryLemmas.side_holds}
 
 -- ---- what an assignment does
 

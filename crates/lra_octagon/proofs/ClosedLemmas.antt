@@ -1,11 +1,7 @@
 -- What closing gives an octagon, from what it gives a matrix.
 use Rattle.std.proofs.Common.{◌≡◌, ℕ, None, Some, refl, ap, ◌∙◌, Bool, true, false}
-use Rattle.lra_domain.specs.declared.Exactness.{Exactness}
-use Rattle.lra_domain.specs.declared.Exactness.TheVariants.{Exact, Flagged}
-use Rattle.lra_dbm.specs.Answers.{is_flagged}
-use Rattle.lra_dbm.specs.Cells.{Cells, IsMatrix}
-use Rattle.lra_dbm.specs.Steps.{progress}
-use Rattle.lra_dbm.specs.Closing.{AfterClosing, closing, Closes}
+use Rattle.lra_domain.specs.{declared.Exactness.Exactness, declared.Exactness.TheVariants.Exact, declared.Exactness.TheVariants.Flagged}
+use Rattle.lra_dbm.specs.{Answers.is_flagged, Cells.Cells, Cells.IsMatrix, Closing.AfterClosing, Closing.closing, Closing.Closes, Steps.progress}
 use Rattle.lra_octagon.specs.Closed.{ClosedTo}
 
 flagged_passes : (n : ℕ) (old new : Cells) (empty flagged : Bool) → closing n old ≡ record { empty = empty; progress = progress new flagged } → (closing n old).progress.flagged ≡ flagged

@@ -1,27 +1,15 @@
 -- A store that meets a bound stays one where the bound is entered; and what is entered is one matrix.
 use Rattle.std.proofs.Common.{◌≡◌, ℕ, suc, ◌+◌, ◌*◌, ◌<◌, ◌^◌, ◌⊎◌, ℤ, List, Option, None, Some, inl, inr, true, refl, sym, ap, ◌∙◌, subst, arith}
+use Rattle.std.proofs.{lemmas.Bool.Decides.eqb_tells, lemmas.Bool.Decides.leb_tells, lemmas.Int.ints}
 use Rattle.std.specs.Prelude.{◌-ℤ◌, ◌+ℤ◌, ◌≤ℤ◌, neg_ℤ, unsigned_abs}
-use Rattle.std.proofs.lemmas.Int.{ints}
-use Rattle.std.proofs.lemmas.Bool.Decides.{eqb_tells, leb_tells}
 use Rattle.lra_linear_spec.specs.Range.{InRange}
-use Rattle.lra_dbm.specs.Entry.{◌⊑◌, ◌⊞◌, lesser, passes_range}
-use Rattle.lra_dbm.specs.Tight.{opposite, signed_value, IsStore}
-use Rattle.lra_dbm.specs.Cells.{Cells, entries, entered, forgotten, IsMatrix}
-use Rattle.lra_domain.specs.declared.Exactness.{Exactness}
-use Rattle.lra_dbm.specs.Cells.{entry_at}
-use Rattle.lra_dbm.specs.Cells.{DbmContent as Matrix}
-use Rattle.lra_octagon.specs.Closed.{ClosedTo, Equates, EquatedTo}
-use Rattle.lra_domain.specs.declared.Exactness.TheVariants.{Exact, Flagged}
+use Rattle.lra_dbm.specs.Cells.{Cells, entries, entered, forgotten, IsMatrix, entry_at, DbmContent as Matrix, cell}
+use Rattle.lra_dbm.specs.{Entry.◌⊑◌, Entry.◌⊞◌, Entry.lesser, Entry.passes_range, Tight.opposite, Tight.signed_value, Tight.IsStore}
+use Rattle.lra_domain.specs.{declared.Exactness.Exactness, declared.Exactness.TheVariants.Exact, declared.Exactness.TheVariants.Flagged}
+use Rattle.lra_octagon.specs.{Closed.ClosedTo, Closed.Equates, Closed.EquatedTo, Entering.BoundsOne, Entering.BoundsAll, Tables.Forgets, Tables.upper, Tables.bounded, Tables.SomePasses}
 use Rattle.lra_box.specs.declared.interval.Interval.{Interval}
-use Rattle.lra_dbm.specs.Cells.{cell}
-use Rattle.lra_dbm.proofs.CellLemmas.{opposite_below, entries_inside, written_same, written_cases}
-use Rattle.lra_dbm.proofs.Strong.{opposite_twice}
-use Rattle.lra_dbm.proofs.Closed.{signed_opposite}
-use Rattle.lra_octagon.specs.Tables.{Forgets, upper, bounded, SomePasses}
-use Rattle.lra_octagon.specs.Entering.{BoundsOne, BoundsAll}
-use Rattle.lra_dbm.proofs.EntryLemmas.{le_same, le_trans}
-use Rattle.lra_dbm.proofs.Lowering.{enter_kept}
-use Rattle.lra_dbm.proofs.Closed.{difference, difference_closed, store_below, below_store}
+use Rattle.lra_dbm.proofs.{CellLemmas.opposite_below, CellLemmas.entries_inside, CellLemmas.written_same, CellLemmas.written_cases, Closed.signed_opposite, Closed.difference, Closed.difference_closed}
+use Rattle.lra_dbm.proofs.{Closed.store_below, Closed.below_store, EntryLemmas.le_same, EntryLemmas.le_trans, Lowering.enter_kept, Strong.opposite_twice}
 
 pub entered_store : (n i j : ℕ) (v : Option ℤ) (cells : Cells) (s : List ℤ) → i < 2 * n → j < 2 * n → IsMatrix n cells
     → IsStore n (entries n cells) s → Some (signed_value s j -ℤ signed_value s i) ⊑ v → IsStore n (entries n (entered i j v cells)) s

@@ -1,7 +1,7 @@
 -- What changes keep of the diagonal, and equal bounds.
 use Rattle.std.proofs.Common.{◌≡◌, ℕ, inl, inr, ℤ, pos, Option, None, Some, refl, ap, ◌∙◌, cond}
-use Rattle.std.specs.Prelude.{◌==◌}
 use Rattle.std.proofs.lemmas.Bool.Decides.{eqb_tells}
+use Rattle.std.specs.Prelude.{◌==◌}
 use Rattle.lra_dbm.specs.Cells.{Cells, entries, outside, forgotten, IsMatrix}
 use Rattle.lra_dbm.proofs.PointwiseLemmas.{within_refl, within_both}
 use Rattle.lra_octagon.specs.Content.{IsOctagon, CellsFit, MatrixWithin}

@@ -2,8 +2,7 @@
 use Rattle.std.proofs.Common.{◌+◌, ℕ, suc, ℤ, List, [], ◌∷◌, length, add-one, None, Some, subst}
 use Rattle.std.specs.Prelude.{Option}
 use Rattle.lra_dbm.specs.Tight.{Entries}
-use Rattle.lra_box.specs.declared.interval.Side.{Side}
-use Rattle.lra_box.specs.Ends.{HasProduct, IsEndFrom, PlusEnd}
+use Rattle.lra_box.specs.{Ends.HasProduct, Ends.IsEndFrom, Ends.PlusEnd, declared.interval.Side.Side}
 use Rattle.lra_box.proofs.EndLemmas.{ends_here, ends_none, ends_on}
 use Rattle.lra_octagon.specs.Tables.{interval, intervals_from}
 

@@ -1,15 +1,11 @@
 -- The shape of a form as it is read, and what its signed variables and magnitudes are.
-use Rattle.std.proofs.Common.{◌≡◌, ℕ, zero, suc, ◌+◌, ◌*◌, ◌<◌, ◌≤◌, ◌^◌, ℤ, pos, negsuc}
-use Rattle.std.proofs.Common.{List, [], ◌∷◌, ◌++◌, length, inl, inr, add-one, refl, ap, sym, ◌∙◌, arith, cond, Bool}
-use Rattle.std.proofs.Common.{true, false}
-use Rattle.std.specs.Prelude.{◌==◌}
+use Rattle.std.proofs.Common.{◌≡◌, ℕ, zero, suc, ◌+◌, ◌*◌, ◌<◌, ◌≤◌, ◌^◌, ℤ, pos, negsuc, List, [], ◌∷◌, ◌++◌, length, inl, inr, add-one, refl, ap, sym, ◌∙◌, arith, cond, Bool, true, false}
 use Rattle.std.proofs.lemmas.List.Elements.{All-tail}
-use Rattle.std.specs.List.{All}
+use Rattle.std.specs.{List.All, Prelude.◌==◌}
 use Rattle.lra_linear_spec.specs.Range.{InRange}
-use Rattle.lra_octagon.specs.declared.forms.FormShape.{FormShape}
-use Rattle.lra_octagon.specs.declared.forms.FormShape.TheVariants.{Constant, One, Two, Other}
-use Rattle.lra_octagon.specs.Forms.{ShapeFits, Term, terms_at, terms_from, shape_of}
 use Rattle.lra_octagon.specs.FormValues.{are_two, first_of, magnitude_of, two_or_other}
+use Rattle.lra_octagon.specs.declared.forms.FormShape.TheVariants.{Constant, One, Two, Other}
+use Rattle.lra_octagon.specs.{Forms.ShapeFits, Forms.Term, Forms.terms_at, Forms.terms_from, Forms.shape_of, declared.forms.FormShape.FormShape}
 
 -- ---- one more coefficient
 

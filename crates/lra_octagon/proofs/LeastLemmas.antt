@@ -2,14 +2,10 @@
 use Rattle.std.proofs.Common.{◌≡◌, ℕ, List, ℤ, Option, None, Some, Bool, true, false, ◌↔◌, IsTrue, refl, sym, subst}
 use Rattle.std.specs.Prelude.{not, is_some}
 use Rattle.lra_domain.specs.Actions.{Within}
-use Rattle.lra_dbm.specs.Cells.{Cells, entries}
-use Rattle.lra_dbm.specs.Cells.{DbmContent as Matrix}
-use Rattle.lra_dbm.specs.Pointwise.{greater_cells}
-use Rattle.lra_dbm.proofs.PointwiseLemmas.{greater_matrix, entries_within, joins_least}
-use Rattle.lra_dbm.proofs.Closures.{tight_has, tight_within}
+use Rattle.lra_dbm.specs.{Cells.Cells, Cells.entries, Cells.DbmContent as Matrix, Pointwise.greater_cells}
+use Rattle.lra_dbm.proofs.{Closures.tight_has, Closures.tight_within, PointwiseLemmas.greater_matrix, PointwiseLemmas.entries_within, PointwiseLemmas.joins_least}
 use Rattle.lra_octagon.specs.Content.{OctagonContent, content, matrix_view, CellsFit, has_store, MatrixWithin, OctagonGamma}
-use Rattle.lra_octagon.specs.Heads.{joined_cells}
-use Rattle.lra_octagon.specs.Least.{IsTightOrNone, IsTightOctagon, LeastOctagon}
+use Rattle.lra_octagon.specs.{Heads.joined_cells, Least.IsTightOrNone, Least.IsTightOctagon, Least.LeastOctagon}
 
 one_least : (n : ℕ) (a c : Option Cells) → CellsFit n a → CellsFit n c → IsTightOrNone n a → ((s : List ℤ) → has_store n a s → has_store n c s) → MatrixWithin a c
 one_least n None c f g t has = tt

@@ -3,21 +3,11 @@ use Rattle.std.proofs.Common.{◌≡◌, ◌≢◌, ◌<◌, ℕ, ℤ, List, Boo
 use Rattle.std.specs.Prelude.{◌⊎◌}
 use Rattle.lra_linear_spec.specs.declared.ConKind.{ConKind}
 use Rattle.lra_linear_forms.specs.Form.{Form}
-use Rattle.lra_domain.specs.declared.Exactness.{Exactness}
-use Rattle.lra_domain.specs.declared.Exactness.TheVariants.{Exact}
-use Rattle.lra_domain.specs.Actions.{assign, test}
-use Rattle.lra_domain.specs.Abstraction.{TransfersTo}
+use Rattle.lra_domain.specs.{Abstraction.TransfersTo, Actions.assign, Actions.test, declared.Exactness.Exactness, declared.Exactness.TheVariants.Exact}
 use Rattle.lra_dbm.specs.Cells.{Cells}
-use Rattle.lra_octagon.specs.declared.assigning.Assignment.TheVariants.{Shift}
-use Rattle.lra_octagon.specs.declared.forms.FormShape.TheVariants.{Constant}
-use Rattle.lra_octagon.specs.Content.{CellsFit, content, has_store}
-use Rattle.lra_octagon.specs.Forms.{shape}
-use Rattle.lra_octagon.specs.Least.{IsTightOrNone}
-use Rattle.lra_octagon.specs.Abstraction.{octagon_abstraction}
-use Rattle.lra_octagon.specs.Single.{one_tests}
-use Rattle.lra_octagon.specs.Tables.{Tests, assignment_of}
-use Rattle.lra_octagon.proofs.TransferLemmas.{covers_same}
-use Rattle.lra_octagon.proofs.TightLemmas.{assigns_tight, tests_tight, unshifted_tight, varied_tight}
+use Rattle.lra_octagon.specs.{Abstraction.octagon_abstraction, Content.CellsFit, Content.content, Content.has_store, Forms.shape, Least.IsTightOrNone, Single.one_tests, Tables.Tests}
+use Rattle.lra_octagon.specs.{Tables.assignment_of, declared.assigning.Assignment.TheVariants.Shift, declared.forms.FormShape.TheVariants.Constant}
+use Rattle.lra_octagon.proofs.{TightLemmas.assigns_tight, TightLemmas.tests_tight, TightLemmas.unshifted_tight, TightLemmas.varied_tight, TransferLemmas.covers_same}
 
 -- a change is known to make a tight octagon: it is exact, and was made of a tight one or closes
 abbrev pub MakesTight : Exactness → Bool → Bool → Bool → Type 0

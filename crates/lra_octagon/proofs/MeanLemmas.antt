@@ -1,34 +1,18 @@
 -- The rows of an octagon mean it.
-use Rattle.std.proofs.Common.{◌≡◌, ◌≢◌, ℕ, zero, suc, ◌+◌, ◌-◌, ◌*◌, ◌/◌, ◌%◌, ◌<◌, ◌≤◌, ◌⊎◌, inl, inr, ◌↔◌, ℤ, pos, ◌+ℤ◌, ◌*ℤ◌, List, [], ◌∷◌, ◌++◌, length, replicate, Option, None, Some}
-use Rattle.std.proofs.Common.{Bool, true, false, cond, refl, sym, ap, ◌∙◌, subst, arith}
-use Rattle.std.specs.Prelude.{◌==◌, ◌-ℤ◌, ◌≤ℤ◌, neg_ℤ, slice_set, slice_index_or}
-use Rattle.std.specs.Cmp.{signed_Decides}
-use Rattle.std.proofs.Math.ListN.{length-set}
-use Rattle.std.proofs.lemmas.Int.{ints}
-use Rattle.std.proofs.lemmas.Bool.{false≢true}
-use Rattle.std.proofs.lemmas.Bool.Decides.{eqb_tells, leb_tells}
-use Rattle.std.proofs.lemmas.List.{get_or-set_other, get_or-replicate}
-use Rattle.lra_linear_spec.specs.Vectors.{entry, product}
-use Rattle.lra_linear_spec.specs.declared.ConKind.{ConKind}
-use Rattle.lra_linear_spec.specs.declared.ConKind.TheVariants.{Ge, Eq}
-use Rattle.std.specs.List.{All}
-use Rattle.std.proofs.lemmas.List.Elements.{All-cons, All-nil}
+use Rattle.std.proofs.Common.{◌≡◌, ◌≢◌, ℕ, zero, suc, ◌+◌, ◌-◌, ◌*◌, ◌/◌, ◌%◌, ◌<◌, ◌≤◌, ◌⊎◌, inl, inr, ◌↔◌, ℤ, pos, ◌+ℤ◌, ◌*ℤ◌, List, [], ◌∷◌, ◌++◌, length, replicate, Option, None, Some, Bool, true}
+use Rattle.std.proofs.Common.{false, cond, refl, sym, ap, ◌∙◌, subst, arith}
+use Rattle.std.proofs.{Math.ListN.length-set, lemmas.Bool.false≢true, lemmas.Bool.Decides.eqb_tells, lemmas.Bool.Decides.leb_tells, lemmas.Int.ints, lemmas.List.get_or-set_other}
+use Rattle.std.proofs.{lemmas.List.get_or-replicate, lemmas.List.Elements.All-cons, lemmas.List.Elements.All-nil}
+use Rattle.std.specs.{Cmp.signed_Decides, List.All, Prelude.◌==◌, Prelude.◌-ℤ◌, Prelude.◌≤ℤ◌, Prelude.neg_ℤ, Prelude.slice_set, Prelude.slice_index_or}
+use Rattle.lra_linear_spec.specs.{Vectors.entry, Vectors.product, declared.ConKind.ConKind, declared.ConKind.TheVariants.Ge, declared.ConKind.TheVariants.Eq}
 use Rattle.lra_systems.specs.LinearSystems.{LinearSystem}
 use Rattle.lra_domain.specs.Parts.{SomePartHolds}
 use Rattle.lra_box.proofs.PartLemmas.{AllHold, hold_append, rows_hold, product_zeros, times_one, one_times, minus_times}
-use Rattle.lra_dbm.specs.Entry.{◌⊑◌, half_of}
-use Rattle.lra_dbm.specs.Tight.{Entries, opposite, with_sign, signed_value, IsStore}
-use Rattle.lra_dbm.specs.Cells.{Cells, entries}
-use Rattle.lra_dbm.proofs.EntryLemmas.{le_same, le_none, le_trans}
-use Rattle.lra_dbm.proofs.Strong.{opposite_twice, half_bounds}
-use Rattle.lra_dbm.proofs.CellLemmas.{opposite_below}
+use Rattle.lra_dbm.specs.{Cells.Cells, Cells.entries, Entry.◌⊑◌, Entry.half_of, Tight.Entries, Tight.opposite, Tight.with_sign, Tight.signed_value, Tight.IsStore}
 use Rattle.lra_dbm.proofs.Clears.{half_opposite, in_pair, opposite_plus, opposite_minus}
-use Rattle.lra_dbm.proofs.Closed.{signed_opposite}
-use Rattle.lra_octagon.specs.Content.{IsOctagon, CellsFit, has_store}
-use Rattle.lra_octagon.specs.Tables.{most}
+use Rattle.lra_dbm.proofs.{CellLemmas.opposite_below, Closed.signed_opposite, EntryLemmas.le_same, EntryLemmas.le_none, EntryLemmas.le_trans, Strong.opposite_twice, Strong.half_bounds}
 use Rattle.lra_octagon.specs.Parts.{sign_of, pair_row, implied_by, unless_implied, printed, makes_equality, is_equality_pair, row_if_any, kind_row, RowsAt, rising, falling, rows_with}
-use Rattle.lra_octagon.specs.Parts.{octagon_equalities, octagon_inequalities}
-use Rattle.lra_octagon.specs.Parts.{octagon_system, octagon_parts}
+use Rattle.lra_octagon.specs.{Content.IsOctagon, Content.CellsFit, Content.has_store, Parts.octagon_equalities, Parts.octagon_inequalities, Parts.octagon_system, Parts.octagon_parts, Tables.most}
 
 -- ---- what a row is at a store
 

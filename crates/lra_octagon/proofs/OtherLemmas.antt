@@ -1,37 +1,21 @@
 -- Tests by way of the unary bounds.
 use Rattle.std.proofs.Common.{◌≡◌, ℕ, zero, suc, ◌+◌, ◌-◌, ◌<◌, ◌⊎◌, ℤ, pos, negsuc, List, [], ◌∷◌, length, Option, None, Some, inl, inr, refl, ap, sym, ◌∙◌, subst, arith, cond, Bool, true, false}
+use Rattle.std.proofs.lemmas.Bool.{false≢true}
 use Rattle.std.specs.Prelude.{◌≤ℤ◌, ◌+ℤ◌, int_lt, slice_index_or, slice_set}
 use Rattle.lra_linear_spec.specs.Vectors.{product}
 use Rattle.lra_linear_forms.specs.Form.{Form, form_value}
-use Rattle.lra_domain.specs.declared.Exactness.{Exactness}
-use Rattle.lra_domain.specs.declared.Exactness.TheVariants.{Exact, Flagged}
-use Rattle.lra_box.specs.declared.interval.Interval.{Interval}
-use Rattle.lra_box.specs.Bounds.{full_interval, crossed}
-use Rattle.lra_box.specs.Tables.{IntervalWithin, IntervalsWithin, BoundsWithin as IntervalBoundsWithin}
+use Rattle.lra_domain.specs.{declared.Exactness.Exactness, declared.Exactness.TheVariants.Exact, declared.Exactness.TheVariants.Flagged}
 use Rattle.lra_box.specs.Refine.{others_most, place_refined, refine_place, refined, some_occurs, ge_tested, RefinePasses}
-use Rattle.lra_box.specs.Covering.{within_refl, within_trans}
-use Rattle.lra_box.specs.Answers.{TestedTo as BoxTestedTo}
+use Rattle.lra_box.specs.Tables.{IntervalWithin, IntervalsWithin, BoundsWithin as IntervalBoundsWithin}
+use Rattle.lra_box.specs.{Answers.TestedTo as BoxTestedTo, Bounds.full_interval, Bounds.crossed, Covering.within_refl, Covering.within_trans, declared.interval.Interval.Interval}
 use Rattle.lra_box.proofs.WithinLemmas.{at_within, set_one, crossed_within}
-use Rattle.lra_box.proofs.MonotoneLemmas.{tightened_in, ge_tested_within}
-use Rattle.lra_box.proofs.RefineLemmas.{none_stays, in_at}
-use Rattle.lra_box.proofs.SoundLemmas.{not_crossed}
-use Rattle.std.proofs.lemmas.Bool.{false≢true}
-use Rattle.lra_dbm.specs.Tight.{Entries, IsStore}
-use Rattle.lra_dbm.specs.Cells.{Cells, entries}
-use Rattle.lra_dbm.specs.Closure.{IsClosure}
-use Rattle.lra_dbm.specs.Pointwise.{CellsWithin}
-use Rattle.lra_dbm.proofs.EntryLemmas.{le_trans}
-use Rattle.lra_dbm.proofs.Closures.{within_stores, tight_has, tight_within}
-use Rattle.lra_octagon.specs.declared.forms.FormShape.TheVariants.{Other}
-use Rattle.lra_octagon.specs.Forms.{terms_from, shape_of, shape}
-use Rattle.lra_octagon.specs.Content.{CellsFit, has_store, MatrixWithin}
+use Rattle.lra_box.proofs.{MonotoneLemmas.tightened_in, MonotoneLemmas.ge_tested_within, RefineLemmas.none_stays, RefineLemmas.in_at, SoundLemmas.not_crossed}
+use Rattle.lra_dbm.specs.{Cells.Cells, Cells.entries, Closure.IsClosure, Pointwise.CellsWithin, Tight.Entries, Tight.IsStore}
+use Rattle.lra_dbm.proofs.{Closures.within_stores, Closures.tight_has, Closures.tight_within, EntryLemmas.le_trans}
 use Rattle.lra_octagon.specs.Tables.{intervals, some_crossed, bounded, BoundsTo, TestsTo, BoundsPass, FirstTestPasses}
-use Rattle.lra_octagon.specs.Closed.{ClosedTo}
-use Rattle.lra_octagon.specs.Entering.{BoundsAll, BoundedTo}
-use Rattle.lra_octagon.specs.Answers.{MatrixTestedTo}
-use Rattle.lra_octagon.proofs.TestLemmas.{none_below}
-use Rattle.lra_octagon.proofs.UnaryLemmas.{intervals_wider, upper_holds, upper_wider, bounded_back, same_entries_closure}
-use Rattle.lra_octagon.specs.StoreBounds.{in_intervals}
+use Rattle.lra_octagon.specs.{Answers.MatrixTestedTo, Closed.ClosedTo, Content.CellsFit, Content.has_store, Content.MatrixWithin, Entering.BoundsAll, Entering.BoundedTo, Forms.terms_from}
+use Rattle.lra_octagon.specs.{Forms.shape_of, Forms.shape, StoreBounds.in_intervals, declared.forms.FormShape.TheVariants.Other}
+use Rattle.lra_octagon.proofs.{TestLemmas.none_below, UnaryLemmas.intervals_wider, UnaryLemmas.upper_holds, UnaryLemmas.upper_wider, UnaryLemmas.bounded_back, UnaryLemmas.same_entries_closure}
 
 -- ---- a variable occurs
 

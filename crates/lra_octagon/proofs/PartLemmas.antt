@@ -1,27 +1,15 @@
 -- Rows of an octagon that are added one after another.
 use Rattle.std.proofs.Common.{◌≡◌, ℕ, zero, suc, ◌+◌, ◌-◌, ◌*◌, ◌/◌, ◌<◌, ◌≤◌, ℤ, pos, List, [], ◌∷◌, ◌++◌, length, replicate, Option, None, Some, Bool, true, false, cond, refl, sym, ap, ◌∙◌, subst}
-use Rattle.std.proofs.Common.{arith}
-use Rattle.std.proofs.Common.{append_assoc, IfSome}
-use Rattle.std.specs.Prelude.{◌==◌, slice_set}
-use Rattle.std.specs.Int.{int_div_euclid}
-use Rattle.std.specs.List.{All}
-use Rattle.std.proofs.lemmas.Int.{ints}
-use Rattle.std.proofs.lemmas.List.{append-nil}
-use Rattle.std.proofs.lemmas.List.Elements.{All-cons}
-use Rattle.lra_linear_spec.specs.Range.{InRange}
-use Rattle.lra_linear_spec.specs.declared.ConKind.{ConKind}
-use Rattle.lra_linear_spec.specs.declared.ConKind.TheVariants.{Ge, Eq}
+use Rattle.std.proofs.{Common.arith, Common.append_assoc, Common.IfSome, lemmas.Int.ints, lemmas.List.append-nil, lemmas.List.Elements.All-cons}
+use Rattle.std.specs.{Int.int_div_euclid, List.All, Prelude.◌==◌, Prelude.slice_set}
+use Rattle.lra_linear_spec.specs.{Range.InRange, declared.ConKind.ConKind, declared.ConKind.TheVariants.Ge, declared.ConKind.TheVariants.Eq}
 use Rattle.lra_systems.specs.LinearSystems.{LinearSystem}
 use Rattle.lra_linear_spec.proofs.UnitRows.{set_in_range, zeros_in_range}
 use Rattle.lra_box.proofs.PartLemmas.{kinds_append}
-use Rattle.lra_dbm.specs.Entry.{half_of, EntryInRange}
-use Rattle.lra_dbm.specs.Tight.{Entries, opposite, with_sign}
-use Rattle.lra_dbm.specs.Cells.{Cells, entries, IsMatrix}
-use Rattle.lra_dbm.proofs.Lowering.{half_fits}
-use Rattle.lra_dbm.proofs.Strong.{half_bounds}
-use Rattle.lra_octagon.specs.Tables.{IsHalf, most}
+use Rattle.lra_dbm.specs.{Cells.Cells, Cells.entries, Cells.IsMatrix, Entry.half_of, Entry.EntryInRange, Tight.Entries, Tight.opposite, Tight.with_sign}
+use Rattle.lra_dbm.proofs.{Lowering.half_fits, Strong.half_bounds}
 use Rattle.lra_octagon.specs.Parts.{sign_of, pair_row, implied_by, unless_implied, printed, kind_row, RowsAt, rising, falling, rows_with, octagon_equalities, octagon_inequalities, octagon_system}
-use Rattle.lra_octagon.specs.Parts.{Pushed}
+use Rattle.lra_octagon.specs.{Parts.Pushed, Tables.IsHalf, Tables.most}
 
 -- ---- numbers of rows
 

@@ -1,34 +1,19 @@
 -- The rows of an octagon are in order, and are exactly its bounds.
-use Rattle.std.proofs.Common.{◌≡◌, ◌≢◌, ℕ, zero, suc, ◌+◌, ◌-◌, ◌*◌, ◌/◌, ◌<◌, ◌≤◌, Bool, true, false, cond, ℤ, pos, negsuc, ◌<ℤ◌, List, [], ◌∷◌, ◌++◌}
-use Rattle.std.proofs.Common.{length, replicate, Option, None, Some, ◌⊎◌, inl, inr, ◌↔◌, refl, sym, ap, subst, ◌∙◌, arith}
-use Rattle.std.specs.Prelude.{if◌then◌else◌, ◌+ℤ◌, ◌≤ℤ◌, neg_ℤ, int_le, slice_set}
-use Rattle.std.specs.Ordering.{int_cmp, int_eq, ordering_then}
-use Rattle.std.specs.Cmp.{int_cmp_is, signed_Decides}
-use Rattle.std.specs.Cmp.Lexicographic.{slice_cmp}
-use Rattle.std.specs.List.{Contains}
-use Rattle.std.specs.declared.cmp.Ordering.{Ordering}
-use Rattle.std.specs.declared.cmp.Ordering.TheVariants.{Less, Equal}
-use Rattle.std.proofs.Math.ListN.{length-set}
-use Rattle.std.proofs.lemmas.Int.{ints}
-use Rattle.std.proofs.lemmas.Bool.{false≢true}
-use Rattle.std.proofs.lemmas.Bool.Decides.{eqb_tells, leb_tells}
-use Rattle.std.proofs.lemmas.List.{length-replicate}
+use Rattle.std.proofs.Common.{◌≡◌, ◌≢◌, ℕ, zero, suc, ◌+◌, ◌-◌, ◌*◌, ◌/◌, ◌<◌, ◌≤◌, Bool, true, false, cond, ℤ, pos, negsuc, ◌<ℤ◌, List, [], ◌∷◌, ◌++◌, length, replicate, Option, None, Some, ◌⊎◌, inl}
+use Rattle.std.proofs.Common.{inr, ◌↔◌, refl, sym, ap, subst, ◌∙◌, arith}
 use Rattle.std.proofs.lemmas.List.Elements.{Contains-append_cases, Contains-append_left, Contains-append_right}
-use Rattle.lra_linear_spec.specs.Echelon.{lead_from, pivot}
+use Rattle.std.proofs.{Math.ListN.length-set, lemmas.Bool.false≢true, lemmas.Bool.Decides.eqb_tells, lemmas.Bool.Decides.leb_tells, lemmas.Int.ints, lemmas.List.length-replicate}
+use Rattle.std.specs.{Cmp.int_cmp_is, Cmp.signed_Decides, Cmp.Lexicographic.slice_cmp, List.Contains, Ordering.int_cmp, Ordering.int_eq, Ordering.ordering_then, Prelude.if◌then◌else◌, Prelude.◌+ℤ◌}
+use Rattle.std.specs.{Prelude.◌≤ℤ◌, Prelude.neg_ℤ, Prelude.int_le, Prelude.slice_set, declared.cmp.Ordering.Ordering, declared.cmp.Ordering.TheVariants.Less, declared.cmp.Ordering.TheVariants.Equal}
 use Rattle.lra_linear_spec.specs.RowOrder.{Ascends, inequality_cmp}
-use Rattle.lra_linear_spec.specs.Vectors.{entry}
-use Rattle.lra_linear_spec.specs.declared.ConKind.{ConKind}
-use Rattle.lra_linear_spec.specs.declared.ConKind.TheVariants.{Ge, Eq}
-use Rattle.lra_linear_spec.proofs.Membership.{contains_cases, contains_none}
-use Rattle.lra_linear_spec.proofs.Products.{entry_set_other, entry_set_same}
+use Rattle.lra_linear_spec.specs.{Echelon.lead_from, Echelon.pivot, Vectors.entry, declared.ConKind.ConKind, declared.ConKind.TheVariants.Ge, declared.ConKind.TheVariants.Eq}
+use Rattle.lra_linear_spec.proofs.{Membership.contains_cases, Membership.contains_none, Products.entry_set_other, Products.entry_set_same}
 use Rattle.lra_box.proofs.RowLemmas.{ascends_append, earlier, entry_zeros, only_has, tied}
 use Rattle.lra_dbm.specs.Tight.{Entries, opposite}
 use Rattle.lra_dbm.proofs.Clears.{half_opposite, in_pair}
-use Rattle.lra_octagon.specs.ExactRows.{IsRowBound, IsBoundRow, IsOctagonEquality, IsImplied, IsOctagonInequality, MakesEquality}
-use Rattle.lra_octagon.specs.Parts.{RowsAt, octagon_equalities, falling, implied_by, is_equality_pair, kind_row, makes_equality, pair_row, printed, rising}
-use Rattle.lra_octagon.specs.Parts.{row_if_any}
-use Rattle.lra_octagon.specs.Parts.{rows_with, sign_of, octagon_inequalities, unless_implied}
-use Rattle.lra_octagon.specs.Tables.{most}
+use Rattle.lra_octagon.specs.Parts.{RowsAt, octagon_equalities, falling, implied_by, is_equality_pair, kind_row, makes_equality, pair_row, printed, rising, row_if_any, rows_with, sign_of}
+use Rattle.lra_octagon.specs.Parts.{octagon_inequalities, unless_implied}
+use Rattle.lra_octagon.specs.{ExactRows.IsRowBound, ExactRows.IsBoundRow, ExactRows.IsOctagonEquality, ExactRows.IsImplied, ExactRows.IsOctagonInequality, ExactRows.MakesEquality, Tables.most}
 
 -- ---- the coefficients of the row q + v_i + v_j
 

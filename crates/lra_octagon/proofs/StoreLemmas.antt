@@ -1,19 +1,12 @@
 -- Stores of matrices whose variables are forgotten, come or go.
-use Rattle.std.proofs.Common.{◌≡◌, ◌≢◌, ℕ, zero, suc, ◌+◌, ◌-◌, ◌*◌, ◌/◌, ◌%◌, ◌≤◌, ◌<◌, inl, inr, ℤ, List, [], ◌∷◌, ◌++◌, length, length-append, take, Option, None, Some}
-use Rattle.std.proofs.Common.{refl, sym, ap, ◌∙◌, subst, arith, cond}
+use Rattle.std.proofs.Common.{◌≡◌, ◌≢◌, ℕ, zero, suc, ◌+◌, ◌-◌, ◌*◌, ◌/◌, ◌%◌, ◌≤◌, ◌<◌, inl, inr, ℤ, List, [], ◌∷◌, ◌++◌, length, length-append, take, Option, None, Some, refl, sym, ap, ◌∙◌, subst}
+use Rattle.std.proofs.{Common.arith, Common.cond, Math.ListN.length-set, lemmas.Bool.Decides.eqb_tells, lemmas.Bool.Decides.leb_tells, lemmas.Int.ints}
 use Rattle.std.specs.Prelude.{◌==◌, ◌||◌, ◌-ℤ◌, nat_lt, slice_set}
-use Rattle.std.proofs.Math.ListN.{length-set}
-use Rattle.std.proofs.lemmas.Int.{ints}
-use Rattle.std.proofs.lemmas.Bool.Decides.{eqb_tells, leb_tells}
 use Rattle.lra_linear_spec.specs.Vectors.{entry}
 use Rattle.lra_linear_spec.proofs.Products.{entry_set_other}
-use Rattle.lra_dbm.specs.Entry.{◌⊑◌}
-use Rattle.lra_dbm.specs.Tight.{Entries, with_sign, signed_value, IsStore}
-use Rattle.lra_dbm.specs.Cells.{Cells, entries, outside, forgotten, first_entries}
-use Rattle.lra_dbm.proofs.EntryLemmas.{le_same, le_none, le_trans}
-use Rattle.lra_dbm.proofs.CellLemmas.{inside_or_out}
-use Rattle.lra_octagon.specs.Content.{has_store}
-use Rattle.lra_octagon.specs.Tables.{Becomes}
+use Rattle.lra_dbm.specs.{Cells.Cells, Cells.entries, Cells.outside, Cells.forgotten, Cells.first_entries, Entry.◌⊑◌, Tight.Entries, Tight.with_sign, Tight.signed_value, Tight.IsStore}
+use Rattle.lra_dbm.proofs.{CellLemmas.inside_or_out, EntryLemmas.le_same, EntryLemmas.le_none, EntryLemmas.le_trans}
+use Rattle.lra_octagon.specs.{Content.has_store, Tables.Becomes}
 
 -- ---- numbers of a store
 

@@ -1,42 +1,22 @@
 -- What tests give: of a constant, of one signed variable, of the sum of two; and a test `e = 0` as two tests.
 use Rattle.std.proofs.Common.{◌≡◌, ℕ, zero, suc, ◌*◌, ◌<◌, inl, inr, ℤ, pos, ◌+ℤ◌, ◌*ℤ◌, List, map, Option, None, Some, refl, ap, sym, ◌∙◌, subst, arith, cond, Bool, true, false}
-use Rattle.std.specs.Prelude.{◌-ℤ◌, ◌≤ℤ◌, neg_ℤ, int_lt, ◌⊎◌}
-use Rattle.std.specs.Int.{int_div_euclid}
-use Rattle.std.proofs.lemmas.Int.{ints}
-use Rattle.std.proofs.lemmas.Bool.{false≢true}
-use Rattle.lra_linear_spec.specs.Vectors.{product}
-use Rattle.lra_linear_spec.specs.declared.ConKind.TheVariants.{Ge, Eq}
+use Rattle.std.proofs.{lemmas.Bool.false≢true, lemmas.Int.ints}
+use Rattle.std.specs.{Int.int_div_euclid, Prelude.◌-ℤ◌, Prelude.◌≤ℤ◌, Prelude.neg_ℤ, Prelude.int_lt, Prelude.◌⊎◌}
+use Rattle.lra_linear_spec.specs.{Vectors.product, declared.ConKind.TheVariants.Ge, declared.ConKind.TheVariants.Eq}
 use Rattle.lra_linear_forms.specs.Form.{Form, form_value}
 use Rattle.lra_linear_forms.proofs.FormLemmas.{product_negated}
-use Rattle.lra_domain.specs.Actions.{test}
-use Rattle.lra_domain.specs.Abstraction.{TransfersTo}
-use Rattle.lra_domain.specs.declared.Exactness.{Exactness}
-use Rattle.lra_domain.specs.declared.Exactness.TheVariants.{Exact, Flagged}
-use Rattle.lra_box.specs.declared.interval.Interval.{Interval}
-use Rattle.lra_box.specs.Bounds.{full_interval, form}
-use Rattle.lra_box.specs.Refine.{ge_tested}
+use Rattle.lra_domain.specs.{Abstraction.TransfersTo, Actions.test, declared.Exactness.Exactness, declared.Exactness.TheVariants.Exact, declared.Exactness.TheVariants.Flagged}
+use Rattle.lra_box.specs.{Bounds.full_interval, Bounds.form, Refine.ge_tested, declared.interval.Interval.Interval}
 use Rattle.lra_box.proofs.RefineLemmas.{tightened_holds}
-use Rattle.lra_dbm.specs.Entry.{◌⊑◌}
 use Rattle.lra_dbm.specs.Tight.{Entries, opposite, signed_value, IsStore}
-use Rattle.lra_dbm.specs.Cells.{Cells, entries, entered, IsMatrix}
-use Rattle.lra_dbm.specs.Closure.{IsClosure}
-use Rattle.lra_dbm.specs.Pointwise.{CellsWithin}
-use Rattle.lra_dbm.proofs.EntryLemmas.{le_trans}
-use Rattle.lra_dbm.proofs.CellLemmas.{opposite_below}
-use Rattle.lra_dbm.proofs.Lowering.{enter_lowers, enter_at}
-use Rattle.lra_dbm.proofs.Closed.{signed_opposite}
+use Rattle.lra_dbm.specs.{Cells.Cells, Cells.entries, Cells.entered, Cells.IsMatrix, Closure.IsClosure, Entry.◌⊑◌, Pointwise.CellsWithin}
 use Rattle.lra_dbm.proofs.Closures.{tight_has, tight_within, within_stores}
-use Rattle.lra_octagon.specs.declared.forms.FormShape.{FormShape}
-use Rattle.lra_octagon.specs.declared.forms.FormShape.TheVariants.{Constant, One, Two, Other}
-use Rattle.lra_octagon.specs.Forms.{shape}
-use Rattle.lra_octagon.specs.Content.{content, CellsFit, has_store, MatrixWithin}
+use Rattle.lra_dbm.proofs.{CellLemmas.opposite_below, Closed.signed_opposite, EntryLemmas.le_trans, Lowering.enter_lowers, Lowering.enter_at}
 use Rattle.lra_octagon.specs.Tables.{at_least, quotient, intervals, bounded, BoundsTo, TestsTo, MatrixTestPasses, minus_form}
-use Rattle.lra_octagon.specs.Closed.{ClosedTo}
-use Rattle.lra_octagon.specs.Answers.{MatrixFits, MatrixTestedTo}
-use Rattle.lra_octagon.specs.Abstraction.{octagon_abstraction}
-use Rattle.lra_octagon.proofs.EnterLemmas.{entered_store}
-use Rattle.lra_octagon.proofs.FitLemmas.{bounds_self}
-use Rattle.lra_octagon.specs.FormValues.{constant_value, one_value, two_value}
+use Rattle.lra_octagon.specs.declared.forms.FormShape.TheVariants.{Constant, One, Two, Other}
+use Rattle.lra_octagon.specs.{Abstraction.octagon_abstraction, Answers.MatrixFits, Answers.MatrixTestedTo, Closed.ClosedTo, Content.content, Content.CellsFit, Content.has_store, Content.MatrixWithin}
+use Rattle.lra_octagon.specs.{FormValues.constant_value, FormValues.one_value, FormValues.two_value, Forms.shape, declared.forms.FormShape.FormShape}
+use Rattle.lra_octagon.proofs.{EnterLemmas.entered_store, FitLemmas.bounds_self}
 
 -- ---- entered bounds
 

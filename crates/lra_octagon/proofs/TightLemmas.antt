@@ -1,50 +1,27 @@
 -- What is defined of tight matrices is tight, and a test that lowers no entry of one is that one.
-use Rattle.std.proofs.Common.{◌≡◌, ◌≢◌, ◌∙◌, ◌+◌, ◌-◌, ◌*◌, ◌/◌, ◌%◌, ◌<◌, ◌≤◌, ℕ, zero, suc, ℤ, pos, negsuc, ◌+ℤ◌, List, [], ◌∷◌, ◌++◌, length, map, take}
-use Rattle.std.proofs.Common.{Bool, true, false, cond, replicate, Option, None, Some, inl, inr, refl, sym, ap, subst, arith}
+use Rattle.std.proofs.Common.{◌≡◌, ◌≢◌, ◌∙◌, ◌+◌, ◌-◌, ◌*◌, ◌/◌, ◌%◌, ◌<◌, ◌≤◌, ℕ, zero, suc, ℤ, pos, negsuc, ◌+ℤ◌, List, [], ◌∷◌, ◌++◌, length, map, take, Bool, true, false, cond, replicate, Option}
+use Rattle.std.proofs.Common.{None, Some, inl, inr, refl, sym, ap, subst, arith}
+use Rattle.std.proofs.{Math.ListN.length-set, lemmas.Bool.Decides.eqb_tells, lemmas.Bool.Decides.leb_tells, lemmas.Int.ints, lemmas.List.length-replicate}
 use Rattle.std.specs.Prelude.{◌==◌, ◌||◌, ◌-ℤ◌, ◌≤ℤ◌, ◌⊎◌, neg_ℤ, int_lt, nat_lt, slice_set}
-use Rattle.std.proofs.Math.ListN.{length-set}
-use Rattle.std.proofs.lemmas.Int.{ints}
-use Rattle.std.proofs.lemmas.Bool.Decides.{eqb_tells, leb_tells}
-use Rattle.std.proofs.lemmas.List.{length-replicate}
-use Rattle.lra_linear_spec.specs.declared.ConKind.{ConKind}
-use Rattle.lra_linear_spec.specs.declared.ConKind.TheVariants.{Ge, Eq}
-use Rattle.lra_linear_spec.specs.Vectors.{entry}
-use Rattle.lra_linear_spec.proofs.CheckedArithmetic.{in_range_yes}
-use Rattle.lra_linear_spec.proofs.Products.{entry_set_same}
+use Rattle.lra_linear_spec.specs.{Vectors.entry, declared.ConKind.ConKind, declared.ConKind.TheVariants.Ge, declared.ConKind.TheVariants.Eq}
+use Rattle.lra_linear_spec.proofs.{CheckedArithmetic.in_range_yes, Products.entry_set_same}
 use Rattle.lra_linear_forms.specs.Form.{Form}
-use Rattle.lra_domain.specs.Actions.{Action, ActionFits, assign, forget, test, embed, remove_last}
-use Rattle.lra_domain.specs.Bounds.{greater}
-use Rattle.lra_box.specs.declared.interval.Interval.{Interval}
-use Rattle.lra_box.specs.Refine.{ge_tested}
-use Rattle.lra_dbm.specs.Entry.{◌⊑◌, ◌⊞◌, EntryInRange, within_range}
-use Rattle.lra_dbm.specs.Tight.{Entries, opposite, with_sign, IsStore, IsTight, signed_value}
+use Rattle.lra_domain.specs.{Actions.Action, Actions.ActionFits, Actions.assign, Actions.forget, Actions.test, Actions.embed, Actions.remove_last, Bounds.greater}
+use Rattle.lra_box.specs.{Refine.ge_tested, declared.interval.Interval.Interval}
 use Rattle.lra_dbm.specs.Cells.{Cells, IsMatrix, entered, entries, first_entries, forgotten, outside}
-use Rattle.lra_dbm.specs.Closure.{IsClosure}
-use Rattle.lra_dbm.specs.Pointwise.{greater_cells}
-use Rattle.lra_dbm.specs.Shifting.{ShiftedTo, added_to, origin, shifted}
-use Rattle.lra_dbm.proofs.EntryLemmas.{le_none, le_same, le_trans}
+use Rattle.lra_dbm.specs.{Closure.IsClosure, Entry.◌⊑◌, Entry.◌⊞◌, Entry.EntryInRange, Entry.within_range, Pointwise.greater_cells, Shifting.ShiftedTo, Shifting.added_to, Shifting.origin}
+use Rattle.lra_dbm.specs.{Shifting.shifted, Tight.Entries, Tight.opposite, Tight.with_sign, Tight.IsStore, Tight.IsTight, Tight.signed_value}
 use Rattle.lra_dbm.proofs.PointwiseLemmas.{entries_greater, greater_is, greater_left, greater_right}
-use Rattle.lra_dbm.proofs.CellLemmas.{inside_or_out, opposite_below}
-use Rattle.lra_dbm.proofs.Closed.{signed_opposite}
-use Rattle.lra_dbm.proofs.Clears.{in_pair, opposite_plus, opposite_minus}
-use Rattle.lra_dbm.proofs.Shifts.{source_below}
-use Rattle.lra_dbm.proofs.Closures.{all_are_stores, tight_has}
-use Rattle.lra_octagon.specs.declared.assigning.Assignment.{Assignment}
-use Rattle.lra_octagon.specs.declared.assigning.Assignment.TheVariants.{Equate, Shift, Bound}
-use Rattle.lra_octagon.specs.declared.forms.FormShape.{FormShape}
-use Rattle.lra_octagon.specs.declared.forms.FormShape.TheVariants.{Constant, One, Two, Other}
-use Rattle.lra_octagon.specs.Content.{CellsFit, OctagonContent, IsTopMatrix}
+use Rattle.lra_dbm.proofs.{CellLemmas.inside_or_out, CellLemmas.opposite_below, Clears.in_pair, Clears.opposite_plus, Clears.opposite_minus, Closed.signed_opposite, Closures.all_are_stores}
+use Rattle.lra_dbm.proofs.{Closures.tight_has, EntryLemmas.le_none, EntryLemmas.le_same, EntryLemmas.le_trans, Shifts.source_below}
 use Rattle.lra_octagon.specs.Forms.{ShapeFits, Term, opposite_shape, shape, shape_of, terms_at, terms_from}
-use Rattle.lra_octagon.specs.Heads.{ClosesTo, joined_cells}
-use Rattle.lra_octagon.specs.Least.{IsTightOctagon, IsTightOrNone}
-use Rattle.lra_octagon.specs.Abstraction.{octagon_abstraction}
-use Rattle.lra_octagon.specs.Tables.{Assigns, AssignsTo, Becomes, BoundsTo, Shifts, OctagonTransfersTo, Tests, TestsTo, alone, assignment_of, at_least}
-use Rattle.lra_octagon.specs.Tables.{bounded, equated, form_interval, intervals, minus_form, quotient}
-use Rattle.lra_octagon.specs.Unchanged.{ShapeUnchanged}
+use Rattle.lra_octagon.specs.Tables.{Assigns, AssignsTo, Becomes, BoundsTo, Shifts, OctagonTransfersTo, Tests, TestsTo, alone, assignment_of, at_least, bounded, equated, form_interval, intervals}
+use Rattle.lra_octagon.specs.declared.assigning.Assignment.TheVariants.{Equate, Shift, Bound}
+use Rattle.lra_octagon.specs.declared.forms.FormShape.TheVariants.{Constant, One, Two, Other}
+use Rattle.lra_octagon.specs.{Abstraction.octagon_abstraction, Content.CellsFit, Content.OctagonContent, Content.IsTopMatrix, Heads.ClosesTo, Heads.joined_cells, Least.IsTightOctagon}
+use Rattle.lra_octagon.specs.{Least.IsTightOrNone, Tables.minus_form, Tables.quotient, Unchanged.ShapeUnchanged, declared.assigning.Assignment.Assignment, declared.forms.FormShape.FormShape}
 use Rattle.lra_octagon.proofs.StoreLemmas.{signed_append, signed_other, signed_take, embedded_store, first_store, forgotten_store}
-use Rattle.lra_octagon.proofs.EnterLemmas.{entered_store}
-use Rattle.lra_octagon.proofs.TestLemmas.{entered_back}
-use Rattle.lra_octagon.proofs.AssignLemmas.{is_shift, shifted_store, shifted_value}
+use Rattle.lra_octagon.proofs.{AssignLemmas.is_shift, AssignLemmas.shifted_store, AssignLemmas.shifted_value, EnterLemmas.entered_store, TestLemmas.entered_back}
 
 -- ---- closures are tight
 pub closure_tight : (n : ℕ) (m : Entries) (o : Option Cells) → IsClosure n m o → IsTightOrNone n o

@@ -1,28 +1,15 @@
 -- What changes give, as the domain's clauses ask for it.
 use Rattle.std.proofs.Common.{◌≡◌, ◌≢◌, ℕ, ◌+◌, ◌-◌, ◌^◌, ◌≤◌, ◌<◌, inr, ℤ, pos, List, Option, None, Some, refl, sym, ◌∙◌, subst, arith}
-use Rattle.lra_domain.specs.Actions.{forget, embed, remove_last}
-use Rattle.lra_domain.specs.Abstraction.{TransfersTo, Joins, Grew, Values}
-use Rattle.lra_domain.specs.Rank.{RankBelow, RankFits}
-use Rattle.lra_domain.specs.declared.Mode.{Mode}
 use Rattle.lra_domain.specs.declared.Mode.TheVariants.{Join, Widen, Limited, Tightest}
-use Rattle.lra_domain.specs.declared.Exactness.{Exactness}
-use Rattle.lra_domain.specs.declared.Exactness.TheVariants.{Exact, Flagged}
-use Rattle.lra_domain.specs.Bounds.{greater}
-use Rattle.lra_dbm.specs.Cells.{Cells, size, entries, forgotten, first_entries, IsMatrix}
-use Rattle.lra_dbm.specs.Cells.{DbmContent as Matrix}
-use Rattle.lra_dbm.specs.Closure.{IsClosure}
-use Rattle.lra_dbm.proofs.PointwiseLemmas.{within_refl, left_within, right_within, old_within_stable, new_within_stable}
-use Rattle.lra_dbm.proofs.PointwiseLemmas.{greater_matrix, entries_greater, stable_matrix, stable_diagonal, stable_falls, finite_at_most}
-use Rattle.lra_dbm.proofs.Closures.{tight_has, tight_within}
+use Rattle.lra_domain.specs.{Abstraction.TransfersTo, Abstraction.Joins, Abstraction.Grew, Abstraction.Values, Actions.forget, Actions.embed, Actions.remove_last, Bounds.greater, Rank.RankBelow}
+use Rattle.lra_domain.specs.{Rank.RankFits, declared.Exactness.Exactness, declared.Exactness.TheVariants.Exact, declared.Exactness.TheVariants.Flagged, declared.Mode.Mode}
+use Rattle.lra_dbm.specs.{Cells.Cells, Cells.size, Cells.entries, Cells.forgotten, Cells.first_entries, Cells.IsMatrix, Cells.DbmContent as Matrix, Closure.IsClosure}
+use Rattle.lra_dbm.proofs.PointwiseLemmas.{within_refl, left_within, right_within, old_within_stable, new_within_stable, greater_matrix, entries_greater, stable_matrix, stable_diagonal, stable_falls}
+use Rattle.lra_dbm.proofs.{Closures.tight_has, Closures.tight_within, PointwiseLemmas.finite_at_most}
 use Rattle.lra_octagon.specs.Content.{OctagonContent, content, matrix_view, IsOctagon, CellsFit, has_store, MatrixWithin, OctagonWithin}
-use Rattle.lra_octagon.specs.Closed.{ClosedTo}
-use Rattle.lra_octagon.specs.Tables.{Becomes}
 use Rattle.lra_octagon.specs.Heads.{joined_cells, widened_cells, grown_cells, octagon_rank_number, octagon_rank}
-use Rattle.lra_octagon.specs.Abstraction.{octagon_abstraction}
-use Rattle.lra_octagon.specs.Laws.{octagon_wider, octagon_same_within}
-use Rattle.lra_octagon.proofs.FitLemmas.{bounds_self}
-use Rattle.lra_octagon.specs.Single.{one_becomes}
-use Rattle.lra_octagon.proofs.StoreLemmas.{becomes_forgotten, becomes_embedded, becomes_first}
+use Rattle.lra_octagon.specs.{Abstraction.octagon_abstraction, Closed.ClosedTo, Laws.octagon_wider, Laws.octagon_same_within, Single.one_becomes, Tables.Becomes}
+use Rattle.lra_octagon.proofs.{FitLemmas.bounds_self, StoreLemmas.becomes_forgotten, StoreLemmas.becomes_embedded, StoreLemmas.becomes_first}
 
 exact_flagged : {A : Type 0} → Exact ≡ Flagged → A
 exact_flagged e = absurd (cc)

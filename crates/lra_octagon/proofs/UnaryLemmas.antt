@@ -1,29 +1,15 @@
 -- The unary bounds of a matrix: its stores lie in them, and a narrower matrix has narrower ones.
-use Rattle.std.proofs.Common.{◌≡◌, ℕ, zero, suc, ◌+◌, ◌-◌, ◌*◌, ◌/◌, ◌%◌, ◌<◌, ℤ, pos, List, [], ◌∷◌, ◌++◌, length}
-use Rattle.std.proofs.Common.{Option, None, Some, inl, inr, refl, ap, sym, ◌∙◌, subst, arith, add-one, cond, Bool, true}
-use Rattle.std.proofs.Common.{false}
-use Rattle.std.specs.Prelude.{◌-ℤ◌, neg_ℤ, slice_index_or}
-use Rattle.std.specs.Option.{option_map}
-use Rattle.std.proofs.lemmas.Int.{ints}
-use Rattle.std.proofs.lemmas.Bool.Decides.{eqb_tells}
+use Rattle.std.proofs.Common.{◌≡◌, ℕ, zero, suc, ◌+◌, ◌-◌, ◌*◌, ◌/◌, ◌%◌, ◌<◌, ℤ, pos, List, [], ◌∷◌, ◌++◌, length, Option, None, Some, inl, inr, refl, ap, sym, ◌∙◌, subst, arith, add-one, cond, Bool}
+use Rattle.std.proofs.{Common.true, Common.false, lemmas.Bool.Decides.eqb_tells, lemmas.Int.ints}
+use Rattle.std.specs.{Option.option_map, Prelude.◌-ℤ◌, Prelude.neg_ℤ, Prelude.slice_index_or}
 use Rattle.lra_linear_spec.specs.Vectors.{entry}
-use Rattle.lra_dbm.specs.Entry.{◌⊑◌, ◌⊞◌, half_of, EntryInRange}
 use Rattle.lra_dbm.specs.Tight.{Entries, opposite, with_sign, signed_value, IsStore}
-use Rattle.lra_dbm.specs.Cells.{Cells, entries, IsMatrix}
-use Rattle.lra_dbm.proofs.Lowering.{half_fits}
-use Rattle.lra_dbm.specs.Closure.{IsClosure}
-use Rattle.lra_dbm.specs.Pointwise.{CellsWithin}
+use Rattle.lra_dbm.specs.{Cells.Cells, Cells.entries, Cells.IsMatrix, Closure.IsClosure, Entry.◌⊑◌, Entry.◌⊞◌, Entry.half_of, Entry.EntryInRange, Pointwise.CellsWithin}
 use Rattle.lra_dbm.proofs.EntryLemmas.{le_refl, le_same, le_trans, lesser_left, lesser_right}
-use Rattle.lra_dbm.proofs.Strong.{half_bounds}
-use Rattle.lra_dbm.proofs.CellLemmas.{opposite_below}
-use Rattle.lra_dbm.proofs.Closed.{signed_opposite}
-use Rattle.lra_dbm.proofs.PointwiseLemmas.{within_entries}
-use Rattle.lra_box.specs.declared.interval.Interval.{Interval}
-use Rattle.lra_box.specs.declared.interval.Side.TheVariants.{Low, High}
-use Rattle.lra_box.specs.Bounds.{full_interval, crossed, BoundHolds, InInterval, InBounds, EndsInRange, AllValidIntervals}
-use Rattle.lra_box.specs.Tables.{LowWithin, IntervalWithin, IntervalsWithin}
-use Rattle.lra_box.proofs.WithinLemmas.{at_within}
-use Rattle.lra_box.proofs.RefineLemmas.{in_at}
+use Rattle.lra_dbm.proofs.{CellLemmas.opposite_below, Closed.signed_opposite, Lowering.half_fits, PointwiseLemmas.within_entries, Strong.half_bounds}
+use Rattle.lra_box.specs.{Bounds.full_interval, Bounds.crossed, Bounds.BoundHolds, Bounds.InInterval, Bounds.InBounds, Bounds.EndsInRange, Bounds.AllValidIntervals, Tables.LowWithin}
+use Rattle.lra_box.specs.{Tables.IntervalWithin, Tables.IntervalsWithin, declared.interval.Interval.Interval, declared.interval.Side.TheVariants.Low, declared.interval.Side.TheVariants.High}
+use Rattle.lra_box.proofs.{RefineLemmas.in_at, WithinLemmas.at_within}
 use Rattle.lra_octagon.specs.Tables.{interval, intervals_from, intervals, some_crossed, upper_of, upper, bounded}
 use Rattle.lra_domain.specs.Bounds.{AtMost}
 

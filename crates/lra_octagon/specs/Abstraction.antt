@@ -1,12 +1,10 @@
 -- The meaning of octagons.
 use Rattle.std.specs.Prelude.{◌≡◌, ◌≤◌, None, ⊤}
-use Rattle.lra_domain.specs.Actions.{HoldsStores, KeepsStores}
-use Rattle.lra_domain.specs.Abstraction.{Abstraction}
+use Rattle.lra_domain.specs.{Abstraction.Abstraction, Actions.HoldsStores, Actions.KeepsStores}
 use Rattle.lra_octagon.specs.Content.{OctagonContent, WellFormedOctagon, OctagonGamma, OctagonWithin, IsTopMatrix}
-use Rattle.lra_octagon.specs.Tables.{OctagonTransfersTo, OctagonTransferPasses}
 use Rattle.lra_octagon.specs.Heads.{joined_cells, grown_cells, octagon_rank, OctagonAnswers, ClosesTo, ValuePasses}
-use Rattle.lra_octagon.specs.Parts.{octagon_parts}
-use Rattle.lra_octagon.specs.FormBounds.{CellsTell}
+use Rattle.lra_octagon.specs.Tables.{OctagonTransfersTo, OctagonTransferPasses}
+use Rattle.lra_octagon.specs.{FormBounds.CellsTell, Parts.octagon_parts}
 
 abbrev pub octagon_abstraction : Abstraction OctagonContent OctagonContent
 octagon_abstraction = record {

@@ -3,14 +3,11 @@ use Rattle.std.specs.Prelude.{◌≡◌, ℕ, ℤ, pos, ◌≤ℤ◌, List, slic
 use Rattle.lra_linear_forms.specs.Form.{Form, form_value}
 use Rattle.lra_domain.specs.declared.Exactness.{Exactness}
 use Rattle.lra_domain.specs.declared.Exactness.TheVariants.{Exact, Flagged}
-use Rattle.lra_dbm.specs.Tight.{IsStore}
-use Rattle.lra_dbm.specs.Cells.{Cells, entries, IsMatrix}
+use Rattle.lra_dbm.specs.{Cells.Cells, Cells.entries, Cells.IsMatrix, Tight.IsStore}
 use Rattle.lra_box.specs.declared.interval.Interval.{Interval}
-use Rattle.lra_octagon.specs.declared.assigning.Assignment.{Assignment}
-use Rattle.lra_octagon.specs.declared.forms.FormShape.{FormShape}
-use Rattle.lra_octagon.specs.Entering.{BoundedTo}
-use Rattle.lra_octagon.specs.Content.{CellsFit, has_store, MatrixWithin}
 use Rattle.lra_octagon.specs.Tables.{alone, TestsTo, FirstTestPasses, AssignsTo, MatrixAssignPasses, Forgets}
+use Rattle.lra_octagon.specs.{Content.CellsFit, Content.has_store, Content.MatrixWithin, Entering.BoundedTo}
+use Rattle.lra_octagon.specs.{declared.assigning.Assignment.Assignment, declared.forms.FormShape.FormShape}
 
 abbrev pub MatrixFits : ℕ → Option Cells → Type 0
 MatrixFits n None = Unit {0}

@@ -2,11 +2,8 @@
 use Rattle.std.specs.Prelude.{◌≡◌, ℕ, ℤ, List, Option}
 use Rattle.lra_domain.specs.declared.Exactness.{Exactness}
 use Rattle.lra_domain.specs.declared.Exactness.TheVariants.{Exact, Flagged}
-use Rattle.lra_dbm.specs.Tight.{IsStore}
-use Rattle.lra_dbm.specs.Cells.{Cells, entries}
-use Rattle.lra_dbm.specs.Closure.{IsClosure}
-use Rattle.lra_octagon.specs.Content.{CellsFit, has_store}
-use Rattle.lra_octagon.specs.Tables.{ClosingPasses, Forgets, equated}
+use Rattle.lra_dbm.specs.{Cells.Cells, Cells.entries, Closure.IsClosure, Tight.IsStore}
+use Rattle.lra_octagon.specs.{Content.CellsFit, Content.has_store, Tables.ClosingPasses, Tables.Forgets, Tables.equated}
 
 -- the stores are kept; an exact result is the closure, a flagged one comes only where a number of closing passes the
 -- range

@@ -1,10 +1,8 @@
 -- What an octagon holds.
-use Rattle.std.specs.Prelude.{◌≡◌, ℕ, ℤ, pos, List, Option, None, Some}
 use Rattle.std.specs.Option.{option_map}
-use Rattle.lra_dbm.specs.Tight.{IsStore}
-use Rattle.lra_dbm.specs.Cells.{Cells, entries, outside, IsMatrix}
-use Rattle.lra_dbm.specs.Cells.{DbmContent as Matrix}
-use Rattle.lra_dbm.specs.Pointwise.{CellsWithin}
+use Rattle.std.specs.Prelude.{◌≡◌, ℕ, ℤ, pos, List, Option, None, Some}
+use Rattle.lra_dbm.specs.Cells.{Cells, entries, outside, IsMatrix, DbmContent as Matrix}
+use Rattle.lra_dbm.specs.{Pointwise.CellsWithin, Tight.IsStore}
 
 -- the dimensions of an octagon or a head, and the cells of its matrix, or none where it is empty
 pub record OctagonContent : Type 0 where

@@ -3,10 +3,8 @@ use Rattle.std.specs.Prelude.{◌≡◌, ℕ, ◌*◌, ◌<◌, ℤ, List, Optio
 use Rattle.lra_domain.specs.declared.Exactness.{Exactness}
 use Rattle.lra_domain.specs.declared.Exactness.TheVariants.{Exact, Flagged}
 use Rattle.lra_box.specs.declared.interval.Interval.{Interval}
-use Rattle.lra_dbm.specs.Entry.{◌⊑◌, ◌⊞◌, lesser, passes_range}
-use Rattle.lra_dbm.specs.Tight.{opposite, signed_value, IsStore}
-use Rattle.lra_dbm.specs.Cells.{Cells, entries, IsMatrix}
-use Rattle.lra_dbm.specs.Closure.{IsClosure}
+use Rattle.lra_dbm.specs.{Cells.Cells, Cells.entries, Cells.IsMatrix, Closure.IsClosure, Entry.◌⊑◌, Entry.◌⊞◌}
+use Rattle.lra_dbm.specs.{Entry.lesser, Entry.passes_range, Tight.opposite, Tight.signed_value, Tight.IsStore}
 use Rattle.lra_octagon.specs.Content.{CellsFit, has_store}
 use Rattle.lra_octagon.specs.Tables.{upper, bounded, Bounds, SomePasses, BoundedPasses}
 

@@ -2,8 +2,7 @@
 -- says that v_i' + v_j', or v_i', is at most q.
 use Rattle.std.specs.Prelude.{◌≡◌, ◌≢◌, ◌<◌, ◌*◌, ◌/◌, ◌%◌, ℕ, ℤ, neg_ℤ, ◌+ℤ◌, ◌≤ℤ◌, List, Some, ◌⊎◌}
 use Rattle.lra_dbm.specs.Tight.{Entries, opposite}
-use Rattle.lra_octagon.specs.Parts.{pair_row}
-use Rattle.lra_octagon.specs.Tables.{most}
+use Rattle.lra_octagon.specs.{Parts.pair_row, Tables.most}
 
 -- two unary bounds imply the one of the sum
 pub record IsImplied (m : Entries) (i j : ℕ) (q : ℤ) : Type 0 where

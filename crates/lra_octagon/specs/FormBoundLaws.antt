@@ -1,28 +1,22 @@
 -- A form's value at each store lies within what is told of it, and one thing is told.
 use Rattle.std.proofs.Common.{◌≡◌, ◌∙◌, ◌<◌, ◌*◌, ℕ, zero, suc, ℤ, pos, ◌+ℤ◌, ◌*ℤ◌, List, length, Bool, true, false}
 use Rattle.std.proofs.Common.{cond, Option, None, Some, refl, sym, ap, subst, arith}
-use Rattle.std.specs.Prelude.{◌-ℤ◌, neg_ℤ}
 use Rattle.std.proofs.lemmas.Int.{ints}
-use Rattle.lra_linear_spec.specs.Range.{in_range}
-use Rattle.lra_linear_spec.specs.Vectors.{product}
+use Rattle.std.specs.Prelude.{◌-ℤ◌, neg_ℤ}
+use Rattle.lra_linear_spec.specs.{Range.in_range, Vectors.product}
 use Rattle.lra_linear_forms.specs.Form.{Form, form_value}
 use Rattle.lra_domain.specs.Bounds.{IsLowerBound, IsBetween, IsUpperBound}
-use Rattle.lra_dbm.specs.Entry.{◌⊑◌}
 use Rattle.lra_dbm.specs.Tight.{Entries, IsStore, opposite, signed_value}
-use Rattle.lra_dbm.specs.Cells.{Cells, entries}
-use Rattle.lra_dbm.proofs.CellLemmas.{opposite_below}
-use Rattle.lra_dbm.proofs.Closed.{signed_opposite}
+use Rattle.lra_dbm.specs.{Cells.Cells, Cells.entries, Entry.◌⊑◌}
+use Rattle.lra_dbm.proofs.{CellLemmas.opposite_below, Closed.signed_opposite}
 use Rattle.lra_box.specs.declared.interval.Side.TheVariants.{Low, High}
-use Rattle.lra_box.specs.Bounds.{BoundHolds}
-use Rattle.lra_box.specs.Laws.{ends_between, one_end}
-use Rattle.lra_octagon.specs.declared.forms.FormShape.{FormShape}
-use Rattle.lra_octagon.specs.declared.forms.FormShape.TheVariants.{Constant, One, Two, Other}
-use Rattle.lra_octagon.specs.Forms.{shape, shape_of, terms_from}
-use Rattle.lra_octagon.specs.FormValues.{one_below, one_value, two_below, two_value}
-use Rattle.lra_octagon.specs.StoreBounds.{half_high, in_intervals, length_intervals, unary_at}
-use Rattle.lra_octagon.specs.Content.{has_store}
-use Rattle.lra_octagon.specs.Tables.{intervals, most}
+use Rattle.lra_box.specs.{Bounds.BoundHolds, Laws.ends_between, Laws.one_end}
 use Rattle.lra_octagon.specs.FormBounds.{CellsTell, ShapeTells, UnaryTell, above_by, below_by}
+use Rattle.lra_octagon.specs.FormValues.{one_below, one_value, two_below, two_value}
+use Rattle.lra_octagon.specs.Forms.{shape, shape_of, terms_from}
+use Rattle.lra_octagon.specs.StoreBounds.{half_high, in_intervals, length_intervals, unary_at}
+use Rattle.lra_octagon.specs.declared.forms.FormShape.TheVariants.{Constant, One, Two, Other}
+use Rattle.lra_octagon.specs.{Content.has_store, Tables.intervals, Tables.most, declared.forms.FormShape.FormShape}
 
 -- ---- a bound of a number bounds the constant and the number
 under_if : (t : Bool) (v z : ℤ) → IsUpperBound (Some v) z → IsUpperBound (cond t (Some v) None) z

@@ -1,18 +1,13 @@
 -- What an octagon tells of the least and the greatest value of a form. A form with one coefficient of 1 or -1, or with
 -- two, goes by the entry that bounds it, with one coefficient by half of it; every other goes by the unary bounds, as
 -- over boxes. An infinite entry tells nothing, nor does a number that passes the range.
-use Rattle.std.specs.Prelude.{◌≡◌, ℕ, zero, suc, ℤ, neg_ℤ, Option, None, Some}
 use Rattle.std.specs.Option.{option_map}
+use Rattle.std.specs.Prelude.{◌≡◌, ℕ, zero, suc, ℤ, neg_ℤ, Option, None, Some}
 use Rattle.lra_linear_forms.specs.Form.{Form}
-use Rattle.lra_dbm.specs.Entry.{◌⊞◌, within_range}
-use Rattle.lra_dbm.specs.Tight.{Entries, opposite}
-use Rattle.lra_dbm.specs.Cells.{Cells, entries}
-use Rattle.lra_box.specs.declared.interval.Side.TheVariants.{Low, High}
-use Rattle.lra_box.specs.Ends.{IsEnd}
-use Rattle.lra_octagon.specs.declared.forms.FormShape.{FormShape}
+use Rattle.lra_dbm.specs.{Cells.Cells, Cells.entries, Entry.◌⊞◌, Entry.within_range, Tight.Entries, Tight.opposite}
+use Rattle.lra_box.specs.{Ends.IsEnd, declared.interval.Side.TheVariants.Low, declared.interval.Side.TheVariants.High}
 use Rattle.lra_octagon.specs.declared.forms.FormShape.TheVariants.{Constant, One, Two, Other}
-use Rattle.lra_octagon.specs.Forms.{shape}
-use Rattle.lra_octagon.specs.Tables.{intervals, most}
+use Rattle.lra_octagon.specs.{Forms.shape, Tables.intervals, Tables.most, declared.forms.FormShape.FormShape}
 
 -- the constant and a bound; the constant less a bound
 abbrev pub above_by : ℤ → Option ℤ → Option ℤ

@@ -1,15 +1,14 @@
 -- The value of a form by the terms of its coefficients, and by its shape.
-use Rattle.std.proofs.Common.{◌≡◌, ℕ, zero, suc, ◌+◌, ◌*◌, ◌/◌, ◌%◌, ◌<◌, ◌≤◌, ◌⊎◌, ℤ, pos, negsuc, ◌+ℤ◌, ◌*ℤ◌}
-use Rattle.std.proofs.Common.{List, [], ◌∷◌, length, inl, inr, refl, ap, sym, ◌∙◌, arith, cond}
+use Rattle.std.proofs.Common.{◌≡◌, ℕ, zero, suc, ◌+◌, ◌*◌, ◌/◌, ◌%◌, ◌<◌, ◌≤◌, ◌⊎◌, ℤ, pos, negsuc, ◌+ℤ◌, ◌*ℤ◌, List}
+use Rattle.std.proofs.Common.{[], ◌∷◌, length, inl, inr, refl, ap, sym, ◌∙◌, arith, cond}
+use Rattle.std.proofs.{lemmas.Bool.Decides.eqb_tells, lemmas.Int.ints}
 use Rattle.std.specs.Prelude.{neg_ℤ}
-use Rattle.std.proofs.lemmas.Int.{ints}
-use Rattle.std.proofs.lemmas.Bool.Decides.{eqb_tells}
 use Rattle.lra_linear_spec.specs.Vectors.{entry, dot, product}
 use Rattle.lra_linear_spec.proofs.Ring.{mul_add}
 use Rattle.lra_dbm.specs.Tight.{signed_value}
+use Rattle.lra_octagon.specs.Forms.{Term, terms_at, terms_from, shape_of}
 use Rattle.lra_octagon.specs.declared.forms.FormShape.{FormShape}
 use Rattle.lra_octagon.specs.declared.forms.FormShape.TheVariants.{Constant, One, Two, Other}
-use Rattle.lra_octagon.specs.Forms.{Term, terms_at, terms_from, shape_of}
 
 -- ---- the value of a form
 

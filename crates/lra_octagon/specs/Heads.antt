@@ -1,15 +1,11 @@
 -- Joins, heads and ranks of octagons.
 use Rattle.std.specs.Prelude.{◌≡◌, ℕ, ◌+◌, Option, None, Some}
-use Rattle.lra_domain.specs.declared.Mode.{Mode}
-use Rattle.lra_domain.specs.declared.Mode.TheVariants.{Join, Widen, Limited, Tightest}
-use Rattle.lra_domain.specs.declared.Rank.{Rank}
-use Rattle.lra_domain.specs.declared.Included.{Included}
 use Rattle.lra_domain.specs.declared.Included.TheVariants.{Yes, No, Wide}
-use Rattle.lra_dbm.specs.Cells.{Cells, size, entries, IsMatrix}
-use Rattle.lra_dbm.specs.Closure.{IsClosure}
+use Rattle.lra_domain.specs.declared.Mode.TheVariants.{Join, Widen, Limited, Tightest}
+use Rattle.lra_domain.specs.{declared.Included.Included, declared.Mode.Mode, declared.Rank.Rank}
 use Rattle.lra_dbm.specs.Pointwise.{greater_cells, stable_cells, finite_cells}
-use Rattle.lra_octagon.specs.Content.{OctagonContent, OctagonWithin}
-use Rattle.lra_octagon.specs.Tables.{ClosingPasses}
+use Rattle.lra_dbm.specs.{Cells.Cells, Cells.size, Cells.entries, Cells.IsMatrix, Closure.IsClosure}
+use Rattle.lra_octagon.specs.{Content.OctagonContent, Content.OctagonWithin, Tables.ClosingPasses}
 
 -- entry by entry the greater; an empty operand gives the other
 abbrev pub joined_cells : Option Cells → Option Cells → Option Cells

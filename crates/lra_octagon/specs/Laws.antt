@@ -1,19 +1,15 @@
 -- The laws of octagons.
 use Rattle.std.proofs.Common.{◌≡◌, ◌≢◌, ℕ, ◌≤◌, ℤ, List, [], length, Option, None, Some, refl, ap, sym, subst, ◌∙◌}
 use Rattle.std.proofs.Common.{arith}
-use Rattle.lra_domain.specs.Actions.{Within}
-use Rattle.lra_domain.specs.Laws.{Laws, BaseLaws}
+use Rattle.lra_domain.specs.{Actions.Within, Laws.Laws, Laws.BaseLaws}
 use Rattle.lra_linear_forms.specs.Form.{Form}
 use Rattle.lra_dbm.specs.Cells.{Cells, entries}
 use Rattle.lra_dbm.proofs.Closures.{same_closure, closure_below, same_entries_cells, all_are_stores, within_stores}
 use Rattle.lra_dbm.proofs.PointwiseLemmas.{within_refl, within_trans, greater_within}
 use Rattle.lra_octagon.specs.Content.{OctagonContent, WellFormedOctagon, has_store, OctagonGamma, MatrixWithin}
-use Rattle.lra_octagon.specs.Content.{OctagonWithin, IsTopMatrix}
-use Rattle.lra_octagon.specs.Heads.{joined_cells, ClosesTo}
-use Rattle.lra_octagon.specs.Parts.{octagon_parts}
-use Rattle.lra_octagon.specs.Abstraction.{octagon_abstraction}
-use Rattle.lra_octagon.specs.FormBounds.{CellsTell}
 use Rattle.lra_octagon.specs.FormBoundLaws.{one_octagon_bounded, told_between}
+use Rattle.lra_octagon.specs.{Abstraction.octagon_abstraction, Content.OctagonWithin, Content.IsTopMatrix}
+use Rattle.lra_octagon.specs.{FormBounds.CellsTell, Heads.joined_cells, Heads.ClosesTo, Parts.octagon_parts}
 
 pub sized_stores : (n : ℕ) (o : Option Cells) (s : List ℤ) → has_store n o s → length s ≡ n
 sized_stores n None s h = absurd h

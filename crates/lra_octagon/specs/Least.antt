@@ -1,8 +1,7 @@
 -- What holds where no closing was flagged: an octagon is then empty, or its matrix is tight.
 use Rattle.std.specs.Prelude.{◌≡◌, ℕ, Option, None, Some}
 use Rattle.lra_domain.specs.Actions.{Within}
-use Rattle.lra_dbm.specs.Tight.{IsTight}
-use Rattle.lra_dbm.specs.Cells.{Cells, entries}
+use Rattle.lra_dbm.specs.{Cells.Cells, Cells.entries, Tight.IsTight}
 use Rattle.lra_octagon.specs.Content.{OctagonContent, CellsFit, OctagonGamma, OctagonWithin}
 
 abbrev pub IsTightOrNone : ℕ → Option Cells → Type 0

@@ -2,14 +2,12 @@
 -- Equalities stand first. Rows that begin with +x_a stand before those that begin with -x_a, each with the others in
 -- falling order.
 use Rattle.std.specs.Prelude.{◌≡◌, ℕ, zero, suc, ◌+◌, ◌*◌, ◌-◌, ◌/◌, ◌==◌, Bool, false, if◌then◌else◌, cond, ℤ, pos}
-use Rattle.std.specs.Prelude.{neg_ℤ}
-use Rattle.std.specs.Prelude.{◌+ℤ◌, int_le, List, [], ◌∷◌, ◌++◌, length, replicate, slice_set, Option, None, Some}
-use Rattle.std.specs.Ordering.{int_eq}
+use Rattle.std.specs.Prelude.{neg_ℤ, ◌+ℤ◌, int_le, List, [], ◌∷◌, ◌++◌, length, replicate, slice_set, Option, None}
+use Rattle.std.specs.{Ordering.int_eq, Prelude.Some}
 use Rattle.lra_systems.specs.LinearSystems.{LinearSystem}
 use Rattle.lra_linear_spec.specs.declared.ConKind.{ConKind}
 use Rattle.lra_linear_spec.specs.declared.ConKind.TheVariants.{Ge, Eq}
-use Rattle.lra_dbm.specs.Tight.{Entries, opposite, with_sign}
-use Rattle.lra_dbm.specs.Cells.{Cells, entries}
+use Rattle.lra_dbm.specs.{Cells.Cells, Cells.entries, Tight.Entries, Tight.opposite, Tight.with_sign}
 use Rattle.lra_octagon.specs.Tables.{most}
 
 -- the coefficient of a signed variable

@@ -6,24 +6,18 @@ use Rattle.lra_linear_spec.specs.declared.ConKind.TheVariants.{Ge, Eq}
 use Rattle.lra_linear_forms.specs.Form.{Form}
 use Rattle.lra_domain.specs.Actions.{Action, assign, forget, test, embed, remove_last}
 use Rattle.lra_domain.specs.Laws.{SingleLaws}
-use Rattle.lra_box.specs.declared.interval.Interval.{Interval}
-use Rattle.lra_box.specs.Refine.{ge_tested}
-use Rattle.lra_dbm.specs.Tight.{Entries}
+use Rattle.lra_box.specs.{Refine.ge_tested, declared.interval.Interval.Interval}
 use Rattle.lra_dbm.specs.Cells.{Cells, entries, first_entries, forgotten}
-use Rattle.lra_dbm.specs.Closure.{IsClosure}
+use Rattle.lra_dbm.specs.{Closure.IsClosure, Tight.Entries}
 use Rattle.lra_dbm.proofs.Closures.{same_closure, same_entries_cells}
-use Rattle.lra_octagon.specs.declared.assigning.Assignment.{Assignment}
-use Rattle.lra_octagon.specs.declared.assigning.Assignment.TheVariants.{Equate, Shift, Bound}
-use Rattle.lra_octagon.specs.declared.forms.FormShape.{FormShape}
-use Rattle.lra_octagon.specs.declared.forms.FormShape.TheVariants.{Constant, One, Two, Other}
-use Rattle.lra_octagon.specs.Content.{OctagonContent}
-use Rattle.lra_octagon.specs.Forms.{shape}
 use Rattle.lra_octagon.specs.Laws.{one_closed, same_content, whole_cells}
-use Rattle.lra_octagon.specs.Abstraction.{octagon_abstraction}
 use Rattle.lra_octagon.specs.Tables.{Assigns, AssignsTo, Becomes, BoundsTo, Forgets, OctagonTransfersTo, Tests, TestsTo}
-use Rattle.lra_octagon.specs.Tables.{alone}
-use Rattle.lra_octagon.specs.Tables.{assignment_of, at_least}
-use Rattle.lra_octagon.specs.Tables.{bounded, equated, form_interval, intervals, minus_form, quotient}
+use Rattle.lra_octagon.specs.Tables.{alone, assignment_of, at_least, bounded, equated, form_interval, intervals}
+use Rattle.lra_octagon.specs.Tables.{minus_form, quotient}
+use Rattle.lra_octagon.specs.declared.assigning.Assignment.TheVariants.{Equate, Shift, Bound}
+use Rattle.lra_octagon.specs.declared.forms.FormShape.TheVariants.{Constant, One, Two, Other}
+use Rattle.lra_octagon.specs.{Abstraction.octagon_abstraction, Content.OctagonContent, Forms.shape}
+use Rattle.lra_octagon.specs.{declared.assigning.Assignment.Assignment, declared.forms.FormShape.FormShape}
 
 pub one_becomes : (k n : ℕ) (f : Entries → Entries) (old a b : Option Cells) → Becomes k f n old a
     → Becomes k f n old b → a ≡ b

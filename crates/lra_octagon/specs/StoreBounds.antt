@@ -1,20 +1,15 @@
 -- The stores of a matrix lie in the numbers that it allows to each variable.
-use Rattle.std.proofs.Common.{◌≡◌, ℕ, zero, suc, ◌+◌, ◌*◌, ◌<◌, ℤ, List, [], ◌∷◌, length}
-use Rattle.std.proofs.Common.{Option, None, Some, ap, refl, sym, ◌∙◌, subst, arith}
-use Rattle.std.specs.Prelude.{◌-ℤ◌, neg_ℤ}
-use Rattle.std.specs.Option.{option_map}
-use Rattle.std.proofs.lemmas.Int.{ints}
+use Rattle.std.proofs.Common.{◌≡◌, ℕ, zero, suc, ◌+◌, ◌*◌, ◌<◌, ℤ, List, [], ◌∷◌, length, Option, None, Some, ap, refl}
+use Rattle.std.proofs.{Common.sym, Common.◌∙◌, Common.subst, Common.arith, lemmas.Int.ints}
+use Rattle.std.specs.{Option.option_map, Prelude.◌-ℤ◌, Prelude.neg_ℤ}
 use Rattle.lra_linear_spec.specs.Vectors.{entry}
-use Rattle.lra_dbm.specs.Entry.{◌⊑◌, half_of}
-use Rattle.lra_dbm.specs.Tight.{Entries, opposite, signed_value, IsStore}
+use Rattle.lra_dbm.specs.{Entry.◌⊑◌, Entry.half_of, Tight.Entries, Tight.opposite, Tight.signed_value, Tight.IsStore}
 use Rattle.lra_dbm.proofs.EntryLemmas.{le_same, le_trans}
-use Rattle.lra_dbm.proofs.Strong.{half_bounds}
-use Rattle.lra_dbm.proofs.CellLemmas.{opposite_below}
-use Rattle.lra_dbm.proofs.Closed.{signed_opposite}
-use Rattle.lra_box.specs.declared.interval.Side.TheVariants.{Low, High}
+use Rattle.lra_dbm.proofs.{CellLemmas.opposite_below, Closed.signed_opposite, Strong.half_bounds}
 use Rattle.lra_box.specs.Bounds.{BoundHolds, InInterval, InBounds}
-use Rattle.lra_octagon.specs.Tables.{interval, intervals_from, intervals}
+use Rattle.lra_box.specs.declared.interval.Side.TheVariants.{Low, High}
 use Rattle.lra_octagon.specs.FormValues.{plus_value, minus_value}
+use Rattle.lra_octagon.specs.Tables.{interval, intervals_from, intervals}
 
 -- ---- the stores of a matrix lie in its intervals
 

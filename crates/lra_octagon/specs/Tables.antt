@@ -1,31 +1,22 @@
 -- The tables of octagons: what each change makes of the matrix, and when it may be flagged.
-use Rattle.std.specs.Prelude.{◌≡◌, ℕ, zero, suc, ◌+◌, ◌-◌, ◌*◌, ◌/◌, ◌%◌, ◌<◌, ◌==◌, cond, int_lt, ℤ, pos, neg_ℤ}
-use Rattle.std.specs.Prelude.{◌+ℤ◌, ◌≤ℤ◌, ◌<ℤ◌, ◌^◌}
-use Rattle.std.specs.Prelude.{Bool, true, false, if◌then◌else◌, List, [], ◌∷◌, map, length, replicate, slice_set}
-use Rattle.std.specs.Prelude.{slice_index_or}
-use Rattle.std.specs.Prelude.{Option, None, Some, ◌⊎◌}
-use Rattle.std.specs.Option.{option_map}
-use Rattle.std.specs.Int.{int_div_euclid}
+use Rattle.std.specs.Prelude.{◌≡◌, ℕ, zero, suc, ◌+◌, ◌-◌, ◌*◌, ◌/◌, ◌%◌, ◌<◌, ◌==◌, cond, int_lt, ℤ, pos, neg_ℤ, ◌+ℤ◌}
+use Rattle.std.specs.Prelude.{◌≤ℤ◌, ◌<ℤ◌, ◌^◌, Bool, true, false, if◌then◌else◌, List, [], ◌∷◌, map, length, replicate}
+use Rattle.std.specs.Prelude.{slice_set, slice_index_or, Option, None, Some, ◌⊎◌}
+use Rattle.std.specs.{Int.int_div_euclid, Option.option_map}
 use Rattle.lra_linear_forms.specs.Form.{Form}
 use Rattle.lra_linear_spec.specs.declared.ConKind.{ConKind}
 use Rattle.lra_linear_spec.specs.declared.ConKind.TheVariants.{Ge, Eq}
-use Rattle.lra_dbm.specs.Entry.{◌⊞◌, half_of, lesser, passes_range}
-use Rattle.lra_dbm.specs.Tight.{Entries, opposite}
 use Rattle.lra_dbm.specs.Cells.{Cells, entries, entered, forgotten, first_entries, IsMatrix}
-use Rattle.lra_dbm.specs.Closing.{closing}
-use Rattle.lra_dbm.specs.Closure.{IsClosure}
+use Rattle.lra_dbm.specs.{Closing.closing, Closure.IsClosure, Entry.◌⊞◌, Entry.half_of, Entry.lesser}
+use Rattle.lra_dbm.specs.{Entry.passes_range, Shifting.shifted, Shifting.ShiftPasses, Tight.Entries, Tight.opposite}
 use Rattle.lra_domain.specs.Actions.{Action, assign, forget, test, embed, remove_last}
-use Rattle.lra_box.specs.declared.interval.Interval.{Interval}
-use Rattle.lra_box.specs.declared.interval.Side.TheVariants.{Low, High}
 use Rattle.lra_box.specs.Bounds.{full_interval, crossed, end_sum, SumPasses}
-use Rattle.lra_box.specs.Refine.{ge_tested, RefinePasses}
+use Rattle.lra_box.specs.declared.interval.Side.TheVariants.{Low, High}
+use Rattle.lra_box.specs.{Refine.ge_tested, Refine.RefinePasses, declared.interval.Interval.Interval}
 use Rattle.lra_octagon.specs.Content.{OctagonContent}
-use Rattle.lra_octagon.specs.Forms.{shape}
-use Rattle.lra_dbm.specs.Shifting.{shifted, ShiftPasses}
-use Rattle.lra_octagon.specs.declared.assigning.Assignment.{Assignment}
 use Rattle.lra_octagon.specs.declared.assigning.Assignment.TheVariants.{Equate, Shift, Bound}
-use Rattle.lra_octagon.specs.declared.forms.FormShape.{FormShape}
 use Rattle.lra_octagon.specs.declared.forms.FormShape.TheVariants.{Constant, One, Two, Other}
+use Rattle.lra_octagon.specs.{Forms.shape, declared.assigning.Assignment.Assignment, declared.forms.FormShape.FormShape}
 
 -- ---- unary bounds
 

@@ -1,12 +1,9 @@
 -- Tests that lower no entry: of a tight matrix they are the matrix itself.
 use Rattle.std.specs.Prelude.{ℕ, ℤ, pos, ◌+ℤ◌, ◌≤ℤ◌, Some}
 use Rattle.lra_linear_forms.specs.Form.{Form}
-use Rattle.lra_dbm.specs.Entry.{◌⊑◌}
-use Rattle.lra_dbm.specs.Tight.{opposite}
-use Rattle.lra_dbm.specs.Cells.{Cells, entries}
-use Rattle.lra_octagon.specs.declared.forms.FormShape.{FormShape}
+use Rattle.lra_dbm.specs.{Cells.Cells, Cells.entries, Entry.◌⊑◌, Tight.opposite}
 use Rattle.lra_octagon.specs.declared.forms.FormShape.TheVariants.{Constant, One, Two, Other}
-use Rattle.lra_octagon.specs.Tables.{quotient}
+use Rattle.lra_octagon.specs.{Tables.quotient, declared.forms.FormShape.FormShape}
 
 -- the entry that says `v_i + v_j + q >= 0` is at most q
 abbrev pub LowersNothing : ℕ → ℕ → ℕ → ℤ → Cells → Type 0

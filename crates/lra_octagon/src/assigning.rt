@@ -2,16 +2,12 @@
 
 ghost use Rattle.std.specs.Prelude.{◌≡◌, ◌≤◌, ◌<◌, ◌^◌, length, unsigned_abs, All, Some, IfOk};
 ghost use Rattle.lra_linear_spec.specs.Range.{InRange};
-ghost use Rattle.lra_domain.specs.Actions.{assign};
-ghost use Rattle.lra_domain.specs.Abstraction.{TransfersTo};
+ghost use Rattle.lra_domain.specs.{Abstraction.TransfersTo, Actions.assign};
 ghost use Rattle.lra_box.specs.Bounds.{form, EndsInRange};
 ghost use Rattle.lra_dbm.specs.Cells.{IsMatrix};
-ghost use Rattle.lra_octagon.specs.declared.assigning.Assignment.TheVariants.{Bound};
 ghost use Rattle.lra_octagon.specs.Content.{content, matrix_view, CellsFit, DimsFit};
-ghost use Rattle.lra_octagon.specs.Forms.{shape};
-ghost use Rattle.lra_octagon.specs.Tables.{assignment_of};
-ghost use Rattle.lra_octagon.specs.Answers.{MatrixAssignedTo, ConfinedTo};
-ghost use Rattle.lra_octagon.specs.Abstraction.{octagon_abstraction};
+ghost use Rattle.lra_octagon.specs.{Abstraction.octagon_abstraction, Answers.MatrixAssignedTo, Answers.ConfinedTo};
+ghost use Rattle.lra_octagon.specs.{Forms.shape, Tables.assignment_of, declared.assigning.Assignment.TheVariants.Bound};
 
 use crate::bounds::Bounds;
 use crate::closing::{equate_and_close, free};

@@ -1,16 +1,11 @@
 //! The matrix of an octagon, or none where it is empty.
 
 ghost use Rattle.std.specs.Prelude.{◌≡◌, ◌≤◌, ◌<◌, ◌+◌, ◌-◌, ◌^◌, ◌↔◌, None, Some, ℕ, IsTrue, IfOk, OnOk, OnErr};
-ghost use Rattle.lra_domain.specs.declared.Mode.{Mode};
-ghost use Rattle.lra_dbm.specs.Cells.{DbmContent as Matrix};
-ghost use Rattle.lra_dbm.specs.Cells.{IsMatrix, entries, forgotten, first_entries};
-ghost use Rattle.lra_octagon.specs.Content.{matrix_view, CellsFit, DimsFit, IsTopMatrix, MatrixWithin};
-ghost use Rattle.lra_octagon.specs.Closed.{ClosedTo};
-ghost use Rattle.lra_octagon.specs.Tables.{Becomes};
+ghost use Rattle.lra_domain.specs.{Abstraction.Values, declared.Mode.Mode};
+ghost use Rattle.lra_dbm.specs.Cells.{DbmContent as Matrix, IsMatrix, entries, forgotten, first_entries};
+ghost use Rattle.lra_octagon.specs.Content.{matrix_view, CellsFit, DimsFit, IsTopMatrix, MatrixWithin, content};
 ghost use Rattle.lra_octagon.specs.Heads.{joined_cells, widened_cells, grown_cells, octagon_rank_number};
-ghost use Rattle.lra_domain.specs.Abstraction.{Values};
-ghost use Rattle.lra_octagon.specs.Content.{content};
-ghost use Rattle.lra_octagon.specs.Abstraction.{octagon_abstraction};
+ghost use Rattle.lra_octagon.specs.{Abstraction.octagon_abstraction, Closed.ClosedTo, Tables.Becomes};
 
 use lra_dbm::{Closing, Dbm};
 use lra_domain::{Exactness, Mode, Rank};

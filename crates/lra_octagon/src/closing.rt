@@ -3,9 +3,8 @@
 ghost use Rattle.std.specs.Prelude.{◌≡◌, ◌≢◌, ◌≤◌, ◌<◌, ◌*◌, ◌/◌, ◌^◌, neg_ℤ};
 ghost use Rattle.lra_linear_spec.specs.Range.{InRange};
 ghost use Rattle.lra_dbm.specs.Cells.{IsMatrix};
-ghost use Rattle.lra_octagon.specs.Content.{matrix_view, DimsFit};
 ghost use Rattle.lra_octagon.specs.Closed.{ClosedTo, Equates, EquatedTo};
-ghost use Rattle.lra_octagon.specs.Tables.{at_least, Forgets};
+ghost use Rattle.lra_octagon.specs.{Content.matrix_view, Content.DimsFit, Tables.at_least, Tables.Forgets};
 
 use crate::bounds::{Bounds, close};
 use lra_dbm::{Dbm, opposite};

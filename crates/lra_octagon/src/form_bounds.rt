@@ -3,12 +3,10 @@
 ghost use Rattle.std.specs.Prelude.{◌≡◌, ◌≤◌, ◌<◌, ◌*◌, ◌^◌, length, Some, IfSome};
 ghost use Rattle.lra_linear_spec.specs.Range.{InRange};
 ghost use Rattle.lra_box.specs.Ends.{IsEnd};
-ghost use Rattle.lra_dbm.specs.Cells.{IsMatrix, entries};
+ghost use Rattle.lra_dbm.specs.{Cells.IsMatrix, Cells.entries, Tight.opposite};
 ghost use Rattle.lra_octagon.specs.Content.{matrix_view, CellsFit, DimsFit};
-ghost use Rattle.lra_dbm.specs.Tight.{opposite};
-ghost use Rattle.lra_octagon.specs.Forms.{ShapeFits, shape_of, terms_from};
-ghost use Rattle.lra_octagon.specs.Tables.{intervals, most};
 ghost use Rattle.lra_octagon.specs.FormBounds.{CellsTell, UnaryTell, above_by, below_by};
+ghost use Rattle.lra_octagon.specs.{Forms.ShapeFits, Forms.shape_of, Forms.terms_from, Tables.intervals, Tables.most};
 
 use crate::bounds::Bounds;
 use crate::forms::{FormShape, with_coefficient};

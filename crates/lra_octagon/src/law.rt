@@ -1,15 +1,12 @@
 //! Laws: each of these does nothing, and its contract is the theorem.
 
-ghost use Rattle.std.specs.Prelude.{◌≡◌, ◌↔◌, ℕ, ℤ, List};
-ghost use Rattle.std.specs.List.{Contains};
+ghost use Rattle.std.specs.{List.Contains, Prelude.◌≡◌, Prelude.◌↔◌, Prelude.ℕ, Prelude.ℤ, Prelude.List};
 ghost use Rattle.lra_domain.specs.Actions.{Action, ActionFits};
 ghost use Rattle.lra_linear_spec.specs.RowOrder.{Ascends, inequality_cmp};
 ghost use Rattle.lra_dbm.specs.Tight.{Entries};
-ghost use Rattle.lra_octagon.specs.Content.{OctagonContent};
 ghost use Rattle.lra_octagon.specs.ExactRows.{IsOctagonEquality, IsOctagonInequality};
-ghost use Rattle.lra_octagon.specs.Least.{IsTightOctagon};
-ghost use Rattle.lra_octagon.specs.Abstraction.{octagon_abstraction};
 ghost use Rattle.lra_octagon.specs.Parts.{octagon_equalities, octagon_inequalities};
+ghost use Rattle.lra_octagon.specs.{Abstraction.octagon_abstraction, Content.OctagonContent, Least.IsTightOctagon};
 
 /// What is defined of tight octagons is tight: so an octagon that exact calls made of universal and empty ones is, and
 /// `is_empty`, `included` and `join` say of it what they say of tight ones.

@@ -1,11 +1,8 @@
 //! Octagons as a domain.
 
 ghost use Rattle.std.specs.Prelude.{◌≡◌, ◌↔◌, IsTrue, IfOk, OnOk, OnErr, ℤ, List, []};
-ghost use Rattle.lra_domain.specs.Actions.{Within};
-ghost use Rattle.lra_domain.specs.Abstraction.{Joins};
-ghost use Rattle.lra_domain.specs.Parts.{CapsWithin};
-ghost use Rattle.lra_octagon.specs.Least.{IsTightOctagon, LeastOctagon};
-ghost use Rattle.lra_octagon.specs.Abstraction.{octagon_abstraction};
+ghost use Rattle.lra_domain.specs.{Abstraction.Joins, Actions.Within, Parts.CapsWithin};
+ghost use Rattle.lra_octagon.specs.{Abstraction.octagon_abstraction, Least.IsTightOctagon, Least.LeastOctagon};
 
 use crate::assigning::assign_in;
 use crate::bounds::{
@@ -46,8 +43,7 @@ impl Drop for Octagon {
 }
 
 impl Model for Octagon {
-    ghost use Rattle.std.specs.Prelude.{◌≤◌, ◌^◌};
-    ghost use Rattle.std.specs.Prelude.{IsTrue};
+    ghost use Rattle.std.specs.Prelude.{◌≤◌, ◌^◌, IsTrue};
     ghost use Rattle.lra_octagon.specs.Content.{OctagonContent, DimsFit, CellsFit, matrix_view};
     ghost use Rattle.lra_octagon.specs.Least.{IsTightOrNone};
 

@@ -4,13 +4,10 @@ ghost use Rattle.std.specs.Prelude.{◌≡◌, ◌≤◌, ◌<◌, ◌*◌, ◌^
 ghost use Rattle.lra_linear_spec.specs.Range.{InRange};
 ghost use Rattle.lra_linear_spec.specs.declared.ConKind.TheVariants.{Ge, Eq};
 ghost use Rattle.lra_dbm.specs.Cells.{IsMatrix, entries, entry_at};
-ghost use Rattle.lra_octagon.specs.Content.{matrix_view, DimsFit};
-ghost use Rattle.lra_octagon.specs.Tables.{IsHalf};
 ghost use Rattle.lra_octagon.specs.Parts.{sign_of, pair_row, implied_by, unless_implied, printed, makes_equality};
-ghost use Rattle.lra_octagon.specs.Parts.{is_equality_pair};
-ghost use Rattle.lra_octagon.specs.Parts.{kind_row, rising, falling, rows_with, octagon_equalities};
-ghost use Rattle.lra_octagon.specs.Parts.{octagon_inequalities, octagon_system};
-ghost use Rattle.lra_octagon.specs.Parts.{octagon_parts, Pushed};
+ghost use Rattle.lra_octagon.specs.Parts.{is_equality_pair, kind_row, rising, falling, rows_with, octagon_equalities};
+ghost use Rattle.lra_octagon.specs.Parts.{octagon_inequalities, octagon_system, octagon_parts, Pushed};
+ghost use Rattle.lra_octagon.specs.{Content.matrix_view, Content.DimsFit, Tables.IsHalf};
 
 use crate::bounds::Bounds;
 use crate::unary::most;

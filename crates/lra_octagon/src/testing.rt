@@ -1,21 +1,15 @@
 //! Tests of octagons by linear forms.
 
 ghost use Rattle.std.specs.Prelude.{◌≡◌, ◌≤◌, ◌<◌, ◌*◌, ◌^◌, ℕ, pos, length, unsigned_abs, All, Some, IfOk};
-ghost use Rattle.std.specs.Prelude.{slice_index_or};
-ghost use Rattle.std.specs.Int.{int_div_euclid};
+ghost use Rattle.std.specs.{Int.int_div_euclid, Prelude.slice_index_or};
 ghost use Rattle.lra_linear_spec.specs.Range.{InRange};
-ghost use Rattle.lra_domain.specs.Actions.{test};
-ghost use Rattle.lra_domain.specs.Abstraction.{TransfersTo};
+ghost use Rattle.lra_domain.specs.{Abstraction.TransfersTo, Actions.test};
 ghost use Rattle.lra_box.specs.Bounds.{form, EndsInRange, full_interval};
 ghost use Rattle.lra_dbm.specs.Cells.{IsMatrix, entries};
-ghost use Rattle.lra_octagon.specs.declared.forms.FormShape.TheVariants.{Other};
 ghost use Rattle.lra_octagon.specs.Content.{content, matrix_view, CellsFit, DimsFit};
-ghost use Rattle.lra_octagon.specs.Closed.{ClosedTo};
-ghost use Rattle.lra_octagon.specs.Entering.{BoundedTo};
-ghost use Rattle.lra_octagon.specs.Forms.{shape};
 ghost use Rattle.lra_octagon.specs.Tables.{at_least, intervals};
-ghost use Rattle.lra_octagon.specs.Answers.{MatrixTestedTo};
-ghost use Rattle.lra_octagon.specs.Abstraction.{octagon_abstraction};
+ghost use Rattle.lra_octagon.specs.{Abstraction.octagon_abstraction, Answers.MatrixTestedTo, Closed.ClosedTo};
+ghost use Rattle.lra_octagon.specs.{Entering.BoundedTo, Forms.shape, declared.forms.FormShape.TheVariants.Other};
 
 use crate::bounds::Bounds;
 use crate::closing::bound_and_close;

@@ -5,12 +5,10 @@ ghost use Rattle.lra_domain.specs.declared.Exactness.TheVariants.{Exact};
 ghost use Rattle.lra_linear_forms.specs.Form.{Form};
 ghost use Rattle.lra_dbm.specs.Cells.{IsMatrix};
 ghost use Rattle.lra_octagon.specs.Content.{matrix_view, CellsFit, DimsFit};
-ghost use Rattle.lra_octagon.specs.declared.assigning.Assignment.TheVariants.{Shift};
-ghost use Rattle.lra_octagon.specs.declared.forms.FormShape.TheVariants.{Constant};
 ghost use Rattle.lra_octagon.specs.Forms.{ShapeFits, opposite_shape, shape};
-ghost use Rattle.lra_octagon.specs.Least.{IsTightOrNone};
-ghost use Rattle.lra_octagon.specs.Tables.{Tests, assignment_of};
-ghost use Rattle.lra_octagon.specs.Unchanged.{LowersNothing, ShapeUnchanged};
+ghost use Rattle.lra_octagon.specs.{Least.IsTightOrNone, Tables.Tests, Tables.assignment_of, Unchanged.LowersNothing};
+ghost use Rattle.lra_octagon.specs.{Unchanged.ShapeUnchanged, declared.assigning.Assignment.TheVariants.Shift};
+ghost use Rattle.lra_octagon.specs.{declared.forms.FormShape.TheVariants.Constant};
 
 use crate::assigning::{Assignment, assignment_of};
 use crate::bounds::Bounds;

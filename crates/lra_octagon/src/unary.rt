@@ -4,9 +4,9 @@ ghost use Rattle.std.specs.Prelude.{◌≡◌, ◌≤◌, ◌<◌, ◌*◌, ◌^
 ghost use Rattle.lra_linear_spec.specs.Range.{InRange};
 ghost use Rattle.lra_dbm.specs.Cells.{IsMatrix, entries};
 ghost use Rattle.lra_box.specs.Bounds.{EndsInRange, full_interval};
-ghost use Rattle.lra_octagon.specs.Tables.{most, interval, intervals, upper_of, some_crossed, IsHalf};
 ghost use Rattle.lra_octagon.specs.Content.{matrix_view, DimsFit};
 ghost use Rattle.lra_octagon.specs.Entering.{BoundsOne, BoundsAll, BoundedTo};
+ghost use Rattle.lra_octagon.specs.Tables.{most, interval, intervals, upper_of, some_crossed, IsHalf};
 
 use crate::bounds::{Bounds, close};
 use lra_box::{Interval, is_crossed};

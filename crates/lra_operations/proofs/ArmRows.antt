@@ -1,14 +1,10 @@
 -- The arms that run behind a label are those trees, one after the other.
 use Rattle.std.proofs.Common.{◌≡◌, ℕ, Bool, true, false, ◌++◌, Option, inl, inr, refl, ap}
 use Rattle.std.specs.Prelude.{cond}
-use Rattle.lra_base.specs.declared.number_types.NumberType.{NumberType}
-use Rattle.lra_base.specs.declared.case_labels.CaseLabel.{CaseLabel}
-use Rattle.lra_base.specs.CaseLabels.{is_same_case}
-use Rattle.lra_program.specs.Step.{State}
-use Rattle.lra_program.specs.Traces.{Trace}
-use Rattle.lra_operations.specs.Tree.{Node, empty, seq, Arms, no_arms, entry, arm}
-use Rattle.lra_operations.specs.Traces.{RunExtent, to_end, stopped, RunsUpTo, ArmsRunUpTo}
+use Rattle.lra_base.specs.{CaseLabels.is_same_case, declared.case_labels.CaseLabel.CaseLabel, declared.number_types.NumberType.NumberType}
+use Rattle.lra_program.specs.{Step.State, Traces.Trace}
 use Rattle.lra_operations.specs.CheckedOperations.{computing_ops, computing_ops_in_arms, fresh_after}
+use Rattle.lra_operations.specs.{Traces.RunExtent, Traces.to_end, Traces.stopped, Traces.RunsUpTo, Traces.ArmsRunUpTo, Tree.Node, Tree.empty, Tree.seq, Tree.Arms, Tree.no_arms, Tree.entry, Tree.arm}
 
 abbrev pub arms_row : Arms → Node
 arms_row no_arms = empty

@@ -1,15 +1,9 @@
 -- Arms of a `switch` as they are seen: each is a label or a tree, before those behind it.
 use Rattle.std.proofs.Common.{rules, ◌≡◌, ◌∙◌, ◌∷◌, [], List, Bool, false, map, ap, sym}
-use Rattle.std.specs.Prelude.{◌||◌}
-use Rattle.std.specs.List.{list_any}
-use Rattle.lra_base.specs.CaseLabels.{is_same_case}
-use Rattle.lra_base.specs.declared.case_labels.CaseLabel.{CaseLabel}
-use Rattle.lra_base.specs.declared.case_labels.CaseLabel.TheVariants.{Default}
-use Rattle.lra_operations.specs.declared.tree.Arm.{Arm}
-use Rattle.lra_operations.specs.declared.tree.Arm.TheVariants.{Entry, Tree}
-use Rattle.lra_operations.specs.declared.tree.Node.{Node, the_lemmas}
-use Rattle.lra_operations.specs.Tree.{Arms, no_arms, entry, arm, entries_of}
-use Rattle.lra_operations.specs.TreeViews.{ArmPart, node_view, arm_view, arms_of}
+use Rattle.std.specs.{List.list_any, Prelude.◌||◌}
+use Rattle.lra_base.specs.{CaseLabels.is_same_case, declared.case_labels.CaseLabel.CaseLabel, declared.case_labels.CaseLabel.TheVariants.Default}
+use Rattle.lra_operations.specs.{Tree.Arms, Tree.no_arms, Tree.entry, Tree.arm, Tree.entries_of, TreeViews.ArmPart, TreeViews.node_view, TreeViews.arm_view, TreeViews.arms_of, declared.tree.Arm.Arm}
+use Rattle.lra_operations.specs.{declared.tree.Arm.TheVariants.Entry, declared.tree.Arm.TheVariants.Tree, declared.tree.Node.Node, declared.tree.Node.the_lemmas}
 
 pub entry_view : (l : CaseLabel) → arm_view (Entry l) ≡ entry l
 entry_view l = search (rules, the_lemmas)

@@ -1,11 +1,9 @@
 -- A value of the tree of operations, and what it stands for.
 use Rattle.std.proofs.Common.{◌≡◌, ℕ, ◌∷◌, [], map, refl, rules, Box, Vec, Global}
 use Rattle.lra_operations.specs.declared.tree.Node.{Node, Seq, Select, the_lemmas as node_lemmas}
+use Rattle.lra_operations.specs.{TreeViews.node_view, TreeViews.row, TreeViews.arm_view, TreeViews.arms_of, declared.tree.Arm.Arm}
 use Rattle.lra_operations.specs.Tree as graph
-use Rattle.lra_operations.specs.TreeViews.{node_view, row, arm_view, arms_of}
-use Rattle.lra_operations.specs.declared.tree.Arm.{Arm}
-use Rattle.lra_program.specs.declared.program.Expr.{Expr}
-use Rattle.lra_program.specs.ProgramViews.{expr_view}
+use Rattle.lra_program.specs.{ProgramViews.expr_view, declared.program.Expr.Expr}
 use Rattle.lra_base.specs.declared.case_labels.CaseLabel.{CaseLabel}
 
 -- trees one after the other nest to the right

@@ -1,14 +1,11 @@
 -- The equations of the sizes that drops go by, and what a tree that is taken apart leaves.
 use Rattle.std.proofs.Common.{◌≡◌, ℕ, ◌+◌, ◌<◌, List, [], ◌∷◌, ◌++◌, Box, Global, Vec, map, rules, arith, ap, ◌∙◌, refl}
-use Rattle.std.specs.Box.{with_value}
-use Rattle.std.specs.List.{sum_by}
+use Rattle.std.specs.{Box.with_value, List.sum_by}
 use Rattle.lra_operations.specs.Sizes.{sizes, whole_size, hung_size, arm_sizes, arms_tree_sizes, hung_arms_size}
-use Rattle.lra_operations.specs.declared.tree.Node.{Node, the_lemmas as node_lemmas}
+use Rattle.lra_operations.specs.{declared.tree.Arm.Arm, declared.tree.Node.Node, declared.tree.Node.the_lemmas as node_lemmas}
 use Rattle.lra_operations.specs.declared.tree.Node.TheVariants as at
-use Rattle.lra_operations.specs.declared.tree.Arm.{Arm}
 use Rattle.lra_operations.specs.declared.tree.Arm.TheVariants as of
-use Rattle.lra_program.specs.declared.program.Cond.{Cond}
-use Rattle.lra_program.specs.declared.program.Expr.{Expr}
+use Rattle.lra_program.specs.{declared.program.Cond.Cond, declared.program.Expr.Expr}
 use Rattle.lra_base.specs.declared.case_labels.CaseLabel.{CaseLabel}
 
 abbrev wholes : Vec Node Global → ℕ

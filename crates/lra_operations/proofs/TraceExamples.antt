@@ -1,14 +1,11 @@
 -- Trails of small trees.
 use Rattle.std.proofs.Common.{ℕ, suc, ℤ, pos, [], ◌∷◌, false, inl, inr, refl}
-use Rattle.lra_base.specs.declared.number_types.NumberType.TheVariants.{Int, Long}
 use Rattle.lra_base.specs.declared.case_labels.CaseLabel.TheVariants.{Case, Default}
-use Rattle.lra_base.specs.Operators.{plus, below}
+use Rattle.lra_base.specs.{Operators.plus, Operators.below, declared.number_types.NumberType.TheVariants.Int, declared.number_types.NumberType.TheVariants.Long}
 use Rattle.lra_program.specs.Program.{Variable, Cond, literal, read, binary, compare, local}
-use Rattle.lra_program.specs.Receivers.{variable_at}
-use Rattle.lra_program.specs.Step.{State, store_value}
-use Rattle.lra_program.specs.Traces.{visit, Trace, NoChange}
-use Rattle.lra_operations.specs.Tree.{broken, Node, point, act, seq, iterate, check, catch, leave, select, Arms, no_arms, entry, arm, normal, ArmsComplete}
+use Rattle.lra_program.specs.{Receivers.variable_at, Step.State, Step.store_value, Traces.visit, Traces.Trace, Traces.NoChange}
 use Rattle.lra_operations.specs.Traces.{to_point, to_failure, to_end, stopped, RunsUpTo}
+use Rattle.lra_operations.specs.Tree.{broken, Node, point, act, seq, iterate, check, catch, leave, select, Arms, no_arms, entry, arm, normal, ArmsComplete}
 
 abbrev x_is : ℤ → State
 x_is z = record { store = z ∷ []; arrays = []; waiting = []; draws = [] }

@@ -1,12 +1,9 @@
 -- Laws for the use of trees' trails: points by other names, and what was met before.
 use Rattle.std.proofs.Common.{◌≡◌, ℕ, zero, suc, List, [], ◌∷◌, ◌++◌, map, Bool, true, false, ◌||◌, inl, inr, refl, sym, ap, ◌∙◌, subst, append_assoc}
-use Rattle.lra_base.specs.declared.case_labels.CaseLabel.{CaseLabel}
-use Rattle.lra_base.specs.CaseLabels.{is_same_case}
-use Rattle.lra_program.specs.Program.{Expr, Cond}
-use Rattle.lra_program.specs.Step.{State, Op, test}
-use Rattle.lra_program.specs.Traces.{TraceEvent, visit, Trace}
-use Rattle.lra_operations.specs.Tree.{Node, empty, probe, point, act, check, seq, choose, iterate, catch, leave, select, Arms, no_arms, entry, arm}
+use Rattle.lra_base.specs.{CaseLabels.is_same_case, declared.case_labels.CaseLabel.CaseLabel}
+use Rattle.lra_program.specs.{Program.Expr, Program.Cond, Step.State, Step.Op, Step.test, Traces.TraceEvent, Traces.visit, Traces.Trace}
 use Rattle.lra_operations.specs.Traces.{by_jump, RunExtent, to_end, stopped, RunsUpTo, ArmsRunUpTo, Finds, VisitsAndTests, TrailRounds, Performs, VisitsPoint}
+use Rattle.lra_operations.specs.Tree.{Node, empty, probe, point, act, check, seq, choose, iterate, catch, leave, select, Arms, no_arms, entry, arm}
 
 -- points by other names ------------------------------------------------------------------------------------------------
 

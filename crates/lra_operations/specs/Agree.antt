@@ -1,13 +1,10 @@
 -- The tree of a whole program, and what it owes: the tree comes to a point exactly where a run does.
-use Rattle.std.specs.Prelude.{◌≡◌, ◌↔◌, ℕ, ℤ, List, length, Some, slice_get, IsTrue, suc}
 use Rattle.std.specs.List.{AllByRecursion}
-use Rattle.lra_program.specs.Program.{Program}
-use Rattle.lra_program.specs.Value.{is_word}
-use Rattle.lra_program.specs.Step.{State}
+use Rattle.std.specs.Prelude.{◌≡◌, ◌↔◌, ℕ, ℤ, List, length, Some, slice_get, IsTrue, suc}
 use Rattle.lra_program.specs.Run.{begun, Point, At, Fails}
-use Rattle.lra_operations.specs.Tree.{Node, seq, point, ReachesPoint, FailsAt}
-use Rattle.lra_program.specs.Sites.{Site, sites_of}
+use Rattle.lra_program.specs.{Program.Program, Sites.Site, Sites.sites_of, Step.State, Value.is_word}
 use Rattle.lra_operations.specs.Inlined.{IsSiteAt, InlineItems, move, main_inline_state}
+use Rattle.lra_operations.specs.Tree.{Node, seq, point, ReachesPoint, FailsAt}
 
 -- main's items, and the point of its end; the points are those of the program
 pub record IsInlinedTree (P : Program) (g : Node) : Type 0 where

@@ -1,22 +1,17 @@
 -- The operations of a tree of which something is asked, each with the point to which it belongs: those that compute
 -- something, which alone can stop a run by a number, and those that access arrays. A declarator's stands behind its new
 -- variable, so it is told with that variable's type.
-use Rattle.std.specs.Prelude.{◌≡◌, ℕ, List, [], ◌∷◌, ◌++◌, Option, None, Some, Bool, true, if◌then◌else◌, slice_get}
 use Rattle.std.specs.List.{Contains}
+use Rattle.std.specs.Prelude.{◌≡◌, ℕ, List, [], ◌∷◌, ◌++◌, Option, None, Some, Bool, true, if◌then◌else◌, slice_get}
 use Rattle.lra_base.specs.declared.number_types.NumberType.{NumberType}
-use Rattle.lra_program.specs.Program.{Program}
-use Rattle.lra_program.specs.Step.{State, Op, append, fill, store_value, store_element, havoc, push, push_for}
-use Rattle.lra_program.specs.Step.{truncate_to, test}
-use Rattle.lra_program.specs.Step.{run_op, Config}
-use Rattle.lra_program.specs.Run.{IsOn, Reaches}
-use Rattle.lra_program.specs.NextOperation.{NextOpIs}
-use Rattle.lra_program.specs.Overflow.{op_computes, OpOverflows}
 use Rattle.lra_program.specs.Accesses.{op_accesses_any, OpOutOfBounds}
-use Rattle.lra_program.specs.Sites.{Site, sites_of}
-use Rattle.lra_program.specs.Receivers.{nobody}
+use Rattle.lra_program.specs.Step.{State, Op, append, fill, store_value, store_element, havoc, push, push_for}
+use Rattle.lra_program.specs.Step.{truncate_to, test, run_op, Config}
+use Rattle.lra_program.specs.{NextOperation.NextOpIs, Overflow.op_computes, Overflow.OpOverflows, Program.Program}
+use Rattle.lra_program.specs.{Receivers.nobody, Run.IsOn, Run.Reaches, Sites.Site, Sites.sites_of}
+use Rattle.lra_operations.specs.Agree.{IsInlinedTree, point_of, AreDistinct}
 use Rattle.lra_operations.specs.Tree.{Node, empty, probe, point, act, check, seq, choose, iterate, catch, leave, select}
 use Rattle.lra_operations.specs.Tree.{Arms, no_arms, entry, arm}
-use Rattle.lra_operations.specs.Agree.{IsInlinedTree, point_of, AreDistinct}
 
 -- an operation that is asked: its point, the type of the variable that is new before it, where one is, and what is done
 pub record OpAtPoint : Type 0 where

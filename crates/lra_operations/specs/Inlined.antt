@@ -7,19 +7,14 @@ use Rattle.lra_program.specs.Program.{Variable, Expr, Element, Cond, Call, Rvalu
 use Rattle.lra_program.specs.Program.{absent, nothing, block, assign, write, call, if, loop, for, break, continue}
 use Rattle.lra_program.specs.Program.{return, assert, assume, switch, Cases, no_cases, labelled, stated, BlockItems}
 use Rattle.lra_program.specs.Program.{no_more, declaration, array, statement, Function, Program}
-use Rattle.lra_program.specs.declared.arrays.Array.{Array}
-use Rattle.lra_base.specs.declared.case_labels.CaseLabel.{CaseLabel}
-use Rattle.lra_program.specs.Value.{index_of}
-use Rattle.lra_base.specs.declared.number_types.NumberType.{NumberType}
-use Rattle.lra_program.specs.declared.receivers.Receiver.{Receiver}
 use Rattle.lra_program.specs.Receivers.{variable_at, waiting_in, nobody, result_receiver}
-use Rattle.lra_program.specs.Value.{Argument}
 use Rattle.lra_program.specs.Step.{Op, append, fill, store_value, store_element, havoc, push, push_for, truncate_to}
-use Rattle.lra_program.specs.Step.{test, CallContext}
-use Rattle.lra_program.specs.Step.{ReturnFrame, arguments_for, main_receiver}
-use Rattle.lra_operations.specs.Tree.{broken, continued, returned, Node, empty, point, act, check, seq, choose}
-use Rattle.lra_operations.specs.Tree.{iterate, catch, leave, select, Arms, no_arms, entry, arm}
-use Rattle.lra_program.specs.Sites.{Site}
+use Rattle.lra_program.specs.Step.{test, CallContext, ReturnFrame, arguments_for, main_receiver}
+use Rattle.lra_program.specs.Value.{index_of, Argument}
+use Rattle.lra_program.specs.{Sites.Site, declared.arrays.Array.Array, declared.receivers.Receiver.Receiver}
+use Rattle.lra_base.specs.{declared.case_labels.CaseLabel.CaseLabel, declared.number_types.NumberType.NumberType}
+use Rattle.lra_operations.specs.Tree.{broken, continued, returned, Node, empty, point, act, check, seq, choose, iterate}
+use Rattle.lra_operations.specs.Tree.{catch, leave, select, Arms, no_arms, entry, arm}
 
 -- where a statement stands: its call, how long the store is where `break` comes out - the nearest loop or `switch` - and
 -- where `continue` goes on, and what its return goes back to; `main` has no such

@@ -1,11 +1,9 @@
 -- The tree, and the arm, that these are the parts of.
-use Rattle.lra_operations.specs.declared.tree.Arm.{Arm}
-use Rattle.lra_operations.specs.declared.tree.Arm.TheVariants as arm
 use Rattle.lra_operations.specs.declared.tree.ArmParts.{ArmParts}
+use Rattle.lra_operations.specs.{declared.tree.Arm.Arm, declared.tree.Node.Node, declared.tree.Parts.Parts}
+use Rattle.lra_operations.specs.declared.tree.Arm.TheVariants as arm
 use Rattle.lra_operations.specs.declared.tree.ArmParts.TheVariants as arm_parts
-use Rattle.lra_operations.specs.declared.tree.Node.{Node}
 use Rattle.lra_operations.specs.declared.tree.Node.TheVariants as tree
-use Rattle.lra_operations.specs.declared.tree.Parts.{Parts}
 use Rattle.lra_operations.specs.declared.tree.Parts.TheVariants as parts
 
 abbrev pub whole_arm_of : ArmParts → Arm

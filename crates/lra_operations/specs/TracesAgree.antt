@@ -1,14 +1,10 @@
 -- What the tree of a whole program owes to trails: each run of the program is one of the tree, with the same trail, and
 -- each of the tree is one of the program.
 use Rattle.std.specs.Prelude.{◌≡◌, ◌↔◌, ℕ, ℤ, List, [], ◌∷◌, length, Option, Some, None, slice_get}
-use Rattle.lra_program.specs.Program.{Program}
-use Rattle.lra_program.specs.Step.{State}
-use Rattle.lra_program.specs.Run.{begun, Point}
-use Rattle.lra_program.specs.Sites.{Site, sites_of}
 use Rattle.lra_program.specs.Traces.{TraceEvent, visit, Trace, NoChange, Arrives, ViolatesAssertion}
-use Rattle.lra_operations.specs.Tree.{Node}
+use Rattle.lra_program.specs.{Program.Program, Run.begun, Run.Point, Sites.Site, Sites.sites_of, Step.State}
 use Rattle.lra_operations.specs.Traces.{to_point, to_failure, Stop, stopped, RunsUpTo}
-use Rattle.lra_operations.specs.Agree.{IsInlinedTree, point_of, AreDistinct}
+use Rattle.lra_operations.specs.{Agree.IsInlinedTree, Agree.point_of, Agree.AreDistinct, Tree.Node}
 
 -- the point that has the number in the list; where it has none, a point of no meaning
 abbrev pub point_or_none : Option Site → Point

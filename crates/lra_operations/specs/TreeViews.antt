@@ -1,14 +1,11 @@
 -- The tree of operations, and the points, that values of the code's types stand for.
 use Rattle.std.specs.Prelude.{List, [], ◌∷◌, map}
-use Rattle.lra_operations.specs.declared.tree.Exit.{Exit}
-use Rattle.lra_operations.specs.declared.tree.Exit.TheVariants as exit
-use Rattle.lra_operations.specs.declared.tree.Op.{Op}
-use Rattle.lra_operations.specs.declared.tree.Op.TheVariants as op
-use Rattle.lra_operations.specs.declared.tree.Node.{Node}
-use Rattle.lra_operations.specs.declared.tree.Arm.{Arm}
 use Rattle.lra_operations.specs.declared.tree.Arm.TheFolds.{fold-Arm, fold-Node}
 use Rattle.lra_operations.specs.declared.tree.Arm.TheOpen.{Arm-F, Node-F}
-use Rattle.lra_operations.specs.declared.tree.Site.{Site}
+use Rattle.lra_operations.specs.{declared.tree.Arm.Arm, declared.tree.Exit.Exit, declared.tree.Node.Node}
+use Rattle.lra_operations.specs.{declared.tree.Op.Op, declared.tree.Site.Site}
+use Rattle.lra_operations.specs.declared.tree.Exit.TheVariants as exit
+use Rattle.lra_operations.specs.declared.tree.Op.TheVariants as op
 use Rattle.lra_program.specs.Step as step
 use Rattle.lra_operations.specs.Tree as graph
 use Rattle.lra_program.specs.Sites as sites

@@ -1,11 +1,8 @@
 //! The labels among a `switch`'s arms.
 
-ghost use Rattle.std.specs.Prelude.{◌≡◌, ◌||◌, map};
-ghost use Rattle.std.specs.List.{list_any};
-ghost use Rattle.lra_base.specs.declared.case_labels.CaseLabel.TheVariants.{Default};
-ghost use Rattle.lra_base.specs.CaseLabels.{is_same_case};
-ghost use Rattle.lra_operations.specs.Tree.{Arms, entries_of};
-ghost use Rattle.lra_operations.specs.TreeViews.{arm_view, arms_of};
+ghost use Rattle.std.specs.{List.list_any, Prelude.◌≡◌, Prelude.◌||◌, Prelude.map};
+ghost use Rattle.lra_base.specs.{CaseLabels.is_same_case, declared.case_labels.CaseLabel.TheVariants.Default};
+ghost use Rattle.lra_operations.specs.{Tree.Arms, Tree.entries_of, TreeViews.arm_view, TreeViews.arms_of};
 
 use crate::Arm;
 use lra_base::CaseLabel;

@@ -5,8 +5,8 @@ ghost use Rattle.lra_program.specs.Step as step;
 ghost use Rattle.lra_program.specs.Step.{arguments_for};
 ghost use Rattle.lra_operations.specs.Tree as graph;
 ghost use Rattle.lra_operations.specs.Inlined.{loop_node, switch_node, callee_node, call_node, return_node};
-ghost use Rattle.lra_program.specs.ProgramViews.{expr_view, element_view, cond_view};
 ghost use Rattle.lra_operations.specs.TreeViews.{op_view, exit_view, node_view, row, arm_view, arms_of};
+ghost use Rattle.lra_program.specs.ProgramViews.{expr_view, element_view, cond_view};
 
 use crate::{Arm, Exit, Node, Op};
 use lra_base::NumberType;

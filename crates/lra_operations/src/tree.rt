@@ -1,8 +1,7 @@
 //! A program with its calls written out, as a tree of operations, and its points. Points are numbered from 0 here.
 
 ghost use Rattle.std.specs.Prelude.{◌≡◌, ◌+◌, ◌<◌, ◌∷◌, [], IfOk, IfSome, MatchOption};
-ghost use Rattle.lra_operations.specs.Sizes.{whole_size, hung_size};
-ghost use Rattle.lra_operations.specs.Parts.{whole_of, whole_arm_of};
+ghost use Rattle.lra_operations.specs.{Parts.whole_of, Parts.whole_arm_of, Sizes.whole_size, Sizes.hung_size};
 ghost use Rattle.lra_operations.specs.declared.tree.Arm.TheVariants as arm;
 
 use crate::probes::Probe;

@@ -2,11 +2,9 @@
 use Rattle.std.proofs.Common.{◌≡◌, ◌∙◌, ℕ, List, ◌++◌, Option, None, Bool, true, filter, refl, sym, ap}
 use Rattle.std.proofs.lemmas.List.Elements.{filter-append}
 use Rattle.lra_base.specs.declared.number_types.NumberType.{NumberType}
-use Rattle.lra_program.specs.Receivers.{nobody}
-use Rattle.lra_program.specs.Step.{Op, store_value, test}
+use Rattle.lra_program.specs.{Receivers.nobody, Step.Op, Step.store_value, Step.test}
 use Rattle.lra_operations.specs.CheckedOperations.{OpAtPoint, op_where, ops_where, ops_where_in_arms, fresh_after}
-use Rattle.lra_operations.specs.Tree.{Node, empty, probe, point, act, check, seq, choose, iterate, catch, leave, select}
-use Rattle.lra_operations.specs.Tree.{Arms, no_arms, entry, arm}
+use Rattle.lra_operations.specs.Tree.{Node, empty, probe, point, act, check, seq, choose, iterate, catch, leave, select, Arms, no_arms, entry, arm}
 use Rattle.lra_operations_list.specs.TreeOperations.{done_of, done_in, done_in_arms}
 
 module _ (asks : Op → Bool) where

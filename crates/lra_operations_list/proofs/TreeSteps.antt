@@ -1,38 +1,22 @@
 -- A tree that is gone along by a list of what is due: each step leaves less of it, and what is done is listed.
-use Rattle.std.proofs.Common.{rules, Box, Vec, Global, ◌≡◌, ◌∙◌, ℕ, ◌+◌, ◌*◌, ◌<◌, List, [], ◌∷◌, ◌++◌}
-use Rattle.std.proofs.Common.{map, Option, None, true, refl, sym, ap, subst, append_assoc, arith}
+use Rattle.std.proofs.Common.{rules, Box, Vec, Global, ◌≡◌, ◌∙◌, ℕ, ◌+◌, ◌*◌, ◌<◌, List, [], ◌∷◌, ◌++◌, map, Option, None, true, refl, sym, ap, subst, append_assoc, arith}
+use Rattle.std.proofs.{lemmas.List.append-nil, lemmas.List.Sums.sum_by-cons, lemmas.List.Sums.sum_by_push, lemmas.Result.IfOk-weaker, lemmas.Result.on_ok_weaker}
 use Rattle.std.specs.Prelude as outcome
-use Rattle.std.specs.Prelude.{IfOk, OnOk}
-use Rattle.std.specs.List.{sum_by}
-use Rattle.std.proofs.lemmas.List.{append-nil}
-use Rattle.std.proofs.lemmas.Result.{IfOk-weaker, on_ok_weaker}
-use Rattle.std.proofs.lemmas.List.Sums.{sum_by-cons, sum_by_push}
-use Rattle.lra_base.specs.declared.number_types.NumberType.{NumberType}
-use Rattle.lra_program.specs.declared.program.Cond.{Cond}
-use Rattle.lra_program.specs.declared.program.Expr.{Expr}
-use Rattle.lra_program.specs.Receivers.{nobody}
-use Rattle.lra_program.specs.ProgramViews.{cond_view, expr_view}
-use Rattle.lra_program.specs.Step.{store_value, test}
-use Rattle.lra_base.specs.declared.case_labels.CaseLabel.{CaseLabel}
-use Rattle.lra_operations.specs.CheckedOperations.{OpAtPoint, fresh_after, fresh_of}
-use Rattle.lra_operations_list.specs.TreeOperations.{done_of, done_in, done_in_arms}
-use Rattle.lra_operations.specs.Tree.{Node, empty, point, act, check, seq, choose, iterate, catch, leave}
-use Rattle.lra_operations.specs.Tree.{select, Arms, no_arms, entry, arm}
+use Rattle.std.specs.{List.sum_by, Prelude.IfOk, Prelude.OnOk}
+use Rattle.lra_base.specs.{declared.case_labels.CaseLabel.CaseLabel, declared.number_types.NumberType.NumberType}
+use Rattle.lra_program.specs.{ProgramViews.cond_view, ProgramViews.expr_view, Receivers.nobody, Step.store_value, Step.test, declared.program.Cond.Cond, declared.program.Expr.Expr}
+use Rattle.lra_operations.specs.Tree.{Node, empty, point, act, check, seq, choose, iterate, catch, leave, select, Arms, no_arms, entry, arm}
 use Rattle.lra_operations.specs.TreeViews.{exit_view, node_view, op_view, row, ArmPart, arm_view, arms_of}
-use Rattle.lra_operations.specs.Sizes.{sizes, whole_size, arm_sizes, arms_tree_sizes}
-use Rattle.lra_operations.specs.declared.tree.Arm.{Arm}
-use Rattle.lra_operations.specs.declared.tree.Arm.TheVariants.{Entry, Tree}
+use Rattle.lra_operations.specs.{CheckedOperations.OpAtPoint, CheckedOperations.fresh_after, CheckedOperations.fresh_of, Sizes.sizes, Sizes.whole_size, Sizes.arm_sizes, Sizes.arms_tree_sizes}
+use Rattle.lra_operations.specs.{declared.tree.Arm.Arm, declared.tree.Arm.TheVariants.Entry, declared.tree.Arm.TheVariants.Tree, declared.tree.Node.the_lemmas as node_lemmas}
+use Rattle.lra_operations_list.specs.Due.{due_view, due_before, all_due, apart_before, due_size, all_left, fresh_at, own_done, own_of, trees_of, IsOnWay, IsOpened}
+use Rattle.lra_operations_list.specs.{TreeOperations.done_of, TreeOperations.done_in, TreeOperations.done_in_arms, declared.trees.Due.Due}
 use Rattle.lra_operations.specs.declared.tree.Exit as declared_exit
 use Rattle.lra_operations.specs.declared.tree.Node as declared
 use Rattle.lra_operations.specs.declared.tree.Op as declared_op
-use Rattle.lra_operations.specs.declared.tree.Node.{the_lemmas as node_lemmas}
 use Rattle.lra_operations.specs.declared.tree.Node.TheVariants as at
-use Rattle.lra_operations_list.specs.declared.trees.Due.{Due}
-use Rattle.lra_linearize.proofs.TreeViews.{act_view, catch_view, check_view, choose_view, empty_view, iterate_view, leave_view, point_view, select_view}
-use Rattle.lra_linearize.proofs.TreeViews.{seq_view}
+use Rattle.lra_linearize.proofs.TreeViews.{act_view, catch_view, check_view, choose_view, empty_view, iterate_view, leave_view, point_view, select_view, seq_view}
 use Rattle.lra_operations.proofs.ArmViews.{arms_first, entry_view, tree_view}
-use Rattle.lra_operations_list.specs.Due.{due_view, due_before, all_due, apart_before, due_size, all_left, fresh_at, own_done, own_of, trees_of, IsOnWay}
-use Rattle.lra_operations_list.specs.Due.{IsOpened}
 
 -- what is due ------------------------------------------------------------------------------------------------------------
 

@@ -2,12 +2,10 @@
 -- each operation something were asked.
 use Rattle.std.specs.Prelude.{ℕ, List, Option, Bool, true}
 use Rattle.lra_base.specs.declared.number_types.NumberType.{NumberType}
-use Rattle.lra_program.specs.ProgramViews.{cond_view, expr_view}
-use Rattle.lra_program.specs.Receivers.{nobody}
 use Rattle.lra_program.specs.Step.{Op, store_value, test}
+use Rattle.lra_program.specs.{ProgramViews.cond_view, ProgramViews.expr_view, Receivers.nobody}
 use Rattle.lra_operations.specs.CheckedOperations.{OpAtPoint, op_where, ops_where, ops_where_in_arms}
-use Rattle.lra_operations.specs.Tree.{Node, Arms}
-use Rattle.lra_operations.specs.TreeViews.{op_view}
+use Rattle.lra_operations.specs.{Tree.Node, Tree.Arms, TreeViews.op_view}
 use Rattle.lra_operations_list.specs.declared.tree_operations.OpRef.{OpRef}
 use Rattle.lra_operations_list.specs.declared.tree_operations.OpRef.TheVariants.{Change, Condition, Value}
 use Rattle.lra_operations_list.specs.declared.tree_operations.OpRefAtPoint.{OpRefAtPoint}

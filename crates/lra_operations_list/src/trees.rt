@@ -1,14 +1,13 @@
 //! All that is done in a tree of operations.
 
-ghost use Rattle.std.specs.Prelude.{◌≡◌, ◌<◌, ◌+◌, ◌*◌, ◌++◌, None, map, IfOk, OnOk};
 ghost use Rattle.std.specs.List.{sum_by};
-ghost use Rattle.lra_operations.specs.CheckedOperations.{fresh_of};
-ghost use Rattle.lra_operations.specs.Tree.{seq};
-ghost use Rattle.lra_operations.specs.TreeViews.{node_view, op_view, row, arm_view, arms_of};
+ghost use Rattle.std.specs.Prelude.{◌≡◌, ◌<◌, ◌+◌, ◌*◌, ◌++◌, None, map, IfOk, OnOk};
 ghost use Rattle.lra_operations.specs.Sizes.{whole_size, arm_sizes, arms_tree_sizes};
-ghost use Rattle.lra_operations_list.specs.TreeOperations.{op_ref_view, done_in, done_of, op_at_point_view};
+ghost use Rattle.lra_operations.specs.TreeViews.{node_view, op_view, row, arm_view, arms_of};
+ghost use Rattle.lra_operations.specs.{CheckedOperations.fresh_of, Tree.seq};
 ghost use Rattle.lra_operations_list.specs.Due.{all_due, all_left, apart_before, due_size, due_view, fresh_at};
 ghost use Rattle.lra_operations_list.specs.Due.{own_done, trees_of, IsOnWay, IsOpened};
+ghost use Rattle.lra_operations_list.specs.TreeOperations.{op_ref_view, done_in, done_of, op_at_point_view};
 
 use crate::tree_operations::{OpRef, OpRefAtPoint};
 use lra_base::NumberType;

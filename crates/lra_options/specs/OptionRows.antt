@@ -1,15 +1,12 @@
 -- The options of an analysis beside its domain: a row for each. From it come its rule among the words, its reading, its
 -- range and its default, and what a report's first line and its JSON tell of it.
-use Rattle.std.specs.Prelude.{ℕ, ◌≤◌, List, [], ◌∷◌, Bool, true, false, ◌&&◌, ◌||◌, not, nat_eq}
-use Rattle.std.specs.Prelude.{Option, None, Some, codes}
-use Rattle.std.specs.Str.Parse.{digits_value}
-use Rattle.lra_options.specs.declared.options.Domain.TheVariants.{Poly}
-use Rattle.lra_options.specs.declared.options.Options.{Options}
-use Rattle.lra_options.specs.declared.options.NumberOption.{NumberOption}
-use Rattle.lra_options.specs.declared.options.NumberOption.TheVariants.{Parts, Delay, Narrow}
-use Rattle.lra_options.specs.declared.options.FlagOption.{FlagOption}
-use Rattle.lra_options.specs.declared.options.FlagOption.TheVariants.{Limited, Thresholds, Fits}
+use Rattle.std.specs.Prelude.{ℕ, ◌≤◌, List, [], ◌∷◌, Bool, true, false, ◌&&◌, ◌||◌, not, nat_eq, Option, None, Some}
+use Rattle.std.specs.{Prelude.codes, Str.Parse.digits_value}
 use Rattle.lra_options.specs.Domains.{supports_thresholds}
+use Rattle.lra_options.specs.declared.options.FlagOption.TheVariants.{Limited, Thresholds, Fits}
+use Rattle.lra_options.specs.declared.options.NumberOption.TheVariants.{Parts, Delay, Narrow}
+use Rattle.lra_options.specs.{declared.options.Domain.TheVariants.Poly, declared.options.FlagOption.FlagOption}
+use Rattle.lra_options.specs.{declared.options.NumberOption.NumberOption, declared.options.Options.Options}
 
 -- numbers ----------------------------------------------------------------------------------------------------------
 

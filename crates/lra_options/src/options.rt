@@ -2,9 +2,8 @@
 
 ghost use Rattle.std.specs.Prelude.{◌≡◌, Some};
 ghost use Rattle.lra_options.specs.Domains.{domain_name, shows_generators, supports_thresholds};
-ghost use Rattle.lra_options.specs.OptionRows.{number_row, number_value, set_number};
-ghost use Rattle.lra_options.specs.OptionRows.{is_number_always_reported, is_number_reported};
-ghost use Rattle.lra_options.specs.OptionRows.{flag_row, flag_value, set_flag};
+ghost use Rattle.lra_options.specs.OptionRows.{number_row, number_value, set_number, is_number_always_reported};
+ghost use Rattle.lra_options.specs.OptionRows.{is_number_reported, flag_row, flag_value, set_flag};
 ghost use Rattle.lra_options.specs.OptionRows as rows;
 
 /// The abstract domain of an analysis.

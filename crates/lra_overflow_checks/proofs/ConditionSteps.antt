@@ -1,28 +1,19 @@
 -- Steps of the proofs on what is told of conditions.
-use Rattle.std.proofs.Common.{Box, Vec, Global, ◌≡◌, ℕ, ◌+◌, ◌<◌, ◌≤◌, List, [], ◌∷◌, ◌++◌, Bool, true, false}
-use Rattle.std.proofs.Common.{length, map, drop, get_or, refl, sym, ap, subst, ◌∙◌, append_assoc, append-nil, arith}
+use Rattle.std.proofs.Common.{Box, Vec, Global, ◌≡◌, ℕ, ◌+◌, ◌<◌, ◌≤◌, List, [], ◌∷◌, ◌++◌, Bool, true, false, length, map, drop, get_or, refl, sym, ap, subst, ◌∙◌, append_assoc, append-nil, arith}
+use Rattle.std.proofs.lemmas.List.{drop_more, drop_all}
 use Rattle.std.specs.Prelude.{IfOk}
 use Rattle.std.specs.Prelude as handed
-use Rattle.std.proofs.lemmas.List.{drop_more, drop_all}
 use Rattle.lra_base.specs.OperatorViews.{comparison_view}
 use Rattle.lra_base.specs.declared.operators.Comparison as declared_comparison
-use Rattle.lra_domain.specs.declared.Exactness.{Exactness}
-use Rattle.lra_domain.specs.declared.Exactness.TheVariants.{Exact, Flagged}
-use Rattle.lra_domain.specs.Abstraction.{Abstraction, worse}
+use Rattle.lra_domain.specs.{Abstraction.Abstraction, Abstraction.worse, declared.Exactness.Exactness, declared.Exactness.TheVariants.Exact, declared.Exactness.TheVariants.Flagged}
 use Rattle.lra_program.specs.declared.program.Cond as declared_cond
 use Rattle.lra_program.specs.declared.program.Cond.{Compare, Nonzero, Opposite, All, Any, the_lemmas}
+use Rattle.lra_program.specs.{Program.Expr, Program.Cond, Program.compare, Program.nonzero, ProgramViews.cond_view, ProgramViews.expr_view}
 use Rattle.lra_program.specs.declared.program.Expr as declared_expr
-use Rattle.lra_program.specs.Program.{Expr, Cond, compare, nonzero}
-use Rattle.lra_program.specs.ProgramViews.{cond_view, expr_view}
-use Rattle.lra_analysis_spec.specs.Operations.{lossy_operations}
-use Rattle.lra_analysis_spec.specs.Moves.{Takes}
-use Rattle.lra_analysis_spec.specs.MovesOf.{guard}
-use Rattle.lra_analysis_spec.specs.Pass.{Filters}
-use Rattle.lra_analysis_spec.specs.Judging.{CondAnswers}
+use Rattle.lra_analysis_spec.specs.{Judging.CondAnswers, Moves.Takes, MovesOf.guard, Operations.lossy_operations, Pass.Filters}
 use Rattle.lra_transfer.proofs.SideSteps.{compare_view, nonzero_view, opposite_shown, all_shown, any_shown}
 use Rattle.lra_linearize.proofs.CondSizes.{cond_size, chain_size}
-use Rattle.lra_overflow_checks.specs.Judged.{IsCondJudged, sides_of}
-use Rattle.lra_overflow_checks.specs.Operands.{IsPassed}
+use Rattle.lra_overflow_checks.specs.{Judged.IsCondJudged, Judged.sides_of, Operands.IsPassed}
 
 -- answers handed on -------------------------------------------------------------------------------------------------
 

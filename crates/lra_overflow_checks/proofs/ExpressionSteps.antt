@@ -1,37 +1,23 @@
 -- Steps of the proofs on the answers on expressions.
-use Rattle.std.proofs.Common.{◌≡◌, ◌∙◌, ◌+◌, ◌<◌, ◌≤◌, ℕ, List, [], ◌∷◌, ◌++◌, Option, Some, None, Bool, true, false}
-use Rattle.std.proofs.Common.{length, map, take, get_or, rules, Box, Global}
-use Rattle.std.proofs.Common.{refl, sym, ap, subst, append_assoc, append-nil, negsuc}
+use Rattle.std.proofs.Common.{◌≡◌, ◌∙◌, ◌+◌, ◌<◌, ◌≤◌, ℕ, List, [], ◌∷◌, ◌++◌, Option, Some, None, Bool, true, false, length, map, take, get_or, rules, Box, Global, refl, sym, ap, subst, append_assoc}
+use Rattle.std.proofs.{Common.append-nil, Common.negsuc, lemmas.List.map_more, lemmas.List.take_all}
 use Rattle.std.specs.Prelude.{Result, Ok, Err, IfOk, OnOk}
-use Rattle.std.proofs.lemmas.List.{map_more, take_all}
 use Rattle.lra_linear_forms.specs.Form.{Form}
 use Rattle.lra_domain.specs.Abstraction.{Abstraction}
-use Rattle.lra_base.specs.Operators.{Operator}
 use Rattle.lra_base.specs.OperatorViews.{operator_view}
-use Rattle.lra_base.specs.declared.number_types.NumberType.{NumberType}
-use Rattle.lra_base.specs.declared.number_types.NumberType.TheVariants.{Int}
-use Rattle.lra_base.specs.NumberTypes.{wider}
-use Rattle.lra_program.specs.declared.program.Operation.{Operation}
-use Rattle.lra_program.specs.declared.program.Argument as declared_argument
-use Rattle.lra_program.specs.declared.receivers.Receiver.{Receiver}
-use Rattle.lra_program.specs.Receivers.{parameter_of, converts_to}
-use Rattle.lra_program.specs.declared.program.Variable.{Variable}
-use Rattle.lra_program.specs.declared.program.Expr as declared
-use Rattle.lra_program.specs.declared.program.Expr.{Literal, Read, Input, Negate, Element, the_lemmas}
-use Rattle.lra_base.specs.declared.refusals.Place.{Place}
-use Rattle.lra_program.specs.declared.arrays.Array.{Array}
+use Rattle.lra_base.specs.{NumberTypes.wider, Operators.Operator, declared.number_types.NumberType.NumberType, declared.number_types.NumberType.TheVariants.Int, declared.refusals.Place.Place}
 use Rattle.lra_program.specs.Program.{Expr, literal, read, input, negate, binary, element, type_of}
 use Rattle.lra_program.specs.ProgramViews.{argument_view, chained, expr_view, operation_view, variable_view}
-use Rattle.lra_program.specs.Value.{Argument}
-use Rattle.lra_analysis_spec.specs.Linear.{form_of}
-use Rattle.lra_analysis_spec.specs.Judging.{AnswersUnlessUnreachable}
+use Rattle.lra_program.specs.Receivers.{parameter_of, converts_to}
+use Rattle.lra_program.specs.declared.program.Expr.{Literal, Read, Input, Negate, Element, the_lemmas}
+use Rattle.lra_program.specs.{Value.Argument, declared.arrays.Array.Array, declared.program.Operation.Operation, declared.program.Variable.Variable, declared.receivers.Receiver.Receiver}
+use Rattle.lra_program.specs.declared.program.Argument as declared_argument
+use Rattle.lra_program.specs.declared.program.Expr as declared
 use Rattle.lra_analysis_spec.specs.Fits.{LiesIn, OperatorFits, ExprJudged, ConversionJudged, GivenJudged, ArgumentsJudged, IndexJudged}
+use Rattle.lra_analysis_spec.specs.{Judging.AnswersUnlessUnreachable, Linear.form_of}
 use Rattle.lra_analysis_spec.proofs.FormLemmas.{form_wide, operator_wide, scaled_wide}
-use Rattle.lra_linearize.proofs.FormSteps.{operation_is}
-use Rattle.lra_linearize.proofs.LinearizationSteps.{chained_last}
-use Rattle.lra_overflow_checks.specs.declared.expressions.Computed.{Computed}
-use Rattle.lra_overflow_checks.specs.Judged.{IsWide, HasAnswers, IsComputed}
-use Rattle.lra_overflow_checks.specs.Sides.{between_sides, with_other_sign}
+use Rattle.lra_linearize.proofs.{FormSteps.operation_is, LinearizationSteps.chained_last}
+use Rattle.lra_overflow_checks.specs.{Judged.IsWide, Judged.HasAnswers, Judged.IsComputed, Sides.between_sides, Sides.with_other_sign, declared.expressions.Computed.Computed}
 
 -- a form has a coefficient for each variable
 pub form_is_wide : (live base : ℕ) (e : Expr) (o : Option Form) → o ≡ form_of live base e → IsWide live o

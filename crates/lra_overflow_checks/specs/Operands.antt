@@ -1,10 +1,8 @@
 -- The operands of a chain of conditions, one behind the other.
 use Rattle.std.specs.Prelude.{◌≡◌, ℕ, Bool, List}
-use Rattle.lra_domain.specs.Abstraction.{worse}
-use Rattle.lra_domain.specs.declared.Exactness.{Exactness}
+use Rattle.lra_domain.specs.{Abstraction.worse, declared.Exactness.Exactness}
 use Rattle.lra_program.specs.Program.{Expr, Cond}
-use Rattle.lra_analysis_spec.specs.Operations.{Operations}
-use Rattle.lra_analysis_spec.specs.Pass.{Filters}
+use Rattle.lra_analysis_spec.specs.{Operations.Operations, Pass.Filters}
 use Rattle.lra_overflow_checks.specs.Judged.{IsCondJudged}
 
 -- what is told of the operand came behind the others, and of the first value it leaves the second one

@@ -2,8 +2,8 @@
 
 ghost use Rattle.std.specs.Prelude.{◌≡◌, ◌↔◌, IsTrue, IfOk};
 ghost use Rattle.lra_base.specs.OperatorViews.{operator_view};
-ghost use Rattle.lra_analysis_spec.specs.Judging.{AnswersUnlessUnreachable};
 ghost use Rattle.lra_analysis_spec.specs.Fits.{IsDivisor, LiesIn, OperatorFits};
+ghost use Rattle.lra_analysis_spec.specs.Judging.{AnswersUnlessUnreachable};
 ghost use Rattle.lra_overflow_checks.specs.Judged.{IsWide, is_within};
 ghost use Rattle.lra_overflow_checks.specs.Sides.{between_sides, with_other_sign};
 

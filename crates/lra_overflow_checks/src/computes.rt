@@ -1,11 +1,9 @@
 //! Whether an operation computes something: an operator, a sign or a conversion from 64 bits to 32.
 
 ghost use Rattle.std.specs.Prelude.{◌≡◌, ◌∷◌, map};
-ghost use Rattle.lra_program.specs.Program.{type_of};
 ghost use Rattle.lra_program.specs.Overflow.{arguments_compute, cond_computes, expr_computes, given_computes};
-ghost use Rattle.lra_program.specs.Overflow.{op_computes};
-ghost use Rattle.lra_program.specs.Receivers.{parameter_of};
 ghost use Rattle.lra_program.specs.ProgramViews.{all_of, argument_view, cond_view, expr_view};
+ghost use Rattle.lra_program.specs.{Overflow.op_computes, Program.type_of, Receivers.parameter_of};
 ghost use Rattle.lra_operations.specs.TreeViews.{op_view};
 ghost use Rattle.lra_overflow_checks.specs.Judged.{some_computes};
 

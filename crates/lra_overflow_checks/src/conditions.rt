@@ -2,12 +2,9 @@
 
 ghost use Rattle.std.specs.Prelude.{◌≡◌, ◌≤◌, ℕ, List, map, IfOk, OnOk};
 ghost use Rattle.lra_domain.specs.declared.Exactness.{Exactness};
-ghost use Rattle.lra_program.specs.Program.{Expr as ProgramExpr};
-ghost use Rattle.lra_program.specs.ProgramViews.{cond_view, expr_view};
-ghost use Rattle.lra_analysis_spec.specs.Operations.{lossy_operations};
-ghost use Rattle.lra_analysis_spec.specs.LiveLimit.{most_live};
-ghost use Rattle.lra_overflow_checks.specs.Judged.{HasAnswers, IsCondJudged, sides_of};
-ghost use Rattle.lra_overflow_checks.specs.Operands.{IsPassed};
+ghost use Rattle.lra_program.specs.{Program.Expr as ProgramExpr, ProgramViews.cond_view, ProgramViews.expr_view};
+ghost use Rattle.lra_analysis_spec.specs.{LiveLimit.most_live, Operations.lossy_operations};
+ghost use Rattle.lra_overflow_checks.specs.{Judged.HasAnswers, Judged.IsCondJudged, Judged.sides_of, Operands.IsPassed};
 
 use lra_domain::{Domain, Exactness, worse};
 use lra_program::{Cond, Expr};

@@ -2,12 +2,10 @@
 //! A chain has one form that goes along it, so its answers take as long as it does.
 
 ghost use Rattle.std.specs.Prelude.{◌≡◌, ◌<◌, ◌^◌, ℕ, List, Bool, map, IfOk, OnOk};
-ghost use Rattle.lra_program.specs.Program.{Expr as ProgramExpr, negate, binary};
 ghost use Rattle.lra_program.specs.ProgramViews.{argument_view, chained, expr_view, operation_view};
+ghost use Rattle.lra_program.specs.{Program.Expr as ProgramExpr, Program.negate, Program.binary, Receivers.waiting_in};
 ghost use Rattle.lra_base.specs.OperatorViews.{operator_view};
-ghost use Rattle.lra_analysis_spec.specs.Linear.{form_of};
-ghost use Rattle.lra_program.specs.Receivers.{waiting_in};
-ghost use Rattle.lra_analysis_spec.specs.Fits.{GivenJudged, ArgumentsJudged, IndexJudged};
+ghost use Rattle.lra_analysis_spec.specs.{Fits.GivenJudged, Fits.ArgumentsJudged, Fits.IndexJudged, Linear.form_of};
 ghost use Rattle.lra_overflow_checks.specs.Judged.{IsWide, IsComputed, HasAnswers};
 
 use crate::answers::{combine, form_fits, negate, operator_fits};

@@ -1,11 +1,8 @@
 //! What is judged of a whole program.
 
 ghost use Rattle.std.specs.Prelude.{◌<◌, None, length, All, IfOk};
-ghost use Rattle.lra_operations.specs.CheckedOperations.{computing_ops};
-ghost use Rattle.lra_operations.specs.TreeViews.{node_view};
-ghost use Rattle.lra_analysis_spec.specs.Fits.{Judges};
-ghost use Rattle.lra_analysis_spec.specs.Operations.{lossy_operations};
-ghost use Rattle.lra_analysis_spec.specs.LiveLimit.{most_live};
+ghost use Rattle.lra_operations.specs.{CheckedOperations.computing_ops, TreeViews.node_view};
+ghost use Rattle.lra_analysis_spec.specs.{Fits.Judges, LiveLimit.most_live, Operations.lossy_operations};
 ghost use Rattle.lra_overflow_checks.specs.Judged.{AreBelow};
 
 use crate::operations::OverflowCheck;

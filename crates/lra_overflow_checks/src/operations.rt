@@ -1,13 +1,11 @@
 //! Whether all fits that an operation computes: its answers taken together.
 
-ghost use Rattle.std.specs.Prelude.{◌≡◌, ◌≤◌, IfOk};
-ghost use Rattle.std.specs.List.{list_all};
+ghost use Rattle.std.specs.{List.list_all, Prelude.◌≡◌, Prelude.◌≤◌, Prelude.IfOk};
 ghost use Rattle.lra_program.specs.Overflow.{op_computes};
 ghost use Rattle.lra_operations.specs.TreeViews.{op_view};
 ghost use Rattle.lra_operations_list.specs.TreeOperations.{op_ref_view};
 ghost use Rattle.lra_analysis_spec.specs.Fits.{BothJudged, OneJudged, OpFits};
-ghost use Rattle.lra_analysis_spec.specs.Operations.{lossy_operations};
-ghost use Rattle.lra_analysis_spec.specs.LiveLimit.{most_live};
+ghost use Rattle.lra_analysis_spec.specs.{LiveLimit.most_live, Operations.lossy_operations};
 ghost use Rattle.lra_overflow_checks.specs.Judged.{IsOpJudged};
 
 use crate::computes::{condition_computes, giving_computes, operation_computes};

@@ -4,13 +4,10 @@ ghost use Rattle.std.specs.Prelude.{◌≡◌, ◌≤◌, ◌<◌, Bool, None, S
 ghost use Rattle.std.specs.Prelude.{IfOk, OnOk};
 ghost use Rattle.lra_domain.specs.declared.Exactness.{Exactness};
 ghost use Rattle.lra_program.specs.Step.{Op as ProgramOp};
-ghost use Rattle.lra_operations.specs.CheckedOperations.{ops_where};
-ghost use Rattle.lra_operations.specs.TreeViews.{node_view};
+ghost use Rattle.lra_operations.specs.{CheckedOperations.ops_where, TreeViews.node_view};
 ghost use Rattle.lra_operations_list.specs.TreeOperations.{op_ref_view, op_at_point_view};
 ghost use Rattle.lra_analysis_spec.specs.Judging.{Finds, answer_of, first_flagged};
-ghost use Rattle.lra_analysis_spec.specs.Operations.{lossy_operations};
-ghost use Rattle.lra_analysis_spec.specs.Pass.{noted};
-ghost use Rattle.lra_analysis_spec.specs.LiveLimit.{most_live};
+ghost use Rattle.lra_analysis_spec.specs.{LiveLimit.most_live, Operations.lossy_operations, Pass.noted};
 ghost use Rattle.lra_overflow_checks.specs.Judged.{AreBelow, Fills, IsAnswered, asked_by, findings_from};
 
 use lra_domain::{Domain, Exactness, worse};

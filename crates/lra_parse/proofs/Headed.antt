@@ -1,15 +1,10 @@
 -- Readers of parts and files as the code takes them.
 use Rattle.std.proofs.Common.{◌≡◌, ℕ, true, false, List, Ok, Err, refl, sym, ap, subst}
 use Rattle.lra_base.specs.declared.refusals.Place.{Place}
-use Rattle.lra_syntax.specs.declared.tokens.Mark.{Mark}
-use Rattle.lra_syntax.specs.Trees.{ExternalTree}
-use Rattle.lra_parser_spec.specs.declared.reading.Fault.{Fault}
-use Rattle.lra_parser_spec.specs.declared.reading.Stopped.{Stopped}
+use Rattle.lra_syntax.specs.{Trees.ExternalTree, declared.tokens.Mark.Mark}
+use Rattle.lra_parser_spec.specs.{Expressions.ended, Files.part_at, Files.begins_part, Files.parts_at, Files.next_end, Files.file_of, Files.file_at, Reading.Text, Reading.Read, Reading.Parse}
+use Rattle.lra_parser_spec.specs.{Reading.map_read, Reading.expect, Reading.take_by, Reading.ParsesAsErr, Tests.first, declared.reading.Fault.Fault, declared.reading.Stopped.Stopped}
 use Rattle.lra_parser_spec.specs.declared.reading.Stopped.TheVariants as stopped
-use Rattle.lra_parser_spec.specs.Tests.{first}
-use Rattle.lra_parser_spec.specs.Reading.{Text, Read, Parse, map_read, expect, take_by, ParsesAsErr}
-use Rattle.lra_parser_spec.specs.Expressions.{ended}
-use Rattle.lra_parser_spec.specs.Files.{part_at, begins_part, parts_at, next_end, file_of, file_at}
 use Rattle.lra_parser_spec.proofs.Exact.{bind_ok, ok_is}
 use Rattle.lra_parse_expressions.proofs.Turning.{ListLeft, list_err, list_end, expect_err}
 

@@ -3,16 +3,12 @@
 ghost use Rattle.std.specs.Prelude.{◌≡◌, ◌<◌, ◌≤◌, [], ◌∷◌, length, Some, option_map, IfOk};
 ghost use Rattle.lra_syntax.specs.Views.{block_view, function_view, external_view, tree_view};
 ghost use Rattle.lra_parser_spec.specs.declared.lead.Lead.TheVariants as lead;
-ghost use Rattle.lra_parser_spec.specs.Tests.{first};
-ghost use Rattle.lra_parser_spec.specs.Reading.{ParsesAs, map_read, take_by, has};
-ghost use Rattle.lra_parser_spec.specs.Statements.{commas, listed};
-ghost use Rattle.lra_parser_spec.specs.Files.{next_end, next_built_in, named, lead_behind, at_type};
-ghost use Rattle.lra_parser_spec.specs.Files.{at_void};
-ghost use Rattle.lra_parser_spec.specs.Files.{lead_form, plain_lead, read_lead, ends_parameter, name_or_none};
-ghost use Rattle.lra_parser_spec.specs.Files.{parameter_at};
+ghost use Rattle.lra_parser_spec.specs.Files.{next_end, next_built_in, named, lead_behind, at_type, at_void, lead_form};
+ghost use Rattle.lra_parser_spec.specs.Files.{plain_lead, read_lead, ends_parameter, name_or_none, parameter_at};
 ghost use Rattle.lra_parser_spec.specs.Files.{parameters_at, all_named, signature_of, function_of, ending};
-ghost use Rattle.lra_parser_spec.specs.Files.{signature_at};
-ghost use Rattle.lra_parser_spec.specs.Files.{rest_at, part_at, begins_part, file_at};
+ghost use Rattle.lra_parser_spec.specs.Files.{signature_at, rest_at, part_at, begins_part, file_at};
+ghost use Rattle.lra_parser_spec.specs.Reading.{ParsesAs, map_read, take_by, has};
+ghost use Rattle.lra_parser_spec.specs.{Statements.commas, Statements.listed, Tests.first};
 ghost use Rattle.lra_parse.specs.Heads.{signature_view};
 
 use crate::globals::read_globals;

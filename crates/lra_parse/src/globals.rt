@@ -1,11 +1,11 @@
 //! Globals.
 
 ghost use Rattle.std.specs.Prelude.{◌<◌, ◌≤◌, length, IfOk};
-ghost use Rattle.lra_syntax.specs.Views.{shape_view, global_view, globals_view, external_view};
 ghost use Rattle.lra_syntax.specs.Trees.{globals};
+ghost use Rattle.lra_syntax.specs.Views.{shape_view, global_view, globals_view, external_view};
+ghost use Rattle.lra_parser_spec.specs.Files.{global_rest, global_at, globals_of, globals_at};
 ghost use Rattle.lra_parser_spec.specs.Reading.{ParsesAs, map_read};
 ghost use Rattle.lra_parser_spec.specs.Statements.{commas_from, shape_at, signed_at};
-ghost use Rattle.lra_parser_spec.specs.Files.{global_rest, global_at, globals_of, globals_at};
 
 use lra_base::NumberType;
 use lra_parse_expressions::read_length;

@@ -1,11 +1,8 @@
 -- Lists with commas as the code takes them: all items in one list.
 use Rattle.std.proofs.Common.{◌≡◌, ◌≤◌, true, false, List, [], ◌∷◌, ◌++◌, length, Ok, refl, sym, ap, ◌∙◌, arith}
 use Rattle.lra_syntax.specs.declared.tokens.Mark.TheVariants as mark
-use Rattle.lra_parser_spec.specs.declared.reading.Stopped.{Stopped}
-use Rattle.lra_parser_spec.specs.Tests.{first, is_mark}
 use Rattle.lra_parser_spec.specs.Reading.{Text, Parse, map_read, tail, list_step, list_of, ParsesAsErr}
-use Rattle.lra_parser_spec.specs.Expressions.{after_mark}
-use Rattle.lra_parser_spec.specs.Statements.{commas, listed}
+use Rattle.lra_parser_spec.specs.{Expressions.after_mark, Statements.commas, Statements.listed, Tests.first, Tests.is_mark, declared.reading.Stopped.Stopped}
 use Rattle.lra_parse_expressions.proofs.Turning.{Left, turn_off, comma_turn, comma_exit, commas_gives, commas_exit}
 
 module _ {A : Type 0} (p : Parse A) where

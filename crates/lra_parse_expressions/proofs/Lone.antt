@@ -1,7 +1,6 @@
 -- When a condition is an expression alone.
 use Rattle.std.proofs.Common.{◌≡◌, ◌≢◌, Bool, true, false, List, [], ◌∷◌, length, map, Some, None, ◌==◌, eq-eqb, refl, sym, ap, ◌∙◌, vec_len, arith, Global, Vec}
-use Rattle.std.proofs.lemmas.Grind.{common_steps}
-use Rattle.std.proofs.lemmas.Bool.{eqb-true}
+use Rattle.std.proofs.{lemmas.Bool.eqb-true, lemmas.Grind.common_steps}
 use Rattle.lra_syntax.specs.Trees.{ExprTree, TestTree, value, opposite, compare, group_of, test, ConjunctionTree, and, CondTree, conjunction, or}
 use Rattle.lra_syntax.specs.Views.{all_tests, any_conjunction}
 use Rattle.lra_parser_spec.specs.Expressions.{alone}

@@ -1,21 +1,14 @@
 -- A turn of a loop, as the code takes it.
 use Rattle.std.proofs.Common.{◌≡◌, ℕ, zero, suc, ◌≤◌, ◌<◌, Bool, true, false, cond, List, [], ◌∷◌, ◌++◌, length, map, Option, Some, None, Result, Ok, Err, IfOk, Bor, refl, sym, ap, subst, ◌∙◌, arith}
-use Rattle.std.proofs.Common.{inl, inr}
+use Rattle.std.proofs.{Common.inl, Common.inr, lemmas.List.map_push, lemmas.Result.err_from_is_err_and}
 use Rattle.std.specs.Result.{IsErrAnd}
-use Rattle.std.proofs.lemmas.List.{map_push}
-use Rattle.std.proofs.lemmas.Result.{err_from_is_err_and}
-use Rattle.lra_base.specs.declared.refusals.Cause.{Cause}
-use Rattle.lra_base.specs.declared.refusals.Cause.TheVariants.{Syntax}
-use Rattle.lra_syntax.specs.declared.tokens.Mark.{Mark}
-use Rattle.lra_syntax.specs.declared.tokens.Token.{Token}
-use Rattle.lra_parser_spec.specs.declared.reading.Fault.{Fault}
-use Rattle.lra_parser_spec.specs.declared.reading.Stopped.{Stopped}
-use Rattle.lra_parser_spec.specs.declared.reading.Stopped.TheVariants as stopped
-use Rattle.lra_parser_spec.specs.Tests.{first, is_mark}
-use Rattle.lra_parser_spec.specs.Reading.{Text, Read, Parse, stop, seq, loop, expect, ParsesAs, ParsesAsErr, has, map_read, tail, turns, chain, chain_step, list_step, list_of}
-use Rattle.lra_parser_spec.specs.Statements.{commas_from, commas, up_to}
-use Rattle.lra_syntax.specs.declared.tokens.Mark.TheVariants as mark
+use Rattle.lra_base.specs.{declared.refusals.Cause.Cause, declared.refusals.Cause.TheVariants.Syntax}
+use Rattle.lra_syntax.specs.{declared.tokens.Mark.Mark, declared.tokens.Token.Token}
 use Rattle.lra_parser_spec.specs.Expressions.{after_mark, ended, in_parens}
+use Rattle.lra_parser_spec.specs.Reading.{Text, Read, Parse, stop, seq, loop, expect, ParsesAs, ParsesAsErr, has, map_read, tail, turns, chain, chain_step, list_step, list_of}
+use Rattle.lra_parser_spec.specs.{Statements.commas_from, Statements.commas, Statements.up_to, Tests.first, Tests.is_mark, declared.reading.Fault.Fault, declared.reading.Stopped.Stopped}
+use Rattle.lra_parser_spec.specs.declared.reading.Stopped.TheVariants as stopped
+use Rattle.lra_syntax.specs.declared.tokens.Mark.TheVariants as mark
 use Rattle.lra_parser_spec.proofs.Exact.{test, ok_is}
 
 module _ {A : Type 0} (more : Option Token → Bool) (step : A → Parse A) where

@@ -2,11 +2,8 @@
 use Rattle.std.proofs.Common.{◌≡◌, true, false, Ok, refl, ◌∙◌}
 use Rattle.lra_base.specs.declared.number_types.NumberType.TheVariants.{Int, Long}
 use Rattle.lra_syntax.specs.declared.tokens.Mark.TheVariants as mark
-use Rattle.lra_parser_spec.specs.declared.reading.Stopped.{Stopped}
+use Rattle.lra_parser_spec.specs.{Reading.Text, Reading.expect, Reading.ParsesAsErr, Statements.skip, Statements.type_words, Tests.first, Tests.is_mark, declared.reading.Stopped.Stopped}
 use Rattle.lra_parser_spec.specs.declared.reading.Stopped.TheVariants as stopped
-use Rattle.lra_parser_spec.specs.Tests.{first, is_mark}
-use Rattle.lra_parser_spec.specs.Reading.{Text, expect, ParsesAsErr}
-use Rattle.lra_parser_spec.specs.Statements.{skip, type_words}
 use Rattle.lra_parse_expressions.proofs.Turning.{expect_value, expect_err, on_side, off_side}
 
 pub int_gives : (T R : Text) → true ≡ is_mark mark.Int (first T) → expect mark.Int (tt {0}) T ≡ Ok (tt {0}, R) → type_words T ≡ Ok (Int, R)

@@ -1,26 +1,18 @@
 -- Readers with levels, one level unfolded.
 use Rattle.std.proofs.Common.{◌≡◌, ℕ, zero, suc, ◌-◌, true, false, List, [], ◌∷◌, Option, Some, None, Ok, Err, refl, sym, ap, ◌∙◌, arith}
-use Rattle.lra_base.specs.declared.refusals.Cause.TheVariants.{TooDeep}
+use Rattle.lra_base.specs.{declared.refusals.Cause.TheVariants.TooDeep, declared.refusals.Place.Place}
 use Rattle.lra_syntax.specs.declared.tokens.Mark.TheVariants as mark
-use Rattle.lra_base.specs.declared.refusals.Place.{Place}
-use Rattle.lra_syntax.specs.declared.tokens.Mark.{Mark}
-use Rattle.lra_syntax.specs.declared.tokens.Kind.{Kind}
+use Rattle.lra_syntax.specs.Trees.{UnaryTree, negated, positive, group, variable, element, ExprTree, NegationTree, opposite, opposite_again, value_of_unary, CondTree, result}
 use Rattle.lra_syntax.specs.declared.tokens.Kind.TheVariants.{Name, Number, Mark as MarkOf, Reserved, Unclosed, End}
-use Rattle.lra_syntax.specs.declared.tokens.Token.{Token}
-use Rattle.lra_syntax.specs.declared.trees.Identifier.{Identifier}
-use Rattle.lra_syntax.specs.Trees.{UnaryTree, negated, positive, group, variable, element, ExprTree}
-use Rattle.lra_syntax.specs.Trees.{NegationTree, opposite, opposite_again, value_of_unary, CondTree, result}
-use Rattle.lra_parser_spec.specs.Tests.{first, is_mark, is_kind}
+use Rattle.lra_syntax.specs.{declared.tokens.Kind.Kind, declared.tokens.Mark.Mark, declared.tokens.Token.Token, declared.trees.Identifier.Identifier}
+use Rattle.lra_parser_spec.specs.Expressions.{after_mark, in_parens, unary_marks, unary_mark, unary_form, unary_at, expr_at, negated_at, positive_at, grouped_at, literal_tree, read_input, TestMark}
+use Rattle.lra_parser_spec.specs.Expressions.{at_not, at_open, brackets_parser, named_unary, index_at, test_mark, test_form, compared, alone, from_unary, negation_form, tests, test_at, negation_at}
+use Rattle.lra_parser_spec.specs.Expressions.{cond_at, opposed_at, closed_at, after_group, negation_of}
 use Rattle.lra_parser_spec.specs.Reading.{Text, Read, Parse, stop, ◌>>=◌, seq, map_read, tail, expect, take_by, taken, next_name, next_literal, literal_of, identifier_of, one_of, ParsesAsErr}
-use Rattle.lra_parser_spec.specs.declared.reading.Literal.{Literal}
-use Rattle.lra_parser_spec.specs.Expressions.{after_mark, in_parens, unary_marks, unary_mark, unary_form, unary_at, expr_at, negated_at, positive_at, grouped_at, literal_tree, read_input, TestMark, at_not, at_open}
-use Rattle.lra_parser_spec.specs.Expressions.{brackets_parser, named_unary, index_at}
-use Rattle.lra_parser_spec.specs.Expressions.{test_mark, test_form, compared, alone, from_unary}
-use Rattle.lra_parser_spec.specs.declared.reading.Stopped.{Stopped}
-use Rattle.lra_parser_spec.specs.declared.reading.Stopped.TheVariants as stopped
-use Rattle.lra_parser_spec.specs.Expressions.{negation_form, tests, test_at, negation_at, cond_at, opposed_at, closed_at, after_group, negation_of}
-use Rattle.lra_parser_spec.proofs.Exact.{ok_is}
 use Rattle.lra_parser_spec.specs.Statements.{call_rest, rvalue_from, rvalue_rest}
+use Rattle.lra_parser_spec.specs.{Tests.first, Tests.is_mark, Tests.is_kind, declared.reading.Literal.Literal, declared.reading.Stopped.Stopped}
+use Rattle.lra_parser_spec.specs.declared.reading.Stopped.TheVariants as stopped
+use Rattle.lra_parser_spec.proofs.Exact.{ok_is}
 use Rattle.lra_parse_expressions.proofs.Turning.{expect_value, on_side, off_side, err_same, seq_exit, seq_handed, map_exit}
 
 pub unary_is : (d : ℕ) (T : Text) → unary_at d T ≡ unary_form (negated_at d) (positive_at d) (grouped_at d) (index_at d) (unary_mark (first T)) T

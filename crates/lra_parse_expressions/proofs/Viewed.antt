@@ -2,30 +2,20 @@
 use Rattle.std.proofs.Common.{◌≡◌, ℕ, ◌≤◌, List, [], ◌∷◌, ◌++◌, length, map, Result, Ok, Err, IfOk, rules, refl, sym, subst, Bor, Box, Global}
 use Rattle.std.specs.Prelude.{MatchResult}
 use Rattle.lra_base.specs.declared.number_types.NumberType.{NumberType}
-use Rattle.lra_syntax.specs.declared.trees.Unary.{Unary, Literal, Variable, Group, Element, the_lemmas}
-use Rattle.lra_syntax.specs.declared.trees.Factor.{Factor}
-use Rattle.lra_syntax.specs.declared.trees.Term.{Term}
-use Rattle.lra_syntax.specs.declared.trees.Summand.{Summand}
-use Rattle.lra_syntax.specs.declared.trees.Expr.{Expr}
-use Rattle.lra_syntax.specs.declared.trees.Identifier.{Identifier}
-use Rattle.lra_syntax.specs.declared.trees.Unary.TheOpen.{Term-F, Expr-F, Factor-F, Summand-F}
-use Rattle.lra_syntax.specs.declared.trees.Unary.TheViews.{roll-Term, roll-Expr, roll-Factor, roll-Summand}
-use Rattle.lra_syntax.specs.declared.trees.Unary.TheFolds.{fold-roll-Term, fold-roll-Expr, fold-roll-Factor, fold-roll-Summand}
-use Rattle.lra_syntax.specs.declared.trees.FactorOperator.{FactorOperator}
-use Rattle.lra_syntax.specs.declared.trees.SumOperator.{SumOperator}
-use Rattle.lra_syntax.specs.declared.trees.Negation.{Negation, Operand, the_lemmas as negation_lemmas}
-use Rattle.lra_syntax.specs.declared.trees.Test.{Test, Opposite}
-use Rattle.lra_syntax.specs.declared.trees.Conjunction.{Conjunction}
-use Rattle.lra_syntax.specs.declared.trees.Cond.{Cond}
-use Rattle.lra_syntax.specs.declared.trees.Negation.TheOpen.{Conjunction-F, Cond-F}
-use Rattle.lra_syntax.specs.declared.trees.Negation.TheViews.{roll-Conjunction, roll-Cond}
-use Rattle.lra_syntax.specs.declared.trees.Negation.TheFolds.{fold-roll-Conjunction, fold-roll-Cond}
-use Rattle.lra_parser_spec.specs.declared.reading.Stopped.{Stopped}
-use Rattle.lra_parser_spec.specs.declared.reading.Stopped.TheVariants as stopped
-use Rattle.lra_parser_spec.specs.Reading.{Text, Read, ParsesAs, ParsesAsErr}
-use Rattle.lra_syntax.specs.Trees as tree
 use Rattle.lra_syntax.specs.Views.{unary_view, unary_step, factor_view, factor_step, term_view, term_step, summand_view, summand_step, expr_view, expr_step, product, sum_of, further_factor}
 use Rattle.lra_syntax.specs.Views.{further_term, negation_view, negation_step, test_view, test_step, conjunction_view, conjunction_step, cond_view, cond_step, all_tests, any_conjunction}
+use Rattle.lra_syntax.specs.declared.trees.Unary.{Unary, Literal, Variable, Group, Element, the_lemmas}
+use Rattle.lra_syntax.specs.declared.trees.Unary.TheFolds.{fold-roll-Term, fold-roll-Expr, fold-roll-Factor, fold-roll-Summand}
+use Rattle.lra_syntax.specs.declared.trees.Unary.TheOpen.{Term-F, Expr-F, Factor-F, Summand-F}
+use Rattle.lra_syntax.specs.declared.trees.Unary.TheViews.{roll-Term, roll-Expr, roll-Factor, roll-Summand}
+use Rattle.lra_syntax.specs.{declared.trees.Cond.Cond, declared.trees.Conjunction.Conjunction, declared.trees.Expr.Expr, declared.trees.Factor.Factor, declared.trees.FactorOperator.FactorOperator}
+use Rattle.lra_syntax.specs.{declared.trees.Identifier.Identifier, declared.trees.Negation.Negation, declared.trees.Negation.Operand, declared.trees.Negation.the_lemmas as negation_lemmas}
+use Rattle.lra_syntax.specs.{declared.trees.Negation.TheFolds.fold-roll-Conjunction, declared.trees.Negation.TheFolds.fold-roll-Cond, declared.trees.Negation.TheOpen.Conjunction-F}
+use Rattle.lra_syntax.specs.{declared.trees.Negation.TheOpen.Cond-F, declared.trees.Negation.TheViews.roll-Conjunction, declared.trees.Negation.TheViews.roll-Cond}
+use Rattle.lra_syntax.specs.{declared.trees.SumOperator.SumOperator, declared.trees.Summand.Summand, declared.trees.Term.Term, declared.trees.Test.Test, declared.trees.Test.Opposite}
+use Rattle.lra_parser_spec.specs.{Reading.Text, Reading.Read, Reading.ParsesAs, Reading.ParsesAsErr, declared.reading.Stopped.Stopped}
+use Rattle.lra_parser_spec.specs.declared.reading.Stopped.TheVariants as stopped
+use Rattle.lra_syntax.specs.Trees as tree
 
 pub literal_is : (t : NumberType) (n : ℕ) → unary_view (Literal t n) ≡ tree.literal t n
 literal_is t n = search (rules, the_lemmas)

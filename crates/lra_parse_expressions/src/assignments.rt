@@ -2,14 +2,11 @@
 
 ghost use Rattle.std.specs.Prelude.{◌≡◌, ◌<◌, ◌≤◌, length, IfOk};
 ghost use Rattle.lra_syntax.specs.Views.{rvalue_view, assign_view, shape_view, declarator_view, declaration_view};
-ghost use Rattle.lra_parser_spec.specs.Tests.{first};
-ghost use Rattle.lra_parser_spec.specs.Reading.{ParsesAs, seq, map_read};
-ghost use Rattle.lra_parser_spec.specs.Expressions.{index_at};
 ghost use Rattle.lra_parser_spec.specs.Statements.{skip, commas, update_operator, next_step, variable_rest};
-ghost use Rattle.lra_parser_spec.specs.Statements.{element_rest};
-ghost use Rattle.lra_parser_spec.specs.Statements.{assign_rest, step_first, assign_at, begins_type, type_words};
-ghost use Rattle.lra_parser_spec.specs.Statements.{length_at};
-ghost use Rattle.lra_parser_spec.specs.Statements.{rvalue_at, shape_at, declarator_at, declaration_of, declaration_at};
+ghost use Rattle.lra_parser_spec.specs.Statements.{element_rest, assign_rest, step_first, assign_at, begins_type};
+ghost use Rattle.lra_parser_spec.specs.Statements.{type_words, length_at, rvalue_at, shape_at, declarator_at};
+ghost use Rattle.lra_parser_spec.specs.{Expressions.index_at, Reading.ParsesAs, Reading.seq, Reading.map_read};
+ghost use Rattle.lra_parser_spec.specs.{Statements.declaration_of, Statements.declaration_at, Tests.first};
 
 use crate::calls::read_rvalue;
 use crate::expressions::{read_expr, read_index};

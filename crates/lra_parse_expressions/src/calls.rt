@@ -2,9 +2,8 @@
 
 ghost use Rattle.std.specs.Prelude.{◌≡◌, ◌<◌, ◌≤◌, [], ◌∷◌, length, map, IfOk};
 ghost use Rattle.lra_syntax.specs.Views.{expr_view, call_view, rvalue_view};
-ghost use Rattle.lra_parser_spec.specs.Reading.{ParsesAs, map_read};
-ghost use Rattle.lra_parser_spec.specs.Expressions.{expr_at};
 ghost use Rattle.lra_parser_spec.specs.Statements.{commas, listed, arguments_at, call_rest, rvalue_rest, rvalue_at};
+ghost use Rattle.lra_parser_spec.specs.{Expressions.expr_at, Reading.ParsesAs, Reading.map_read};
 
 use crate::expressions::{read_expr, read_factors, read_named, read_summands};
 use lra_parser_spec::{Stopped, expect, next_is, next_is_name, read_name, tail};

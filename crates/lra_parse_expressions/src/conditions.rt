@@ -5,12 +5,10 @@ ghost use Rattle.std.specs.Prelude.{◌≡◌, ◌≤◌, length, map, IfOk, Mat
 ghost use Rattle.lra_syntax.specs.Trees.{test, conjunction, group_of, opposite, opposite_again};
 ghost use Rattle.lra_syntax.specs.Views.{all_tests, any_conjunction, expr_view, test_view, negation_view};
 ghost use Rattle.lra_syntax.specs.Views.{conjunction_view, cond_view};
-ghost use Rattle.lra_parser_spec.specs.Tests.{first};
-ghost use Rattle.lra_parser_spec.specs.Reading.{ParsesAs, seq};
-ghost use Rattle.lra_parser_spec.specs.Expressions.{next_comparison, unary_at, expr_at, compared, alone};
-ghost use Rattle.lra_parser_spec.specs.Expressions.{after_group, opposed_at};
-ghost use Rattle.lra_parser_spec.specs.Expressions.{closed_at, test_at, negation_at, negation_of, conjunction_at};
-ghost use Rattle.lra_parser_spec.specs.Expressions.{cond_at};
+ghost use Rattle.lra_parser_spec.specs.Expressions.{next_comparison, unary_at, expr_at, compared, alone, after_group};
+ghost use Rattle.lra_parser_spec.specs.Expressions.{opposed_at, closed_at, test_at, negation_at, negation_of};
+ghost use Rattle.lra_parser_spec.specs.Expressions.{conjunction_at, cond_at};
+ghost use Rattle.lra_parser_spec.specs.{Reading.ParsesAs, Reading.seq, Tests.first};
 
 use crate::expressions::{read_expr, read_factors, read_summands, read_unary};
 use lra_base::{Cause, Comparison};

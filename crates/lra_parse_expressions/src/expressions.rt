@@ -1,13 +1,10 @@
 //! Expressions. A function reads where `depth` levels of nesting are left.
 
 ghost use Rattle.std.specs.Prelude.{◌≡◌, ◌≤◌, length, IfOk};
-ghost use Rattle.lra_syntax.specs.Trees.{unary, term};
-ghost use Rattle.lra_syntax.specs.Views.{unary_view, term_view, expr_view};
-ghost use Rattle.lra_parser_spec.specs.Tests.{first};
-ghost use Rattle.lra_parser_spec.specs.Reading.{ParsesAs};
+ghost use Rattle.lra_syntax.specs.{Trees.unary, Trees.term, Views.unary_view, Views.term_view, Views.expr_view};
 ghost use Rattle.lra_parser_spec.specs.Expressions.{factor_operator, sum_operator, unary_at, negated_at, positive_at};
 ghost use Rattle.lra_parser_spec.specs.Expressions.{grouped_at, read_input, factors, term_of, summands, expr_at};
-ghost use Rattle.lra_parser_spec.specs.Expressions.{named_unary, index_at};
+ghost use Rattle.lra_parser_spec.specs.{Expressions.named_unary, Expressions.index_at, Reading.ParsesAs, Tests.first};
 
 use lra_base::Cause;
 use lra_parser_spec::{Stopped, expect, next_is, next_literal, read_name, stop, tail};

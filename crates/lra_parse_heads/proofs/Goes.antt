@@ -1,20 +1,14 @@
 -- Exits of what begins a statement.
-use Rattle.std.proofs.Common.{◌≡◌, ℕ, ◌<◌, Result, Ok, refl, Box, Global, arith}
+use Rattle.std.proofs.{Common.◌≡◌, Common.ℕ, Common.◌<◌, Common.Result, Common.Ok, Common.refl, Common.Box, Common.Global, Common.arith, lemmas.Result.err_from_is_err_and}
 use Rattle.std.specs.Result.{IsErrAnd}
-use Rattle.std.proofs.lemmas.Result.{err_from_is_err_and}
 use Rattle.lra_base.specs.declared.refusals.Place.{Place}
 use Rattle.lra_syntax.specs.declared.tokens.Mark.TheVariants as mark
-use Rattle.lra_syntax.specs.declared.trees.Expr.{Expr}
-use Rattle.lra_syntax.specs.Views.{expr_view}
-use Rattle.lra_parser_spec.specs.declared.reading.Stopped.{Stopped}
+use Rattle.lra_syntax.specs.{Views.expr_view, declared.trees.Expr.Expr}
 use Rattle.lra_parser_spec.specs.Reading.{Text, Read, expect_at, ParsesAsErr}
-use Rattle.lra_parser_spec.specs.Expressions.{in_parens, expr_at}
-use Rattle.lra_parser_spec.specs.Statements.{read_switch, braces_at}
-use Rattle.lra_parse_heads.specs.declared.heads.Head.{Head}
+use Rattle.lra_parser_spec.specs.{Expressions.in_parens, Expressions.expr_at, Statements.read_switch, Statements.braces_at, declared.reading.Stopped.Stopped}
+use Rattle.lra_parse_heads.specs.{Begun.GoesOn, Begun.branches_of, Begun.begun_rest, declared.heads.Head.Head, declared.heads.Switched.Switched}
 use Rattle.lra_parse_heads.specs.declared.heads.Head.TheVariants as head
 use Rattle.lra_parse_heads.specs.declared.heads.Begun.TheVariants as begun
-use Rattle.lra_parse_heads.specs.declared.heads.Switched.{Switched}
-use Rattle.lra_parse_heads.specs.Begun.{GoesOn, branches_of, begun_rest}
 
 -- an exit by `?`
 pub exit_on : {X Y : Type 0} (rest : X → Read Y) (result : Result X Stopped) (e : Stopped) (read : Read Y) → IsErrAnd result (λ s. s ≡ e) → ParsesAsErr e read → GoesOn rest result read

@@ -2,14 +2,12 @@
 use Rattle.std.specs.Prelude.{◌≡◌, ℕ, Result, Ok, Err}
 use Rattle.lra_syntax.specs.Trees.{StmtTree, if_else, while, switch}
 use Rattle.lra_syntax.specs.Views.{expr_view, cond_view, stmt_view}
-use Rattle.lra_parser_spec.specs.declared.reading.Stopped.{Stopped}
 use Rattle.lra_parser_spec.specs.Reading.{Read, Parse, seq, map_read, done_with, ParsesAsErr}
 use Rattle.lra_parser_spec.specs.Statements.{else_part, for_of, branch_at, braces_at}
-use Rattle.lra_parse_heads.specs.declared.heads.Head.{Head}
+use Rattle.lra_parser_spec.specs.declared.reading.Stopped.{Stopped}
+use Rattle.lra_parse_heads.specs.{Heads.head_view, declared.heads.Begun.Begun, declared.heads.Head.Head}
 use Rattle.lra_parse_heads.specs.declared.heads.Head.TheVariants as head
-use Rattle.lra_parse_heads.specs.declared.heads.Begun.{Begun}
 use Rattle.lra_parse_heads.specs.declared.heads.Begun.TheVariants as begun
-use Rattle.lra_parse_heads.specs.Heads.{head_view}
 
 -- behind the head and its branch
 abbrev pub behind_branch : Parse StmtTree → Head → StmtTree → Parse StmtTree

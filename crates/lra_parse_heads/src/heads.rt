@@ -2,10 +2,9 @@
 //! left.
 
 ghost use Rattle.std.specs.Prelude.{ℕ, ◌≡◌, ◌<◌, ◌≤◌, length, IfOk};
-ghost use Rattle.lra_syntax.specs.Trees.{switch};
-ghost use Rattle.lra_syntax.specs.Views.{cond_view, expr_view, stmt_view, cases_view};
-ghost use Rattle.lra_parser_spec.specs.Reading.{ParsesAs, done_with, seq};
+ghost use Rattle.lra_syntax.specs.{Trees.switch, Views.cond_view, Views.expr_view, Views.stmt_view, Views.cases_view};
 ghost use Rattle.lra_parser_spec.specs.Expressions.{in_parens, cond_at, expr_at};
+ghost use Rattle.lra_parser_spec.specs.Reading.{ParsesAs, done_with, seq};
 ghost use Rattle.lra_parser_spec.specs.Statements.{read_if, read_while, read_for, read_switch, branch_at, braces_at};
 ghost use Rattle.lra_parse_heads.specs.Begun.{GoesOn, behind_branch, branches_left, branches_of, begun_rest};
 

@@ -1,9 +1,8 @@
 //! Literals with signs, and labels of a `switch`.
 
 ghost use Rattle.std.specs.Prelude.{◌≡◌, ◌<◌, ◌≤◌, length, IfOk};
-ghost use Rattle.lra_parser_spec.specs.Tests.{begins_label, first};
-ghost use Rattle.lra_parser_spec.specs.Reading.{ParsesAs};
 ghost use Rattle.lra_parser_spec.specs.Statements.{positive, negative, signed_at, case_at, label_parser, labels_at};
+ghost use Rattle.lra_parser_spec.specs.{Reading.ParsesAs, Tests.begins_label, Tests.first};
 
 use lra_base::{CaseLabel, Cause};
 use lra_parser_spec::{Literal, Stopped, expect, expect_at, next_is, next_small, stop, tail};

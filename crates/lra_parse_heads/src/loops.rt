@@ -2,14 +2,12 @@
 //! are left.
 
 ghost use Rattle.std.specs.Prelude.{◌≡◌, ◌<◌, ◌≤◌, length, option_map, IfOk};
-ghost use Rattle.lra_syntax.specs.Views.{rvalue_view, assign_view, cond_view, init_view, stmt_view};
 ghost use Rattle.lra_syntax.specs.Trees.{break, continue};
+ghost use Rattle.lra_syntax.specs.Views.{rvalue_view, assign_view, cond_view, init_view, stmt_view};
 ghost use Rattle.lra_syntax.specs.declared.tokens.Mark.TheVariants.{Break, Continue, Semicolon};
-ghost use Rattle.lra_parser_spec.specs.Tests.{first, is_loop, is_jump};
-ghost use Rattle.lra_parser_spec.specs.Reading.{ParsesAs};
-ghost use Rattle.lra_parser_spec.specs.Expressions.{cond_at};
 ghost use Rattle.lra_parser_spec.specs.Statements.{rvalue_at, assign_at, up_to, init_of, init_at, for_of, for_head_at};
-ghost use Rattle.lra_parser_spec.specs.Statements.{read_jump, read_return};
+ghost use Rattle.lra_parser_spec.specs.{Expressions.cond_at, Reading.ParsesAs, Statements.read_jump};
+ghost use Rattle.lra_parser_spec.specs.{Statements.read_return, Tests.first, Tests.is_loop, Tests.is_jump};
 ghost use Rattle.lra_parse_heads.specs.Heads.{head_view};
 
 use lra_base::Place;

@@ -1,31 +1,22 @@
 -- Readers of a `switch`'s braces as the code takes them.
-use Rattle.std.proofs.Common.{◌≡◌, ℕ, zero, suc, ◌-◌, ◌<◌, Bool, true, false, cond, List, [], ◌∷◌, ◌++◌, length, map, append_assoc, Result, Ok, Err, refl}
-use Rattle.std.proofs.Common.{sym, ap, ◌∙◌, arith, inl, inr, Box, Global}
+use Rattle.std.proofs.Common.{◌≡◌, ℕ, zero, suc, ◌-◌, ◌<◌, Bool, true, false, cond, List, [], ◌∷◌, ◌++◌, length, map, append_assoc, Result, Ok, Err, refl, sym, ap, ◌∙◌, arith, inl, inr, Box, Global}
 use Rattle.std.proofs.lemmas.List.{map_push}
 use Rattle.lra_base.specs.declared.refusals.Cause.TheVariants.{Syntax, TooDeep}
-use Rattle.lra_syntax.specs.declared.tokens.Mark.{Mark}
-use Rattle.lra_syntax.specs.declared.tokens.Mark.TheVariants as mark
-use Rattle.lra_syntax.specs.declared.trees.PlacedLabel.{PlacedLabel}
-use Rattle.lra_syntax.specs.declared.trees.CaseItem.{CaseItem, Label as LabelItem, Stated as StatedItem}
-use Rattle.lra_syntax.specs.declared.trees.Stmt.{Stmt}
 use Rattle.lra_syntax.specs.Trees.{StmtTree, switch, CasesTree, no_cases, labelled, stated}
+use Rattle.lra_syntax.specs.declared.trees.CaseItem.{CaseItem, Label as LabelItem, Stated as StatedItem}
+use Rattle.lra_syntax.specs.{Views.CasePart, Views.expr_view, Views.stmt_view, Views.case_view, declared.tokens.Mark.Mark, declared.trees.PlacedLabel.PlacedLabel, declared.trees.Stmt.Stmt}
+use Rattle.lra_syntax.specs.declared.tokens.Mark.TheVariants as mark
 use Rattle.lra_syntax.specs.Views as views
-use Rattle.lra_syntax.specs.Views.{CasePart, expr_view, stmt_view, case_view}
-use Rattle.lra_parser_spec.specs.declared.reading.Fault.{Fault}
-use Rattle.lra_parser_spec.specs.declared.reading.Stopped.{Stopped}
+use Rattle.lra_parser_spec.specs.Reading.{Text, Read, Parse, ◌>>=◌, expect, list_step, list_of, ParsesAs, ParsesAsErr, map_read}
+use Rattle.lra_parser_spec.specs.Statements.{label_parser, labels_at, block_from, levels, block_at, braces_at, simple_at, stated_at, LabelledTree, with_labels, cases_from, begins_case, labelled_of}
+use Rattle.lra_parser_spec.specs.Statements.{add_label, cases_at, braces_of}
+use Rattle.lra_parser_spec.specs.{Tests.first, Tests.is_mark, Tests.begins_label, declared.reading.Fault.Fault, declared.reading.Stopped.Stopped}
 use Rattle.lra_parser_spec.specs.declared.reading.Stopped.TheVariants as stopped
-use Rattle.lra_parser_spec.specs.Tests.{first, is_mark, begins_label}
-use Rattle.lra_parser_spec.specs.Reading.{Text, Read, Parse, ◌>>=◌, expect, list_step, list_of, ParsesAs, ParsesAsErr}
-use Rattle.lra_parser_spec.specs.Statements.{label_parser, labels_at, block_from, levels, block_at, braces_at, simple_at, stated_at, LabelledTree, with_labels}
-use Rattle.lra_parser_spec.specs.Statements.{cases_from, begins_case, labelled_of, add_label, cases_at, braces_of}
 use Rattle.lra_parser_spec.proofs.Exact.{test, bind_ok, bind_err, ok_is}
 use Rattle.lra_parse_expressions.proofs.Turning.{Left, turn_on, turn_err, turn_off, err_same, map_exit}
 use Rattle.lra_parse_statements.specs.Cases.{label_parts, parts_of, first_part, told_part, opened_part, fault_at_braces}
-use Rattle.lra_parser_spec.specs.Reading.{map_read}
-use Rattle.lra_parse_heads.specs.declared.heads.Begun.{Begun}
+use Rattle.lra_parse_heads.specs.{Begun.begun_rest, declared.heads.Begun.Begun, declared.heads.Switched.Switched}
 use Rattle.lra_parse_heads.specs.declared.heads.Begun.TheVariants as begun_as
-use Rattle.lra_parse_heads.specs.declared.heads.Switched.{Switched}
-use Rattle.lra_parse_heads.specs.Begun.{begun_rest}
 use Rattle.lra_parse_statements.proofs.Stated.{label_part, stated_part}
 
 pub braces_zero : (d : ℕ) (T : Text) → d ≡ 0 → braces_at d T ≡ Err (fault_at_braces T)

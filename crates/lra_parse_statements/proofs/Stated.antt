@@ -1,31 +1,21 @@
 -- Readers of statements as the code takes them.
-use Rattle.std.proofs.Common.{◌≡◌, ℕ, zero, suc, ◌-◌, ◌<◌, true, false, List, [], ◌∷◌, ◌++◌, length, map, Ok, Err, refl, sym, ap, subst, ◌∙◌}
-use Rattle.std.proofs.Common.{arith, rules}
+use Rattle.std.proofs.Common.{◌≡◌, ℕ, zero, suc, ◌-◌, ◌<◌, true, false, List, [], ◌∷◌, ◌++◌, length, map, Ok, Err, refl, sym, ap, subst, ◌∙◌, arith, rules}
 use Rattle.std.proofs.lemmas.List.{map_push}
-use Rattle.lra_base.specs.declared.refusals.Place.{Place}
-use Rattle.lra_base.specs.declared.refusals.Cause.TheVariants.{TooDeep}
+use Rattle.lra_base.specs.{declared.refusals.Cause.TheVariants.TooDeep, declared.refusals.Place.Place}
 use Rattle.lra_syntax.specs.declared.tokens.Mark.TheVariants as mark
-use Rattle.lra_syntax.specs.declared.trees.Declaration.{Declaration}
-use Rattle.lra_syntax.specs.declared.trees.BlockItem.{BlockItem, the_lemmas, Declaration as DeclarationItem, Statement as StatementItem}
-use Rattle.lra_syntax.specs.declared.trees.Stmt.{Stmt, Block as BlockStmt}
-use Rattle.lra_syntax.specs.declared.trees.Block.{Block}
-use Rattle.lra_syntax.specs.declared.trees.CaseItem.{CaseItem, Label as LabelItem, Stated as StatedItem}
-use Rattle.lra_syntax.specs.declared.trees.Cases.{Cases}
-use Rattle.lra_syntax.specs.declared.trees.PlacedLabel.{PlacedLabel}
-use Rattle.lra_syntax.specs.declared.trees.BlockItem.TheOpen.{Block-F, Cases-F}
-use Rattle.lra_syntax.specs.declared.trees.BlockItem.TheViews.{roll-Block, roll-Cases}
-use Rattle.lra_syntax.specs.declared.trees.BlockItem.TheFolds.{fold-roll-Block, fold-roll-Cases}
 use Rattle.lra_syntax.specs.Trees.{DeclarationTree, StmtTree, CasesTree, labelled, stated as stated_case, ItemsTree, no_items, declaration, statement}
+use Rattle.lra_syntax.specs.Views.{ItemPart, CasePart, declaration_view, stmt_view, item_view, case_view, block_view, cases_view, item_step, case_step, stmt_step, block_step, cases_step}
+use Rattle.lra_syntax.specs.declared.trees.BlockItem.{BlockItem, the_lemmas, Declaration as DeclarationItem, Statement as StatementItem}
+use Rattle.lra_syntax.specs.declared.trees.CaseItem.{CaseItem, Label as LabelItem, Stated as StatedItem}
+use Rattle.lra_syntax.specs.{declared.trees.Block.Block, declared.trees.BlockItem.TheFolds.fold-roll-Block, declared.trees.BlockItem.TheFolds.fold-roll-Cases, declared.trees.BlockItem.TheOpen.Block-F}
+use Rattle.lra_syntax.specs.{declared.trees.BlockItem.TheOpen.Cases-F, declared.trees.BlockItem.TheViews.roll-Block, declared.trees.BlockItem.TheViews.roll-Cases, declared.trees.Cases.Cases}
+use Rattle.lra_syntax.specs.{declared.trees.Declaration.Declaration, declared.trees.PlacedLabel.PlacedLabel, declared.trees.Stmt.Stmt, declared.trees.Stmt.Block as BlockStmt}
 use Rattle.lra_syntax.specs.Views as views
-use Rattle.lra_syntax.specs.Views.{ItemPart, CasePart, declaration_view, stmt_view, item_view, case_view, block_view, cases_view, item_step, case_step}
-use Rattle.lra_syntax.specs.Views.{stmt_step, block_step, cases_step}
-use Rattle.lra_parser_spec.specs.declared.reading.Fault.{Fault}
-use Rattle.lra_parser_spec.specs.declared.reading.Stopped.{Stopped}
-use Rattle.lra_parser_spec.specs.declared.reading.Stopped.TheVariants as stopped
-use Rattle.lra_parser_spec.specs.Tests.{first, is_mark}
 use Rattle.lra_parser_spec.specs.Reading.{Text, Read, Parse, stop, ◌>>=◌, map_read, expect, expect_at, list_step, ParsesAsErr}
-use Rattle.lra_parser_spec.specs.Statements.{declaration_at, ItemTree, declared, stated, put, items_from, begins_type, begins_item, stated_of, body_of, block_from, too_deep, levels, branch_at, block_at, simple_at}
-use Rattle.lra_parser_spec.specs.Statements.{stated_at, item_at, items_at}
+use Rattle.lra_parser_spec.specs.Statements.{declaration_at, ItemTree, declared, stated, put, items_from, begins_type, begins_item, stated_of, body_of, block_from, too_deep, levels, branch_at}
+use Rattle.lra_parser_spec.specs.Statements.{block_at, simple_at, stated_at, item_at, items_at}
+use Rattle.lra_parser_spec.specs.{Tests.first, Tests.is_mark, declared.reading.Fault.Fault, declared.reading.Stopped.Stopped}
+use Rattle.lra_parser_spec.specs.declared.reading.Stopped.TheVariants as stopped
 use Rattle.lra_parse_expressions.proofs.Turning.{Left, on_side, turn_on, turn_err, turn_off}
 
 pub branch_zero : (d : ℕ) (T : Text) → d ≡ 0 → branch_at d T ≡ too_deep T

@@ -1,15 +1,11 @@
 -- The braces of a `switch` as the code reads them: item by item, each as what it puts before those behind it.
 use Rattle.std.specs.Prelude.{Bool, cond, List, [], ◌∷◌, length}
 use Rattle.lra_base.specs.declared.refusals.Cause.TheVariants.{Syntax, TooDeep}
-use Rattle.lra_syntax.specs.declared.tokens.Mark.TheVariants.{OpenBrace}
-use Rattle.lra_syntax.specs.declared.trees.PlacedLabel.{PlacedLabel}
-use Rattle.lra_syntax.specs.Trees.{labelled, stated}
-use Rattle.lra_syntax.specs.Views.{CasePart}
-use Rattle.lra_parser_spec.specs.declared.reading.Fault.{Fault}
-use Rattle.lra_parser_spec.specs.Tests.{first, is_mark, begins_label}
+use Rattle.lra_syntax.specs.{Trees.labelled, Trees.stated, Views.CasePart, declared.tokens.Mark.TheVariants.OpenBrace}
+use Rattle.lra_syntax.specs.{declared.trees.PlacedLabel.PlacedLabel}
 use Rattle.lra_parser_spec.specs.Reading.{Text, Parse, map_read, done_with}
-use Rattle.lra_parser_spec.specs.Expressions.{after_mark}
-use Rattle.lra_parser_spec.specs.Statements.{label_parser, LabelledTree}
+use Rattle.lra_parser_spec.specs.{Expressions.after_mark, Statements.label_parser, Statements.LabelledTree, Tests.first}
+use Rattle.lra_parser_spec.specs.{Tests.is_mark, Tests.begins_label, declared.reading.Fault.Fault}
 
 -- labels, and the statement behind them
 abbrev pub label_parts : List PlacedLabel → List CasePart → List CasePart

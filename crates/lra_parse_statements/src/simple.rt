@@ -2,13 +2,11 @@
 //! left.
 
 ghost use Rattle.std.specs.Prelude.{◌≡◌, ◌<◌, false, length, IfOk};
-ghost use Rattle.lra_syntax.specs.Views.{stmt_view};
-ghost use Rattle.lra_syntax.specs.Trees.{assert, assume};
 ghost use Rattle.lra_syntax.specs.declared.tokens.Mark.TheVariants.{Assert, Assume, If, While, For, Switch};
-ghost use Rattle.lra_parser_spec.specs.Tests.{first, is_mark};
-ghost use Rattle.lra_parser_spec.specs.Reading.{ParsesAs, has};
-ghost use Rattle.lra_parser_spec.specs.Statements.{stmt_mark, begins_stmt, read_nothing};
-ghost use Rattle.lra_parser_spec.specs.Statements.{named_rest, read_assigned, read_check, simple_at};
+ghost use Rattle.lra_syntax.specs.{Trees.assert, Trees.assume, Views.stmt_view};
+ghost use Rattle.lra_parser_spec.specs.Statements.{stmt_mark, begins_stmt, read_nothing, named_rest, read_assigned};
+ghost use Rattle.lra_parser_spec.specs.Statements.{read_check, simple_at};
+ghost use Rattle.lra_parser_spec.specs.{Reading.ParsesAs, Reading.has, Tests.first, Tests.is_mark};
 ghost use Rattle.lra_parse_heads.specs.Begun.{GoesOn, begun_rest};
 
 use lra_parse_expressions::{next_step, read_assign, read_assign_rest, read_call};

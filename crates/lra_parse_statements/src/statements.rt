@@ -3,12 +3,10 @@
 ghost use Rattle.std.specs.Prelude.{◌≡◌, ◌<◌, ◌≤◌, [], ◌++◌, length, map, IfOk, OnOk, Err};
 ghost use Rattle.lra_syntax.specs.Views.{stmt_view, item_view, items_of, block_view, case_view, cases_of, cases_view};
 ghost use Rattle.lra_syntax.specs.declared.tokens.Mark.TheVariants.{CloseBrace};
-ghost use Rattle.lra_parser_spec.specs.Tests.{first};
 ghost use Rattle.lra_parser_spec.specs.Reading.{ParsesAs, expect, expect_at, map_read};
-ghost use Rattle.lra_parser_spec.specs.Statements.{begins_item, begins_case};
-ghost use Rattle.lra_parser_spec.specs.Statements.{block_from, declaration_at};
-ghost use Rattle.lra_parser_spec.specs.Statements.{declared, stated, branch_at, block_at, braces_at, stated_at};
-ghost use Rattle.lra_parser_spec.specs.Statements.{item_at, items_at, body_of, put};
+ghost use Rattle.lra_parser_spec.specs.Statements.{begins_item, begins_case, block_from, declaration_at, declared};
+ghost use Rattle.lra_parser_spec.specs.Statements.{stated, branch_at, block_at, braces_at, stated_at, item_at};
+ghost use Rattle.lra_parser_spec.specs.{Statements.items_at, Statements.body_of, Statements.put, Tests.first};
 ghost use Rattle.lra_parse_heads.specs.Begun.{begun_rest};
 ghost use Rattle.lra_parse_statements.specs.Cases.{label_parts, parts_of, first_part, opened_part, fault_at_braces};
 

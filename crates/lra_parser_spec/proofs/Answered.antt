@@ -1,25 +1,13 @@
 -- From the reader of a file to the tree, and to the first fault.
 use Rattle.std.proofs.Common.{◌≡◌, ◌≢◌, suc, ◌+◌, ◌-◌, ◌≤◌, ◌<◌, List, [], ◌∷◌, ◌++◌, length, inl, inr, Option, Some, None, Ok, Err, refl, sym, ap, subst, ◌∙◌, append_assoc, length-append, get_or}
-use Rattle.std.proofs.Common.{arith}
+use Rattle.std.proofs.{Common.arith, lemmas.List.append-nil, lemmas.List.get_or_at}
 use Rattle.std.specs.List.{AllByRecursion}
-use Rattle.std.proofs.lemmas.List.{append-nil, get_or_at}
-use Rattle.lra_base.specs.declared.refusals.Place.{Place}
-use Rattle.lra_base.specs.declared.refusals.Cause.{Cause}
-use Rattle.lra_base.specs.declared.refusals.Cause.TheVariants.{Syntax, TooDeep}
-use Rattle.lra_syntax.specs.declared.tokens.Kind.TheVariants.{End}
-use Rattle.lra_syntax.specs.declared.tokens.Token.{Token}
-use Rattle.lra_syntax.specs.Texts.{Pieces, plain}
-use Rattle.lra_syntax.specs.Trees.{ExternalTree, FileTree}
+use Rattle.lra_base.specs.{declared.refusals.Cause.Cause, declared.refusals.Cause.TheVariants.Syntax, declared.refusals.Cause.TheVariants.TooDeep, declared.refusals.Place.Place}
 use Rattle.lra_syntax.specs.Faults.{IsTree, CanBegin, IsAtFault, IsTextFault}
-use Rattle.lra_syntax.specs.Grammar.{Spells}
-use Rattle.lra_parser_spec.specs.declared.reading.Fault.{Fault}
-use Rattle.lra_parser_spec.specs.Tests.{first}
+use Rattle.lra_syntax.specs.{Grammar.Spells, Texts.Pieces, Texts.plain, Trees.ExternalTree, Trees.FileTree, declared.tokens.Kind.TheVariants.End, declared.tokens.Token.Token}
 use Rattle.lra_parser_spec.specs.Reading.{Text, Read, stop, ◌>>=◌, map_read, take_by, taken}
-use Rattle.lra_parser_spec.specs.Files.{EndsOnce, parts_at, next_end, file_of, file_at}
-use Rattle.lra_parser_spec.proofs.Exact.{Low, Within, Goes, plain-append, bind_err}
-use Rattle.lra_parser_spec.proofs.Tokens.{IsInner}
-use Rattle.lra_parser_spec.proofs.ExactFiles.{exact_parts}
-use Rattle.lra_parser_spec.proofs.Laws.{the_file, read_whole}
+use Rattle.lra_parser_spec.specs.{Files.EndsOnce, Files.parts_at, Files.next_end, Files.file_of, Files.file_at, Tests.first, declared.reading.Fault.Fault}
+use Rattle.lra_parser_spec.proofs.{Exact.Low, Exact.Within, Exact.Goes, Exact.plain-append, Exact.bind_err, ExactFiles.exact_parts, Laws.the_file, Laws.read_whole, Tokens.IsInner}
 
 -- nothing stands behind the end --------------------------------------------------------------------------------------
 

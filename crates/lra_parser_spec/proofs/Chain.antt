@@ -2,15 +2,10 @@
 use Rattle.std.proofs.Common.{◌≡◌, ℕ, Bool, true, false, List, [], ◌∷◌, ◌++◌, Option, Some, None, refl, sym, ap, subst, ◌∙◌, append_assoc}
 use Rattle.std.proofs.lemmas.List.{append-nil}
 use Rattle.lra_base.specs.declared.refusals.Place.{Place}
-use Rattle.lra_syntax.specs.declared.tokens.Mark.{Mark}
-use Rattle.lra_syntax.specs.declared.tokens.Kind.TheVariants.{Mark as MarkOf}
-use Rattle.lra_syntax.specs.declared.tokens.Token.{Token}
-use Rattle.lra_syntax.specs.Texts.{Pieces, Texts, ◌⋅◌, empty, mark}
+use Rattle.lra_syntax.specs.{Texts.Pieces, Texts.Texts, Texts.◌⋅◌, Texts.empty, Texts.mark, declared.tokens.Kind.TheVariants.Mark as MarkOf, declared.tokens.Mark.Mark, declared.tokens.Token.Token}
 use Rattle.lra_parser_spec.specs.Reading.{Parse, take_by, has, chain_step, chain_rest, chain, list_step, list_of}
-use Rattle.lra_parser_spec.proofs.Exact.{Exact, Any, Free, first_or, then}
-use Rattle.lra_parser_spec.proofs.Forms.{rename, retell, entry, mapped}
 use Rattle.lra_parser_spec.proofs.Turns.{Steps, none, turn, step_last, exact_turns}
-use Rattle.lra_parser_spec.proofs.Tokens.{IsInner}
+use Rattle.lra_parser_spec.proofs.{Exact.Exact, Exact.Any, Exact.Free, Exact.first_or, Exact.then, Forms.rename, Forms.retell, Forms.entry, Forms.mapped, Tokens.IsInner}
 
 -- pieces in other brackets
 pub regroup : (x y a b : Pieces) → x ≡ a ++ b → x ++ y ≡ a ++ (b ++ y)

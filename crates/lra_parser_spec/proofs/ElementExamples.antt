@@ -1,20 +1,13 @@
 -- Trees and first faults of sources with arrays, found by reading their tokens.
 use Rattle.std.proofs.Common.{◌≡◌, ℕ, ◌+◌, zero, suc, List, [], ◌∷◌, codes, Ok, Err, refl}
-use Rattle.lra_base.specs.declared.refusals.Cause.TheVariants.{Syntax, TooDeep}
 use Rattle.lra_base.specs.declared.number_types.NumberType.TheVariants.{Int, Long}
+use Rattle.lra_base.specs.declared.refusals.Cause.TheVariants.{Syntax, TooDeep}
 use Rattle.lra_syntax.specs.declared.tokens.Mark.TheVariants as mark
-use Rattle.lra_syntax.specs.declared.tokens.Kind.TheVariants.{Number}
-use Rattle.lra_syntax.specs.Faults.{IsTree, IsTextFault}
-use Rattle.lra_syntax.specs.Grammar.{Spells}
 use Rattle.lra_syntax.specs.Trees.{element, unary, term, ExprTree, expression, set_element, assign, array, no_items, declaration, statement, FileTree}
-use Rattle.lra_parser_spec.specs.Reading.{Text, loop}
-use Rattle.lra_parser_spec.specs.Expressions.{unary_at, tests}
-use Rattle.lra_parser_spec.specs.Statements.{levels}
-use Rattle.lra_parser_spec.specs.Files.{file_at}
-use Rattle.lra_parser_spec.proofs.Answered.{tree_found, text_fault}
-use Rattle.lra_parser_spec.proofs.FaultExamples.{in_line, token_at, mark_token, main_head}
-use Rattle.lra_parser_spec.proofs.LoopExamples.{ended_at, ends, main_of, number}
-use Rattle.lra_parser_spec.proofs.CallExamples.{word_at, named_at}
+use Rattle.lra_syntax.specs.{Faults.IsTree, Faults.IsTextFault, Grammar.Spells, declared.tokens.Kind.TheVariants.Number}
+use Rattle.lra_parser_spec.specs.{Expressions.unary_at, Expressions.tests, Files.file_at, Reading.Text, Reading.loop, Statements.levels}
+use Rattle.lra_parser_spec.proofs.{Answered.tree_found, Answered.text_fault, CallExamples.word_at, CallExamples.named_at, FaultExamples.in_line, FaultExamples.token_at, FaultExamples.mark_token}
+use Rattle.lra_parser_spec.proofs.{FaultExamples.main_head, LoopExamples.ended_at, LoopExamples.ends, LoopExamples.main_of, LoopExamples.number}
 
 abbrev element_at : List ℕ → ℕ → ExprTree → ExprTree
 element_at word column i = term (unary (element (named_at word column) i))

@@ -1,18 +1,12 @@
 -- The tokens of a source end with the end, and have no other; their numbers are those of their types.
 use Rattle.std.proofs.Common.{◌≡◌, ◌≢◌, ◌≤◌, ℕ, pos, Bool, true, false, List, [], ◌∷◌, ◌++◌, refl, sym, subst, arith}
-use Rattle.std.specs.Prelude.{nat_le, if◌then◌else◌}
-use Rattle.std.proofs.lemmas.Bool.{leb-true}
-use Rattle.std.proofs.lemmas.Int.{ints}
-use Rattle.std.specs.List.{AllByRecursion}
-use Rattle.lra_base.specs.declared.number_types.NumberType.{NumberType}
-use Rattle.lra_base.specs.declared.number_types.NumberType.TheVariants.{Int, Long}
-use Rattle.lra_base.specs.NumberTypes.{fits}
+use Rattle.std.proofs.{lemmas.Bool.leb-true, lemmas.Int.ints}
+use Rattle.std.specs.{List.AllByRecursion, Prelude.nat_le, Prelude.if◌then◌else◌}
+use Rattle.lra_base.specs.{NumberTypes.fits, declared.number_types.NumberType.NumberType, declared.number_types.NumberType.TheVariants.Int, declared.number_types.NumberType.TheVariants.Long}
 use Rattle.lra_base.proofs.TypeLimits.{natural_fits}
-use Rattle.lra_syntax.specs.declared.tokens.Kind.{Kind}
-use Rattle.lra_syntax.specs.declared.tokens.Kind.TheVariants.{End}
-use Rattle.lra_syntax.specs.declared.tokens.Token.{Token}
 use Rattle.lra_syntax.specs.Lexeme.{greatest_literal, greatest_int_literal, literal_type, SpellsToken, name, literal_text, mark_of, reserved, comment}
 use Rattle.lra_syntax.specs.Tokens.{Fragment, gap, token, tokens_of, IsReading, end_token, Lex}
+use Rattle.lra_syntax.specs.{declared.tokens.Kind.Kind, declared.tokens.Kind.TheVariants.End, declared.tokens.Token.Token}
 use Rattle.lra_parser_spec.specs.Files.{EndsOnce, IsSmallKind, AreSmall}
 
 not_end : (s : List ℕ) (k : Kind) → SpellsToken s k → k ≢ End

@@ -3,16 +3,11 @@
 -- else it stops at the first token with which no text of V begins, or that opens a level past n, having looked at nothing behind it.
 -- Each token that is read meets Q. V has the texts of which those of S are some; mostly it is S.
 use Rattle.std.proofs.Common.{◌≡◌, ℕ, ◌≤◌, ◌<◌, Bool, true, false, ◌⊎◌, [], ◌∷◌, ◌++◌, length, Option, Some, None, Ok, Err, refl, sym, ap, subst, ◌∙◌, append_assoc, inl, inr}
-use Rattle.std.specs.Bool.{⊤}
-use Rattle.std.specs.List.{AllByRecursion}
 use Rattle.std.proofs.lemmas.List.{append_cancel_right}
-use Rattle.lra_base.specs.declared.refusals.Cause.{Cause}
-use Rattle.lra_base.specs.declared.refusals.Cause.TheVariants.{Syntax, TooDeep}
-use Rattle.lra_syntax.specs.declared.tokens.Token.{Token}
-use Rattle.lra_syntax.specs.Texts.{Piece, Pieces, plain, ◌⋅◌}
-use Rattle.lra_parser_spec.specs.declared.reading.Fault.{Fault}
-use Rattle.lra_parser_spec.specs.Tests.{first}
-use Rattle.lra_parser_spec.specs.Reading.{Text, Read, Parse, stop, ◌>>=◌, seq}
+use Rattle.std.specs.{Bool.⊤, List.AllByRecursion}
+use Rattle.lra_base.specs.{declared.refusals.Cause.Cause, declared.refusals.Cause.TheVariants.Syntax, declared.refusals.Cause.TheVariants.TooDeep}
+use Rattle.lra_syntax.specs.{Texts.Piece, Texts.Pieces, Texts.plain, Texts.◌⋅◌, declared.tokens.Token.Token}
+use Rattle.lra_parser_spec.specs.{Reading.Text, Reading.Read, Reading.Parse, Reading.stop, Reading.◌>>=◌, Reading.seq, Tests.first, declared.reading.Fault.Fault}
 
 -- no token opens a level past n
 abbrev pub Low : ℕ → Pieces → Type 0

@@ -1,46 +1,28 @@
 -- The readers of assignments and declarations are exact.
 use Rattle.std.proofs.Common.{◌≡◌, ℕ, ◌+◌, ◌≤◌, Bool, true, false, cond, ◌⊎◌, List, [], ◌∷◌, ◌++◌, Option, Some, None, Ok, Err, refl, sym, ap, subst, ◌∙◌, arith, inl, inr, option_map}
-use Rattle.std.specs.Bool.{⊤}
 use Rattle.std.proofs.lemmas.List.{append-nil}
-use Rattle.lra_base.specs.declared.number_types.NumberType.{NumberType}
-use Rattle.lra_base.specs.declared.number_types.NumberType.TheVariants.{Int, Long}
-use Rattle.lra_base.specs.declared.refusals.Place.{Place}
-use Rattle.lra_base.specs.declared.refusals.Cause.TheVariants.{Syntax}
-use Rattle.lra_syntax.specs.declared.tokens.Mark.{Mark}
+use Rattle.std.specs.Bool.{⊤}
+use Rattle.lra_base.specs.{OperatorViews.operator_view, declared.number_types.NumberType.NumberType, declared.number_types.NumberType.TheVariants.Int}
+use Rattle.lra_base.specs.{declared.number_types.NumberType.TheVariants.Long, declared.operators.Operator.Operator, declared.refusals.Cause.TheVariants.Syntax, declared.refusals.Place.Place}
+use Rattle.lra_syntax.specs.Grammar.{IsExpr, IsRvalue, update_mark, step_mark, IsAssign, IsType, IsGiven, IsScalarOrArray, IsDeclarator, IsDeclaration}
+use Rattle.lra_syntax.specs.Texts.{Pieces, Texts, ◌⋅◌, ◌∣◌, empty, opens, mark as spells, opens_at, name, separated}
+use Rattle.lra_syntax.specs.Trees.{RvalueTree, expression, result, StepTree, increment, decrement, AssignTree, set, set_element, update, after, before, ScalarOrArrayTree, scalar, array}
+use Rattle.lra_syntax.specs.{Trees.DeclaratorTree, Trees.DeclarationTree, Views.step_view, declared.tokens.Kind.TheVariants.Name, declared.tokens.Kind.TheVariants.Mark as MarkOf}
+use Rattle.lra_syntax.specs.{declared.tokens.Mark.Mark, declared.tokens.Token.Token, declared.trees.Identifier.Identifier, declared.trees.Step.Step}
 use Rattle.lra_syntax.specs.declared.tokens.Mark.TheVariants as mark
-use Rattle.lra_syntax.specs.declared.tokens.Kind.TheVariants.{Name, Mark as MarkOf}
-use Rattle.lra_syntax.specs.declared.tokens.Token.{Token}
-use Rattle.lra_syntax.specs.declared.trees.Identifier.{Identifier}
-use Rattle.lra_base.specs.declared.operators.Operator.{Operator}
 use Rattle.lra_base.specs.declared.operators.Operator.TheVariants as operator
-use Rattle.lra_syntax.specs.declared.trees.Step.{Step}
 use Rattle.lra_syntax.specs.declared.trees.Step.TheVariants as step
 use Rattle.lra_base.specs.Operators as operators
-use Rattle.lra_syntax.specs.Texts.{Pieces, Texts, ◌⋅◌, ◌∣◌, empty, opens, mark as spells, opens_at, name, separated}
-use Rattle.lra_syntax.specs.Trees.{RvalueTree, expression, result, StepTree, increment, decrement, AssignTree, set, set_element, update, after, before}
-use Rattle.lra_syntax.specs.Trees.{ScalarOrArrayTree}
-use Rattle.lra_syntax.specs.Trees.{scalar, array, DeclaratorTree, DeclarationTree}
-use Rattle.lra_base.specs.OperatorViews.{operator_view}
-use Rattle.lra_syntax.specs.Views.{step_view}
-use Rattle.lra_syntax.specs.Grammar.{IsExpr, IsRvalue, update_mark, step_mark, IsAssign, IsType, IsGiven, IsScalarOrArray, IsDeclarator, IsDeclaration}
-use Rattle.lra_parser_spec.specs.Tests.{first, is_mark}
 use Rattle.lra_parser_spec.specs.Reading.{Text, Read, Parse, stop, ◌>>=◌, seq, map_read, tail, expect, take_by, has, one_of}
-use Rattle.lra_parser_spec.specs.Statements.{skip, update_operators, update_operator, step_marks, next_step, variable_rest, element_rest, assign_rest}
-use Rattle.lra_parser_spec.specs.Statements.{assign_at}
-use Rattle.lra_parser_spec.specs.Statements.{begins_type, type_words}
-use Rattle.lra_parser_spec.specs.Statements.{declarator_of, declarator_rest, declarator_at, declaration_of}
-use Rattle.lra_parser_spec.specs.Statements.{commas, declaration_at}
-use Rattle.lra_parser_spec.specs.Expressions.{ended, index_at}
-use Rattle.lra_parser_spec.proofs.Marks.{is_mark_some}
-use Rattle.lra_parser_spec.proofs.Exact.{Exact, Any, Free, Both, first_or, then}
+use Rattle.lra_parser_spec.specs.Statements.{skip, update_operators, update_operator, step_marks, next_step, variable_rest, element_rest, assign_rest, assign_at, begins_type, type_words}
+use Rattle.lra_parser_spec.specs.Statements.{declarator_of, declarator_rest, declarator_at, declaration_of, commas, declaration_at}
+use Rattle.lra_parser_spec.specs.{Expressions.ended, Expressions.index_at, Tests.first, Tests.is_mark}
+use Rattle.lra_parser_spec.proofs.ExactExpressions.{AfterExpr, after_expr, some_expr, Of, IndexText, AtIndex, first_opened, exact_expr, exact_index}
 use Rattle.lra_parser_spec.proofs.Forms.{widen, retell, entry, mapped, branch, same_where, exact_take}
 use Rattle.lra_parser_spec.proofs.Tokens.{IsInner, table_is, exact_name, exact_operator, some_place, some_name}
-use Rattle.lra_parser_spec.proofs.Chain.{regroup, joined_left, joined_right, AfterLast}
-use Rattle.lra_parser_spec.proofs.Parts.{token, exact_behind, exact_ended}
-use Rattle.lra_parser_spec.proofs.ExactExpressions.{AfterExpr, after_expr, some_expr, Of, IndexText, AtIndex, first_opened, exact_expr, exact_index}
-use Rattle.lra_parser_spec.proofs.ExactLists.{exact_skip, AfterCommas, exact_commas}
-use Rattle.lra_parser_spec.proofs.ExactShapes.{AfterShape, GivenText, exact_shape}
-use Rattle.lra_parser_spec.proofs.ExactRvalues.{AfterRvalue, some_rvalue, exact_rvalue}
+use Rattle.lra_parser_spec.proofs.{Chain.regroup, Chain.joined_left, Chain.joined_right, Chain.AfterLast, Exact.Exact, Exact.Any, Exact.Free, Exact.Both, Exact.first_or, Exact.then}
+use Rattle.lra_parser_spec.proofs.{ExactLists.exact_skip, ExactLists.AfterCommas, ExactLists.exact_commas, ExactRvalues.AfterRvalue, ExactRvalues.some_rvalue, ExactRvalues.exact_rvalue}
+use Rattle.lra_parser_spec.proofs.{ExactShapes.AfterShape, ExactShapes.GivenText, ExactShapes.exact_shape, Marks.is_mark_some, Parts.token, Parts.exact_behind, Parts.exact_ended}
 
 -- operators --------------------------------------------------------------------------------------------------------
 

@@ -1,37 +1,24 @@
 -- The readers of blocks are exact.
 use Rattle.std.proofs.Common.{◌≡◌, ℕ, ◌+◌, ◌≤◌, Bool, true, false, ◌||◌, ◌⊎◌, List, [], ◌∷◌, ◌++◌, Option, Some, None, refl, sym, ap, subst, ◌∙◌, arith, inl, inr, option_map}
-use Rattle.std.specs.Bool.{⊤}
 use Rattle.std.proofs.lemmas.List.{append-nil}
+use Rattle.std.specs.Bool.{⊤}
 use Rattle.lra_base.specs.declared.refusals.Place.{Place}
-use Rattle.lra_syntax.specs.declared.tokens.Mark.{Mark}
-use Rattle.lra_syntax.specs.declared.tokens.Mark.TheVariants as mark
-use Rattle.lra_syntax.specs.declared.tokens.Kind.{Kind}
-use Rattle.lra_syntax.specs.declared.tokens.Kind.TheVariants.{Name, Number, Mark as MarkOf, Reserved, Unclosed, End}
-use Rattle.lra_syntax.specs.declared.tokens.Token.{Token}
-use Rattle.lra_syntax.specs.declared.trees.Identifier.{Identifier}
-use Rattle.lra_syntax.specs.declared.trees.Step.{Step}
-use Rattle.lra_syntax.specs.declared.trees.Step.TheVariants as step
-use Rattle.lra_syntax.specs.Texts.{Pieces, Texts, ◌⋅◌, opens, opens_at}
 use Rattle.lra_syntax.specs.Trees.{StmtTree, block, nothing, assign, call, if_only, if_else, while, for, break, continue, return, assert, assume, increment, after, before, no_init, ItemsTree}
-use Rattle.lra_syntax.specs.Trees.{no_items}
-use Rattle.lra_syntax.specs.Trees.{switch, no_cases, declaration, statement}
-use Rattle.lra_syntax.specs.Views.{step_view}
-use Rattle.lra_syntax.specs.Grammar.{IsDeclaration, opened_by, level_of, IsStmt, AreItems}
-use Rattle.lra_parser_spec.specs.Tests.{is_mark, begins_label}
-use Rattle.lra_parser_spec.specs.Reading.{Parse, identifier_of, has, one_of}
-use Rattle.lra_parser_spec.specs.Statements.{begins_type, next_step, step_marks, StmtMark, at_nothing, at_if, at_while, at_for, at_break, at_continue, at_return, at_assert, at_assume, at_switch, stmt_marks, stmt_mark}
-use Rattle.lra_parser_spec.specs.Statements.{begins_stmt}
-use Rattle.lra_parser_spec.specs.Statements.{ItemTree, declared, stated, items_from, begins_item, stated_of, item_of, items_parser, body_of}
-use Rattle.lra_parser_spec.proofs.Marks.{is_mark_some}
-use Rattle.lra_parser_spec.proofs.Exact.{Exact, Any, Free, Both, test, first_or, then}
-use Rattle.lra_parser_spec.proofs.Forms.{rename, widen, retell, entry, mapped, branch}
-use Rattle.lra_parser_spec.proofs.Tokens.{IsInner, exact_expect_at, some_place, some_name}
-use Rattle.lra_parser_spec.proofs.Chain.{Items, AfterLast, all_last, exact_list}
-use Rattle.lra_parser_spec.proofs.Parts.{token, exact_behind, table_mark}
-use Rattle.lra_parser_spec.proofs.ExactExpressions.{Of, first_opened, some_expr}
-use Rattle.lra_parser_spec.proofs.ExactConditions.{some_cond}
+use Rattle.lra_syntax.specs.Trees.{no_items, switch, no_cases, declaration, statement}
+use Rattle.lra_syntax.specs.declared.tokens.Kind.TheVariants.{Name, Number, Mark as MarkOf, Reserved, Unclosed, End}
+use Rattle.lra_syntax.specs.{Grammar.IsDeclaration, Grammar.opened_by, Grammar.level_of, Grammar.IsStmt, Grammar.AreItems, Texts.Pieces, Texts.Texts, Texts.◌⋅◌, Texts.opens, Texts.opens_at}
+use Rattle.lra_syntax.specs.{Views.step_view, declared.tokens.Kind.Kind, declared.tokens.Mark.Mark, declared.tokens.Token.Token, declared.trees.Identifier.Identifier, declared.trees.Step.Step}
+use Rattle.lra_syntax.specs.declared.tokens.Mark.TheVariants as mark
+use Rattle.lra_syntax.specs.declared.trees.Step.TheVariants as step
+use Rattle.lra_parser_spec.specs.Statements.{begins_type, next_step, step_marks, StmtMark, at_nothing, at_if, at_while, at_for, at_break, at_continue, at_return, at_assert, at_assume, at_switch}
+use Rattle.lra_parser_spec.specs.Statements.{stmt_marks, stmt_mark, begins_stmt, ItemTree, declared, stated, items_from, begins_item, stated_of, item_of, items_parser, body_of}
+use Rattle.lra_parser_spec.specs.{Reading.Parse, Reading.identifier_of, Reading.has, Reading.one_of, Tests.is_mark, Tests.begins_label}
 use Rattle.lra_parser_spec.proofs.ExactAssignments.{mark_of_step, placed_first, assign_no_mark, declaration_first, exact_declaration}
 use Rattle.lra_parser_spec.proofs.ExactStatements.{AfterStmt, IsBlock, SimpleText, mark_of_stmt, SimpleAt, from_simple}
+use Rattle.lra_parser_spec.proofs.Tokens.{IsInner, exact_expect_at, some_place, some_name}
+use Rattle.lra_parser_spec.proofs.{Chain.Items, Chain.AfterLast, Chain.all_last, Chain.exact_list, Exact.Exact, Exact.Any, Exact.Free, Exact.Both, Exact.test, Exact.first_or, Exact.then}
+use Rattle.lra_parser_spec.proofs.{ExactConditions.some_cond, ExactExpressions.Of, ExactExpressions.first_opened, ExactExpressions.some_expr, Forms.rename, Forms.widen, Forms.retell, Forms.entry}
+use Rattle.lra_parser_spec.proofs.{Forms.mapped, Forms.branch, Marks.is_mark_some, Parts.token, Parts.exact_behind, Parts.table_mark}
 
 -- how a statement begins ------------------------------------------------------------------------------------------
 

@@ -3,25 +3,15 @@ use Rattle.std.proofs.Common.{◌≡◌, ℕ, ◌≤◌, true, false, ◌⊎◌,
 use Rattle.std.specs.Bool.{⊤}
 use Rattle.lra_base.specs.declared.refusals.Place.{Place}
 use Rattle.lra_syntax.specs.declared.tokens.Mark.TheVariants as mark
-use Rattle.lra_syntax.specs.declared.tokens.Token.{Token}
-use Rattle.lra_syntax.specs.declared.trees.PlacedLabel.{PlacedLabel}
-use Rattle.lra_syntax.specs.Texts.{Pieces, Texts, ◌⋅◌, opens, mark as spells}
-use Rattle.lra_syntax.specs.Trees.{StmtTree, nothing, CasesTree, no_cases, labelled, stated}
-use Rattle.lra_syntax.specs.Grammar.{IsLabel, AreCases, AreLabelled, AreStated}
-use Rattle.lra_parser_spec.specs.Tests.{is_mark, begins_label}
-use Rattle.lra_parser_spec.specs.Reading.{Parse, list_of}
-use Rattle.lra_parser_spec.specs.Statements.{begins_stmt, stated_of, LabelledTree, with_labels, cases_from, begins_case, labelled_of, add_label, first_labelled}
-use Rattle.lra_parser_spec.specs.Statements.{some_cases, cases_parser, braces_of}
-use Rattle.lra_parser_spec.proofs.Marks.{is_mark_some}
+use Rattle.lra_syntax.specs.{Grammar.IsLabel, Grammar.AreCases, Grammar.AreLabelled, Grammar.AreStated, Texts.Pieces, Texts.Texts, Texts.◌⋅◌, Texts.opens, Texts.mark as spells, Trees.StmtTree}
+use Rattle.lra_syntax.specs.{Trees.nothing, Trees.CasesTree, Trees.no_cases, Trees.labelled, Trees.stated, declared.tokens.Token.Token, declared.trees.PlacedLabel.PlacedLabel}
+use Rattle.lra_parser_spec.specs.Statements.{begins_stmt, stated_of, LabelledTree, with_labels, cases_from, begins_case, labelled_of, add_label, first_labelled, some_cases, cases_parser, braces_of}
+use Rattle.lra_parser_spec.specs.{Reading.Parse, Reading.list_of, Tests.is_mark, Tests.begins_label}
 use Rattle.lra_parser_spec.proofs.Exact.{Exact, Any, Free, Both, test, first_or, first_or-both, then}
-use Rattle.lra_parser_spec.proofs.Forms.{widen, retell, entry, mapped, branch, exact_done}
-use Rattle.lra_parser_spec.proofs.Tokens.{IsInner, some_place}
-use Rattle.lra_parser_spec.proofs.Chain.{regroup, Items, AfterLast, all_last, exact_list}
-use Rattle.lra_parser_spec.proofs.Parts.{token, exact_behind, exact_ended}
-use Rattle.lra_parser_spec.proofs.ExactExpressions.{Of}
-use Rattle.lra_parser_spec.proofs.ExactLabels.{label_first, exact_label, AfterLabels, exact_labels}
-use Rattle.lra_parser_spec.proofs.ExactStatements.{AfterStmt, BracesText}
 use Rattle.lra_parser_spec.proofs.ExactBlocks.{StatedText, stated_first, stated_no_label, or_left, or_right}
+use Rattle.lra_parser_spec.proofs.{Chain.regroup, Chain.Items, Chain.AfterLast, Chain.all_last, Chain.exact_list, ExactExpressions.Of, ExactLabels.label_first, ExactLabels.exact_label}
+use Rattle.lra_parser_spec.proofs.{ExactLabels.AfterLabels, ExactLabels.exact_labels, ExactStatements.AfterStmt, ExactStatements.BracesText, Forms.widen, Forms.retell, Forms.entry, Forms.mapped}
+use Rattle.lra_parser_spec.proofs.{Forms.branch, Forms.exact_done, Marks.is_mark_some, Parts.token, Parts.exact_behind, Parts.exact_ended, Tokens.IsInner, Tokens.some_place}
 
 -- a statement behind labels ----------------------------------------------------------------------------------------
 

@@ -1,36 +1,24 @@
 -- The readers of conditions are exact.
 use Rattle.std.proofs.Common.{◌≡◌, ℕ, ◌+◌, zero, suc, ◌≤◌, ◌<◌, true, false, ◌⊎◌, [], ◌∷◌, ◌++◌, Option, Some, None, refl, sym, ap, subst, ◌∙◌, append_assoc, arith, inl, inr}
-use Rattle.std.specs.Bool.{⊤}
 use Rattle.std.proofs.lemmas.List.{append-nil}
-use Rattle.lra_base.specs.declared.refusals.Place.{Place}
-use Rattle.lra_base.specs.declared.refusals.Cause.TheVariants.{TooDeep}
-use Rattle.lra_syntax.specs.declared.tokens.Mark.{Mark}
+use Rattle.std.specs.Bool.{⊤}
+use Rattle.lra_base.specs.{OperatorViews.comparison_view, declared.operators.Comparison.Comparison, declared.refusals.Cause.TheVariants.TooDeep, declared.refusals.Place.Place}
+use Rattle.lra_syntax.specs.Grammar.{IsUnary, IsTerm, IsExpr, comparison_mark, IsStrict, IsNegation, IsTest, IsConjunction, IsCond}
+use Rattle.lra_syntax.specs.Trees.{UnaryTree, negated, positive, literal, variable, input, group, element, TermTree, unary, ExprTree, term, NegationTree, opposite_again, value_of_unary, group_opposed}
+use Rattle.lra_syntax.specs.Trees.{TestTree, opposite, value, compare, group_of, ConjunctionTree, test as one_test, and, CondTree, conjunction, or}
+use Rattle.lra_syntax.specs.{Texts.Piece, Texts.Pieces, Texts.Texts, Texts.◌⋅◌, Texts.opens, Texts.mark as spells, declared.tokens.Mark.Mark, declared.tokens.Token.Token}
 use Rattle.lra_syntax.specs.declared.tokens.Mark.TheVariants as mark
-use Rattle.lra_syntax.specs.declared.tokens.Token.{Token}
-use Rattle.lra_base.specs.declared.operators.Comparison.{Comparison}
 use Rattle.lra_base.specs.declared.operators.Comparison.TheVariants as comparison
 use Rattle.lra_base.specs.Operators as operators
-use Rattle.lra_syntax.specs.Texts.{Piece, Pieces, Texts, ◌⋅◌, opens, mark as spells}
-use Rattle.lra_syntax.specs.Trees.{UnaryTree, negated, positive, literal, variable, input, group, element, TermTree, unary, ExprTree, term, NegationTree}
-use Rattle.lra_syntax.specs.Trees.{opposite_again, value_of_unary, group_opposed, TestTree}
-use Rattle.lra_syntax.specs.Trees.{opposite, value, compare, group_of, ConjunctionTree, test as one_test, and, CondTree, conjunction, or}
-use Rattle.lra_base.specs.OperatorViews.{comparison_view}
-use Rattle.lra_syntax.specs.Grammar.{IsUnary, IsTerm, IsExpr, comparison_mark, IsStrict, IsNegation, IsTest, IsConjunction, IsCond}
-use Rattle.lra_parser_spec.specs.Tests.{first, is_mark}
-use Rattle.lra_parser_spec.specs.Reading.{Parse, stop, seq, has}
 use Rattle.lra_parser_spec.specs.Expressions.{factor_operator, sum_operator, comparisons, next_comparison, next_and, next_or, in_parens, summands, expr_of, unary_at, compared, from_unary, alone}
 use Rattle.lra_parser_spec.specs.Expressions.{after_alone, after_group, negation_of, TestMark, at_not, at_open, test_marks, test_mark, test_form, negation_form, conjunction_of, cond_of, tests}
-use Rattle.lra_parser_spec.specs.Expressions.{test_at}
-use Rattle.lra_parser_spec.specs.Expressions.{negation_at, cond_at}
-use Rattle.lra_parser_spec.proofs.Exact.{Exact, Any, Free, Both, first_or, first_or-both, then}
-use Rattle.lra_parser_spec.proofs.Forms.{rename, widen, entry, mapped, choose, branch, where_told, exact_done, exact_deep}
-use Rattle.lra_parser_spec.proofs.Tokens.{IsInner, exact_operator, some_place, some_name}
-use Rattle.lra_parser_spec.proofs.Turns.{none}
+use Rattle.lra_parser_spec.specs.{Expressions.test_at, Expressions.negation_at, Expressions.cond_at, Reading.Parse, Reading.stop, Reading.seq, Reading.has, Tests.first, Tests.is_mark}
 use Rattle.lra_parser_spec.proofs.Chain.{regroup, IsFollow, IsOperator, Split, split_more, split_start, exact_chain}
-use Rattle.lra_parser_spec.proofs.Parts.{token, exact_behind, exact_ended, table_mark, by_table}
-use Rattle.lra_parser_spec.proofs.ExactExpressions.{AfterUnary, AfterTerm, AfterExpr, after_unary, after_expr, some_expr, TermSteps, ExprSteps, expr_follows}
-use Rattle.lra_parser_spec.proofs.ExactExpressions.{whole_term, whole_expr, split_term, split_expr, exact_factors, exact_summands}
-use Rattle.lra_parser_spec.proofs.ExactExpressions.{exact_expr_of, Of, first_opened, opened_over, exact_unary}
+use Rattle.lra_parser_spec.proofs.ExactExpressions.{AfterUnary, AfterTerm, AfterExpr, after_unary, after_expr, some_expr, TermSteps, ExprSteps, expr_follows, whole_term, whole_expr, split_term}
+use Rattle.lra_parser_spec.proofs.ExactExpressions.{split_expr, exact_factors, exact_summands, exact_expr_of, Of, first_opened, opened_over, exact_unary}
+use Rattle.lra_parser_spec.proofs.Forms.{rename, widen, entry, mapped, choose, branch, where_told, exact_done, exact_deep}
+use Rattle.lra_parser_spec.proofs.{Exact.Exact, Exact.Any, Exact.Free, Exact.Both, Exact.first_or, Exact.first_or-both, Exact.then, Parts.token, Parts.exact_behind, Parts.exact_ended}
+use Rattle.lra_parser_spec.proofs.{Parts.table_mark, Parts.by_table, Tokens.IsInner, Tokens.exact_operator, Tokens.some_place, Tokens.some_name, Turns.none}
 
 -- operators --------------------------------------------------------------------------------------------------------
 

@@ -1,35 +1,23 @@
 -- The readers of expressions are exact.
 use Rattle.std.proofs.Common.{◌≡◌, ℕ, ◌+◌, zero, suc, ◌≤◌, ◌<◌, true, false, ◌⊎◌, [], ◌∷◌, ◌++◌, Option, Some, None, refl, sym, ap, subst, ◌∙◌, arith, inl, inr}
-use Rattle.std.specs.Bool.{⊤}
 use Rattle.std.proofs.lemmas.List.{append-nil}
-use Rattle.lra_base.specs.declared.refusals.Place.{Place}
-use Rattle.lra_base.specs.declared.refusals.Cause.TheVariants.{TooDeep}
-use Rattle.lra_syntax.specs.declared.tokens.Mark.{Mark}
-use Rattle.lra_syntax.specs.declared.tokens.Mark.TheVariants as mark
-use Rattle.lra_syntax.specs.declared.tokens.Token.{Token}
-use Rattle.lra_syntax.specs.declared.trees.Identifier.{Identifier}
-use Rattle.lra_syntax.specs.declared.trees.FactorOperator.{FactorOperator}
-use Rattle.lra_syntax.specs.declared.trees.FactorOperator.TheVariants as factor
-use Rattle.lra_syntax.specs.declared.trees.SumOperator.{SumOperator}
-use Rattle.lra_syntax.specs.declared.trees.SumOperator.TheVariants as sum
+use Rattle.std.specs.Bool.{⊤}
+use Rattle.lra_base.specs.{declared.refusals.Cause.TheVariants.TooDeep, declared.refusals.Place.Place}
 use Rattle.lra_syntax.specs.Texts.{Piece, Pieces, Texts, ◌⋅◌, opens, mark as spells, name}
-use Rattle.lra_syntax.specs.Trees.{UnaryTree, negated, positive, literal, variable, input, group, element, TermTree, unary, times, over, modulo, ExprTree, term}
-use Rattle.lra_syntax.specs.Trees.{plus, minus}
-use Rattle.lra_syntax.specs.Views.{further_factor, further_term}
-use Rattle.lra_syntax.specs.Grammar.{in_brackets, IsUnary, IsTerm, IsExpr}
-use Rattle.lra_parser_spec.specs.Tests.{first, is_mark}
-use Rattle.lra_parser_spec.specs.Reading.{Parse, stop, next_literal, has}
+use Rattle.lra_syntax.specs.Trees.{UnaryTree, negated, positive, literal, variable, input, group, element, TermTree, unary, times, over, modulo, ExprTree, term, plus, minus}
+use Rattle.lra_syntax.specs.{Grammar.in_brackets, Grammar.IsUnary, Grammar.IsTerm, Grammar.IsExpr, Views.further_factor, Views.further_term, declared.tokens.Mark.Mark, declared.tokens.Token.Token}
+use Rattle.lra_syntax.specs.{declared.trees.FactorOperator.FactorOperator, declared.trees.Identifier.Identifier, declared.trees.SumOperator.SumOperator}
+use Rattle.lra_syntax.specs.declared.tokens.Mark.TheVariants as mark
+use Rattle.lra_syntax.specs.declared.trees.FactorOperator.TheVariants as factor
+use Rattle.lra_syntax.specs.declared.trees.SumOperator.TheVariants as sum
 use Rattle.lra_parser_spec.specs.Expressions.{factor_operators, factor_operator, sum_operators, sum_operator, factors, term_of, summands, expr_of, UnaryMark, at_minus, at_plus, at_group, at_input}
-use Rattle.lra_parser_spec.specs.Expressions.{brackets_parser as reads_in_brackets, unary_marks, unary_mark, literal_tree, named_unary, read_named, read_input}
-use Rattle.lra_parser_spec.specs.Expressions.{atom}
-use Rattle.lra_parser_spec.specs.Expressions.{unary_form, unary_at, expr_at, index_at}
-use Rattle.lra_parser_spec.proofs.Marks.{is_mark_some}
-use Rattle.lra_parser_spec.proofs.Exact.{Exact, Any, Free, Both, first_or, then}
-use Rattle.lra_parser_spec.proofs.Forms.{rename, widen, entry, mapped, follows, noted, choose, branch, exact_done, exact_deep}
-use Rattle.lra_parser_spec.proofs.Tokens.{IsInner, exact_expect, exact_name, LiteralText, exact_literal, exact_operator, some_place, some_name}
+use Rattle.lra_parser_spec.specs.Expressions.{brackets_parser as reads_in_brackets, unary_marks, unary_mark, literal_tree, named_unary, read_named, read_input, atom, unary_form, unary_at, expr_at}
+use Rattle.lra_parser_spec.specs.{Expressions.index_at, Reading.Parse, Reading.stop, Reading.next_literal, Reading.has, Tests.first, Tests.is_mark}
 use Rattle.lra_parser_spec.proofs.Chain.{IsFollow, IsOperator, Step_to, Split, split_more, split_start, whole, steps_first, exact_rest, exact_chain}
-use Rattle.lra_parser_spec.proofs.Turns.{Steps}
+use Rattle.lra_parser_spec.proofs.Forms.{rename, widen, entry, mapped, follows, noted, choose, branch, exact_done, exact_deep}
 use Rattle.lra_parser_spec.proofs.Parts.{token, exact_behind, exact_ended, table_mark, by_table}
+use Rattle.lra_parser_spec.proofs.Tokens.{IsInner, exact_expect, exact_name, LiteralText, exact_literal, exact_operator, some_place, some_name}
+use Rattle.lra_parser_spec.proofs.{Exact.Exact, Exact.Any, Exact.Free, Exact.Both, Exact.first_or, Exact.then, Marks.is_mark_some, Turns.Steps}
 
 -- operators --------------------------------------------------------------------------------------------------------
 

@@ -1,33 +1,22 @@
 -- The reader of a file is exact.
 use Rattle.std.proofs.Common.{◌≡◌, ℕ, ◌+◌, true, false, ◌⊎◌, List, [], ◌∷◌, ◌++◌, Option, Some, None, refl, sym, ap, subst, ◌∙◌, append_assoc, arith, inl, inr, map, option_map}
-use Rattle.std.specs.Bool.{⊤}
 use Rattle.std.proofs.lemmas.List.{append-nil}
+use Rattle.std.specs.Bool.{⊤}
 use Rattle.lra_base.specs.declared.refusals.Place.{Place}
 use Rattle.lra_syntax.specs.declared.tokens.Mark.TheVariants as mark
-use Rattle.lra_syntax.specs.declared.tokens.Kind.{Kind}
-use Rattle.lra_syntax.specs.declared.tokens.Kind.TheVariants.{Name, Number, Mark as MarkOf, Reserved, Unclosed, End}
-use Rattle.lra_syntax.specs.declared.tokens.Token.{Token}
-use Rattle.lra_syntax.specs.declared.trees.Parameter.{Parameter}
-use Rattle.lra_syntax.specs.Texts.{Pieces, Texts, ◌⋅◌, opens, end_at}
-use Rattle.lra_syntax.specs.Trees.{ExternalTree, prototype, globals, function, FileTree}
 use Rattle.lra_syntax.specs.Grammar.{IsExternalDeclaration, AreExternalDeclarations, Spells}
-use Rattle.lra_parser_spec.specs.declared.lead.Lead.{Lead}
-use Rattle.lra_parser_spec.specs.declared.lead.Lead.TheVariants as lead
-use Rattle.lra_parser_spec.specs.Tests.{is_mark}
-use Rattle.lra_parser_spec.specs.Reading.{take_by}
+use Rattle.lra_syntax.specs.Trees.{ExternalTree, prototype, globals, function, FileTree}
+use Rattle.lra_syntax.specs.declared.tokens.Kind.TheVariants.{Name, Number, Mark as MarkOf, Reserved, Unclosed, End}
+use Rattle.lra_syntax.specs.{Texts.Pieces, Texts.Texts, Texts.◌⋅◌, Texts.opens, Texts.end_at, declared.tokens.Kind.Kind, declared.tokens.Token.Token, declared.trees.Parameter.Parameter}
 use Rattle.lra_parser_spec.specs.Files.{Heading, all_named, signature_of, function_of, ending, signature_at, rest_at, part_at, begins_part, parts_at, end_of, next_end, file_of, file_at}
-use Rattle.lra_parser_spec.proofs.Exact.{Exact, Any, Free, Both, first_or, first_or-both, then}
-use Rattle.lra_parser_spec.proofs.Forms.{widen, retell, entry, loose, mapped, branch, exact_take}
-use Rattle.lra_parser_spec.proofs.Tokens.{IsInner, exact_expect, some_place}
-use Rattle.lra_parser_spec.proofs.Chain.{regroup, Items, AfterLast, all_last, exact_list}
-use Rattle.lra_parser_spec.proofs.Parts.{exact_behind}
-use Rattle.lra_parser_spec.proofs.ExactExpressions.{Of, first_opened}
-use Rattle.lra_parser_spec.proofs.ExactBlocks.{BodyText}
-use Rattle.lra_parser_spec.proofs.ExactLevels.{exact_function_body}
-use Rattle.lra_parser_spec.proofs.ExactLeads.{head_of, LeadText, exact_lead, lead_first, lead_head, head_lead, lead_outer, outer_lead}
+use Rattle.lra_parser_spec.specs.{Reading.take_by, Tests.is_mark, declared.lead.Lead.Lead}
+use Rattle.lra_parser_spec.specs.declared.lead.Lead.TheVariants as lead
 use Rattle.lra_parser_spec.proofs.ExactGlobals.{GlobalsText, exact_globals, globals_no_open, globals_out, globals_in}
-use Rattle.lra_parser_spec.proofs.Named.{some_names}
+use Rattle.lra_parser_spec.proofs.ExactLeads.{head_of, LeadText, exact_lead, lead_first, lead_head, head_lead, lead_outer, outer_lead}
 use Rattle.lra_parser_spec.proofs.ExactParameters.{ParametersText, exact_parameters, parameters_named, named_parameters, parameters_any, any_parameters}
+use Rattle.lra_parser_spec.proofs.{Chain.regroup, Chain.Items, Chain.AfterLast, Chain.all_last, Chain.exact_list, Exact.Exact, Exact.Any, Exact.Free, Exact.Both, Exact.first_or, Exact.first_or-both}
+use Rattle.lra_parser_spec.proofs.{Exact.then, ExactBlocks.BodyText, ExactExpressions.Of, ExactExpressions.first_opened, ExactLevels.exact_function_body, Forms.widen, Forms.retell, Forms.entry}
+use Rattle.lra_parser_spec.proofs.{Forms.loose, Forms.mapped, Forms.branch, Forms.exact_take, Named.some_names, Parts.exact_behind, Tokens.IsInner, Tokens.exact_expect, Tokens.some_place}
 
 -- functions and prototypes -----------------------------------------------------------------------------------------
 

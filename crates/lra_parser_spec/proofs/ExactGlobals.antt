@@ -1,28 +1,15 @@
 -- The reader of globals is exact.
 use Rattle.std.proofs.Common.{◌≡◌, ℕ, false, List, [], ◌∷◌, ◌++◌, Option, Some, None, refl, sym, ap, subst, ◌∙◌, append_assoc, arith, inl, inr}
 use Rattle.std.specs.Bool.{⊤}
-use Rattle.lra_base.specs.declared.number_types.NumberType.{NumberType}
-use Rattle.lra_base.specs.declared.number_types.NumberType.TheVariants.{Int}
-use Rattle.lra_base.specs.declared.refusals.Place.{Place}
+use Rattle.lra_base.specs.{declared.number_types.NumberType.NumberType, declared.number_types.NumberType.TheVariants.Int, declared.refusals.Place.Place}
 use Rattle.lra_syntax.specs.declared.tokens.Mark.TheVariants as mark
-use Rattle.lra_syntax.specs.declared.tokens.Token.{Token}
-use Rattle.lra_syntax.specs.declared.trees.Identifier.{Identifier}
-use Rattle.lra_syntax.specs.declared.trees.SignedLiteral.{SignedLiteral}
-use Rattle.lra_syntax.specs.Texts.{Pieces, Texts, ◌⋅◌, empty, mark as spells, name, further}
 use Rattle.lra_syntax.specs.Trees.{ScalarOrArrayTree, scalar, array, GlobalTree, GlobalsTree, ExternalTree, globals}
-use Rattle.lra_syntax.specs.Grammar.{IsType, IsSigned, IsScalarOrArray, IsGlobal, AreGlobals}
-use Rattle.lra_parser_spec.specs.Tests.{is_mark}
-use Rattle.lra_parser_spec.specs.Statements.{positive}
-use Rattle.lra_parser_spec.specs.Files.{global_of, global_rest, global_at, globals_of, globals_at}
-use Rattle.lra_parser_spec.proofs.Exact.{Exact, Any, Free, Both, first_or, then}
-use Rattle.lra_parser_spec.proofs.Forms.{retell, mapped}
-use Rattle.lra_parser_spec.proofs.Tokens.{IsInner, exact_name, some_literal, some_name}
-use Rattle.lra_parser_spec.proofs.Chain.{regroup, all_last}
-use Rattle.lra_parser_spec.proofs.Parts.{token, exact_ended}
-use Rattle.lra_parser_spec.proofs.ExactExpressions.{Of, first_opened}
-use Rattle.lra_parser_spec.proofs.ExactShapes.{AfterShape, GivenText, exact_shape}
-use Rattle.lra_parser_spec.proofs.ExactLabels.{exact_signed}
-use Rattle.lra_parser_spec.proofs.ExactLists.{exact_commas_from}
+use Rattle.lra_syntax.specs.{Grammar.IsType, Grammar.IsSigned, Grammar.IsScalarOrArray, Grammar.IsGlobal, Grammar.AreGlobals, Texts.Pieces, Texts.Texts, Texts.◌⋅◌, Texts.empty, Texts.mark as spells}
+use Rattle.lra_syntax.specs.{Texts.name, Texts.further, declared.tokens.Token.Token, declared.trees.Identifier.Identifier, declared.trees.SignedLiteral.SignedLiteral}
+use Rattle.lra_parser_spec.specs.{Files.global_of, Files.global_rest, Files.global_at, Files.globals_of, Files.globals_at, Statements.positive, Tests.is_mark}
+use Rattle.lra_parser_spec.proofs.{Chain.regroup, Chain.all_last, Exact.Exact, Exact.Any, Exact.Free, Exact.Both, Exact.first_or, Exact.then, ExactExpressions.Of, ExactExpressions.first_opened}
+use Rattle.lra_parser_spec.proofs.{ExactLabels.exact_signed, ExactLists.exact_commas_from, ExactShapes.AfterShape, ExactShapes.GivenText, ExactShapes.exact_shape, Forms.retell, Forms.mapped}
+use Rattle.lra_parser_spec.proofs.{Parts.token, Parts.exact_ended, Tokens.IsInner, Tokens.exact_name, Tokens.some_literal, Tokens.some_name}
 
 -- first values -----------------------------------------------------------------------------------------------------
 

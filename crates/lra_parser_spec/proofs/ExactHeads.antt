@@ -1,30 +1,19 @@
 -- The readers of parts that may be missing are exact: of what stands in the head of a `for`, and of what a `return` gives.
 use Rattle.std.proofs.Common.{◌≡◌, ℕ, ◌+◌, ◌≤◌, true, false, ◌⊎◌, [], ◌++◌, Option, Some, None, refl, sym, ap, subst, ◌∙◌, append_assoc, arith, inl, inr}
-use Rattle.std.specs.Bool.{⊤}
 use Rattle.std.proofs.lemmas.List.{append-nil}
+use Rattle.std.specs.Bool.{⊤}
 use Rattle.lra_base.specs.declared.refusals.Place.{Place}
-use Rattle.lra_syntax.specs.declared.tokens.Mark.{Mark}
-use Rattle.lra_syntax.specs.declared.tokens.Mark.TheVariants as mark
-use Rattle.lra_syntax.specs.declared.tokens.Token.{Token}
-use Rattle.lra_syntax.specs.declared.trees.Step.{Step}
-use Rattle.lra_syntax.specs.declared.trees.Step.TheVariants as step
-use Rattle.lra_syntax.specs.Texts.{Pieces, Texts, ◌⋅◌, empty, opens, mark as spells}
-use Rattle.lra_syntax.specs.Trees.{TestTree, opposite, value, compare, group_of, ConjunctionTree, test, and, CondTree, conjunction, or, RvalueTree, AssignTree, InitTree, no_init, declared, assigned}
 use Rattle.lra_syntax.specs.Grammar.{IsTest, IsConjunction, IsCond, IsRvalue, IsAssign, IsDeclaration, IsInit, IsForTest, IsForStep, IsReturned}
-use Rattle.lra_parser_spec.specs.Tests.{is_mark}
-use Rattle.lra_parser_spec.specs.Reading.{Parse}
-use Rattle.lra_parser_spec.specs.Statements.{begins_type, rvalue_at, up_to, init_of, init_at, for_head_at}
-use Rattle.lra_parser_spec.proofs.Marks.{is_mark_self}
+use Rattle.lra_syntax.specs.Trees.{TestTree, opposite, value, compare, group_of, ConjunctionTree, test, and, CondTree, conjunction, or, RvalueTree, AssignTree, InitTree, no_init, declared, assigned}
+use Rattle.lra_syntax.specs.{Texts.Pieces, Texts.Texts, Texts.◌⋅◌, Texts.empty, Texts.opens, Texts.mark as spells, declared.tokens.Mark.Mark, declared.tokens.Token.Token, declared.trees.Step.Step}
+use Rattle.lra_syntax.specs.declared.tokens.Mark.TheVariants as mark
+use Rattle.lra_syntax.specs.declared.trees.Step.TheVariants as step
+use Rattle.lra_parser_spec.specs.{Reading.Parse, Statements.begins_type, Statements.rvalue_at, Statements.up_to, Statements.init_of, Statements.init_at, Statements.for_head_at, Tests.is_mark}
 use Rattle.lra_parser_spec.proofs.Exact.{Exact, Any, Free, Both, first_or, first_or-both, then}
-use Rattle.lra_parser_spec.proofs.Forms.{rename, widen, retell, entry, mapped, branch, exact_done}
-use Rattle.lra_parser_spec.proofs.Tokens.{IsInner, some_place}
-use Rattle.lra_parser_spec.proofs.Chain.{regroup}
-use Rattle.lra_parser_spec.proofs.Parts.{token, exact_behind, exact_ended}
-use Rattle.lra_parser_spec.proofs.ExactExpressions.{Of, first_opened}
-use Rattle.lra_parser_spec.proofs.ExactConditions.{cond_stops, exact_cond}
+use Rattle.lra_parser_spec.proofs.ExactAssignments.{mark_of_step, assign_no_mark, assign_stops, assign_closes, exact_assign, declaration_first, exact_declaration}
 use Rattle.lra_parser_spec.proofs.ExactRvalues.{Inside, front, expr_inside, rvalue_stops, rvalue_no_stop, exact_rvalue}
-use Rattle.lra_parser_spec.proofs.ExactAssignments.{mark_of_step, assign_no_mark, assign_stops, assign_closes, exact_assign, declaration_first}
-use Rattle.lra_parser_spec.proofs.ExactAssignments.{exact_declaration}
+use Rattle.lra_parser_spec.proofs.{Chain.regroup, ExactConditions.cond_stops, ExactConditions.exact_cond, ExactExpressions.Of, ExactExpressions.first_opened, Forms.rename, Forms.widen, Forms.retell}
+use Rattle.lra_parser_spec.proofs.{Forms.entry, Forms.mapped, Forms.branch, Forms.exact_done, Marks.is_mark_self, Parts.token, Parts.exact_behind, Parts.exact_ended, Tokens.IsInner, Tokens.some_place}
 
 -- first tokens -------------------------------------------------------------------------------------------------------
 

@@ -1,28 +1,16 @@
 -- The readers of literals with signs and of labels are exact.
 use Rattle.std.proofs.Common.{◌≡◌, ℕ, true, false, ◌⊎◌, List, ◌++◌, Option, Some, None, refl, sym, ap, subst, ◌∙◌, arith, inl, inr}
-use Rattle.std.specs.Prelude.{ℤ, pos, neg_ℤ}
-use Rattle.std.specs.Bool.{⊤}
-use Rattle.lra_base.specs.declared.number_types.NumberType.{NumberType}
-use Rattle.lra_base.specs.declared.number_types.NumberType.TheVariants.{Int}
-use Rattle.lra_base.specs.declared.refusals.Place.{Place}
-use Rattle.lra_base.specs.declared.case_labels.CaseLabel.{CaseLabel}
+use Rattle.std.specs.{Bool.⊤, Prelude.ℤ, Prelude.pos, Prelude.neg_ℤ}
 use Rattle.lra_base.specs.declared.case_labels.CaseLabel.TheVariants.{Case, Default}
+use Rattle.lra_base.specs.{declared.case_labels.CaseLabel.CaseLabel, declared.number_types.NumberType.NumberType, declared.number_types.NumberType.TheVariants.Int, declared.refusals.Place.Place}
 use Rattle.lra_syntax.specs.declared.tokens.Mark.TheVariants as mark
-use Rattle.lra_syntax.specs.declared.tokens.Token.{Token}
-use Rattle.lra_syntax.specs.declared.trees.SignedLiteral.{SignedLiteral}
-use Rattle.lra_syntax.specs.declared.trees.PlacedLabel.{PlacedLabel}
 use Rattle.lra_syntax.specs.Texts.{Pieces, Texts, ◌⋅◌, opens, opens_at}
-use Rattle.lra_syntax.specs.Grammar.{IsSigned, IsCase, IsLabel}
-use Rattle.lra_parser_spec.specs.Tests.{is_mark, begins_label}
-use Rattle.lra_parser_spec.specs.Reading.{Literal}
+use Rattle.lra_syntax.specs.{Grammar.IsSigned, Grammar.IsCase, Grammar.IsLabel, declared.tokens.Token.Token, declared.trees.PlacedLabel.PlacedLabel, declared.trees.SignedLiteral.SignedLiteral}
 use Rattle.lra_parser_spec.specs.Statements.{positive, negative, signed_at, case_of, default_of, case_at, label_parser, labels_at}
-use Rattle.lra_parser_spec.proofs.Exact.{Exact, Any, Free, first_or}
-use Rattle.lra_parser_spec.proofs.Forms.{widen, retell, entry, mapped, branch}
-use Rattle.lra_parser_spec.proofs.Tokens.{IsInner, exact_expect_at, SmallText, exact_small, some_literal}
-use Rattle.lra_parser_spec.proofs.Chain.{regroup, Items, AfterLast, exact_list}
-use Rattle.lra_parser_spec.proofs.Parts.{token, exact_behind, exact_ended}
-use Rattle.lra_parser_spec.proofs.ExactExpressions.{Of, first_opened}
-use Rattle.lra_parser_spec.proofs.ExactAssignments.{placed_first}
+use Rattle.lra_parser_spec.specs.{Reading.Literal, Tests.is_mark, Tests.begins_label}
+use Rattle.lra_parser_spec.proofs.{Chain.regroup, Chain.Items, Chain.AfterLast, Chain.exact_list, Exact.Exact, Exact.Any, Exact.Free, Exact.first_or, ExactAssignments.placed_first}
+use Rattle.lra_parser_spec.proofs.{ExactExpressions.Of, ExactExpressions.first_opened, Forms.widen, Forms.retell, Forms.entry, Forms.mapped, Forms.branch, Parts.token, Parts.exact_behind}
+use Rattle.lra_parser_spec.proofs.{Parts.exact_ended, Tokens.IsInner, Tokens.exact_expect_at, Tokens.SmallText, Tokens.exact_small, Tokens.some_literal}
 
 -- literals with signs ----------------------------------------------------------------------------------------------
 

@@ -1,28 +1,16 @@
 -- The reader of what a part begins with is exact.
 use Rattle.std.proofs.Common.{◌≡◌, ℕ, true, false, ◌⊎◌, [], ◌++◌, Option, Some, None, refl, sym, ap, subst, ◌∙◌, arith, inl, inr}
 use Rattle.std.specs.Bool.{⊤}
-use Rattle.lra_base.specs.declared.number_types.NumberType.{NumberType}
-use Rattle.lra_base.specs.declared.number_types.NumberType.TheVariants.{Long}
-use Rattle.lra_base.specs.declared.refusals.Place.{Place}
-use Rattle.lra_syntax.specs.declared.tokens.Mark.{Mark}
-use Rattle.lra_syntax.specs.declared.tokens.Mark.TheVariants as mark
-use Rattle.lra_syntax.specs.declared.tokens.Token.{Token}
-use Rattle.lra_syntax.specs.declared.trees.Identifier.{Identifier}
+use Rattle.lra_base.specs.{declared.number_types.NumberType.NumberType, declared.number_types.NumberType.TheVariants.Long, declared.refusals.Place.Place}
 use Rattle.lra_syntax.specs.Texts.{Pieces, Texts, ◌⋅◌, ◌∣◌, opens, mark as spells, name}
-use Rattle.lra_syntax.specs.Grammar.{IsType, IsHead, IsReservedHead, IsSomeHead}
-use Rattle.lra_parser_spec.specs.declared.lead.Lead.{Lead}
+use Rattle.lra_syntax.specs.{Grammar.IsType, Grammar.IsHead, Grammar.IsReservedHead, Grammar.IsSomeHead, declared.tokens.Mark.Mark, declared.tokens.Token.Token, declared.trees.Identifier.Identifier}
+use Rattle.lra_syntax.specs.declared.tokens.Mark.TheVariants as mark
+use Rattle.lra_parser_spec.specs.Files.{Heading, HeadMark, at_type, at_void, head_mark, BuiltIn, of_input, of_assert, of_assume, built_ins, next_built_in, named, lead_behind, lead_form, plain_lead}
+use Rattle.lra_parser_spec.specs.{Files.read_lead, Files.begins_part, Reading.take_by, Reading.has, Tests.is_mark, declared.lead.Lead.Lead}
 use Rattle.lra_parser_spec.specs.declared.lead.Lead.TheVariants as lead
-use Rattle.lra_parser_spec.specs.Tests.{is_mark}
-use Rattle.lra_parser_spec.specs.Reading.{take_by, has}
-use Rattle.lra_parser_spec.specs.Files.{Heading, HeadMark, at_type, at_void, head_mark, BuiltIn, of_input, of_assert, of_assume}
-use Rattle.lra_parser_spec.specs.Files.{built_ins, next_built_in, named, lead_behind, lead_form}
-use Rattle.lra_parser_spec.specs.Files.{plain_lead, read_lead, begins_part}
-use Rattle.lra_parser_spec.proofs.Exact.{Exact, Any, Free, first_or}
-use Rattle.lra_parser_spec.proofs.Forms.{rename, widen, entry, mapped, choose, branch, exact_stop}
 use Rattle.lra_parser_spec.proofs.Tokens.{IsInner, exact_name, exact_operator, some_place, some_name}
-use Rattle.lra_parser_spec.proofs.Parts.{token, exact_behind}
-use Rattle.lra_parser_spec.proofs.ExactExpressions.{Of, first_opened}
-use Rattle.lra_parser_spec.proofs.ExactAssignments.{TypedText, type_first, exact_type}
+use Rattle.lra_parser_spec.proofs.{Exact.Exact, Exact.Any, Exact.Free, Exact.first_or, ExactAssignments.TypedText, ExactAssignments.type_first, ExactAssignments.exact_type, ExactExpressions.Of}
+use Rattle.lra_parser_spec.proofs.{ExactExpressions.first_opened, Forms.rename, Forms.widen, Forms.entry, Forms.mapped, Forms.choose, Forms.branch, Forms.exact_stop, Parts.token, Parts.exact_behind}
 
 -- a name, or a word in its place -----------------------------------------------------------------------------------
 

@@ -1,36 +1,17 @@
 -- The readers of branches, blocks and the braces of a `switch` are exact, level by level.
-use Rattle.std.proofs.Common.{◌≡◌, ℕ, ◌+◌, zero, suc, ◌≤◌, ◌<◌, true, false, [], ◌∷◌, ◌++◌, Option, refl, sym, ap, subst}
-use Rattle.std.proofs.Common.{◌∙◌, arith, inl, inr}
-use Rattle.std.specs.Bool.{⊤}
+use Rattle.std.proofs.Common.{◌≡◌, ℕ, ◌+◌, zero, suc, ◌≤◌, ◌<◌, true, false, [], ◌∷◌, ◌++◌, Option, refl, sym, ap, subst, ◌∙◌, arith, inl, inr}
 use Rattle.std.proofs.lemmas.List.{append-nil}
-use Rattle.lra_base.specs.declared.refusals.Place.{Place}
-use Rattle.lra_base.specs.declared.refusals.Cause.TheVariants.{TooDeep}
-use Rattle.lra_syntax.specs.declared.tokens.Mark.{Mark}
+use Rattle.std.specs.Bool.{⊤}
+use Rattle.lra_base.specs.{declared.refusals.Cause.TheVariants.TooDeep, declared.refusals.Place.Place}
+use Rattle.lra_syntax.specs.Trees.{StmtTree, block, nothing, assign, call, if_only, if_else, while, for, break, continue, return, assert, assume, no_items, switch, no_cases}
+use Rattle.lra_syntax.specs.{Grammar.IsAssign, Grammar.IsStmt, Texts.Piece, Texts.Pieces, Texts.Texts, Texts.opens_at, declared.tokens.Mark.Mark, declared.tokens.Token.Token}
 use Rattle.lra_syntax.specs.declared.tokens.Mark.TheVariants as mark
-use Rattle.lra_syntax.specs.declared.tokens.Token.{Token}
-use Rattle.lra_syntax.specs.Texts.{Piece, Pieces, Texts, opens_at}
-use Rattle.lra_syntax.specs.Trees.{StmtTree, block, nothing, assign, call, if_only, if_else, while, for, break, continue, return, assert, assume}
-use Rattle.lra_syntax.specs.Trees.{no_items, switch, no_cases}
-use Rattle.lra_syntax.specs.Grammar.{IsAssign, IsStmt}
-use Rattle.lra_parser_spec.specs.Tests.{is_mark}
-use Rattle.lra_parser_spec.specs.Reading.{stop, map_read}
-use Rattle.lra_parser_spec.specs.Statements.{begins_stmt}
-use Rattle.lra_parser_spec.specs.Statements.{body_of, block_from, too_deep}
-use Rattle.lra_parser_spec.specs.Statements.{braces_too_deep, levels, branch_at, block_at, braces_at, simple_at}
-use Rattle.lra_parser_spec.specs.Statements.{items_at}
-use Rattle.lra_parser_spec.proofs.Marks.{is_mark_some}
-use Rattle.lra_parser_spec.proofs.Exact.{Exact, Any, Free}
-use Rattle.lra_parser_spec.proofs.Forms.{rename, retell, entry, mapped, branch, exact_stop, exact_deep}
-use Rattle.lra_parser_spec.proofs.Tokens.{IsInner, some_place}
-use Rattle.lra_parser_spec.proofs.Chain.{regroup}
-use Rattle.lra_parser_spec.proofs.Parts.{token}
-use Rattle.lra_parser_spec.proofs.ExactExpressions.{Of, first_opened, opened_over}
-use Rattle.lra_parser_spec.proofs.ExactAssignments.{from_assign}
-use Rattle.lra_parser_spec.proofs.ExactStatements.{AfterStmt, exact_simple}
-use Rattle.lra_parser_spec.proofs.ExactStatements.{BracesText}
-use Rattle.lra_parser_spec.proofs.ExactBlocks.{BlockText, block_first, stmt_begins, all_begin, starts, exact_stated, either_stmt, stmt_either, BodyText}
-use Rattle.lra_parser_spec.proofs.ExactBlocks.{exact_statement, exact_body}
-use Rattle.lra_parser_spec.proofs.ExactCases.{exact_braces}
+use Rattle.lra_parser_spec.specs.Statements.{begins_stmt, body_of, block_from, too_deep, braces_too_deep, levels, branch_at, block_at, braces_at, simple_at, items_at}
+use Rattle.lra_parser_spec.specs.{Reading.stop, Reading.map_read, Tests.is_mark}
+use Rattle.lra_parser_spec.proofs.ExactBlocks.{BlockText, block_first, stmt_begins, all_begin, starts, exact_stated, either_stmt, stmt_either, BodyText, exact_statement, exact_body}
+use Rattle.lra_parser_spec.proofs.{Chain.regroup, Exact.Exact, Exact.Any, Exact.Free, ExactAssignments.from_assign, ExactCases.exact_braces, ExactExpressions.Of, ExactExpressions.first_opened}
+use Rattle.lra_parser_spec.proofs.{ExactExpressions.opened_over, ExactStatements.AfterStmt, ExactStatements.exact_simple, ExactStatements.BracesText, Forms.rename, Forms.retell, Forms.entry}
+use Rattle.lra_parser_spec.proofs.{Forms.mapped, Forms.branch, Forms.exact_stop, Forms.exact_deep, Marks.is_mark_some, Parts.token, Tokens.IsInner, Tokens.some_place}
 
 abbrev AtBrace : Option Token → Type 0
 AtBrace k = is_mark mark.OpenBrace k ≡ true

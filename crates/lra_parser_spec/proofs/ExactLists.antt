@@ -2,21 +2,13 @@
 use Rattle.std.proofs.Common.{◌≡◌, ℕ, Bool, true, false, cond, ◌⊎◌, List, [], ◌∷◌, ◌++◌, Option, Some, None, refl, sym, ap, subst, ◌∙◌, arith, inl, inr}
 use Rattle.std.specs.Bool.{⊤}
 use Rattle.lra_base.specs.declared.refusals.Place.{Place}
-use Rattle.lra_syntax.specs.declared.tokens.Mark.{Mark}
-use Rattle.lra_syntax.specs.declared.tokens.Mark.TheVariants as mark
-use Rattle.lra_syntax.specs.declared.tokens.Token.{Token}
 use Rattle.lra_syntax.specs.Texts.{Pieces, Texts, ◌⋅◌, ◌∣◌, empty, opens, mark as spells, further, separated}
-use Rattle.lra_parser_spec.specs.Tests.{first, is_mark}
-use Rattle.lra_parser_spec.specs.Reading.{Text, Parse, tail}
-use Rattle.lra_parser_spec.specs.Expressions.{after_mark}
-use Rattle.lra_parser_spec.specs.Statements.{skip, commas_from, commas}
-use Rattle.lra_parser_spec.proofs.Marks.{is_mark_self}
-use Rattle.lra_parser_spec.proofs.Exact.{Exact, Any, first_or, then}
-use Rattle.lra_parser_spec.proofs.Forms.{rename, widen, entry, mapped, branch, same_where}
-use Rattle.lra_parser_spec.proofs.Tokens.{IsInner}
+use Rattle.lra_syntax.specs.{declared.tokens.Mark.Mark, declared.tokens.Token.Token}
+use Rattle.lra_syntax.specs.declared.tokens.Mark.TheVariants as mark
+use Rattle.lra_parser_spec.specs.{Expressions.after_mark, Reading.Text, Reading.Parse, Reading.tail, Statements.skip, Statements.commas_from, Statements.commas, Tests.first, Tests.is_mark}
 use Rattle.lra_parser_spec.proofs.Chain.{regroup, joined_left, joined_right, Items, AfterLast, exact_list}
-use Rattle.lra_parser_spec.proofs.Parts.{token, exact_behind, by_table}
-use Rattle.lra_parser_spec.proofs.ExactExpressions.{first_opened}
+use Rattle.lra_parser_spec.proofs.{Exact.Exact, Exact.Any, Exact.first_or, Exact.then, ExactExpressions.first_opened, Forms.rename, Forms.widen, Forms.entry, Forms.mapped, Forms.branch}
+use Rattle.lra_parser_spec.proofs.{Forms.same_where, Marks.is_mark_self, Parts.token, Parts.exact_behind, Parts.by_table, Tokens.IsInner}
 
 -- marks that may be there ----------------------------------------------------------------------------------------------
 

@@ -1,29 +1,18 @@
 -- The reader of parameters, with names or without, is exact.
 use Rattle.std.proofs.Common.{◌≡◌, ℕ, Bool, true, false, ◌⊎◌, List, [], ◌∷◌, ◌++◌, Option, Some, None, refl, sym, ap, subst, ◌∙◌, arith, inl, inr, map}
-use Rattle.std.specs.Bool.{⊤}
 use Rattle.std.proofs.lemmas.List.{append-nil}
-use Rattle.lra_base.specs.declared.number_types.NumberType.{NumberType}
-use Rattle.lra_base.specs.declared.number_types.NumberType.TheVariants.{Long}
-use Rattle.lra_base.specs.declared.refusals.Place.{Place}
-use Rattle.lra_syntax.specs.declared.tokens.Mark.{Mark}
-use Rattle.lra_syntax.specs.declared.tokens.Mark.TheVariants as mark
-use Rattle.lra_syntax.specs.declared.tokens.Token.{Token}
-use Rattle.lra_syntax.specs.declared.trees.Parameter.{Parameter}
-use Rattle.lra_syntax.specs.Texts.{Pieces, Texts, ◌⋅◌, ◌∣◌, empty, opens, mark as spells, name, further, separated}
+use Rattle.std.specs.Bool.{⊤}
+use Rattle.lra_base.specs.{declared.number_types.NumberType.NumberType, declared.number_types.NumberType.TheVariants.Long, declared.refusals.Place.Place}
 use Rattle.lra_syntax.specs.Grammar.{IsType, IsParameter, AreParameters, IsPrototypeParameter, ArePrototypeParameters}
-use Rattle.lra_parser_spec.specs.Tests.{is_mark}
-use Rattle.lra_parser_spec.specs.Reading.{next_name, has}
-use Rattle.lra_parser_spec.specs.Statements.{listed}
+use Rattle.lra_syntax.specs.Texts.{Pieces, Texts, ◌⋅◌, ◌∣◌, empty, opens, mark as spells, name, further, separated}
+use Rattle.lra_syntax.specs.{declared.tokens.Mark.Mark, declared.tokens.Token.Token, declared.trees.Parameter.Parameter}
+use Rattle.lra_syntax.specs.declared.tokens.Mark.TheVariants as mark
 use Rattle.lra_parser_spec.specs.Files.{parameter_ends, parameter_of, ends_parameter, no_name, name_or_none, parameter_at, parameters_at, all_named}
-use Rattle.lra_parser_spec.proofs.Exact.{Exact, Any, Free, first_or}
+use Rattle.lra_parser_spec.specs.{Reading.next_name, Reading.has, Statements.listed, Tests.is_mark}
 use Rattle.lra_parser_spec.proofs.Forms.{rename, widen, retell, entry, mapped, branch, exact_done, exact_stop}
-use Rattle.lra_parser_spec.proofs.Tokens.{IsInner, exact_expect, exact_name, some_place, some_name}
-use Rattle.lra_parser_spec.proofs.Chain.{regroup, all_last}
-use Rattle.lra_parser_spec.proofs.Parts.{token, exact_behind, exact_ended, by_table}
-use Rattle.lra_parser_spec.proofs.ExactExpressions.{Of, first_opened}
-use Rattle.lra_parser_spec.proofs.ExactLists.{AfterCommas, exact_commas}
-use Rattle.lra_parser_spec.proofs.ExactAssignments.{TypedText, type_first, exact_type}
-use Rattle.lra_parser_spec.proofs.Named.{names_some}
+use Rattle.lra_parser_spec.proofs.{Chain.regroup, Chain.all_last, Exact.Exact, Exact.Any, Exact.Free, Exact.first_or, ExactAssignments.TypedText, ExactAssignments.type_first}
+use Rattle.lra_parser_spec.proofs.{ExactAssignments.exact_type, ExactExpressions.Of, ExactExpressions.first_opened, ExactLists.AfterCommas, ExactLists.exact_commas, Named.names_some, Parts.token}
+use Rattle.lra_parser_spec.proofs.{Parts.exact_behind, Parts.exact_ended, Parts.by_table, Tokens.IsInner, Tokens.exact_expect, Tokens.exact_name, Tokens.some_place, Tokens.some_name}
 
 -- a name or nothing ------------------------------------------------------------------------------------------------
 

@@ -1,37 +1,24 @@
 -- The readers of calls, and of what a variable gets or a `return` gives, are exact.
 use Rattle.std.proofs.Common.{◌≡◌, ℕ, ◌+◌, true, false, ◌⊎◌, List, [], ◌∷◌, ◌++◌, Option, Some, None, refl, sym, ap, subst, ◌∙◌, append_assoc, arith, inl, inr}
-use Rattle.std.specs.Bool.{⊤}
 use Rattle.std.proofs.lemmas.List.{append-nil}
+use Rattle.std.specs.Bool.{⊤}
 use Rattle.lra_base.specs.declared.refusals.Place.{Place}
 use Rattle.lra_syntax.specs.declared.tokens.Mark.TheVariants as mark
-use Rattle.lra_syntax.specs.declared.tokens.Token.{Token}
-use Rattle.lra_syntax.specs.declared.trees.FactorOperator.{FactorOperator}
-use Rattle.lra_syntax.specs.declared.trees.FactorOperator.TheVariants as factor
-use Rattle.lra_syntax.specs.declared.trees.Identifier.{Identifier}
-use Rattle.lra_syntax.specs.declared.trees.SumOperator.{SumOperator}
-use Rattle.lra_syntax.specs.declared.trees.SumOperator.TheVariants as sum
 use Rattle.lra_syntax.specs.Texts.{Pieces, Texts, ◌⋅◌, opens, mark as spells, name, separated}
-use Rattle.lra_syntax.specs.Trees.{UnaryTree, negated, positive, literal, variable, input, group, element, TermTree, unary, times, over, modulo, ExprTree, term}
-use Rattle.lra_syntax.specs.Trees.{plus, minus, CallTree, RvalueTree, expression}
-use Rattle.lra_syntax.specs.Trees.{result}
-use Rattle.lra_syntax.specs.Views.{further_factor, further_term}
-use Rattle.lra_syntax.specs.Grammar.{IsUnary, IsTerm, IsExpr, IsCall, IsRvalue}
-use Rattle.lra_parser_spec.specs.Tests.{is_mark}
-use Rattle.lra_parser_spec.specs.Reading.{seq, next_name, has}
-use Rattle.lra_parser_spec.specs.Expressions.{named_unary, unary_at, index_at}
+use Rattle.lra_syntax.specs.Trees.{UnaryTree, negated, positive, literal, variable, input, group, element, TermTree, unary, times, over, modulo, ExprTree, term, plus, minus, CallTree, RvalueTree}
+use Rattle.lra_syntax.specs.{Grammar.IsUnary, Grammar.IsTerm, Grammar.IsExpr, Grammar.IsCall, Grammar.IsRvalue, Trees.expression, Trees.result, Views.further_factor, Views.further_term}
+use Rattle.lra_syntax.specs.{declared.tokens.Token.Token, declared.trees.FactorOperator.FactorOperator, declared.trees.Identifier.Identifier, declared.trees.SumOperator.SumOperator}
+use Rattle.lra_syntax.specs.declared.trees.FactorOperator.TheVariants as factor
+use Rattle.lra_syntax.specs.declared.trees.SumOperator.TheVariants as sum
 use Rattle.lra_parser_spec.specs.Statements.{listed, arguments_at, call_of, call_rest, rvalue_from, rvalue_rest, rvalue_at}
-use Rattle.lra_parser_spec.proofs.Exact.{Exact, Any, Free, Both, first_or, first_or-both, then}
-use Rattle.lra_parser_spec.proofs.Forms.{rename, widen, entry, follows, noted, mapped, branch, where_told}
-use Rattle.lra_parser_spec.proofs.Tokens.{IsInner, exact_expect, exact_name, some_place}
-use Rattle.lra_parser_spec.proofs.Turns.{none}
-use Rattle.lra_parser_spec.proofs.Chain.{regroup, AfterLast, no_steps, first_of_steps}
-use Rattle.lra_parser_spec.proofs.Parts.{token, exact_behind, exact_ended}
+use Rattle.lra_parser_spec.specs.{Expressions.named_unary, Expressions.unary_at, Expressions.index_at, Reading.seq, Reading.next_name, Reading.has, Tests.is_mark}
 use Rattle.lra_parser_spec.proofs.ExactExpressions.{factor_mark, sum_mark, AfterTerm, AfterExpr, some_expr, TermSteps, ExprSteps, expr_follows, whole_term, whole_expr, split_term, split_expr}
-use Rattle.lra_parser_spec.proofs.ExactExpressions.{AfterUnary, after_expr, term_follows, NamedUnary, named_out as unary_out, exact_factors, exact_named_unary}
-use Rattle.lra_parser_spec.proofs.ExactExpressions.{exact_index}
-use Rattle.lra_parser_spec.proofs.ExactExpressions.{exact_summands, Of, first_opened, exact_unary, exact_expr}
-use Rattle.lra_parser_spec.proofs.ExactConditions.{expr_begun, begun_long, begun_first}
-use Rattle.lra_parser_spec.proofs.ExactLists.{AfterCommas, exact_commas}
+use Rattle.lra_parser_spec.proofs.ExactExpressions.{AfterUnary, after_expr, term_follows, NamedUnary, named_out as unary_out, exact_factors, exact_named_unary, exact_index, exact_summands, Of}
+use Rattle.lra_parser_spec.proofs.ExactExpressions.{first_opened, exact_unary, exact_expr}
+use Rattle.lra_parser_spec.proofs.Forms.{rename, widen, entry, follows, noted, mapped, branch, where_told}
+use Rattle.lra_parser_spec.proofs.{Chain.regroup, Chain.AfterLast, Chain.no_steps, Chain.first_of_steps, Exact.Exact, Exact.Any, Exact.Free, Exact.Both, Exact.first_or, Exact.first_or-both}
+use Rattle.lra_parser_spec.proofs.{Exact.then, ExactConditions.expr_begun, ExactConditions.begun_long, ExactConditions.begun_first, ExactLists.AfterCommas, ExactLists.exact_commas, Parts.token}
+use Rattle.lra_parser_spec.proofs.{Parts.exact_behind, Parts.exact_ended, Tokens.IsInner, Tokens.exact_expect, Tokens.exact_name, Tokens.some_place, Turns.none}
 
 -- first tokens: no expression begins with `;` or `)` -------------------------------------------------------------------
 

@@ -3,19 +3,13 @@ use Rattle.std.proofs.Common.{◌≡◌, ℕ, true, false, ◌⊎◌, [], Option
 use Rattle.std.specs.Bool.{⊤}
 use Rattle.lra_base.specs.declared.number_types.NumberType.TheVariants.{Int}
 use Rattle.lra_syntax.specs.declared.tokens.Mark.TheVariants as mark
-use Rattle.lra_syntax.specs.declared.tokens.Token.{Token}
-use Rattle.lra_syntax.specs.declared.trees.ArrayLength.{ArrayLength}
-use Rattle.lra_syntax.specs.Texts.{Pieces, Texts, ◌⋅◌, opens}
-use Rattle.lra_syntax.specs.Trees.{ScalarOrArrayTree, scalar, array}
 use Rattle.lra_syntax.specs.Grammar.{IsCount, IsLength, IsScalarOrArray}
-use Rattle.lra_parser_spec.specs.Tests.{is_mark}
-use Rattle.lra_parser_spec.specs.Reading.{Parse, map_read, take_by, next_literal}
+use Rattle.lra_syntax.specs.{Texts.Pieces, Texts.Texts, Texts.◌⋅◌, Texts.opens, Trees.ScalarOrArrayTree, Trees.scalar, Trees.array, declared.tokens.Token.Token, declared.trees.ArrayLength.ArrayLength}
 use Rattle.lra_parser_spec.specs.Statements.{length_of, length_at, given_at, shape_at}
-use Rattle.lra_parser_spec.proofs.Exact.{Exact, Any, Free, first_or}
+use Rattle.lra_parser_spec.specs.{Reading.Parse, Reading.map_read, Reading.take_by, Reading.next_literal, Tests.is_mark}
 use Rattle.lra_parser_spec.proofs.Forms.{widen, retell, entry, mapped, branch, exact_done}
 use Rattle.lra_parser_spec.proofs.Tokens.{IsInner, LiteralText, exact_literal, some_literal, some_place}
-use Rattle.lra_parser_spec.proofs.Parts.{exact_behind, exact_ended}
-use Rattle.lra_parser_spec.proofs.ExactExpressions.{Of, first_opened}
+use Rattle.lra_parser_spec.proofs.{Exact.Exact, Exact.Any, Exact.Free, Exact.first_or, ExactExpressions.Of, ExactExpressions.first_opened, Parts.exact_behind, Parts.exact_ended}
 
 -- lengths ----------------------------------------------------------------------------------------------------------
 

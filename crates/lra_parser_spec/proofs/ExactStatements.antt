@@ -1,35 +1,24 @@
 -- The readers of statements that are no block are exact.
 use Rattle.std.proofs.Common.{◌≡◌, ℕ, ◌+◌, ◌≤◌, true, false, ◌⊎◌, [], ◌∷◌, ◌++◌, Option, Some, None, refl, sym, ap, subst, ◌∙◌, append_assoc, arith, inl, inr}
-use Rattle.std.specs.Bool.{⊤}
 use Rattle.std.proofs.lemmas.List.{append-nil}
+use Rattle.std.specs.Bool.{⊤}
 use Rattle.lra_base.specs.declared.refusals.Place.{Place}
-use Rattle.lra_syntax.specs.declared.tokens.Mark.{Mark}
-use Rattle.lra_syntax.specs.declared.tokens.Mark.TheVariants as mark
-use Rattle.lra_syntax.specs.declared.tokens.Token.{Token}
-use Rattle.lra_syntax.specs.declared.trees.Identifier.{Identifier}
-use Rattle.lra_syntax.specs.declared.trees.Step.{Step}
-use Rattle.lra_syntax.specs.declared.trees.Step.TheVariants as step
-use Rattle.lra_syntax.specs.Texts.{Pieces, Texts, ◌⋅◌, opens, mark as spells, opens_at, name}
-use Rattle.lra_syntax.specs.Trees.{CondTree, CallTree, AssignTree, increment, after, InitTree, StmtTree, block, nothing, assign, call, if_only, if_else, while, for, break, continue, return, assert}
-use Rattle.lra_syntax.specs.Trees.{assume, switch, CasesTree, no_cases}
 use Rattle.lra_syntax.specs.Grammar.{InParens, IsRvalue, IsAssign, TakesElse, IsSwitched, IsStmt, AreCases}
-use Rattle.lra_parser_spec.specs.Tests.{is_mark}
-use Rattle.lra_parser_spec.specs.Reading.{Parse, seq, next_name, has}
-use Rattle.lra_parser_spec.specs.Expressions.{in_parens, expr_at, cond_at}
-use Rattle.lra_parser_spec.specs.Statements.{StmtMark, at_nothing, at_if, at_while, at_for, at_break, at_continue, at_return, at_assert, at_assume, at_switch, stmt_mark, else_part, read_if, read_while, for_of}
-use Rattle.lra_parser_spec.specs.Statements.{read_for, read_jump, read_return, read_check, read_switch, named_rest, read_assigned, simple_form, simple_of}
-use Rattle.lra_parser_spec.proofs.Exact.{Exact, Any, Free, Both, first_or, then}
-use Rattle.lra_parser_spec.proofs.Forms.{rename, widen, entry, given as given_fact, mapped, choose, branch, where_told, exact_done}
-use Rattle.lra_parser_spec.proofs.Tokens.{IsInner, exact_expect_at, exact_name, some_place}
-use Rattle.lra_parser_spec.proofs.Chain.{regroup}
-use Rattle.lra_parser_spec.proofs.Parts.{token, exact_behind, exact_ended}
-use Rattle.lra_parser_spec.proofs.ExactExpressions.{Of, first_opened, at_close, some_expr, exact_expr}
-use Rattle.lra_parser_spec.proofs.ExactConditions.{some_cond, exact_cond, exact_parens}
-use Rattle.lra_parser_spec.proofs.ExactRvalues.{CallText, exact_call_rest, call_out, call_in}
+use Rattle.lra_syntax.specs.Trees.{CondTree, CallTree, AssignTree, increment, after, InitTree, StmtTree, block, nothing, assign, call, if_only, if_else, while, for, break, continue, return, assert}
+use Rattle.lra_syntax.specs.{Texts.Pieces, Texts.Texts, Texts.◌⋅◌, Texts.opens, Texts.mark as spells, Texts.opens_at, Texts.name, Trees.assume, Trees.switch, Trees.CasesTree, Trees.no_cases}
+use Rattle.lra_syntax.specs.{declared.tokens.Mark.Mark, declared.tokens.Token.Token, declared.trees.Identifier.Identifier, declared.trees.Step.Step}
+use Rattle.lra_syntax.specs.declared.tokens.Mark.TheVariants as mark
+use Rattle.lra_syntax.specs.declared.trees.Step.TheVariants as step
+use Rattle.lra_parser_spec.specs.Statements.{StmtMark, at_nothing, at_if, at_while, at_for, at_break, at_continue, at_return, at_assert, at_assume, at_switch, stmt_mark, else_part, read_if}
+use Rattle.lra_parser_spec.specs.Statements.{read_while, for_of, read_for, read_jump, read_return, read_check, read_switch, named_rest, read_assigned, simple_form, simple_of}
+use Rattle.lra_parser_spec.specs.{Expressions.in_parens, Expressions.expr_at, Expressions.cond_at, Reading.Parse, Reading.seq, Reading.next_name, Reading.has, Tests.is_mark}
 use Rattle.lra_parser_spec.proofs.ExactAssignments.{mark_of_step, RestText, rest_assign, rest_no_open, BeforeText, NamedText, from_assign, exact_assign_rest, exact_assign, placed_first}
-use Rattle.lra_parser_spec.proofs.ExactAssignments.{assign_no_mark}
-use Rattle.lra_parser_spec.proofs.ExactAssignments.{assign_stops}
+use Rattle.lra_parser_spec.proofs.ExactExpressions.{Of, first_opened, at_close, some_expr, exact_expr}
 use Rattle.lra_parser_spec.proofs.ExactHeads.{OptionText, exact_returned, to_returned, from_returned, HeadText, some_head, exact_head, head_rest, rest_head}
+use Rattle.lra_parser_spec.proofs.Forms.{rename, widen, entry, given as given_fact, mapped, choose, branch, where_told, exact_done}
+use Rattle.lra_parser_spec.proofs.{Chain.regroup, Exact.Exact, Exact.Any, Exact.Free, Exact.Both, Exact.first_or, Exact.then, ExactAssignments.assign_no_mark, ExactAssignments.assign_stops}
+use Rattle.lra_parser_spec.proofs.{ExactConditions.some_cond, ExactConditions.exact_cond, ExactConditions.exact_parens, ExactRvalues.CallText, ExactRvalues.exact_call_rest, ExactRvalues.call_out}
+use Rattle.lra_parser_spec.proofs.{ExactRvalues.call_in, Parts.token, Parts.exact_behind, Parts.exact_ended, Tokens.IsInner, Tokens.exact_expect_at, Tokens.exact_name, Tokens.some_place}
 
 -- statements -------------------------------------------------------------------------------------------------------
 

@@ -1,22 +1,12 @@
 -- First faults of two sources, found by reading their tokens.
 use Rattle.std.proofs.Common.{◌≡◌, ◌≢◌, ℕ, Bool, true, false, cond, [], ◌∷◌, ◌++◌, codes, Err, refl, inl, inr}
 use Rattle.std.specs.List.{AllByRecursion}
-use Rattle.lra_base.specs.declared.refusals.Place.{Place}
-use Rattle.lra_base.specs.declared.refusals.Cause.TheVariants.{Syntax}
-use Rattle.lra_base.specs.declared.number_types.NumberType.TheVariants.{Int}
-use Rattle.lra_syntax.specs.declared.tokens.Mark.{Mark}
-use Rattle.lra_syntax.specs.declared.tokens.Mark.TheVariants as mark
-use Rattle.lra_syntax.specs.declared.tokens.Kind.{Kind}
+use Rattle.lra_base.specs.{declared.number_types.NumberType.TheVariants.Int, declared.refusals.Cause.TheVariants.Syntax, declared.refusals.Place.Place}
 use Rattle.lra_syntax.specs.declared.tokens.Kind.TheVariants.{Name, Number, Mark as MarkOf, Unclosed, End}
-use Rattle.lra_syntax.specs.declared.tokens.Token.{Token}
-use Rattle.lra_syntax.specs.Faults.{IsTextFault}
-use Rattle.lra_syntax.specs.Grammar.{Spells}
-use Rattle.lra_parser_spec.specs.Reading.{Text, loop}
-use Rattle.lra_parser_spec.specs.Expressions.{unary_at, tests}
-use Rattle.lra_parser_spec.specs.Statements.{levels}
-use Rattle.lra_parser_spec.specs.Files.{EndsOnce, file_at}
-use Rattle.lra_parser_spec.proofs.Exact.{test}
-use Rattle.lra_parser_spec.proofs.Answered.{text_fault}
+use Rattle.lra_syntax.specs.{Faults.IsTextFault, Grammar.Spells, declared.tokens.Kind.Kind, declared.tokens.Mark.Mark, declared.tokens.Token.Token}
+use Rattle.lra_syntax.specs.declared.tokens.Mark.TheVariants as mark
+use Rattle.lra_parser_spec.specs.{Expressions.unary_at, Expressions.tests, Files.EndsOnce, Files.file_at, Reading.Text, Reading.loop, Statements.levels}
+use Rattle.lra_parser_spec.proofs.{Answered.text_fault, Exact.test}
 
 abbrev pub in_line : ℕ → Place
 in_line column = record { line = 1; column = column }

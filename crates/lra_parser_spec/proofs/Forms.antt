@@ -2,13 +2,10 @@
 use Rattle.std.proofs.Common.{◌≡◌, ℕ, ◌≤◌, ◌<◌, Bool, true, false, cond, ◌⊎◌, [], ◌∷◌, ◌++◌, length, Option, Some, None, Ok, Err, refl, sym, ap, subst, ◌∙◌, arith, inl, inr}
 use Rattle.std.specs.Bool.{⊤}
 use Rattle.lra_base.specs.declared.refusals.Cause.TheVariants.{Syntax, TooDeep}
-use Rattle.lra_syntax.specs.declared.tokens.Token.{Token}
-use Rattle.lra_syntax.specs.Texts.{Piece, Pieces, plain}
-use Rattle.lra_parser_spec.specs.declared.reading.Fault.{Fault}
-use Rattle.lra_parser_spec.specs.Tests.{first}
+use Rattle.lra_syntax.specs.{Texts.Piece, Texts.Pieces, Texts.plain, declared.tokens.Token.Token}
 use Rattle.lra_parser_spec.specs.Reading.{Text, Read, Parse, stop, ◌>>=◌, map_read, done_with, taken, take_by}
-use Rattle.lra_parser_spec.proofs.Exact.{Low, Within, Fails, Exact, Any, Free, bind_ok, bind_err, ok_is, first_same, first_or, first_or-is, first_or-on}
-use Rattle.lra_parser_spec.proofs.Exact.{nonempty}
+use Rattle.lra_parser_spec.specs.{Tests.first, declared.reading.Fault.Fault}
+use Rattle.lra_parser_spec.proofs.Exact.{Low, Within, Fails, Exact, Any, Free, bind_ok, bind_err, ok_is, first_same, first_or, first_or-is, first_or-on, nonempty}
 
 free : (x : Pieces) → Within (λ t. ⊤) x
 free [] = tt

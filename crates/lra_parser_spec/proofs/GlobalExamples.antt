@@ -1,22 +1,13 @@
 -- Trees and first faults of sources with globals, found by reading their tokens.
 use Rattle.std.proofs.Common.{◌≡◌, [], ◌∷◌, codes, Some, None, Ok, Err, refl}
 use Rattle.std.specs.Prelude.{negsuc}
-use Rattle.lra_base.specs.declared.number_types.NumberType.TheVariants.{Int, Long}
-use Rattle.lra_base.specs.declared.refusals.Cause.TheVariants.{Syntax}
+use Rattle.lra_base.specs.{declared.number_types.NumberType.TheVariants.Int, declared.number_types.NumberType.TheVariants.Long, declared.refusals.Cause.TheVariants.Syntax}
 use Rattle.lra_syntax.specs.declared.tokens.Mark.TheVariants as mark
-use Rattle.lra_syntax.specs.declared.tokens.Kind.TheVariants.{Number}
-use Rattle.lra_syntax.specs.declared.trees.SignedLiteral.{SignedLiteral}
-use Rattle.lra_syntax.specs.Faults.{IsTree, IsTextFault}
-use Rattle.lra_syntax.specs.Grammar.{Spells}
 use Rattle.lra_syntax.specs.Trees.{no_items, scalar, globals, function, FileTree}
-use Rattle.lra_parser_spec.specs.Reading.{Text, loop}
-use Rattle.lra_parser_spec.specs.Expressions.{unary_at, tests}
-use Rattle.lra_parser_spec.specs.Statements.{levels}
-use Rattle.lra_parser_spec.specs.Files.{file_at}
-use Rattle.lra_parser_spec.proofs.Answered.{tree_found, text_fault}
+use Rattle.lra_syntax.specs.{Faults.IsTree, Faults.IsTextFault, Grammar.Spells, declared.tokens.Kind.TheVariants.Number, declared.trees.SignedLiteral.SignedLiteral}
+use Rattle.lra_parser_spec.specs.{Expressions.unary_at, Expressions.tests, Files.file_at, Reading.Text, Reading.loop, Statements.levels}
 use Rattle.lra_parser_spec.proofs.FaultExamples.{in_line, token_at, mark_token}
-use Rattle.lra_parser_spec.proofs.LoopExamples.{ended_at, ends}
-use Rattle.lra_parser_spec.proofs.CallExamples.{word_at, named_at}
+use Rattle.lra_parser_spec.proofs.{Answered.tree_found, Answered.text_fault, CallExamples.word_at, CallExamples.named_at, LoopExamples.ended_at, LoopExamples.ends}
 
 -- long g,h=-5;int main(){}
 abbrev two : Text

@@ -1,18 +1,11 @@
 -- What an exact reader tells of its language: one tree, and one first fault.
 use Rattle.std.proofs.Common.{◌≡◌, ℕ, suc, ◌+◌, ◌≤◌, ◌<◌, [], ◌∷◌, ◌++◌, length, ◌⊎◌, inl, inr, Ok, Err, refl, sym, ap, subst, ◌∙◌, append_assoc, length-append, arith}
-use Rattle.std.proofs.lemmas.List.{append-nil}
-use Rattle.std.proofs.lemmas.Bool.{cases_lt}
-use Rattle.lra_base.specs.declared.refusals.Cause.{Cause}
-use Rattle.lra_base.specs.declared.refusals.Cause.TheVariants.{Syntax, TooDeep}
-use Rattle.lra_syntax.specs.declared.tokens.Token.{Token}
-use Rattle.lra_syntax.specs.Texts.{Piece, Pieces, plain}
-use Rattle.lra_syntax.specs.Trees.{FileTree}
+use Rattle.std.proofs.{lemmas.Bool.cases_lt, lemmas.List.append-nil}
+use Rattle.lra_base.specs.{declared.refusals.Cause.Cause, declared.refusals.Cause.TheVariants.Syntax, declared.refusals.Cause.TheVariants.TooDeep}
 use Rattle.lra_syntax.specs.Faults.{greatest_level, IsLow, IsTree, CanBegin, CanBeginLow, IsAtFault, OneTree, OneTextFault}
-use Rattle.lra_syntax.specs.Grammar.{Spells}
-use Rattle.lra_parser_spec.specs.Reading.{Text, Read, stop}
-use Rattle.lra_parser_spec.specs.Files.{file_at}
-use Rattle.lra_parser_spec.proofs.Exact.{Low, Exact, Any, Free, ok_is, plain-append}
-use Rattle.lra_parser_spec.proofs.ExactFiles.{AnyToken, exact_file}
+use Rattle.lra_syntax.specs.{Grammar.Spells, Texts.Piece, Texts.Pieces, Texts.plain, Trees.FileTree, declared.tokens.Token.Token}
+use Rattle.lra_parser_spec.specs.{Files.file_at, Reading.Text, Reading.Read, Reading.stop}
+use Rattle.lra_parser_spec.proofs.{Exact.Low, Exact.Exact, Exact.Any, Exact.Free, Exact.ok_is, Exact.plain-append, ExactFiles.AnyToken, ExactFiles.exact_file}
 
 -- the greatest level of two texts, and one more
 level_of : Pieces → ℕ

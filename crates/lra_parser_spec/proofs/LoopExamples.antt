@@ -1,22 +1,13 @@
 -- Trees and first faults of sources with loops, found by reading their tokens.
 use Rattle.std.proofs.Common.{◌≡◌, ℕ, ◌+◌, zero, suc, true, List, [], ◌∷◌, ◌++◌, codes, Some, None, Ok, Err, refl}
-use Rattle.lra_base.specs.declared.number_types.NumberType.TheVariants.{Int, Long}
 use Rattle.lra_base.specs.declared.refusals.Cause.TheVariants.{Syntax, TooDeep}
+use Rattle.lra_base.specs.{Operators.below, declared.number_types.NumberType.TheVariants.Int, declared.number_types.NumberType.TheVariants.Long}
 use Rattle.lra_syntax.specs.declared.tokens.Mark.TheVariants as mark
-use Rattle.lra_syntax.specs.declared.tokens.Kind.TheVariants.{Name, Number, End}
-use Rattle.lra_syntax.specs.declared.trees.Identifier.{Identifier}
-use Rattle.lra_base.specs.Operators.{below}
 use Rattle.lra_syntax.specs.Faults.{IsTree, IsTextFault}
-use Rattle.lra_syntax.specs.Grammar.{Spells}
 use Rattle.lra_syntax.specs.Trees.{literal, unary, ExprTree, term, value, conjunction, test, CondTree, expression, DeclarationTree, no_init, declared, StmtTree, block, nothing, if_only, if_else}
-use Rattle.lra_syntax.specs.Trees.{while}
-use Rattle.lra_syntax.specs.Trees.{scalar, for, break, return, ItemsTree, no_items, declaration, statement, function, FileTree, variable, compare, set}
-use Rattle.lra_syntax.specs.Trees.{increment}
-use Rattle.lra_syntax.specs.Trees.{before, assigned, continue}
-use Rattle.lra_parser_spec.specs.Reading.{Text, loop}
-use Rattle.lra_parser_spec.specs.Expressions.{unary_at, tests}
-use Rattle.lra_parser_spec.specs.Statements.{levels}
-use Rattle.lra_parser_spec.specs.Files.{EndsOnce, file_at}
+use Rattle.lra_syntax.specs.Trees.{while, scalar, for, break, return, ItemsTree, no_items, declaration, statement, function, FileTree, variable, compare, set, increment, before, assigned, continue}
+use Rattle.lra_syntax.specs.{Grammar.Spells, declared.tokens.Kind.TheVariants.Name, declared.tokens.Kind.TheVariants.Number, declared.tokens.Kind.TheVariants.End, declared.trees.Identifier.Identifier}
+use Rattle.lra_parser_spec.specs.{Expressions.unary_at, Expressions.tests, Files.EndsOnce, Files.file_at, Reading.Text, Reading.loop, Statements.levels}
 use Rattle.lra_parser_spec.proofs.Answered.{tree_found, text_fault}
 use Rattle.lra_parser_spec.proofs.FaultExamples.{in_line, token_at, mark_token, all_inner, no_end, main_head}
 

@@ -2,12 +2,9 @@
 use Rattle.std.proofs.Common.{◌≡◌, ℕ, true, nat_eq, List, [], ◌∷◌, slice_get, Some, refl, ap, eq-eqb, ◌∙◌}
 use denote.Enum.Declared.{tag_of}
 use denote.Enum.Bare.{sameb, same_true}
-use Rattle.lra_syntax.specs.contracts.tokens.Mark.{the_type}
-use Rattle.lra_syntax.specs.declared.tokens.Mark.{Mark}
-use Rattle.lra_syntax.specs.declared.tokens.Mark.TheVariants as mark
-use Rattle.lra_syntax.specs.declared.tokens.Kind.{Kind}
 use Rattle.lra_syntax.specs.declared.tokens.Kind.TheVariants.{Name, Number, Mark as MarkOf, Reserved, Unclosed, End}
-use Rattle.lra_syntax.specs.declared.tokens.Token.{Token}
+use Rattle.lra_syntax.specs.{contracts.tokens.Mark.the_type, declared.tokens.Kind.Kind, declared.tokens.Mark.Mark, declared.tokens.Token.Token}
+use Rattle.lra_syntax.specs.declared.tokens.Mark.TheVariants as mark
 use Rattle.lra_parser_spec.specs.Tests.{mark_number, is_kind, is_mark, first}
 
 tag_is : (m : Mark) → tag_of the_type m ≡ mark_number m

@@ -1,17 +1,10 @@
 -- Exact readers behind and before a mark, and what a table tells of the next token.
 use Rattle.std.proofs.Common.{◌≡◌, ℕ, ◌≤◌, true, List, [], ◌∷◌, Option, Some, None, refl, sym, ap, subst, arith}
 use Rattle.lra_base.specs.declared.refusals.Place.{Place}
-use Rattle.lra_syntax.specs.declared.tokens.Mark.{Mark}
-use Rattle.lra_syntax.specs.declared.tokens.Kind.TheVariants.{Mark as MarkOf}
-use Rattle.lra_syntax.specs.declared.tokens.Token.{Token}
-use Rattle.lra_syntax.specs.Texts.{Pieces, ◌⋅◌, opens, mark}
-use Rattle.lra_parser_spec.specs.Tests.{is_mark}
-use Rattle.lra_parser_spec.specs.Reading.{Parse, has, one_of}
-use Rattle.lra_parser_spec.specs.Expressions.{after_mark, ended}
-use Rattle.lra_parser_spec.proofs.Marks.{is_mark_some}
-use Rattle.lra_parser_spec.proofs.Exact.{Exact, Any, Free, then, first_or}
-use Rattle.lra_parser_spec.proofs.Forms.{rename, entry}
+use Rattle.lra_syntax.specs.{Texts.Pieces, Texts.◌⋅◌, Texts.opens, Texts.mark, declared.tokens.Kind.TheVariants.Mark as MarkOf, declared.tokens.Mark.Mark, declared.tokens.Token.Token}
+use Rattle.lra_parser_spec.specs.{Expressions.after_mark, Expressions.ended, Reading.Parse, Reading.has, Reading.one_of, Tests.is_mark}
 use Rattle.lra_parser_spec.proofs.Tokens.{IsInner, exact_expect, some_place, AreMarks, table_is}
+use Rattle.lra_parser_spec.proofs.{Exact.Exact, Exact.Any, Exact.Free, Exact.then, Exact.first_or, Forms.rename, Forms.entry, Marks.is_mark_some}
 
 abbrev pub token : Mark → Place → Token
 token m at = record { kind = MarkOf m; place = at }

@@ -1,19 +1,11 @@
 -- Trees and first faults of sources with prototypes, found by reading their tokens.
 use Rattle.std.proofs.Common.{◌≡◌, [], ◌∷◌, codes, Some, Ok, Err, refl}
-use Rattle.lra_base.specs.declared.number_types.NumberType.TheVariants.{Int}
-use Rattle.lra_base.specs.declared.refusals.Cause.TheVariants.{Syntax}
+use Rattle.lra_base.specs.{declared.number_types.NumberType.TheVariants.Int, declared.refusals.Cause.TheVariants.Syntax}
 use Rattle.lra_syntax.specs.declared.tokens.Mark.TheVariants as mark
-use Rattle.lra_syntax.specs.Faults.{IsTree, IsTextFault}
-use Rattle.lra_syntax.specs.Grammar.{Spells}
-use Rattle.lra_syntax.specs.Trees.{no_items, prototype, function, FileTree}
-use Rattle.lra_parser_spec.specs.Reading.{Text, loop}
-use Rattle.lra_parser_spec.specs.Expressions.{unary_at, tests}
-use Rattle.lra_parser_spec.specs.Statements.{levels}
-use Rattle.lra_parser_spec.specs.Files.{file_at}
+use Rattle.lra_syntax.specs.{Faults.IsTree, Faults.IsTextFault, Grammar.Spells, Trees.no_items, Trees.prototype, Trees.function, Trees.FileTree}
+use Rattle.lra_parser_spec.specs.{Expressions.unary_at, Expressions.tests, Files.file_at, Reading.Text, Reading.loop, Statements.levels}
 use Rattle.lra_parser_spec.proofs.Answered.{tree_found, text_fault}
-use Rattle.lra_parser_spec.proofs.FaultExamples.{in_line, mark_token}
-use Rattle.lra_parser_spec.proofs.LoopExamples.{ended_at, ends}
-use Rattle.lra_parser_spec.proofs.CallExamples.{word_at, named_at}
+use Rattle.lra_parser_spec.proofs.{CallExamples.word_at, CallExamples.named_at, FaultExamples.in_line, FaultExamples.mark_token, LoopExamples.ended_at, LoopExamples.ends}
 
 -- extern long f(long,long a); void assert(long); int main(){}
 abbrev declared : Text

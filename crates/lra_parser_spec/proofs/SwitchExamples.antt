@@ -1,20 +1,13 @@
 -- Trees and first faults of sources with a `switch`, found by reading their tokens.
 use Rattle.std.proofs.Common.{◌≡◌, negsuc, [], ◌∷◌, Ok, Err, refl}
-use Rattle.lra_base.specs.declared.number_types.NumberType.TheVariants.{Int}
-use Rattle.lra_base.specs.declared.refusals.Cause.TheVariants.{Syntax}
 use Rattle.lra_base.specs.declared.case_labels.CaseLabel.TheVariants.{Case, Default}
+use Rattle.lra_base.specs.{declared.number_types.NumberType.TheVariants.Int, declared.refusals.Cause.TheVariants.Syntax}
 use Rattle.lra_syntax.specs.declared.tokens.Mark.TheVariants as mark
-use Rattle.lra_syntax.specs.declared.tokens.Kind.TheVariants.{Name, Number}
-use Rattle.lra_syntax.specs.Faults.{IsTree, IsTextFault}
-use Rattle.lra_syntax.specs.Grammar.{Spells}
 use Rattle.lra_syntax.specs.Trees.{FileTree, nothing, break, switch, no_cases, labelled, stated, no_items, statement}
-use Rattle.lra_parser_spec.specs.Reading.{Text, loop}
-use Rattle.lra_parser_spec.specs.Expressions.{unary_at, tests}
-use Rattle.lra_parser_spec.specs.Statements.{levels}
-use Rattle.lra_parser_spec.specs.Files.{file_at}
-use Rattle.lra_parser_spec.proofs.Answered.{tree_found, text_fault}
+use Rattle.lra_syntax.specs.{Faults.IsTree, Faults.IsTextFault, Grammar.Spells, declared.tokens.Kind.TheVariants.Name, declared.tokens.Kind.TheVariants.Number}
+use Rattle.lra_parser_spec.specs.{Expressions.unary_at, Expressions.tests, Files.file_at, Reading.Text, Reading.loop, Statements.levels}
 use Rattle.lra_parser_spec.proofs.FaultExamples.{in_line, token_at, mark_token, main_head}
-use Rattle.lra_parser_spec.proofs.LoopExamples.{ended_at, ends, main_of, number}
+use Rattle.lra_parser_spec.proofs.{Answered.tree_found, Answered.text_fault, LoopExamples.ended_at, LoopExamples.ends, LoopExamples.main_of, LoopExamples.number}
 
 -- int main(void){ switch(1){ and what the braces hold
 abbrev braces : Text → Text

@@ -1,20 +1,12 @@
 -- Exact readers of single tokens.
 use Rattle.std.proofs.Common.{◌≡◌, ℕ, ◌≤◌, Bool, true, false, cond, List, [], ◌∷◌, Option, Some, None, Ok, refl, sym, ap, subst, ◌∙◌, arith, inl, inr, nat_le, le-leb, leb-true}
-use Rattle.lra_base.specs.declared.number_types.NumberType.TheVariants.{Int}
-use Rattle.lra_base.specs.declared.refusals.Place.{Place}
-use Rattle.lra_base.specs.declared.refusals.Cause.TheVariants.{Syntax}
-use Rattle.lra_syntax.specs.declared.tokens.Mark.{Mark}
-use Rattle.lra_syntax.specs.declared.tokens.Kind.{Kind}
-use Rattle.lra_syntax.specs.declared.tokens.Kind.TheVariants.{Name, Number, Mark as MarkOf, Reserved, Unclosed, End}
-use Rattle.lra_syntax.specs.declared.tokens.Token.{Token}
-use Rattle.lra_syntax.specs.declared.trees.Identifier.{Identifier}
-use Rattle.lra_syntax.specs.Lexeme.{greatest_literal}
+use Rattle.lra_base.specs.{declared.number_types.NumberType.TheVariants.Int, declared.refusals.Cause.TheVariants.Syntax, declared.refusals.Place.Place}
 use Rattle.lra_syntax.specs.Texts.{Texts, opens, opens_at, mark, name, number_at}
-use Rattle.lra_parser_spec.specs.Tests.{first, is_mark}
+use Rattle.lra_syntax.specs.declared.tokens.Kind.TheVariants.{Name, Number, Mark as MarkOf, Reserved, Unclosed, End}
+use Rattle.lra_syntax.specs.{Lexeme.greatest_literal, declared.tokens.Kind.Kind, declared.tokens.Mark.Mark, declared.tokens.Token.Token, declared.trees.Identifier.Identifier}
 use Rattle.lra_parser_spec.specs.Reading.{Text, stop, tail, expect, expect_at, place_of, take_by, taken, next_name, identifier_of, Literal, next_literal, literal_of, small_of, next_small, one_of}
-use Rattle.lra_parser_spec.proofs.Marks.{is_mark_some, is_mark_self}
-use Rattle.lra_parser_spec.proofs.Exact.{Exact, Any, Free, test}
-use Rattle.lra_parser_spec.proofs.Forms.{retell, same_where, exact_take}
+use Rattle.lra_parser_spec.specs.Tests.{first, is_mark}
+use Rattle.lra_parser_spec.proofs.{Exact.Exact, Exact.Any, Exact.Free, Exact.test, Forms.retell, Forms.same_where, Forms.exact_take, Marks.is_mark_some, Marks.is_mark_self}
 
 -- it isn't the end
 abbrev pub IsInner : Token → Type 0

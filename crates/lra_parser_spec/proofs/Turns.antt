@@ -1,16 +1,11 @@
 -- Turns of a reader, one after the other, are exact where each turn is.
 use Rattle.std.proofs.Common.{◌≡◌, ℕ, zero, suc, ◌≤◌, ◌<◌, Bool, true, false, [], ◌∷◌, ◌++◌, length, Option, None, Ok, Err, refl, sym, ap, subst, ◌∙◌, append_assoc, length-append, arith, inl, inr}
 use Rattle.std.proofs.lemmas.List.{append-nil, append_cancel_right}
-use Rattle.lra_base.specs.declared.refusals.Cause.{Cause}
-use Rattle.lra_base.specs.declared.refusals.Cause.TheVariants.{TooDeep}
-use Rattle.lra_syntax.specs.declared.tokens.Token.{Token}
-use Rattle.lra_syntax.specs.Texts.{Piece, Pieces, plain}
-use Rattle.lra_parser_spec.specs.declared.reading.Fault.{Fault}
-use Rattle.lra_parser_spec.specs.Tests.{first}
-use Rattle.lra_parser_spec.specs.Reading.{Text, Read, Parse, stop, ◌>>=◌, done_with, loop, turns}
+use Rattle.lra_base.specs.{declared.refusals.Cause.Cause, declared.refusals.Cause.TheVariants.TooDeep}
+use Rattle.lra_syntax.specs.{Texts.Piece, Texts.Pieces, Texts.plain, declared.tokens.Token.Token}
+use Rattle.lra_parser_spec.specs.{Reading.Text, Reading.Read, Reading.Parse, Reading.stop, Reading.◌>>=◌, Reading.done_with, Reading.loop, Reading.turns, Tests.first, declared.reading.Fault.Fault}
 use Rattle.lra_parser_spec.proofs.Exact.{Low, Within, Goes, Exact, bind_ok, bind_err, ok_is, test, first_same, plain-then, Low-append, Low-left, Low-right, Within-append, Goes-more, in_first}
-use Rattle.lra_parser_spec.proofs.Exact.{in_second}
-use Rattle.lra_parser_spec.proofs.Exact.{lies, first_or, first_or-on, nonempty, same_split}
+use Rattle.lra_parser_spec.proofs.Exact.{in_second, lies, first_or, first_or-on, nonempty, same_split}
 
 -- b comes from a by steps, one after the other
 pub data Steps {A : Type 0} (S : A → A → Pieces → Type 0) (b : A) : A → Pieces → Type 0 where

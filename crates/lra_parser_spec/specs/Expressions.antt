@@ -1,30 +1,21 @@
 -- Readers of expressions and conditions. d levels of nesting are left.
 use Rattle.std.specs.Prelude.{ℕ, zero, suc, cond, List, [], ◌∷◌, Option, Some, None}
-use Rattle.lra_base.specs.declared.refusals.Cause.TheVariants.{TooDeep}
-use Rattle.lra_syntax.specs.declared.tokens.Mark.{Mark}
-use Rattle.lra_syntax.specs.declared.tokens.Mark.TheVariants as mark
-use Rattle.lra_syntax.specs.declared.tokens.Token.{Token}
-use Rattle.lra_syntax.specs.declared.trees.Identifier.{Identifier}
-use Rattle.lra_syntax.specs.declared.trees.FactorOperator.{FactorOperator}
-use Rattle.lra_syntax.specs.declared.trees.FactorOperator.TheVariants as factor
-use Rattle.lra_syntax.specs.declared.trees.SumOperator.{SumOperator}
-use Rattle.lra_syntax.specs.declared.trees.SumOperator.TheVariants as sum
-use Rattle.lra_base.specs.declared.operators.Comparison.{Comparison}
-use Rattle.lra_base.specs.declared.operators.Comparison.TheVariants as comparison
-use Rattle.lra_syntax.specs.Trees.{UnaryTree, negated, positive, literal, variable, input, group}
-use Rattle.lra_syntax.specs.Trees.{element, TermTree}
-use Rattle.lra_syntax.specs.Trees.{unary, ExprTree, term, NegationTree, opposite_again}
-use Rattle.lra_syntax.specs.Trees.{value_of_unary, group_opposed, TestTree}
-use Rattle.lra_syntax.specs.Trees.{opposite, value, compare, group_of, ConjunctionTree, test, and, CondTree}
-use Rattle.lra_syntax.specs.Trees.{conjunction}
-use Rattle.lra_syntax.specs.Trees.{or}
-use Rattle.lra_syntax.specs.Views.{further_factor, further_term}
 use Rattle.lra_base.specs.OperatorViews.{comparison_view}
-use Rattle.lra_parser_spec.specs.Tests.{first, is_mark}
+use Rattle.lra_base.specs.{declared.operators.Comparison.Comparison, declared.refusals.Cause.TheVariants.TooDeep}
+use Rattle.lra_syntax.specs.Trees.{UnaryTree, negated, positive, literal, variable, input, group, element, TermTree}
+use Rattle.lra_syntax.specs.Trees.{unary, ExprTree, term, NegationTree, opposite_again, value_of_unary, group_opposed}
+use Rattle.lra_syntax.specs.Trees.{TestTree, opposite, value, compare, group_of, ConjunctionTree, test, and, CondTree}
+use Rattle.lra_syntax.specs.Trees.{conjunction, or}
+use Rattle.lra_syntax.specs.{Views.further_factor, Views.further_term, declared.tokens.Mark.Mark}
+use Rattle.lra_syntax.specs.{declared.tokens.Token.Token, declared.trees.FactorOperator.FactorOperator}
+use Rattle.lra_syntax.specs.{declared.trees.Identifier.Identifier, declared.trees.SumOperator.SumOperator}
+use Rattle.lra_syntax.specs.declared.tokens.Mark.TheVariants as mark
+use Rattle.lra_syntax.specs.declared.trees.FactorOperator.TheVariants as factor
+use Rattle.lra_syntax.specs.declared.trees.SumOperator.TheVariants as sum
+use Rattle.lra_base.specs.declared.operators.Comparison.TheVariants as comparison
 use Rattle.lra_parser_spec.specs.Reading.{Parse, stop, seq, map_read, done_with, expect, take_by, next_name, Literal}
-use Rattle.lra_parser_spec.specs.Reading.{next_literal}
-use Rattle.lra_parser_spec.specs.Reading.{has}
-use Rattle.lra_parser_spec.specs.Reading.{one_of, chain, chain_rest}
+use Rattle.lra_parser_spec.specs.Reading.{next_literal, has, one_of, chain, chain_rest}
+use Rattle.lra_parser_spec.specs.Tests.{first, is_mark}
 
 -- operators --------------------------------------------------------------------------------------------------------
 

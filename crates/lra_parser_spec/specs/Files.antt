@@ -1,31 +1,20 @@
 -- The reader of a whole file, and the shape of the lists of tokens that are read.
-use Rattle.std.specs.Prelude.{◌≡◌, ◌≢◌, ℕ, pos, ⊤, Bool, true, false, cond, List, [], IsTrue}
-use Rattle.std.specs.Prelude.{◌∷◌, ◌++◌, Option, Some, None, option_map, Result, Ok, Err}
-use Rattle.std.specs.List.{AllByRecursion}
+use Rattle.std.specs.Prelude.{◌≡◌, ◌≢◌, ℕ, pos, ⊤, Bool, true, false, cond, List, [], IsTrue, ◌∷◌, ◌++◌, Option, Some}
+use Rattle.std.specs.{List.AllByRecursion, Prelude.None, Prelude.option_map, Prelude.Result, Prelude.Ok, Prelude.Err}
 use Rattle.lra_base.specs.declared.number_types.NumberType.{NumberType}
-use Rattle.lra_base.specs.NumberTypes.{fits}
-use Rattle.lra_base.specs.declared.refusals.Place.{Place}
-use Rattle.lra_base.specs.declared.refusals.Cause.TheVariants.{Syntax}
-use Rattle.lra_syntax.specs.declared.tokens.Mark.{Mark}
-use Rattle.lra_syntax.specs.declared.tokens.Mark.TheVariants as mark
-use Rattle.lra_syntax.specs.declared.tokens.Kind.{Kind}
+use Rattle.lra_base.specs.{NumberTypes.fits, declared.refusals.Cause.TheVariants.Syntax, declared.refusals.Place.Place}
+use Rattle.lra_syntax.specs.Trees.{ItemsTree, FunctionTree, ScalarOrArrayTree, GlobalTree, ExternalTree, prototype}
+use Rattle.lra_syntax.specs.Trees.{globals, function, FileTree}
 use Rattle.lra_syntax.specs.declared.tokens.Kind.TheVariants.{Name, Number, Mark as MarkOf, Reserved, Unclosed, End}
-use Rattle.lra_syntax.specs.declared.tokens.Token.{Token}
-use Rattle.lra_syntax.specs.declared.trees.Identifier.{Identifier}
-use Rattle.lra_syntax.specs.declared.trees.Parameter.{Parameter}
 use Rattle.lra_syntax.specs.declared.trees.SignedLiteral.{SignedLiteral}
-use Rattle.lra_syntax.specs.Trees.{ItemsTree, FunctionTree, ScalarOrArrayTree, GlobalTree, ExternalTree}
-use Rattle.lra_syntax.specs.Trees.{prototype, globals, function, FileTree}
-use Rattle.lra_parser_spec.specs.declared.lead.Lead.{Lead}
+use Rattle.lra_syntax.specs.{declared.tokens.Kind.Kind, declared.tokens.Mark.Mark, declared.tokens.Token.Token}
+use Rattle.lra_syntax.specs.{declared.trees.Identifier.Identifier, declared.trees.Parameter.Parameter}
+use Rattle.lra_syntax.specs.declared.tokens.Mark.TheVariants as mark
+use Rattle.lra_parser_spec.specs.Reading.{Parse, stop, seq, map_read, done_with, expect, take_by, next_name, has}
+use Rattle.lra_parser_spec.specs.Statements.{commas_from, commas, listed, type_words, shape_at, signed_at, body_of}
+use Rattle.lra_parser_spec.specs.{Expressions.after_mark, Expressions.ended, Reading.one_of, Reading.list_of}
+use Rattle.lra_parser_spec.specs.{Statements.items_at, Tests.first, Tests.is_mark, declared.lead.Lead.Lead}
 use Rattle.lra_parser_spec.specs.declared.lead.Lead.TheVariants as lead
-use Rattle.lra_parser_spec.specs.Tests.{first, is_mark}
-use Rattle.lra_parser_spec.specs.Reading.{Parse, stop, seq, map_read, done_with, expect, take_by, next_name}
-use Rattle.lra_parser_spec.specs.Reading.{has}
-use Rattle.lra_parser_spec.specs.Reading.{one_of, list_of}
-use Rattle.lra_parser_spec.specs.Expressions.{after_mark, ended}
-use Rattle.lra_parser_spec.specs.Statements.{commas_from, commas, listed, type_words, shape_at}
-use Rattle.lra_parser_spec.specs.Statements.{signed_at, body_of}
-use Rattle.lra_parser_spec.specs.Statements.{items_at}
 
 -- the last token, and no other, is the end
 pub record EndsOnce (tokens : List Token) : Type 0 where

@@ -1,20 +1,15 @@
 -- Readers: functions from a text of tokens to a value and the text behind it, or to the fault at which reading stops.
-use Rattle.std.specs.Prelude.{◌≡◌, ℕ, zero, suc, nat_le, Bool, true, false, cond, drop, List, [], ◌∷◌, ◌++◌, length, Option}
-use Rattle.std.specs.Prelude.{Some, None, Result, Ok, Err, ⊤}
-use Rattle.lra_base.specs.declared.refusals.Place.{Place}
-use Rattle.lra_base.specs.declared.refusals.Cause.{Cause}
+use Rattle.std.specs.Prelude.{◌≡◌, ℕ, zero, suc, nat_le, Bool, true, false, cond, drop, List, [], ◌∷◌, ◌++◌, length}
+use Rattle.std.specs.Prelude.{Option, Some, None, Result, Ok, Err, ⊤}
 use Rattle.lra_base.specs.declared.refusals.Cause.TheVariants.{Syntax}
-use Rattle.lra_syntax.specs.declared.tokens.Mark.{Mark}
-use Rattle.lra_syntax.specs.declared.tokens.Token.{Token}
-use Rattle.lra_syntax.specs.declared.tokens.Kind.{Kind}
+use Rattle.lra_base.specs.{declared.refusals.Cause.Cause, declared.refusals.Place.Place}
 use Rattle.lra_syntax.specs.declared.tokens.Kind.TheVariants.{Name, Number, Mark as MarkOf, Reserved, Unclosed, End}
-use Rattle.lra_syntax.specs.declared.trees.Identifier.{Identifier}
-use Rattle.lra_syntax.specs.Lexeme.{greatest_literal}
-use Rattle.lra_parser_spec.specs.declared.reading.Fault.{Fault}
-pub use Rattle.lra_parser_spec.specs.declared.reading.Literal.{Literal}
-use Rattle.lra_parser_spec.specs.declared.reading.Stopped.{Stopped}
-use Rattle.lra_parser_spec.specs.declared.reading.Stopped.TheVariants as stopped
+use Rattle.lra_syntax.specs.{Lexeme.greatest_literal, declared.tokens.Kind.Kind, declared.tokens.Mark.Mark}
+use Rattle.lra_syntax.specs.{declared.tokens.Token.Token, declared.trees.Identifier.Identifier}
 use Rattle.lra_parser_spec.specs.Tests.{first, is_mark}
+use Rattle.lra_parser_spec.specs.{declared.reading.Fault.Fault, declared.reading.Stopped.Stopped}
+pub use Rattle.lra_parser_spec.specs.declared.reading.Literal.{Literal}
+use Rattle.lra_parser_spec.specs.declared.reading.Stopped.TheVariants as stopped
 
 abbrev pub Text : Type 0
 Text = List Token

@@ -1,40 +1,31 @@
 -- Readers of calls, assignments, declarations and statements. d levels of nesting are left.
-use Rattle.std.specs.Prelude.{ℕ, zero, suc, Bool, true, cond, ◌||◌, List, [], ◌∷◌, Option, Some, None, Ok}
-use Rattle.std.specs.Prelude.{option_map, pos, neg_ℤ}
+use Rattle.std.specs.Prelude.{ℕ, zero, suc, Bool, true, cond, ◌||◌, List, [], ◌∷◌, Option, Some, None, Ok, option_map}
+use Rattle.std.specs.Prelude.{pos, neg_ℤ}
+use Rattle.lra_base.specs.OperatorViews.{operator_view}
+use Rattle.lra_base.specs.declared.case_labels.CaseLabel.TheVariants.{Case, Default}
 use Rattle.lra_base.specs.declared.number_types.NumberType.{NumberType}
 use Rattle.lra_base.specs.declared.number_types.NumberType.TheVariants.{Int, Long}
-use Rattle.lra_base.specs.declared.refusals.Place.{Place}
 use Rattle.lra_base.specs.declared.refusals.Cause.TheVariants.{Syntax, TooDeep}
-use Rattle.lra_base.specs.declared.case_labels.CaseLabel.TheVariants.{Case, Default}
-use Rattle.lra_syntax.specs.declared.tokens.Mark.{Mark}
-use Rattle.lra_syntax.specs.declared.tokens.Mark.TheVariants as mark
-use Rattle.lra_syntax.specs.declared.tokens.Token.{Token}
-use Rattle.lra_syntax.specs.declared.trees.Identifier.{Identifier}
-use Rattle.lra_syntax.specs.declared.trees.PlacedLabel.{PlacedLabel}
-use Rattle.lra_syntax.specs.declared.trees.ArrayLength.{ArrayLength}
+use Rattle.lra_base.specs.{declared.operators.Operator.Operator, declared.refusals.Place.Place}
+use Rattle.lra_syntax.specs.Trees.{UnaryTree, unary, ExprTree, term, CondTree, CallTree, RvalueTree, expression, result}
+use Rattle.lra_syntax.specs.Trees.{AssignTree, set, set_element, update, after, before, ScalarOrArrayTree, scalar}
+use Rattle.lra_syntax.specs.Trees.{array, DeclaratorTree, DeclarationTree, InitTree, no_init, assigned}
+use Rattle.lra_syntax.specs.Trees.{declared as declared_first, StmtTree, block, nothing, assign, call, if_only, if_else}
+use Rattle.lra_syntax.specs.Trees.{while, for, break, continue, return, assert, assume, switch, CasesTree, no_cases}
+use Rattle.lra_syntax.specs.Trees.{labelled, stated as stated_case, ItemsTree, no_items, declaration, statement}
 use Rattle.lra_syntax.specs.declared.trees.SignedLiteral.{SignedLiteral}
-use Rattle.lra_base.specs.declared.operators.Operator.{Operator}
+use Rattle.lra_syntax.specs.{Views.step_view, declared.tokens.Mark.Mark, declared.tokens.Token.Token}
+use Rattle.lra_syntax.specs.{declared.trees.ArrayLength.ArrayLength, declared.trees.Identifier.Identifier}
+use Rattle.lra_syntax.specs.{declared.trees.PlacedLabel.PlacedLabel, declared.trees.Step.Step}
+use Rattle.lra_syntax.specs.declared.tokens.Mark.TheVariants as mark
 use Rattle.lra_base.specs.declared.operators.Operator.TheVariants as operator
-use Rattle.lra_syntax.specs.declared.trees.Step.{Step}
 use Rattle.lra_syntax.specs.declared.trees.Step.TheVariants as step
-use Rattle.lra_syntax.specs.Trees.{UnaryTree, unary, ExprTree, term, CondTree, CallTree, RvalueTree}
-use Rattle.lra_syntax.specs.Trees.{expression}
-use Rattle.lra_syntax.specs.Trees.{result, AssignTree, set, set_element, update, after, before}
-use Rattle.lra_syntax.specs.Trees.{ScalarOrArrayTree, scalar, array, DeclaratorTree, DeclarationTree}
-use Rattle.lra_syntax.specs.Trees.{InitTree, no_init, assigned, declared as declared_first, StmtTree, block, nothing}
-use Rattle.lra_syntax.specs.Trees.{assign, call, if_only, if_else, while, for, break, continue, return, assert, assume}
-use Rattle.lra_syntax.specs.Trees.{switch, CasesTree, no_cases, labelled, stated as stated_case, ItemsTree, no_items}
-use Rattle.lra_syntax.specs.Trees.{declaration, statement}
-use Rattle.lra_base.specs.OperatorViews.{operator_view}
-use Rattle.lra_syntax.specs.Views.{step_view}
-use Rattle.lra_parser_spec.specs.Tests.{first, is_mark, begins_label}
-use Rattle.lra_parser_spec.specs.Reading.{Text, Parse, stop, seq, map_read, done_with, tail, expect, expect_at}
-use Rattle.lra_parser_spec.specs.Reading.{place_of}
-use Rattle.lra_parser_spec.specs.Reading.{take_by, next_name, Literal, next_literal, next_small, has}
-use Rattle.lra_parser_spec.specs.Reading.{one_of, list_of}
 use Rattle.lra_parser_spec.specs.Expressions.{after_mark, ended, in_parens, brackets_parser, factors, summands}
-use Rattle.lra_parser_spec.specs.Expressions.{unary_at}
-use Rattle.lra_parser_spec.specs.Expressions.{named_unary, expr_at, index_at, cond_at}
+use Rattle.lra_parser_spec.specs.Expressions.{unary_at, named_unary, expr_at, index_at, cond_at}
+use Rattle.lra_parser_spec.specs.Reading.{Text, Parse, stop, seq, map_read, done_with, tail, expect, expect_at}
+use Rattle.lra_parser_spec.specs.Reading.{place_of, take_by, next_name, Literal, next_literal, next_small, has, one_of}
+use Rattle.lra_parser_spec.specs.Reading.{list_of}
+use Rattle.lra_parser_spec.specs.Tests.{first, is_mark, begins_label}
 
 -- the text behind the mark, if it is there
 abbrev pub skip : Mark → Text → Text

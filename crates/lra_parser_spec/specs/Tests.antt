@@ -1,10 +1,8 @@
 -- Tests of the next token.
 use Rattle.std.specs.Prelude.{ℕ, Bool, false, ◌||◌, nat_eq, List, [], ◌∷◌, Option, Some, None}
-use Rattle.lra_syntax.specs.declared.tokens.Mark.{Mark}
-use Rattle.lra_syntax.specs.declared.tokens.Mark.TheVariants as mark
-use Rattle.lra_syntax.specs.declared.tokens.Kind.{Kind}
 use Rattle.lra_syntax.specs.declared.tokens.Kind.TheVariants.{Name, Number, Mark as MarkOf, Reserved, Unclosed, End}
-use Rattle.lra_syntax.specs.declared.tokens.Token.{Token}
+use Rattle.lra_syntax.specs.{declared.tokens.Kind.Kind, declared.tokens.Mark.Mark, declared.tokens.Token.Token}
+use Rattle.lra_syntax.specs.declared.tokens.Mark.TheVariants as mark
 
 -- a number for each mark
 abbrev pub mark_number : Mark → ℕ

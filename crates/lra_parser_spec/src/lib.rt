@@ -7,8 +7,7 @@
 //! the rest.
 #![tactic(auto)]
 
-ghost use Rattle.lra_syntax.specs.Faults.{OneTree, OneTextFault};
-ghost use Rattle.lra_syntax.specs.Grammar.{Spells};
+ghost use Rattle.lra_syntax.specs.{Faults.OneTree, Faults.OneTextFault, Grammar.Spells};
 
 mod lead;
 mod reading;

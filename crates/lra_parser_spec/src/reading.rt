@@ -1,8 +1,8 @@
 //! Tests of the next token, single tokens, and faults.
 
 ghost use Rattle.std.specs.Prelude.{◌≡◌, ℕ, ◌<◌, ◌≤◌, [], ◌∷◌, ◌++◌, length, IfOk, IfSome};
-ghost use Rattle.lra_parser_spec.specs.Tests.{is_mark, first};
-ghost use Rattle.lra_parser_spec.specs.Reading.{ParsesAs, expect, expect_at, has, next_name, next_literal, next_small, tail, take_by};
+ghost use Rattle.lra_parser_spec.specs.Reading.{ParsesAs, expect, expect_at, has, next_name, next_literal, next_small};
+ghost use Rattle.lra_parser_spec.specs.{Reading.tail, Reading.take_by, Tests.is_mark, Tests.first};
 
 use lra_base::{Cause, NumberType, Place};
 use lra_syntax::{Identifier, Kind, Mark, Token};

@@ -1,24 +1,16 @@
 -- A pass from the same value again: only the first flagged point can differ, and that is told by what was flagged before.
 use Rattle.std.proofs.Common.{◌≡◌, ℕ, zero, suc, ◌-◌, Bool, true, List, [], ◌∷◌, Option, Some, None, refl, sym, ap, subst, ◌∙◌}
-use Rattle.lra_domain.specs.declared.Exactness.{Exactness}
-use Rattle.lra_domain.specs.Interference.{Interference}
-use Rattle.lra_domain.specs.Abstraction.{Abstraction}
+use Rattle.lra_domain.specs.{Abstraction.Abstraction, Interference.Interference, declared.Exactness.Exactness}
 use Rattle.lra_program.specs.Program.{Expr, Cond}
+use Rattle.lra_operations.specs.Tree.{Exit, broken, continued, returned, Node, empty, point, probe, act, check, seq, choose, iterate, catch, leave, select, Arms, no_arms, entry, arm}
 use Rattle.lra_operations.specs.declared.probes.Probe.TheVariants.{InterferencePoint, RecordWrite}
-use Rattle.lra_operations.specs.Tree.{Exit, broken, continued, returned, Node, empty, point, probe, act, check, seq, choose, iterate, catch, leave}
-use Rattle.lra_operations.specs.Tree.{select, Arms, no_arms, entry, arm}
-use Rattle.lra_analysis_spec.specs.Plan.{Plan, Widening}
-use Rattle.lra_analysis_spec.specs.Operations.{Operations, lossy_operations}
-use Rattle.lra_analysis_spec.specs.UnderInterference.{absorbed, LossyPass}
-use Rattle.lra_analysis_spec.specs.Pass.{AreJoined, Filters, PassResult, noted, jumps, values_behind, jumps_caught, Transformer, LoopRoundFrom}
-use Rattle.lra_analysis_spec.specs.Pass.{AscendingIteration, DescendingIteration}
-use Rattle.lra_analysis_spec.specs.Pass.{Absorption, PassUnder, ArmsPassUnder}
+use Rattle.lra_analysis_spec.specs.Pass.{AreJoined, Filters, PassResult, noted, jumps, values_behind, jumps_caught, Transformer, LoopRoundFrom, AscendingIteration, DescendingIteration, Absorption}
+use Rattle.lra_analysis_spec.specs.Pass.{PassUnder, ArmsPassUnder}
+use Rattle.lra_analysis_spec.specs.{Live.live_after, Operations.Operations, Operations.lossy_operations, Plan.Plan, Plan.Widening, UnderInterference.absorbed, UnderInterference.LossyPass}
 use Rattle.lra_analysis_spec.proofs.Transfer.{Matters, Transfers, passes_among}
-use Rattle.lra_analysis_spec.specs.Live.{live_after}
-use Rattle.lra_pass_results.specs.declared.outcome.LoopRound.{LoopRound}
 use Rattle.lra_pass_results.specs.Outcome.{outcome_view, AreKept, EntersWith, IsEntered, IsKept, IsPassed, IsLoopRound, JumpsFit}
+use Rattle.lra_pass_results.specs.{declared.outcome.Entered.TheVariants.Again, declared.outcome.Entered.TheVariants.Anew, declared.outcome.LoopRound.LoopRound}
 use Rattle.lra_pass_results.specs.declared.outcome.Entered as entered
-use Rattle.lra_pass_results.specs.declared.outcome.Entered.TheVariants.{Again, Anew}
 use Rattle.lra_pass_results.proofs.PassSteps.{same_jumps_fit}
 
 -- the same, with this flag

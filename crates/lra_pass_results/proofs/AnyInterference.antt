@@ -1,21 +1,15 @@
 -- Trees in which others don't act: a pass among nobody is one among any.
 use Rattle.std.proofs.Common.{ℕ, List, [], ◌∷◌, map, Option, sym, subst}
-use Rattle.lra_domain.specs.Interference.{Interference, no_interference}
-use Rattle.lra_domain.specs.Abstraction.{Abstraction}
+use Rattle.lra_domain.specs.{Abstraction.Abstraction, Interference.Interference, Interference.no_interference}
 use Rattle.lra_operations.specs.declared.tree.Node as node
 use Rattle.lra_operations.specs.Tree as graph
 use Rattle.lra_operations.specs.TreeViews.{node_view, row}
-use Rattle.lra_analysis_spec.specs.Plan.{Plan}
-use Rattle.lra_analysis_spec.specs.UnderInterference.{LossyPass}
-use Rattle.lra_analysis_spec.specs.Pass.{PassResult}
+use Rattle.lra_analysis_spec.specs.{Pass.PassResult, Plan.Plan, UnderInterference.LossyPass}
 use Rattle.lra_pass_results.specs.declared.flat.Flat as flat
-use Rattle.lra_pass_results.specs.declared.flat.Flat.TheVariants.{Leaf, Row}
-use Rattle.lra_pass_results.specs.declared.outcome.PassOutcome.{PassOutcome}
-use Rattle.lra_pass_results.specs.declared.tree_forms.Leaf as leaf
-use Rattle.lra_pass_results.specs.declared.tree_forms.Leaf.TheVariants.{Empty, Point, Act, Check, Leave}
 use Rattle.lra_pass_results.specs.Flat.{flat_view, AllLeaves, AreLeaves, Follows, IsLeaf}
-use Rattle.lra_pass_results.specs.Outcome.{IsPassed}
-use Rattle.lra_pass_results.specs.TreeForms.{leaf_view}
+use Rattle.lra_pass_results.specs.declared.tree_forms.Leaf.TheVariants.{Empty, Point, Act, Check, Leave}
+use Rattle.lra_pass_results.specs.{Outcome.IsPassed, TreeForms.leaf_view, declared.flat.Flat.TheVariants.Leaf, declared.flat.Flat.TheVariants.Row, declared.outcome.PassOutcome.PassOutcome}
+use Rattle.lra_pass_results.specs.declared.tree_forms.Leaf as leaf
 
 module _ {V H : Type 0} (o : Interference V) (m : Abstraction V H) (set : Plan) where
   leaf_pass : (x : leaf.Leaf) (f : Option ℕ) (v : V) (r : PassResult V) → LossyPass no_interference m set (leaf_view x) f v r

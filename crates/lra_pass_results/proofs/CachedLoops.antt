@@ -1,23 +1,14 @@
 -- What is kept of loops stays so along a pass: of what is flagged so far, it depends only on whether anything is.
-use Rattle.std.proofs.Common.{◌≡◌, ℕ, ◌<◌, List, length, Vec, Global, Option, Some, None}
-use Rattle.std.proofs.Common.{refl, sym, ap, subst, ◌∙◌}
-use Rattle.std.specs.Prelude.{IfOk, slice_index_or, set}
+use Rattle.std.proofs.Common.{◌≡◌, ℕ, ◌<◌, List, length, Vec, Global, Option, Some, None, refl, sym, ap, subst, ◌∙◌}
+use Rattle.std.specs.{List.All, Prelude.IfOk, Prelude.slice_index_or, Prelude.set}
 use Rattle.std.specs.Prelude as outcome_or
-use Rattle.std.specs.List.{All}
-use Rattle.lra_domain.specs.Interference.{Interference}
-use Rattle.lra_domain.specs.Abstraction.{Abstraction}
-use Rattle.lra_domain.specs.declared.Exactness.{Exactness}
+use Rattle.lra_domain.specs.{Abstraction.Abstraction, Interference.Interference, declared.Exactness.Exactness}
 use Rattle.lra_program.specs.Program.{Cond}
 use Rattle.lra_operations.specs.Tree.{Exit, broken, continued, returned, Node, choose, iterate}
-use Rattle.lra_analysis_spec.specs.Plan.{Plan}
-use Rattle.lra_analysis_spec.specs.UnderInterference.{absorbed}
-use Rattle.lra_analysis_spec.specs.Operations.{lossy_operations}
-use Rattle.lra_analysis_spec.specs.Pass.{PassResult, noted, jumps_caught}
-use Rattle.lra_pass_results.specs.declared.loop_cache.CachedLoop.{CachedLoop}
-use Rattle.lra_pass_results.specs.declared.loop_cache.LoopCache.{LoopCache}
-use Rattle.lra_pass_results.specs.declared.outcome.PassOutcome.{PassOutcome}
-use Rattle.lra_pass_results.specs.Outcome.{ended, outcome_view, AreBranchesJoined, Catches, IsKept, IsPassed, LeavesWith}
+use Rattle.lra_analysis_spec.specs.{Operations.lossy_operations, Pass.PassResult, Pass.noted, Pass.jumps_caught, Plan.Plan, UnderInterference.absorbed}
 use Rattle.lra_pass_results.specs.LoopCache.{IsRecalled, AreRecalled, MayRecall, Remembers, StaysKept}
+use Rattle.lra_pass_results.specs.Outcome.{ended, outcome_view, AreBranchesJoined, Catches, IsKept, IsPassed, LeavesWith}
+use Rattle.lra_pass_results.specs.{declared.loop_cache.CachedLoop.CachedLoop, declared.loop_cache.LoopCache.LoopCache, declared.outcome.PassOutcome.PassOutcome}
 use Rattle.lra_pass_results.proofs.Again.{none_noted, none_before, kept_passed, passed_kept}
 
 -- what is flagged later, if anything was before

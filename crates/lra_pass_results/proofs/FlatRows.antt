@@ -1,16 +1,10 @@
 -- Rows with no tree in their trees, that are passed along behind what was found before them.
 use Rattle.std.proofs.Common.{◌≡◌, ℕ, suc, ◌+◌, ◌≤◌, List, ◌∷◌, Option, refl, sym, ap, subst, ◌∙◌, arith}
-use Rattle.lra_analysis_spec.specs.LiveLimit.{most_live}
-use Rattle.lra_analysis_spec.specs.Plan.{Plan}
-use Rattle.lra_domain.specs.Interference.{Interference}
-use Rattle.lra_domain.specs.Abstraction.{Abstraction}
+use Rattle.lra_analysis_spec.specs.{LiveLimit.most_live, Pass.PassResult, Pass.in_turn, Plan.Plan}
+use Rattle.lra_domain.specs.{Abstraction.Abstraction, Interference.Interference}
 use Rattle.lra_operations.specs.Tree as graph
 use Rattle.lra_operations.specs.declared.tree.Node as node
-use Rattle.lra_analysis_spec.specs.Pass.{PassResult, in_turn}
-use Rattle.lra_pass_results.specs.declared.outcome.PassOutcome.{PassOutcome}
-use Rattle.lra_pass_results.specs.Dimensions.{TreeFits}
-use Rattle.lra_pass_results.specs.Flat.{AllLeaves, Follows, IsLeaf}
-use Rattle.lra_pass_results.specs.Outcome.{outcome_view, IsPassed}
+use Rattle.lra_pass_results.specs.{Dimensions.TreeFits, Flat.AllLeaves, Flat.Follows, Flat.IsLeaf, Outcome.outcome_view, Outcome.IsPassed, declared.outcome.PassOutcome.PassOutcome}
 use Rattle.lra_pass_results.proofs.PassRows.{seq_passed, turns}
 
 -- one tree less is left

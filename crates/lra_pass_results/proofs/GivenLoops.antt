@@ -2,9 +2,8 @@
 use Rattle.std.proofs.Common.{◌≡◌, ℕ, ℤ, List, None, Some, refl, ap}
 use Rattle.lra_operations.specs.Tree.{Node}
 use Rattle.lra_program.specs.Program.{Cond}
-use Rattle.lra_analysis_spec.specs.GuardThresholds.{guard_thresholds}
 use Rattle.lra_analysis_spec.specs.Plan.{Widening, standard, limited, by_thresholds, constants_in}
-use Rattle.lra_analysis_spec.specs.Thresholds.{loop_thresholds, threshold_rows}
+use Rattle.lra_analysis_spec.specs.{GuardThresholds.guard_thresholds, Thresholds.loop_thresholds, Thresholds.threshold_rows}
 
 pub rows_by_condition : (w : Widening) (live base : ℕ) (c : Cond) (a : Node) → None ≡ constants_in w →
     guard_thresholds live base c ≡ loop_thresholds w live base c a

@@ -1,24 +1,16 @@
 -- Trees with no tree in them, that are passed behind what was found before them.
 use Rattle.std.proofs.Common.{Vec, Global, map, ◌≡◌, ℕ, List, [], ◌∷◌, ◌++◌, Option, refl, sym, ap, subst, ◌∙◌}
+use Rattle.std.proofs.lemmas.List.{append-nil, map-append}
 use Rattle.std.specs.Prelude.{OnOk}
 use Rattle.std.specs.Prelude as outcome_or
-use Rattle.std.proofs.lemmas.List.{append-nil, map-append}
-use Rattle.lra_domain.specs.Interference.{Interference}
-use Rattle.lra_domain.specs.Abstraction.{Abstraction}
-use Rattle.lra_domain.specs.declared.Exactness.{Exactness}
+use Rattle.lra_domain.specs.{Abstraction.Abstraction, Interference.Interference, declared.Exactness.Exactness}
 use Rattle.lra_operations.specs.Tree.{Exit, broken, continued, returned}
 use Rattle.lra_operations.specs.Tree as graph
-use Rattle.lra_analysis_spec.specs.Plan.{Plan}
-use Rattle.lra_analysis_spec.specs.UnderInterference.{LossyPass}
-use Rattle.lra_analysis_spec.specs.Operations.{lossy_operations}
 use Rattle.lra_analysis_spec.specs.Pass.{PassEntry, PassResult, goes_on, in_turn, jumps, noted}
+use Rattle.lra_analysis_spec.specs.{Live.live_after, Operations.lossy_operations, Plan.Plan, UnderInterference.LossyPass}
 use Rattle.lra_pass_results.specs.declared.outcome.PassEntry as entry
-use Rattle.lra_pass_results.specs.declared.outcome.PassOutcome.{PassOutcome}
-use Rattle.lra_analysis_spec.specs.Live.{live_after}
-use Rattle.lra_pass_results.specs.Flat.{Follows}
-use Rattle.lra_pass_results.specs.Outcome.{ended, entry_view, outcome_view, IsPassed}
-use Rattle.lra_pass_results.proofs.PassRows.{same_lists}
-use Rattle.lra_pass_results.proofs.PassSteps.{going_on_fits, jump_dims, jump_fits, jump_normal}
+use Rattle.lra_pass_results.specs.{Flat.Follows, Outcome.ended, Outcome.entry_view, Outcome.outcome_view, Outcome.IsPassed, declared.outcome.PassOutcome.PassOutcome}
+use Rattle.lra_pass_results.proofs.{PassRows.same_lists, PassSteps.going_on_fits, PassSteps.jump_dims, PassSteps.jump_fits, PassSteps.jump_normal}
 
 -- one entry more
 pub entry_more : {V : Type 0} (es more : List (entry.PassEntry V)) (x : entry.PassEntry V) (y : PassEntry V) → more ≡ es ++ x ∷ [] →

@@ -1,20 +1,13 @@
 -- Trees that are passed one after the other, along a sequence of them: what was found so far, with whatever the rest
 -- finds behind it, is what a pass of the whole finds.
-use Rattle.std.proofs.Common.{◌≡◌, ℕ, suc, ◌+◌, List, [], ◌∷◌, map, Option, refl}
-use Rattle.std.proofs.Common.{sym, ap, subst, ◌∙◌, arith}
+use Rattle.std.proofs.Common.{◌≡◌, ℕ, suc, ◌+◌, List, [], ◌∷◌, map, Option, refl, sym, ap, subst, ◌∙◌, arith}
+use Rattle.std.proofs.{lemmas.List.append_assoc, lemmas.List.Sums.sum_by-cons}
 use Rattle.std.specs.List.{sum_by}
-use Rattle.std.proofs.lemmas.List.{append_assoc}
-use Rattle.std.proofs.lemmas.List.Sums.{sum_by-cons}
-use Rattle.lra_domain.specs.Interference.{Interference}
-use Rattle.lra_domain.specs.Abstraction.{Abstraction}
-use Rattle.lra_operations.specs.declared.tree.Node.{Node}
-use Rattle.lra_operations.specs.TreeViews.{node_view, row}
+use Rattle.lra_domain.specs.{Abstraction.Abstraction, Interference.Interference}
+use Rattle.lra_operations.specs.{TreeViews.node_view, TreeViews.row, declared.tree.Node.Node}
 use Rattle.lra_operations.specs.Tree as graph
-use Rattle.lra_analysis_spec.specs.Plan.{Plan}
-use Rattle.lra_analysis_spec.specs.Pass.{PassEntry, PassResult, in_turn}
-use Rattle.lra_analysis_spec.specs.Live.{live_after}
-use Rattle.lra_pass_results.specs.Outcome.{JumpsFit, IsPassed}
-use Rattle.lra_pass_results.specs.Steps.{node_steps, row_steps}
+use Rattle.lra_analysis_spec.specs.{Live.live_after, Pass.PassEntry, Pass.PassResult, Pass.in_turn, Plan.Plan}
+use Rattle.lra_pass_results.specs.{Outcome.JumpsFit, Outcome.IsPassed, Steps.node_steps, Steps.row_steps}
 use Rattle.lra_pass_results.proofs.PassSteps.{seq_fits}
 
 pub same_lists : {V : Type 0} (v : V) (f : Option ℕ) (xs xs' : List (PassEntry V)) (bs bs' cs cs' rs rs' : List V) → xs ≡ xs' →

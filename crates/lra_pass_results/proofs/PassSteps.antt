@@ -1,34 +1,23 @@
 -- Steps of the proofs on the pass.
 use Rattle.std.proofs.Common.{rules, Box, Vec, Global, map, ◌≡◌, ℕ, zero, suc, ◌+◌, ◌*◌, ◌<◌, List, [], ◌∷◌, ◌++◌, Option, false, refl, sym, ap, subst, ◌∙◌, inl, inr, arith}
-use Rattle.std.specs.Prelude.{◌⊎◌, IfOk, true}
+use Rattle.std.proofs.{lemmas.List.Elements.Contains-append_cases, lemmas.List.Sums.sum_by-cons}
+use Rattle.std.specs.{List.Contains, List.sum_by, Prelude.◌⊎◌, Prelude.IfOk, Prelude.true}
 use Rattle.std.specs.Prelude as outcome_or
-use Rattle.std.specs.List.{Contains, sum_by}
-use Rattle.std.proofs.lemmas.List.Sums.{sum_by-cons}
-use Rattle.std.proofs.lemmas.List.Elements.{Contains-append_cases}
-use Rattle.lra_domain.specs.Interference.{Interference}
-use Rattle.lra_domain.specs.Abstraction.{Abstraction}
-use Rattle.lra_domain.specs.declared.Exactness.{Exactness}
+use Rattle.lra_domain.specs.{Abstraction.Abstraction, Interference.Interference, declared.Exactness.Exactness}
 use Rattle.lra_program.specs.declared.program.Cond as declared_cond
 use Rattle.lra_operations.specs.declared.probes.Probe as declared_aside
 use Rattle.lra_operations.specs.declared.tree.Exit as declared_exit
 use Rattle.lra_operations.specs.declared.tree.Op as declared_op
-use Rattle.lra_operations.specs.declared.tree.Node.{Node, Empty, Point, Probe, Act, Check, Seq, Choose, Iterate, Catch, Leave, Select, the_lemmas}
-use Rattle.lra_operations.specs.declared.tree.Arm.{Arm}
-use Rattle.lra_operations.specs.declared.tree.Arm.TheVariants.{Tree as TreeArm}
-use Rattle.lra_program.specs.declared.program.Expr as declared_expr
-use Rattle.lra_program.specs.ProgramViews.{cond_view, expr_view}
 use Rattle.lra_operations.specs.TreeViews.{exit_view, node_view, row, arm_view, arms_of}
-use Rattle.lra_program.specs.Program.{Cond}
-use Rattle.lra_operations.specs.Tree.{Exit, broken, continued, returned}
+use Rattle.lra_operations.specs.declared.tree.Node.{Node, Empty, Point, Probe, Act, Check, Seq, Choose, Iterate, Catch, Leave, Select, the_lemmas}
+use Rattle.lra_operations.specs.{Tree.Exit, Tree.broken, Tree.continued, Tree.returned, declared.tree.Arm.Arm, declared.tree.Arm.TheVariants.Tree as TreeArm}
+use Rattle.lra_program.specs.declared.program.Expr as declared_expr
+use Rattle.lra_program.specs.{Program.Cond, ProgramViews.cond_view, ProgramViews.expr_view}
 use Rattle.lra_operations.specs.Tree as graph
-use Rattle.lra_analysis_spec.specs.Plan.{Plan}
-use Rattle.lra_analysis_spec.specs.UnderInterference.{LossyPass}
-use Rattle.lra_analysis_spec.specs.Operations.{lossy_operations}
 use Rattle.lra_analysis_spec.specs.Pass.{Filters, jumps_of, PassEntry, PassResult, noted, goes_on, jumps, in_turn, jumps_caught, DescendingIteration}
-use Rattle.lra_analysis_spec.specs.Live.{live_after}
-use Rattle.lra_pass_results.specs.Dimensions.{JumpsWith, TreeFits}
+use Rattle.lra_analysis_spec.specs.{Live.live_after, Operations.lossy_operations, Plan.Plan, UnderInterference.LossyPass}
 use Rattle.lra_pass_results.specs.Outcome.{headed, AllHave, AreBranchesJoined, Catches, JumpsFit, HasGrown, IsPassed, LeavesWith}
-use Rattle.lra_pass_results.specs.Steps.{arm_steps, arms_steps, node_steps, row_steps}
+use Rattle.lra_pass_results.specs.{Dimensions.JumpsWith, Dimensions.TreeFits, Steps.arm_steps, Steps.arms_steps, Steps.node_steps, Steps.row_steps}
 use Rattle.lra_linearize.proofs.TreeViews.{catch_view, choose_view, iterate_view, select_view, seq_view}
 
 -- how many steps a pass of each takes

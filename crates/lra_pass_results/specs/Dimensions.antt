@@ -3,9 +3,8 @@
 use Rattle.std.specs.Prelude.{◌≡◌, ◌≢◌, ℕ, ◌≤◌, ◌⊎◌, ⊤}
 use Rattle.lra_operations.specs.Tree.{Exit, Node, empty, point, probe, act, check, seq, choose, iterate, catch, leave}
 use Rattle.lra_operations.specs.Tree.{select, Arms, no_arms, entry, arm}
-use Rattle.lra_analysis_spec.specs.Live.{live_after}
+use Rattle.lra_analysis_spec.specs.{Live.live_after, LiveLimit.most_live}
 use Rattle.lra_transfer.specs.Changes.{OpFitsDims}
-use Rattle.lra_analysis_spec.specs.LiveLimit.{most_live}
 
 abbrev mutual
   -- a jump of this kind may leave it with so many

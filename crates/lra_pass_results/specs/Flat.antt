@@ -1,20 +1,15 @@
 -- Trees that are passed where they stand: what they are, and what was found before them with what their pass finds.
 use Rattle.std.specs.Prelude.{◌≡◌, ℕ, List, [], ◌∷◌, map, Option, ⊤}
-use Rattle.lra_domain.specs.Interference.{Interference}
-use Rattle.lra_domain.specs.Abstraction.{Abstraction}
-use Rattle.lra_operations.specs.declared.tree.Node.{Node}
-use Rattle.lra_operations.specs.TreeViews.{node_view, row}
+use Rattle.lra_domain.specs.{Abstraction.Abstraction, Interference.Interference}
+use Rattle.lra_operations.specs.{TreeViews.node_view, TreeViews.row, declared.tree.Node.Node}
 use Rattle.lra_operations.specs.Tree as graph
-use Rattle.lra_analysis_spec.specs.Plan.{Plan}
-use Rattle.lra_analysis_spec.specs.Pass.{PassResult, in_turn}
+use Rattle.lra_analysis_spec.specs.{Pass.PassResult, Pass.in_turn, Plan.Plan}
 use Rattle.lra_pass_results.specs.declared.flat.Flat as flat
+use Rattle.lra_pass_results.specs.Outcome.{ended, outcome_view, IsPassed}
 use Rattle.lra_pass_results.specs.declared.flat.Flat.TheVariants.{Leaf, Row}
-use Rattle.lra_pass_results.specs.declared.outcome.PassOutcome.{PassOutcome}
+use Rattle.lra_pass_results.specs.{Steps.node_steps, TreeForms.leaf_view, declared.outcome.PassOutcome.PassOutcome}
 use Rattle.lra_pass_results.specs.declared.tree_forms.Leaf as leaf
 use Rattle.lra_pass_results.specs.declared.tree_forms.Row as shape
-use Rattle.lra_pass_results.specs.Outcome.{ended, outcome_view, IsPassed}
-use Rattle.lra_pass_results.specs.TreeForms.{leaf_view}
-use Rattle.lra_pass_results.specs.Steps.{node_steps}
 
 -- no tree stands in it, and others don't act there: its pass is one step, and it is seen as a leaf
 abbrev pub IsLeaf : Node → Type 0

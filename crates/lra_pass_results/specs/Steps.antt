@@ -1,10 +1,8 @@
 -- How many steps a pass of a tree takes. A step passes a tree, opens a place, or goes on at one.
-use Rattle.std.specs.Prelude.{ℕ, suc, ◌+◌, ◌*◌, List}
-use Rattle.std.specs.List.{sum_by}
-use Rattle.lra_operations.specs.declared.tree.Node.{Node}
-use Rattle.lra_operations.specs.declared.tree.Arm.{Arm}
+use Rattle.std.specs.{List.sum_by, Prelude.ℕ, Prelude.suc, Prelude.◌+◌, Prelude.◌*◌, Prelude.List}
 use Rattle.lra_operations.specs.declared.tree.Arm.TheFolds.{fold-Arm, fold-Node}
 use Rattle.lra_operations.specs.declared.tree.Arm.TheOpen.{Arm-F, Node-F}
+use Rattle.lra_operations.specs.{declared.tree.Arm.Arm, declared.tree.Node.Node}
 
 -- of the tree of an arm; a label is entered on the way
 abbrev pub arm_pass_step : Arm-F ℕ ℕ → ℕ

@@ -1,14 +1,12 @@
 //! Trees that are passed where they stand: those with no tree in them, and rows of such. Others don't act in them, so
 //! that their pass is the same among any.
 
-ghost use Rattle.lra_analysis_spec.specs.LiveLimit.{most_live};
-ghost use Rattle.lra_analysis_spec.specs.Plan.{Plan};
+ghost use Rattle.lra_analysis_spec.specs.{LiveLimit.most_live, Plan.Plan};
 ghost use Rattle.std.specs.Prelude.{◌≡◌, ◌≤◌, true, map, IfSome, OnOk};
 ghost use Rattle.lra_domain.specs.Interference.{no_interference};
 ghost use Rattle.lra_operations.specs.TreeViews.{node_view, row};
-ghost use Rattle.lra_pass_results.specs.Dimensions.{TreeFits};
 ghost use Rattle.lra_pass_results.specs.Flat.{flat_view, AreLeaves, Follows, HasLeaves, IsLeaf};
-ghost use Rattle.lra_pass_results.specs.TreeForms.{leaf_view};
+ghost use Rattle.lra_pass_results.specs.{Dimensions.TreeFits, TreeForms.leaf_view};
 
 use crate::leaves::pass_on;
 use crate::outcome::PassOutcome;

@@ -1,16 +1,12 @@
 //! A loop's head while it grows.
 
 ghost use Rattle.std.specs.Prelude.{◌≡◌, ◌<◌, ◌≤◌, ◌^◌, true, false, IfOk};
-ghost use Rattle.lra_domain.specs.Rank.{RankFits};
-ghost use Rattle.lra_domain.specs.declared.Exactness.{Exactness};
+ghost use Rattle.lra_domain.specs.{Rank.RankFits, declared.Exactness.Exactness};
 ghost use Rattle.lra_program.specs.ProgramViews.{cond_view};
-ghost use Rattle.lra_analysis_spec.specs.LiveLimit.{most_live};
-ghost use Rattle.lra_analysis_spec.specs.Plan.{mode_at};
-ghost use Rattle.lra_analysis_spec.specs.Thresholds.{loop_thresholds};
-ghost use Rattle.lra_operations.specs.TreeViews.{node_view};
 ghost use Rattle.lra_analysis_spec.specs.Operations.{lossy_operations};
-ghost use Rattle.lra_pass_results.specs.Heads.{IsValued, GrowsBy};
-ghost use Rattle.lra_pass_results.specs.Outcome.{outcome_view};
+ghost use Rattle.lra_analysis_spec.specs.{LiveLimit.most_live, Plan.mode_at, Thresholds.loop_thresholds};
+ghost use Rattle.lra_operations.specs.TreeViews.{node_view};
+ghost use Rattle.lra_pass_results.specs.{Heads.IsValued, Heads.GrowsBy, Outcome.outcome_view};
 
 use crate::outcome::{PassOutcome, note};
 use crate::plan::Plan;

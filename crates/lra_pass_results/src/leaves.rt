@@ -3,15 +3,12 @@
 ghost use Rattle.std.specs.Prelude.{◌≡◌, ◌≤◌, IfOk, OnOk};
 ghost use Rattle.lra_domain.specs.Interference.{no_interference};
 ghost use Rattle.lra_operations.specs.Tree.{act, check, leave, point as point_node};
-ghost use Rattle.lra_program.specs.ProgramViews.{cond_view};
 ghost use Rattle.lra_operations.specs.TreeViews.{exit_view, op_view};
-ghost use Rattle.lra_analysis_spec.specs.LiveLimit.{most_live};
-ghost use Rattle.lra_analysis_spec.specs.Plan.{Plan};
+ghost use Rattle.lra_program.specs.ProgramViews.{cond_view};
+ghost use Rattle.lra_analysis_spec.specs.{LiveLimit.most_live, Plan.Plan};
 ghost use Rattle.lra_transfer.specs.Changes.{OpFitsDims};
-ghost use Rattle.lra_pass_results.specs.Dimensions.{TreeFits};
-ghost use Rattle.lra_pass_results.specs.Flat.{Follows};
 ghost use Rattle.lra_pass_results.specs.Outcome.{outcome_view, IsPassed};
-ghost use Rattle.lra_pass_results.specs.TreeForms.{leaf_view};
+ghost use Rattle.lra_pass_results.specs.{Dimensions.TreeFits, Flat.Follows, TreeForms.leaf_view};
 
 use crate::outcome::{PassEntry, PassOutcome, note};
 use crate::plan::Plan;

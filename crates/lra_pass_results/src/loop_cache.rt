@@ -3,9 +3,9 @@
 ghost use Rattle.std.specs.Prelude.{◌≡◌, ◌<◌, ℕ, [], Option, Some, length, slice_index_or, IfOk, OnOk};
 ghost use Rattle.lra_operations.specs.Tree.{Node};
 ghost use Rattle.lra_analysis_spec.specs.Plan.{Plan};
-ghost use Rattle.lra_pass_results.specs.declared.loop_cache.CachedLoop.{CachedLoop};
-ghost use Rattle.lra_pass_results.specs.Outcome.{outcome_view, IsKept};
 ghost use Rattle.lra_pass_results.specs.LoopCache.{IsRecalled, AreRecalled, MayRecall};
+ghost use Rattle.lra_pass_results.specs.Outcome.{outcome_view, IsKept};
+ghost use Rattle.lra_pass_results.specs.declared.loop_cache.CachedLoop.{CachedLoop};
 
 use crate::outcome::PassOutcome;
 use lra_domain::{Domain, Interfere};

@@ -2,49 +2,27 @@
 use Rattle.std.proofs.Common.{Box, Global, ◌≡◌, ◌≤◌, true, false, ℕ, List, [], ◌∷◌, ◌++◌, map, Option, Some, refl, sym, ap, subst, ◌∙◌}
 use Rattle.std.specs.Prelude.{option_to_list, IfOk, MatchResult, OnOk}
 use Rattle.std.specs.Prelude as outcome_or
-use Rattle.lra_domain.specs.Interference.{Interference}
-use Rattle.lra_domain.specs.Abstraction.{Abstraction}
-use Rattle.lra_domain.specs.declared.Exactness.{Exactness}
-use Rattle.lra_domain.specs.declared.Exactness.TheVariants.{Exact}
+use Rattle.lra_domain.specs.{Abstraction.Abstraction, Interference.Interference, declared.Exactness.Exactness, declared.Exactness.TheVariants.Exact}
 use Rattle.lra_program.specs.ProgramViews.{cond_view}
 use Rattle.lra_operations.specs.declared.tree.Node as node
 use Rattle.lra_operations.specs.declared.tree.Exit as exit
-use Rattle.lra_operations.specs.Tree.{Node, choose, catch}
-use Rattle.lra_operations.specs.TreeViews.{exit_view, node_view, row}
-use Rattle.lra_analysis_spec.specs.LiveLimit.{most_live}
-use Rattle.lra_analysis_spec.specs.Plan.{Plan}
-use Rattle.lra_analysis_spec.specs.Operations.{lossy_operations}
-use Rattle.lra_analysis_spec.specs.MovesOf.{guard}
+use Rattle.lra_operations.specs.{Tree.Node, Tree.choose, Tree.catch, TreeViews.exit_view, TreeViews.node_view, TreeViews.row}
+use Rattle.lra_analysis_spec.specs.{LiveLimit.most_live, MovesOf.guard, Operations.lossy_operations, Pass.Filters, Pass.jumps_of, Pass.noted, Pass.goes_on, Plan.Plan}
 use Rattle.lra_analysis_spec.proofs.Takes.{takes_made}
-use Rattle.lra_transfer.specs.Splits.{SplitsBy}
-use Rattle.lra_transfer.specs.declared.splits.ConditionSplit.{ConditionSplit}
-use Rattle.lra_analysis_spec.specs.Pass.{Filters, jumps_of, noted, goes_on}
-use Rattle.lra_pass_results.specs.declared.loop_cache.LoopCache.{LoopCache}
-use Rattle.lra_pass_results.specs.declared.outcome.PassFindings.{PassFindings}
-use Rattle.lra_pass_results.specs.declared.outcome.PassOutcome.{PassOutcome}
-use Rattle.lra_pass_stack.specs.declared.stack.BranchFrame.{BranchFrame}
-use Rattle.lra_pass_stack.specs.declared.stack.ChoiceFrame.{ChoiceFrame}
-use Rattle.lra_pass_stack.specs.declared.stack.Entering.{Entering}
-use Rattle.lra_pass_stack.specs.declared.stack.Next as next
-use Rattle.lra_pass_stack.specs.declared.stack.Next.TheVariants.{Passed, Opens}
-use Rattle.lra_pass_stack.specs.declared.stack.PassFrame as place
+use Rattle.lra_transfer.specs.{Splits.SplitsBy, declared.splits.ConditionSplit.ConditionSplit}
+use Rattle.lra_pass_results.specs.{Dimensions.TreeFits, LoopCache.Remembers, LoopCache.StaysKept, Outcome.ended, Outcome.outcome_view, Outcome.AllHave, Outcome.AreInTurn, Outcome.AreBranchesJoined}
+use Rattle.lra_pass_results.specs.{Outcome.Catches, Outcome.IsPassed, declared.loop_cache.LoopCache.LoopCache, declared.outcome.PassFindings.PassFindings, declared.outcome.PassOutcome.PassOutcome}
+use Rattle.lra_pass_stack.specs.Stack.{PassTask, pass_task, ArePassFrames, PassIsUnderWay, IsBranch, IsChoice, IsMade, IsPassFrame, IsRow, PassStepLeads, MayBePassed, RowLoop}
 use Rattle.lra_pass_stack.specs.declared.stack.PassFrame.TheVariants.{Row, Last, Choice, Branch, Catch}
-use Rattle.lra_pass_stack.specs.declared.stack.RowFrame.{RowFrame}
+use Rattle.lra_pass_stack.specs.{declared.stack.BranchFrame.BranchFrame, declared.stack.ChoiceFrame.ChoiceFrame, declared.stack.Entering.Entering, declared.stack.Next.TheVariants.Passed}
+use Rattle.lra_pass_stack.specs.{declared.stack.Next.TheVariants.Opens, declared.stack.RowFrame.RowFrame, declared.stack.Step.TheVariants.Goes}
+use Rattle.lra_pass_stack.specs.declared.stack.Next as next
+use Rattle.lra_pass_stack.specs.declared.stack.PassFrame as place
 use Rattle.lra_pass_stack.specs.declared.stack.Step as step
-use Rattle.lra_pass_stack.specs.declared.stack.Step.TheVariants.{Goes}
 use Rattle.lra_pass_results.specs.declared.tree_forms.Choice as shape
-use Rattle.lra_pass_results.specs.Dimensions.{TreeFits}
-use Rattle.lra_pass_results.specs.LoopCache.{Remembers, StaysKept}
-use Rattle.lra_pass_results.specs.Outcome.{ended, outcome_view, AllHave, AreInTurn, AreBranchesJoined, Catches, IsPassed}
-use Rattle.lra_pass_stack.specs.Stack.{PassTask, pass_task, ArePassFrames, PassIsUnderWay, IsBranch, IsChoice, IsMade, IsPassFrame, IsRow, PassStepLeads}
-use Rattle.lra_pass_stack.specs.Stack.{MayBePassed}
-use Rattle.lra_pass_stack.specs.Stack.{RowLoop}
-use Rattle.lra_pass_results.proofs.CachedLoops.{caught_later, later_noted, met_later, recall_later, remembers_first, remembers_second}
-use Rattle.lra_pass_results.proofs.CachedLoops.{stays_choice, stays_passed}
-use Rattle.lra_pass_stack.proofs.OpenRows.{last_fits, last_remembers, next_fits, next_remembers, row_begins, row_ends}
-use Rattle.lra_pass_results.proofs.PassRows.{row_first, row_last}
-use Rattle.lra_pass_stack.proofs.OpenRows.{row_next, row_stays}
-use Rattle.lra_pass_results.proofs.PassSteps.{catch_fits, catch_passes, caught_have, choice_passed, ends_meet}
+use Rattle.lra_pass_results.proofs.CachedLoops.{caught_later, later_noted, met_later, recall_later, remembers_first, remembers_second, stays_choice, stays_passed}
+use Rattle.lra_pass_results.proofs.{PassRows.row_first, PassRows.row_last, PassSteps.catch_fits, PassSteps.catch_passes, PassSteps.caught_have, PassSteps.choice_passed, PassSteps.ends_meet}
+use Rattle.lra_pass_stack.proofs.OpenRows.{last_fits, last_remembers, next_fits, next_remembers, row_begins, row_ends, row_next, row_stays}
 
 -- what comes next is the step
 pub steps_on : {V H E : Type 0} (G : outcome_or.Result (next.Next V H) E) (R : outcome_or.Result (step.Step V H) E)

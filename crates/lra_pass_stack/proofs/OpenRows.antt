@@ -1,19 +1,11 @@
 -- A row of trees that is under way: what was found so far, with whatever the rest finds behind it, is what a pass of the
 -- whole finds.
-use Rattle.std.proofs.Common.{◌≡◌, ℕ, ◌≤◌, [], Option}
-use Rattle.std.proofs.Common.{sym, ap, subst, ◌∙◌}
-use Rattle.lra_domain.specs.Interference.{Interference}
-use Rattle.lra_domain.specs.Abstraction.{Abstraction}
+use Rattle.std.proofs.Common.{◌≡◌, ℕ, ◌≤◌, [], Option, sym, ap, subst, ◌∙◌}
+use Rattle.lra_domain.specs.{Abstraction.Abstraction, Interference.Interference}
 use Rattle.lra_operations.specs.Tree as graph
-use Rattle.lra_analysis_spec.specs.LiveLimit.{most_live}
-use Rattle.lra_analysis_spec.specs.Plan.{Plan}
-use Rattle.lra_analysis_spec.specs.Pass.{PassResult, goes_on, in_turn}
-use Rattle.lra_pass_results.specs.Dimensions.{TreeFits}
-use Rattle.lra_pass_results.specs.declared.outcome.PassFindings.{PassFindings}
-use Rattle.lra_pass_results.specs.declared.outcome.PassOutcome.{PassOutcome}
-use Rattle.lra_pass_results.specs.Outcome.{ended, IsPassed}
-use Rattle.lra_pass_results.specs.declared.loop_cache.LoopCache.{LoopCache}
-use Rattle.lra_pass_results.specs.LoopCache.{HasLoops, MayRecall, Remembers, StaysKept}
+use Rattle.lra_analysis_spec.specs.{LiveLimit.most_live, Pass.PassResult, Pass.goes_on, Pass.in_turn, Plan.Plan}
+use Rattle.lra_pass_results.specs.{Dimensions.TreeFits, LoopCache.HasLoops, LoopCache.MayRecall, LoopCache.Remembers, LoopCache.StaysKept, Outcome.ended, Outcome.IsPassed}
+use Rattle.lra_pass_results.specs.{declared.loop_cache.LoopCache.LoopCache, declared.outcome.PassFindings.PassFindings, declared.outcome.PassOutcome.PassOutcome}
 use Rattle.lra_pass_stack.specs.Stack.{RowLoop}
 use Rattle.lra_pass_results.proofs.PassRows.{seq_passed, turns}
 

@@ -1,29 +1,18 @@
 -- Flat trees, that are passed along a row without a place of their own.
 use Rattle.std.proofs.Common.{◌≡◌, ℕ, ◌+◌, ◌<◌, ◌≤◌, List, [], ◌∷◌, map, Option, refl, sym, subst, arith}
-use Rattle.std.specs.Prelude.{IfOk}
 use Rattle.std.proofs.lemmas.Result.{IfOk-weaker}
+use Rattle.std.specs.Prelude.{IfOk}
 use Rattle.std.specs.Prelude as outcome_or
-use Rattle.lra_analysis_spec.specs.Plan.{Plan}
-use Rattle.lra_domain.specs.Interference.{Interference}
-use Rattle.lra_domain.specs.Abstraction.{Abstraction}
+use Rattle.lra_analysis_spec.specs.{Pass.PassResult, Plan.Plan}
+use Rattle.lra_domain.specs.{Abstraction.Abstraction, Interference.Interference}
 use Rattle.lra_operations.specs.declared.tree.Node as node
-use Rattle.lra_operations.specs.Tree.{Node}
-use Rattle.lra_operations.specs.TreeViews.{node_view, row}
-use Rattle.lra_analysis_spec.specs.Pass.{PassResult}
-use Rattle.lra_pass_results.specs.declared.loop_cache.LoopCache.{LoopCache}
-use Rattle.lra_pass_results.specs.declared.outcome.PassOutcome.{PassOutcome}
+use Rattle.lra_operations.specs.{Tree.Node, TreeViews.node_view, TreeViews.row}
+use Rattle.lra_pass_results.specs.{Dimensions.TreeFits, Flat.Follows, LoopCache.StaysKept, Outcome.outcome_view, Outcome.IsPassed, Steps.row_steps, declared.loop_cache.LoopCache.LoopCache}
+use Rattle.lra_pass_results.specs.{declared.outcome.PassOutcome.PassOutcome, declared.tree_forms.Row.Row}
 use Rattle.lra_pass_stack.specs.declared.stack.Next as next
-use Rattle.lra_pass_results.specs.declared.tree_forms.Row.{Row}
-use Rattle.lra_pass_results.specs.Dimensions.{TreeFits}
-use Rattle.lra_pass_stack.specs.Stack.{PassTask, IsMade, MayBePassed, RowLoop}
-use Rattle.lra_pass_results.specs.Flat.{Follows}
-use Rattle.lra_pass_results.specs.LoopCache.{StaysKept}
-use Rattle.lra_pass_results.specs.Outcome.{outcome_view, IsPassed}
-use Rattle.lra_pass_stack.specs.StepsLeft.{most_rounds, next_left}
-use Rattle.lra_pass_results.specs.Steps.{row_steps}
-use Rattle.lra_pass_results.proofs.CachedLoops.{stays_passed}
+use Rattle.lra_pass_stack.specs.{Stack.PassTask, Stack.IsMade, Stack.MayBePassed, Stack.RowLoop, StepsLeft.most_rounds, StepsLeft.next_left}
+use Rattle.lra_pass_results.proofs.{CachedLoops.stays_passed, PassRows.row_first, PassRows.row_last, PassRows.steps_first}
 use Rattle.lra_pass_stack.proofs.OpenRows.{next_fits, row_ends, row_next, row_stays}
-use Rattle.lra_pass_results.proofs.PassRows.{row_first, row_last, steps_first}
 
 -- whatever is owed where all trees are left, that much is owed where these are
 abbrev pub OwesLess : {V H : Type 0} → Interference V → Abstraction V H → Plan → List node.Node → List node.Node → node.Node → PassOutcome V →

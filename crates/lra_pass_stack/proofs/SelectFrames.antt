@@ -1,54 +1,27 @@
 -- A `switch` whose arms are gone through: what is left where no label matches, what comes in at labels, what its trees
 -- find, and what comes out behind the last arm.
-use Rattle.std.proofs.Common.{Bor, Box, Global, ◌≡◌, ◌≤◌, ℕ, ℤ, List, [], ◌∷◌, map, Option, None, Some, Bool, true, false}
-use Rattle.std.proofs.Common.{refl, sym, ap, subst, ◌∙◌, append-nil}
-use Rattle.std.specs.Prelude.{IfOk}
+use Rattle.std.proofs.Common.{Bor, Box, Global, ◌≡◌, ◌≤◌, ℕ, ℤ, List, [], ◌∷◌, map, Option, None, Some, Bool, true, false, refl, sym, ap, subst, ◌∙◌, append-nil}
+use Rattle.std.specs.{List.Contains, List.list_any, Prelude.IfOk}
 use Rattle.std.specs.Prelude as outcome_or
-use Rattle.std.specs.List.{Contains, list_any}
-use Rattle.lra_base.specs.CaseLabels.{is_same_case}
-use Rattle.lra_base.specs.declared.case_labels.CaseLabel.{CaseLabel}
-use Rattle.lra_base.specs.declared.case_labels.CaseLabel.TheVariants.{Case, Default}
-use Rattle.lra_domain.specs.Interference.{Interference}
-use Rattle.lra_domain.specs.Abstraction.{Abstraction, worse}
-use Rattle.lra_domain.specs.declared.Exactness.{Exactness}
-use Rattle.lra_domain.specs.declared.Exactness.TheVariants.{Exact}
-use Rattle.lra_program.specs.Program.{Expr}
-use Rattle.lra_program.specs.ProgramViews.{expr_view}
-use Rattle.lra_operations.specs.declared.tree.Arm.{Arm}
-use Rattle.lra_operations.specs.declared.tree.Arm.TheVariants.{Entry, Tree}
-use Rattle.lra_operations.specs.declared.tree.Node as node
+use Rattle.lra_base.specs.{CaseLabels.is_same_case, declared.case_labels.CaseLabel.CaseLabel, declared.case_labels.CaseLabel.TheVariants.Case, declared.case_labels.CaseLabel.TheVariants.Default}
+use Rattle.lra_domain.specs.{Abstraction.Abstraction, Abstraction.worse, Interference.Interference, declared.Exactness.Exactness, declared.Exactness.TheVariants.Exact}
+use Rattle.lra_program.specs.{Program.Expr, ProgramViews.expr_view}
 use Rattle.lra_operations.specs.Tree.{Exit, broken, continued, returned, Node, Arms, no_arms, entry, arm, select, entries_of}
-use Rattle.lra_operations.specs.TreeViews.{node_view, arm_view, arms_of}
+use Rattle.lra_operations.specs.{TreeViews.node_view, TreeViews.arm_view, TreeViews.arms_of, declared.tree.Arm.Arm, declared.tree.Arm.TheVariants.Entry, declared.tree.Arm.TheVariants.Tree}
+use Rattle.lra_operations.specs.declared.tree.Node as node
 use Rattle.lra_operations.proofs.ArmViews.{arms_first, arms_none, entry_first, entry_seen, tree_first, tree_seen}
-use Rattle.lra_analysis_spec.specs.LiveLimit.{most_live}
-use Rattle.lra_analysis_spec.specs.Plan.{Plan}
-use Rattle.lra_analysis_spec.specs.UnderInterference.{absorbed}
-use Rattle.lra_analysis_spec.specs.Operations.{lossy_operations}
-use Rattle.lra_analysis_spec.specs.Live.{live_after}
-use Rattle.lra_analysis_spec.specs.Linearization.{LinearizedFits, linearized}
-use Rattle.lra_analysis_spec.specs.declared.linearization.Linearized.{Linearized}
-use Rattle.lra_analysis_spec.specs.MovesOf.{number_moves}
 use Rattle.lra_analysis_spec.specs.Pass.{PassResult, noted, goes_on, in_turn, jumps_of, ArmsPassUnder, MatchesNone, Enters, JoinsRunning, ComesOut, RunsFrom}
-use Rattle.lra_analysis_spec.proofs.Takes.{worse_exact, worse_worse}
-use Rattle.lra_analysis_spec.proofs.DivisionLemmas.{seen_fits}
-use Rattle.lra_transfer.specs.Changes.{Does}
-use Rattle.lra_transfer.specs.declared.splits.Kept.{Kept}
-use Rattle.lra_pass_results.specs.declared.loop_cache.LoopCache.{LoopCache}
-use Rattle.lra_pass_results.specs.declared.outcome.PassFindings.{PassFindings}
-use Rattle.lra_pass_results.specs.declared.outcome.PassOutcome.{PassOutcome}
-use Rattle.lra_pass_results.specs.declared.outcome.Running.{Running}
-use Rattle.lra_pass_stack.specs.declared.stack.PassFrame.TheVariants.{Select}
-use Rattle.lra_pass_stack.specs.declared.stack.SelectFrame.{SelectFrame}
-use Rattle.lra_pass_stack.specs.declared.stack.Selecting.{Selecting}
-use Rattle.lra_pass_results.specs.Dimensions.{ArmsJumpWith, JumpsWith, TreeFits}
-use Rattle.lra_pass_results.specs.LoopCache.{HasLoops, MayRecall, Remembers, StaysKept}
+use Rattle.lra_analysis_spec.specs.{Linearization.LinearizedFits, Linearization.linearized, Live.live_after, LiveLimit.most_live, MovesOf.number_moves, Operations.lossy_operations, Plan.Plan}
+use Rattle.lra_analysis_spec.specs.{UnderInterference.absorbed, declared.linearization.Linearized.Linearized}
+use Rattle.lra_analysis_spec.proofs.{DivisionLemmas.seen_fits, Takes.worse_exact, Takes.worse_worse}
+use Rattle.lra_transfer.specs.{Changes.Does, declared.splits.Kept.Kept}
 use Rattle.lra_pass_results.specs.Outcome.{ended, outcome_view, running_on, AreInTurn, IsPassed, JumpsFit}
-use Rattle.lra_pass_stack.specs.Stack.{PassTask, IsMade, IsPassFrame, IsSelect, IsSelecting, MayBePassed, SelectsOn}
-use Rattle.lra_pass_stack.specs.Stack.{ArmJumpsFit, ComesOutAt, EntersAt, JoinsAt, NoneSoFar, RunHas, SelectLoop}
-use Rattle.lra_pass_results.proofs.Again.{none_noted}
+use Rattle.lra_pass_results.specs.{Dimensions.ArmsJumpWith, Dimensions.JumpsWith, Dimensions.TreeFits, LoopCache.HasLoops, LoopCache.MayRecall, LoopCache.Remembers, LoopCache.StaysKept}
+use Rattle.lra_pass_results.specs.{declared.loop_cache.LoopCache.LoopCache, declared.outcome.PassFindings.PassFindings, declared.outcome.PassOutcome.PassOutcome, declared.outcome.Running.Running}
+use Rattle.lra_pass_stack.specs.Stack.{PassTask, IsMade, IsPassFrame, IsSelect, IsSelecting, MayBePassed, SelectsOn, ArmJumpsFit, ComesOutAt, EntersAt, JoinsAt, NoneSoFar, RunHas, SelectLoop}
+use Rattle.lra_pass_stack.specs.{declared.stack.PassFrame.TheVariants.Select, declared.stack.SelectFrame.SelectFrame, declared.stack.Selecting.Selecting}
 use Rattle.lra_pass_results.proofs.CachedLoops.{Later, later_noted, recall_later}
-use Rattle.lra_pass_results.proofs.PassRows.{same_lists, turns}
-use Rattle.lra_pass_results.proofs.PassSteps.{going_on_fits, in_both}
+use Rattle.lra_pass_results.proofs.{Again.none_noted, PassRows.same_lists, PassRows.turns, PassSteps.going_on_fits, PassSteps.in_both}
 
 -- no match ------------------------------------------------------------------------------------------------------------
 

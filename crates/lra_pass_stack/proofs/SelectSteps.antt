@@ -1,18 +1,14 @@
 -- How many steps the arms of a `switch` take.
 use Rattle.std.proofs.Common.{Box, Global, ◌≡◌, ◌+◌, ◌<◌, ◌≤◌, ℕ, suc, List, ◌∷◌, ap, subst, ◌∙◌, arith}
+use Rattle.std.proofs.{lemmas.List.Sums.sum_by-cons, lemmas.Result.IfOk-weaker}
 use Rattle.std.specs.Prelude.{IfOk}
 use Rattle.std.specs.Prelude as outcome_or
-use Rattle.std.proofs.lemmas.List.Sums.{sum_by-cons}
-use Rattle.std.proofs.lemmas.Result.{IfOk-weaker}
 use Rattle.lra_domain.specs.Abstraction.{Abstraction}
-use Rattle.lra_operations.specs.declared.tree.Arm.{Arm}
-use Rattle.lra_operations.specs.declared.tree.Arm.TheVariants.{Tree}
-use Rattle.lra_operations.specs.declared.tree.Node.{Node}
+use Rattle.lra_operations.specs.{declared.tree.Arm.Arm, declared.tree.Arm.TheVariants.Tree, declared.tree.Node.Node}
 use Rattle.lra_analysis_spec.specs.Plan.{Plan}
 use Rattle.lra_pass_stack.specs.declared.stack.Next as next
-use Rattle.lra_pass_stack.specs.declared.stack.SelectFrame.{SelectFrame}
+use Rattle.lra_pass_stack.specs.{StepsLeft.most_rounds, StepsLeft.next_left, declared.stack.SelectFrame.SelectFrame}
 use Rattle.lra_pass_results.specs.Steps.{arm_steps, arms_steps, node_steps}
-use Rattle.lra_pass_stack.specs.StepsLeft.{most_rounds, next_left}
 use Rattle.lra_pass_results.proofs.PassSteps.{tree_steps_of}
 
 first_steps : (n : ℕ) (arms behind : List Arm) (a : Arm) → arms ≡ a ∷ behind → arms_steps n arms ≡ suc (arm_steps n a) + arms_steps n behind

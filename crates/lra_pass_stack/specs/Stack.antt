@@ -1,55 +1,39 @@
 -- What is owed where a pass is under way along a list of open places: in each of them a tree is under way, and with
 -- that the pass of the place's own tree is to be made.
-use Rattle.std.specs.Prelude.{◌≡◌, ℕ, ◌≤◌, Bool, true, false, List, [], ◌∷◌, map, Option, None, Some, ⊤}
 use Rattle.std.specs.List.{Contains}
+use Rattle.std.specs.Prelude.{◌≡◌, ℕ, ◌≤◌, Bool, true, false, List, [], ◌∷◌, map, Option, None, Some, ⊤}
 use Rattle.lra_base.specs.declared.case_labels.CaseLabel.{CaseLabel}
-use Rattle.lra_domain.specs.declared.Exactness.{Exactness}
-use Rattle.lra_domain.specs.Interference.{Interference}
 use Rattle.lra_domain.specs.Abstraction.{Abstraction, worse}
-use Rattle.lra_domain.specs.Rank.{RankFits}
-use Rattle.lra_program.specs.Program.{Expr, Cond}
-use Rattle.lra_program.specs.ProgramViews.{cond_view, expr_view}
+use Rattle.lra_domain.specs.{Interference.Interference, Rank.RankFits, declared.Exactness.Exactness}
+use Rattle.lra_program.specs.{Program.Expr, Program.Cond, ProgramViews.cond_view, ProgramViews.expr_view}
 use Rattle.lra_operations.specs.Tree.{Exit, Node, seq, choose, iterate, catch, Arms, arm}
 use Rattle.lra_operations.specs.TreeViews.{exit_view, node_view, row, arm_view, arms_of}
-use Rattle.lra_analysis_spec.specs.LiveLimit.{most_live}
-use Rattle.lra_analysis_spec.specs.Plan.{Plan}
-use Rattle.lra_analysis_spec.specs.UnderInterference.{absorbed, LossyPass}
-use Rattle.lra_analysis_spec.specs.Operations.{lossy_operations}
-use Rattle.lra_analysis_spec.specs.Linearization.{linearized}
 use Rattle.lra_analysis_spec.specs.Pass.{Filters, PassResult, noted, in_turn, jumps_of, AscendingIteration}
-use Rattle.lra_analysis_spec.specs.Pass.{DescendingIteration}
-use Rattle.lra_analysis_spec.specs.Pass.{ArmsPassUnder, MatchesNone, Enters, JoinsRunning, ComesOut, RunsFrom}
+use Rattle.lra_analysis_spec.specs.Pass.{DescendingIteration, ArmsPassUnder, MatchesNone, Enters, JoinsRunning}
+use Rattle.lra_analysis_spec.specs.Pass.{ComesOut, RunsFrom}
+use Rattle.lra_analysis_spec.specs.{Linearization.linearized, LiveLimit.most_live, Operations.lossy_operations}
+use Rattle.lra_analysis_spec.specs.{Plan.Plan, UnderInterference.absorbed, UnderInterference.LossyPass}
 use Rattle.lra_transfer.specs.declared.splits.Kept.{Kept}
-use Rattle.lra_pass_results.specs.declared.heads.Growing.{Growing}
-use Rattle.lra_pass_results.specs.declared.loop_cache.LoopCache.{LoopCache}
-use Rattle.lra_pass_results.specs.declared.outcome.PassFindings.{PassFindings}
-use Rattle.lra_pass_results.specs.declared.outcome.HeadRound.{HeadRound}
-use Rattle.lra_pass_results.specs.declared.outcome.PassOutcome.{PassOutcome}
-use Rattle.lra_pass_results.specs.declared.outcome.Running.{Running}
-use Rattle.lra_pass_results.specs.declared.outcome.LoopRound.{LoopRound}
-use Rattle.lra_pass_stack.specs.declared.stack.BranchFrame.{BranchFrame}
-use Rattle.lra_pass_stack.specs.declared.stack.ChoiceFrame.{ChoiceFrame}
-use Rattle.lra_pass_stack.specs.declared.stack.Entering.{Entering}
-use Rattle.lra_pass_stack.specs.declared.stack.GrowingFrame.{GrowingFrame}
-use Rattle.lra_pass_stack.specs.declared.stack.Narrowing.{Narrowing}
-use Rattle.lra_pass_stack.specs.declared.stack.NarrowingFrame.{NarrowingFrame}
-use Rattle.lra_pass_stack.specs.declared.stack.Next as next
-use Rattle.lra_pass_stack.specs.declared.stack.Next.TheVariants.{Passed, Opens, Again}
-use Rattle.lra_pass_stack.specs.declared.stack.PassFrame as place
-use Rattle.lra_pass_stack.specs.declared.stack.PassFrame.TheVariants.{Row, Last, Choice, Branch, Growing as GrowingAt}
-use Rattle.lra_pass_stack.specs.declared.stack.PassFrame.TheVariants.{Narrowing as NarrowingAt, Catch, Select}
-use Rattle.lra_pass_stack.specs.declared.stack.RowFrame.{RowFrame}
-use Rattle.lra_pass_stack.specs.declared.stack.SelectFrame.{SelectFrame}
-use Rattle.lra_pass_stack.specs.declared.stack.Selecting.{Selecting}
-use Rattle.lra_pass_stack.specs.declared.stack.Step as step
-use Rattle.lra_pass_stack.specs.declared.stack.Step.TheVariants.{Ended, Goes}
-use Rattle.lra_pass_results.specs.declared.tree_forms.Loop.{Loop}
-use Rattle.lra_pass_results.specs.Dimensions.{ArmsFit, ArmsJumpWith, TreeFits}
-use Rattle.lra_pass_results.specs.Heads.{IsValued}
 use Rattle.lra_pass_results.specs.LoopCache.{ArmsHaveLoops, HasLoops, MayRecall, Remembers, StaysKept}
 use Rattle.lra_pass_results.specs.Outcome.{ended, headed, outcome_view, AreKept, HasGrown, IsKept, IsPassed}
-use Rattle.lra_pass_results.specs.Outcome.{IsLoopRound}
-use Rattle.lra_pass_results.specs.Outcome.{JumpsFit, NarrowsTo}
+use Rattle.lra_pass_results.specs.Outcome.{IsLoopRound, JumpsFit, NarrowsTo}
+use Rattle.lra_pass_results.specs.{Dimensions.ArmsFit, Dimensions.ArmsJumpWith, Dimensions.TreeFits, Heads.IsValued}
+use Rattle.lra_pass_results.specs.{declared.heads.Growing.Growing, declared.loop_cache.LoopCache.LoopCache}
+use Rattle.lra_pass_results.specs.{declared.outcome.HeadRound.HeadRound, declared.outcome.LoopRound.LoopRound}
+use Rattle.lra_pass_results.specs.{declared.outcome.PassFindings.PassFindings, declared.outcome.PassOutcome.PassOutcome}
+use Rattle.lra_pass_results.specs.{declared.outcome.Running.Running, declared.tree_forms.Loop.Loop}
+use Rattle.lra_pass_stack.specs.declared.stack.NarrowingFrame.{NarrowingFrame}
+use Rattle.lra_pass_stack.specs.declared.stack.Next.TheVariants.{Passed, Opens, Again}
+use Rattle.lra_pass_stack.specs.declared.stack.PassFrame.TheVariants.{Row, Last, Choice, Branch, Growing as GrowingAt}
+use Rattle.lra_pass_stack.specs.declared.stack.PassFrame.TheVariants.{Narrowing as NarrowingAt, Catch, Select}
+use Rattle.lra_pass_stack.specs.declared.stack.Step.TheVariants.{Ended, Goes}
+use Rattle.lra_pass_stack.specs.{declared.stack.BranchFrame.BranchFrame, declared.stack.ChoiceFrame.ChoiceFrame}
+use Rattle.lra_pass_stack.specs.{declared.stack.Entering.Entering, declared.stack.GrowingFrame.GrowingFrame}
+use Rattle.lra_pass_stack.specs.{declared.stack.Narrowing.Narrowing, declared.stack.RowFrame.RowFrame}
+use Rattle.lra_pass_stack.specs.{declared.stack.SelectFrame.SelectFrame, declared.stack.Selecting.Selecting}
+use Rattle.lra_pass_stack.specs.declared.stack.Next as next
+use Rattle.lra_pass_stack.specs.declared.stack.PassFrame as place
+use Rattle.lra_pass_stack.specs.declared.stack.Step as step
 
 -- a pass that is due: of this tree, from this value, behind what is flagged so far and with what is kept
 pub record PassTask (V : Type 0) : Type 0 where

@@ -1,20 +1,17 @@
 -- How many steps a pass may still take: so it ends.
-use Rattle.std.specs.Prelude.{ℕ, suc, ⊤, ◌<◌, ◌+◌, ◌*◌, List}
 use Rattle.std.specs.List.{sum_by}
-use Rattle.lra_domain.specs.declared.Rank.{Rank}
-use Rattle.lra_domain.specs.Abstraction.{Abstraction}
+use Rattle.std.specs.Prelude.{ℕ, suc, ⊤, ◌<◌, ◌+◌, ◌*◌, List}
+use Rattle.lra_domain.specs.{Abstraction.Abstraction, declared.Rank.Rank}
 use Rattle.lra_operations.specs.declared.tree.Node.{Node}
 use Rattle.lra_analysis_spec.specs.Plan.{Plan}
 use Rattle.lra_pass_stack.specs.declared.stack.Next as next
 use Rattle.lra_pass_stack.specs.declared.stack.Next.TheVariants.{Passed, Opens, Again}
-use Rattle.lra_pass_stack.specs.declared.stack.PassFrame as place
 use Rattle.lra_pass_stack.specs.declared.stack.PassFrame.TheVariants.{Row, Last, Choice, Branch, Growing, Narrowing}
-use Rattle.lra_pass_stack.specs.declared.stack.PassFrame.TheVariants.{Catch}
-use Rattle.lra_pass_stack.specs.declared.stack.PassFrame.TheVariants.{Select}
-use Rattle.lra_pass_stack.specs.declared.stack.Step as step
+use Rattle.lra_pass_stack.specs.declared.stack.PassFrame.TheVariants.{Catch, Select}
 use Rattle.lra_pass_stack.specs.declared.stack.Step.TheVariants.{Ended, Goes}
-use Rattle.lra_pass_results.specs.declared.tree_forms.Loop.{Loop}
-use Rattle.lra_pass_results.specs.Steps.{node_steps, arms_steps, row_steps}
+use Rattle.lra_pass_stack.specs.declared.stack.PassFrame as place
+use Rattle.lra_pass_stack.specs.declared.stack.Step as step
+use Rattle.lra_pass_results.specs.{Steps.node_steps, Steps.arms_steps, Steps.row_steps, declared.tree_forms.Loop.Loop}
 
 -- four digits of base b, and before them how many rounds of joining are left: by definition what proofs on ranks call
 -- `phased`, which no clause can name

@@ -2,17 +2,15 @@
 
 ghost use Rattle.std.specs.Prelude.{◌≡◌, ◌≤◌, ◌<◌, ◌+◌, ℕ, true, false, IfOk};
 ghost use Rattle.lra_domain.specs.declared.Exactness.{Exactness};
-ghost use Rattle.lra_operations.specs.Tree.{choose};
-ghost use Rattle.lra_analysis_spec.specs.LiveLimit.{most_live};
-ghost use Rattle.lra_analysis_spec.specs.Plan.{Plan};
+ghost use Rattle.lra_operations.specs.{Tree.choose, TreeViews.node_view};
+ghost use Rattle.lra_analysis_spec.specs.{LiveLimit.most_live, Plan.Plan};
 ghost use Rattle.lra_program.specs.ProgramViews.{cond_view};
-ghost use Rattle.lra_operations.specs.TreeViews.{node_view};
 ghost use Rattle.lra_transfer.specs.Splits.{SplitsBy};
-ghost use Rattle.lra_pass_results.specs.declared.loop_cache.LoopCache.{LoopCache};
-ghost use Rattle.lra_pass_stack.specs.declared.stack.PassFrame.TheVariants.{Choice as choice_place};
 ghost use Rattle.lra_pass_results.specs.Outcome.{outcome_view, AreBranchesJoined};
+ghost use Rattle.lra_pass_results.specs.declared.loop_cache.LoopCache.{LoopCache};
 ghost use Rattle.lra_pass_stack.specs.Stack.{PassTask, IsChoice, IsMade, PassStepLeads, MayBePassed};
 ghost use Rattle.lra_pass_stack.specs.StepsLeft.{next_left, place_left, tree_steps};
+ghost use Rattle.lra_pass_stack.specs.declared.stack.PassFrame.TheVariants.{Choice as choice_place};
 
 use crate::stack::{BranchFrame, ChoiceFrame, Entering, Next, PassFrame};
 use lra_domain::{Domain, Exactness, Interfere};

@@ -1,17 +1,13 @@
 //! Trees one after the other.
 
 ghost use Rattle.std.specs.Prelude.{◌≡◌, ◌<◌, ◌≤◌, ◌∷◌, [], ℕ, List, map, IfOk};
-ghost use Rattle.lra_analysis_spec.specs.LiveLimit.{most_live};
-ghost use Rattle.lra_analysis_spec.specs.Plan.{Plan};
-ghost use Rattle.lra_operations.specs.declared.tree.Node.{Node};
-ghost use Rattle.lra_operations.specs.TreeViews.{node_view, row};
-ghost use Rattle.lra_pass_results.specs.declared.loop_cache.LoopCache.{LoopCache};
-ghost use Rattle.lra_pass_stack.specs.declared.stack.PassFrame.TheVariants.{Row as row_place};
-ghost use Rattle.lra_pass_results.specs.Dimensions.{TreeFits};
+ghost use Rattle.lra_analysis_spec.specs.{LiveLimit.most_live, Plan.Plan};
+ghost use Rattle.lra_operations.specs.{TreeViews.node_view, TreeViews.row, declared.tree.Node.Node};
 ghost use Rattle.lra_pass_results.specs.Outcome.{outcome_view};
+ghost use Rattle.lra_pass_results.specs.{Dimensions.TreeFits, Steps.row_steps, declared.loop_cache.LoopCache.LoopCache};
 ghost use Rattle.lra_pass_stack.specs.Stack.{PassTask, IsMade, IsRow, PassStepLeads, MayBePassed, RowLoop};
 ghost use Rattle.lra_pass_stack.specs.StepsLeft.{most_rounds, next_left, place_left};
-ghost use Rattle.lra_pass_results.specs.Steps.{row_steps};
+ghost use Rattle.lra_pass_stack.specs.declared.stack.PassFrame.TheVariants.{Row as row_place};
 
 use crate::stack::{Entering, Next, PassFrame, RowFrame};
 use lra_domain::{Domain, Interfere};

@@ -4,23 +4,17 @@
 ghost use Rattle.std.specs.Prelude.{◌≡◌, ◌≤◌, ◌+◌, ◌∷◌, ℕ, true, map, List, IfOk, OnOk};
 ghost use Rattle.lra_base.specs.declared.case_labels.CaseLabel.{CaseLabel};
 ghost use Rattle.lra_domain.specs.declared.Exactness.{Exactness};
-ghost use Rattle.lra_program.specs.Program.{Expr};
-ghost use Rattle.lra_program.specs.ProgramViews.{expr_view};
+ghost use Rattle.lra_program.specs.{Program.Expr, ProgramViews.expr_view};
 ghost use Rattle.lra_operations.specs.Tree.{Arms, arm, select, entries_of};
 ghost use Rattle.lra_operations.specs.TreeViews.{node_view, arm_view, arms_of};
-ghost use Rattle.lra_analysis_spec.specs.LiveLimit.{most_live};
-ghost use Rattle.lra_analysis_spec.specs.Plan.{Plan};
-ghost use Rattle.lra_analysis_spec.specs.Operations.{lossy_operations};
-ghost use Rattle.lra_analysis_spec.specs.Linearization.{LinearizedFits, linearized};
-ghost use Rattle.lra_analysis_spec.specs.MovesOf.{number_moves};
 ghost use Rattle.lra_analysis_spec.specs.Pass.{MatchesNone, Enters, RunsFrom};
+ghost use Rattle.lra_analysis_spec.specs.{Linearization.LinearizedFits, Linearization.linearized, LiveLimit.most_live};
+ghost use Rattle.lra_analysis_spec.specs.{MovesOf.number_moves, Operations.lossy_operations, Plan.Plan};
 ghost use Rattle.lra_transfer.specs.Changes.{Does};
-ghost use Rattle.lra_pass_results.specs.declared.loop_cache.LoopCache.{LoopCache};
 ghost use Rattle.lra_pass_results.specs.Outcome.{outcome_view, running_on};
+ghost use Rattle.lra_pass_results.specs.{Steps.arms_steps, declared.loop_cache.LoopCache.LoopCache};
 ghost use Rattle.lra_pass_stack.specs.Stack.{PassTask, IsMade, IsSelect, IsSelecting, PassStepLeads, MayBePassed};
-ghost use Rattle.lra_pass_stack.specs.Stack.{SelectsOn};
-ghost use Rattle.lra_pass_stack.specs.Stack.{ComesOutAt, EntersAt, JoinsAt, NoneSoFar, RunHas};
-ghost use Rattle.lra_pass_results.specs.Steps.{arms_steps};
+ghost use Rattle.lra_pass_stack.specs.Stack.{SelectsOn, ComesOutAt, EntersAt, JoinsAt, NoneSoFar, RunHas};
 ghost use Rattle.lra_pass_stack.specs.StepsLeft.{most_rounds, next_left, tree_steps};
 
 use crate::stack::{Entering, Next, PassFrame, SelectFrame, Selecting, passed};

@@ -1,16 +1,14 @@
 //! Where a pass is under way: the open places, from the outermost to the innermost, and what comes next. The pass goes
 //! along the tree by a list of these, and not by calls, so a tree may be as deep as memory allows.
 
-ghost use Rattle.std.specs.Prelude.{◌≡◌, ◌++◌, ◌∷◌, [], ℕ, None, option_to_list, Box, IfOk, OnOk};
 ghost use Rattle.std.specs.Global.{Global};
+ghost use Rattle.std.specs.Prelude.{◌≡◌, ◌++◌, ◌∷◌, [], ℕ, None, option_to_list, Box, IfOk, OnOk};
 ghost use Rattle.lra_pass_stack.specs.declared.stack.Next.TheVariants.{Again, Opens};
 ghost use Rattle.lra_pass_stack.specs.declared.stack.PassFrame.TheVariants.{Growing as growing_place};
 ghost use Rattle.lra_pass_stack.specs.declared.stack.PassFrame.TheVariants.{Narrowing as narrowing_place};
+ghost use Rattle.lra_pass_stack.specs.{Stack.PassTask, Stack.IsMade, Stack.PassStepLeads, StepsLeft.next_left};
 ghost use Rattle.lra_analysis_spec.specs.Plan.{Plan};
-ghost use Rattle.lra_pass_results.specs.declared.loop_cache.LoopCache.{LoopCache};
-ghost use Rattle.lra_pass_results.specs.Outcome.{outcome_view};
-ghost use Rattle.lra_pass_stack.specs.Stack.{PassTask, IsMade, PassStepLeads};
-ghost use Rattle.lra_pass_stack.specs.StepsLeft.{next_left};
+ghost use Rattle.lra_pass_results.specs.{Outcome.outcome_view, declared.loop_cache.LoopCache.LoopCache};
 
 use lra_analysis_spec::Linearized;
 use lra_domain::{Domain, Interfere};

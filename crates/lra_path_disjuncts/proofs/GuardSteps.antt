@@ -3,14 +3,9 @@ use Rattle.std.proofs.Common.{◌≡◌, ◌<◌, ℕ, zero, suc, List, [], ◌�
 use Rattle.std.proofs.lemmas.List.{map-append}
 use Rattle.std.specs.Prelude as outcome
 use Rattle.std.specs.Prelude.{slice_get, IfOk, OnOk}
-use Rattle.lra_domain.specs.Actions.{Action}
-use Rattle.lra_domain.specs.Changes.{action_of, actions_of}
-use Rattle.lra_domain.specs.declared.changes.Change.{Change}
-use Rattle.lra_domain.specs.Moves.{Moves, stay, make, first_then, join_of}
+use Rattle.lra_domain.specs.{Actions.Action, Changes.action_of, Changes.actions_of, Moves.Moves, Moves.stay, Moves.make, Moves.first_then, Moves.join_of, declared.changes.Change.Change}
 use Rattle.lra_analysis_spec.specs.MovesOf.{in_turn}
-use Rattle.lra_path_disjuncts.specs.Conditions.{IsTurned}
-use Rattle.lra_path_disjuncts.specs.Tables.{or_stay, all_moves, moves_at, Has, Grows}
-use Rattle.lra_path_disjuncts.specs.declared.tables.MovesEntry.{MovesEntry}
+use Rattle.lra_path_disjuncts.specs.{Conditions.IsTurned, Tables.or_stay, Tables.all_moves, Tables.moves_at, Tables.Has, Tables.Grows, declared.tables.MovesEntry.MovesEntry}
 use Rattle.lra_path_disjuncts.proofs.TableSteps.{as_long, has_at, within}
 
 some_there : (ms : List Moves) (i : ℕ) → i < length ms → slice_get ms i ≡ Some (or_stay (slice_get ms i))

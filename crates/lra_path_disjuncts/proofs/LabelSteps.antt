@@ -2,29 +2,18 @@
 use Rattle.std.proofs.Common.{◌≡◌, ◌<◌, ℕ, ℤ, Bool, true, false, List, [], ◌∷◌, ◌++◌, length, sym, ap, ◌∙◌, subst, arith, append-nil, append_assoc}
 use Rattle.std.specs.Prelude as outcome
 use Rattle.std.specs.Prelude.{IfOk}
-use Rattle.lra_base.specs.declared.case_labels.CaseLabel.{CaseLabel}
-use Rattle.lra_base.specs.declared.case_labels.CaseLabel.TheVariants.{Case, Default}
 use Rattle.lra_base.specs.Operators.{Comparison, equal}
+use Rattle.lra_base.specs.{declared.case_labels.CaseLabel.CaseLabel, declared.case_labels.CaseLabel.TheVariants.Case, declared.case_labels.CaseLabel.TheVariants.Default}
 use Rattle.lra_program.specs.ProgramViews.{expr_view}
-use Rattle.lra_operations.specs.declared.tree.Arm.{Arm}
-use Rattle.lra_operations.specs.declared.tree.Arm.TheVariants.{Entry, Tree}
-use Rattle.lra_operations.specs.declared.tree.Node.{Node}
+use Rattle.lra_operations.specs.{declared.tree.Arm.Arm, declared.tree.Arm.TheVariants.Entry, declared.tree.Arm.TheVariants.Tree, declared.tree.Node.Node}
 use Rattle.lra_domain.specs.Moves.{stay, first_then}
-use Rattle.lra_analysis_spec.specs.Linear.{constant_form}
-use Rattle.lra_analysis_spec.specs.MovesOf.{comparison_as, comparison_moves, number_moves}
-use Rattle.lra_analysis_spec.specs.Linearization.{linearized, subtracted}
-use Rattle.lra_analysis_spec.specs.declared.linearization.Linearized.{Linearized}
-use Rattle.lra_analysis_spec.specs.declared.linearization.Linearized.TheVariants.{Linear}
-use Rattle.lra_path_disjuncts.specs.PassedLabels.{ArePassed, PutsLabel}
-use Rattle.lra_path_segments.specs.Labels.{label_at, labels_in}
-use Rattle.lra_path_disjuncts.specs.StepMoves.{label_moves, step_moves, unmatched_moves}
-use Rattle.lra_path_segments.specs.TreeSegmentViews.{selection_view}
-use Rattle.lra_path_segments.specs.declared.segments.Selection.{Selection}
-use Rattle.lra_path_disjuncts.specs.Tables.{Grows, Has, moves_at}
+use Rattle.lra_analysis_spec.specs.{Linear.constant_form, Linearization.linearized, Linearization.subtracted, MovesOf.comparison_as, MovesOf.comparison_moves, MovesOf.number_moves}
+use Rattle.lra_analysis_spec.specs.{declared.linearization.Linearized.Linearized, declared.linearization.Linearized.TheVariants.Linear}
+use Rattle.lra_path_disjuncts.specs.{PassedLabels.ArePassed, PassedLabels.PutsLabel, StepMoves.label_moves, StepMoves.step_moves, StepMoves.unmatched_moves, Tables.Grows, Tables.Has, Tables.moves_at}
+use Rattle.lra_path_segments.specs.{Labels.label_at, Labels.labels_in, TreeSegmentViews.selection_view, declared.segments.Selection.Selection}
 use Rattle.lra_path_disjuncts.specs.declared.tables.MovesEntry as declared
 use Rattle.lra_path_segments.proofs.ArmSteps.{label_of_entry, label_of_tree, labels_last}
-use Rattle.lra_path_disjuncts.proofs.GuardSteps.{then_has}
-use Rattle.lra_path_disjuncts.proofs.TableSteps.{within}
+use Rattle.lra_path_disjuncts.proofs.{GuardSteps.then_has, TableSteps.within}
 
 -- the comparison with a number
 pub number_has : {E : Type 0} (r : outcome.Result ℕ E) (es : List declared.MovesEntry) (live : ℕ) (wanted : Bool) (s d : Linearized) (z : ℤ) (op : Comparison)

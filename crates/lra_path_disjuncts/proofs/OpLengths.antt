@@ -1,13 +1,10 @@
 -- How many variables live behind a least change.
-use Rattle.std.proofs.Common.{◌≡◌, ℕ, ◌-◌, length, Some, ◌∙◌, arith}
+use Rattle.std.proofs.{Common.◌≡◌, Common.ℕ, Common.◌-◌, Common.length, Common.Some, Common.◌∙◌, Common.arith, lemmas.List.length-take, lemmas.Option.same_Some}
 use Rattle.std.specs.Prelude.{min}
-use Rattle.std.proofs.lemmas.Option.{same_Some}
-use Rattle.std.proofs.lemmas.List.{length-take}
-use Rattle.lra_program.specs.Value.{value_of}
 use Rattle.lra_program.specs.Step.{State, environment_at, Op, append, fill, store_value, store_element, havoc, push, push_for, truncate_to, run_op}
+use Rattle.lra_program.specs.Value.{value_of}
 use Rattle.lra_program.specs.Step as step
-use Rattle.lra_inline_sound.proofs.Lengths.{length_append, length_fill, length_given, length_give_element, length_any, length_push, length_push_for}
-use Rattle.lra_inline_sound.proofs.Lengths.{length_test}
+use Rattle.lra_inline_sound.proofs.Lengths.{length_append, length_fill, length_given, length_give_element, length_any, length_push, length_push_for, length_test}
 use Rattle.lra_analysis_spec.specs.Live.{live_after_op}
 
 least_of_both : (n k : ℕ) → min n k ≡ k - (k - n)

@@ -1,23 +1,15 @@
 -- Sides of moves by their numbers, and what is still to be written of them.
-use Rattle.std.proofs.Common.{◌≡◌, ◌≤◌, ◌<◌, ℕ, zero, suc, ◌+◌, ◌*◌, ◌-◌, ◌/◌, ◌%◌, Bool, true}
-use Rattle.std.proofs.Common.{false, List, [], ◌∷◌, ◌++◌, length, map, take, refl, sym, ap, ◌∙◌, subst}
-use Rattle.std.proofs.Common.{Option, Some, None, arith, append_assoc, append-nil, length-append, inl, inr}
+use Rattle.std.proofs.Common.{◌≡◌, ◌≤◌, ◌<◌, ℕ, zero, suc, ◌+◌, ◌*◌, ◌-◌, ◌/◌, ◌%◌, Bool, true, false, List, [], ◌∷◌, ◌++◌, length, map, take, refl, sym, ap, ◌∙◌, subst, Option, Some, None, arith}
+use Rattle.std.proofs.Common.{append_assoc, append-nil, length-append, inl, inr}
+use Rattle.std.proofs.Math.Nat.{mod-eq_of_lt, mod-eq-sub-mod, mod-lt, div-lt_iff_lt-mul, div-eq_of_lt, div-eq-sub-div, mul-zero, mul-suc, mul_comm, one-le-mul, le-mul_of_pos_right}
+use Rattle.std.proofs.{lemmas.Bool.cases_lt, lemmas.List.length-map, lemmas.List.Sums.sum_by-append, lemmas.Option.same_Some}
 use Rattle.std.specs.Prelude.{OnOk, slice_get, nat_lt, if◌then◌else◌}
 use Rattle.std.specs.Prelude as outcome
-use Rattle.std.proofs.lemmas.Bool.{cases_lt}
-use Rattle.std.proofs.lemmas.Option.{same_Some}
-use Rattle.std.proofs.lemmas.List.{length-map}
-use Rattle.std.proofs.lemmas.List.Sums.{sum_by-append}
-use Rattle.std.proofs.Math.Nat.{mod-eq_of_lt, mod-eq-sub-mod, mod-lt, div-lt_iff_lt-mul, div-eq_of_lt}
-use Rattle.std.proofs.Math.Nat.{div-eq-sub-div, mul-zero, mul-suc, mul_comm, one-le-mul, le-mul_of_pos_right}
-use Rattle.lra_domain.specs.Actions.{Action}
-use Rattle.lra_domain.specs.Moves.{Moves, stay, make, first_then, join_of}
+use Rattle.lra_domain.specs.{Actions.Action, Moves.Moves, Moves.stay, Moves.make, Moves.first_then, Moves.join_of}
 use Rattle.lra_path_segments.specs.Segments.{each_then}
-use Rattle.lra_path_disjuncts.specs.Disjuncts.{disjuncts}
-use Rattle.lra_path_disjuncts.specs.Tables.{capped, count_of, moves_at, disjunct_at}
 use Rattle.lra_path_disjuncts.specs.TableDisjuncts.{disjunct_pending, all_pending, one_of, moves_size, pending_size, pending_disjuncts_size}
-use Rattle.lra_path_disjuncts.specs.declared.tables.MovesEntry.{MovesEntry}
-use Rattle.lra_path_disjuncts.specs.declared.tables.PendingDisjunct.{PendingDisjunct}
+use Rattle.lra_path_disjuncts.specs.Tables.{capped, count_of, moves_at, disjunct_at}
+use Rattle.lra_path_disjuncts.specs.{Disjuncts.disjuncts, declared.tables.MovesEntry.MovesEntry, declared.tables.PendingDisjunct.PendingDisjunct}
 use Rattle.lra_path_disjuncts.proofs.TableSteps.{get_left, capped_few, capped_some, length_each}
 
 -- moves have sides -------------------------------------------------------------------------------------------------------

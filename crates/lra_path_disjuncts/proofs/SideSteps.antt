@@ -1,20 +1,14 @@
 -- Sides are what an iteration over lists of paths makes, and the cases of moves; moves lead where one of their sides leads.
 use Rattle.std.proofs.Common.{◌≡◌, ℤ, List, [], ◌∷◌, ◌++◌, map, inl, inr, refl, sym, ap, ◌∙◌, subst, append-nil, append_assoc}
-use Rattle.std.specs.Prelude.{◌↔◌, ◌⊎◌}
-use Rattle.lra_domain.specs.Actions.{Action}
-use Rattle.std.specs.List.{flat_map}
-use Rattle.std.specs.List.Sorted.{IsPermutation}
-use Rattle.std.proofs.lemmas.List.Sorted.{IsPermutation-refl, IsPermutation-append, IsPermutation-append_left, IsPermutation-append_right}
-use Rattle.std.proofs.lemmas.List.Sorted.{IsPermutation-append_comm, IsPermutation-cons, IsPermutation-trans, IsPermutation-map}
-use Rattle.lra_domain.specs.Abstraction.{worse}
-use Rattle.lra_domain.specs.declared.Exactness.{Exactness}
-use Rattle.lra_domain.specs.declared.Exactness.TheVariants.{Exact}
+use Rattle.std.proofs.lemmas.List.Sorted.{IsPermutation-refl, IsPermutation-append, IsPermutation-append_left, IsPermutation-append_right, IsPermutation-append_comm, IsPermutation-cons}
+use Rattle.std.proofs.lemmas.List.Sorted.{IsPermutation-trans, IsPermutation-map}
+use Rattle.std.specs.{List.flat_map, List.Sorted.IsPermutation, Prelude.◌↔◌, Prelude.◌⊎◌}
 use Rattle.lra_domain.specs.Moves.{Moves, stay, make, first_then, join_of, MayLead, LeadsAll, SomeLeads, cases}
+use Rattle.lra_domain.specs.{Abstraction.worse, Actions.Action, declared.Exactness.Exactness, declared.Exactness.TheVariants.Exact}
 use Rattle.lra_analysis_spec.specs.Moves.{AreMade}
 use Rattle.lra_path_segments.specs.Segments.{each_then}
 use Rattle.lra_path_disjuncts.specs.Disjuncts.{disjuncts, on_paths, DisjunctsAreMade}
-use Rattle.lra_path_segments.proofs.Lists.{each_then_nil, each_then_append, each_then_assoc}
-use Rattle.lra_path_segments.proofs.FlatSteps.{flat_none}
+use Rattle.lra_path_segments.proofs.{FlatSteps.flat_none, Lists.each_then_nil, Lists.each_then_append, Lists.each_then_assoc}
 
 -- an iteration over lists of paths makes the sides ---------------------------------------------------------------------------
 

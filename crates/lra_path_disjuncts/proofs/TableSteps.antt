@@ -1,19 +1,13 @@
 -- Tables of moves: what is added leaves the others where they are, and each entry is told by those before it.
-use Rattle.std.proofs.Common.{◌≡◌, ◌≤◌, ◌<◌, ℕ, zero, suc, ◌+◌, ◌*◌, List, [], ◌∷◌, ◌++◌, length, map, Some, None, refl, sym, ap, ◌∙◌, subst, arith}
-use Rattle.std.specs.Prelude.{slice_get}
-use Rattle.std.proofs.Common.{length-append, inl, inr}
-use Rattle.std.proofs.lemmas.List.{length-map}
+use Rattle.std.proofs.Common.{◌≡◌, ◌≤◌, ◌<◌, ℕ, zero, suc, ◌+◌, ◌*◌, List, [], ◌∷◌, ◌++◌, length, map, Some, None, refl, sym, ap, ◌∙◌, subst, arith, length-append, inl, inr}
 use Rattle.std.proofs.Math.Nat.{mul-zero, zero-mul, mul-suc, mul_comm, le-mul_of_pos_right, min-eq_left, min-eq_right}
-use Rattle.std.proofs.lemmas.Bool.{cases_lt}
+use Rattle.std.proofs.{lemmas.Bool.cases_lt, lemmas.List.length-map, lemmas.Option.slice_get_within, lemmas.Option.slice_get_past}
+use Rattle.std.specs.Prelude.{slice_get}
 use Rattle.lra_path_segments.specs.Segments.{each_then}
-use Rattle.std.proofs.lemmas.Option.{slice_get_within, slice_get_past}
 use Rattle.lra_domain.specs.Moves.{Moves, stay, first_then, join_of}
-use Rattle.lra_path_disjuncts.specs.Disjuncts.{disjuncts}
-use Rattle.lra_path_disjuncts.specs.Tables.{capped, count_of, or_stay, made_of, added, all_moves, moves_at, IsMadeOfEarlier, HasDisjunctCounts, IsTable, Has}
-use Rattle.lra_path_disjuncts.specs.Tables.{Grows}
-use Rattle.lra_path_disjuncts.specs.declared.tables.MovesEntry.{MovesEntry}
-use Rattle.lra_path_disjuncts.specs.declared.tables.MovesNode.{MovesNode}
+use Rattle.lra_path_disjuncts.specs.Tables.{capped, count_of, or_stay, made_of, added, all_moves, moves_at, IsMadeOfEarlier, HasDisjunctCounts, IsTable, Has, Grows}
 use Rattle.lra_path_disjuncts.specs.declared.tables.MovesNode.TheVariants.{Stay, Make, FirstThen, JoinOf}
+use Rattle.lra_path_disjuncts.specs.{Disjuncts.disjuncts, declared.tables.MovesEntry.MovesEntry, declared.tables.MovesNode.MovesNode}
 
 -- lists ------------------------------------------------------------------------------------------------------------------
 

@@ -1,20 +1,13 @@
 -- The sides of a way's moves, and one change more.
 use Rattle.std.proofs.Common.{◌≡◌, ℕ, List, [], ◌∷◌, ◌++◌, ◌<◌, ◌≤◌, ◌+◌, length, map, take, get_or, refl, sym, ap, ◌∙◌, subst}
 use Rattle.std.proofs.lemmas.List.{map_more, take_all}
-use Rattle.lra_domain.specs.Actions.{Action}
-use Rattle.lra_domain.specs.Moves.{Moves, stay, first_then}
-use Rattle.lra_analysis_spec.specs.declared.linearization.Linearized.{Linearized}
-use Rattle.lra_analysis_spec.specs.Linearization.{LinearizedFits, linearized}
+use Rattle.lra_domain.specs.{Actions.Action, Moves.Moves, Moves.stay, Moves.first_then}
+use Rattle.lra_analysis_spec.specs.{Linearization.LinearizedFits, Linearization.linearized, declared.linearization.Linearized.Linearized}
 use Rattle.lra_analysis_spec.proofs.DivisionLemmas.{seen_fits}
 use Rattle.lra_program.specs.Program.{Expr}
-use Rattle.lra_path_disjuncts.specs.StepMoves.{dims_after_step, step_moves}
-use Rattle.lra_path_segments.specs.Segments.{SegmentStep, each_then}
-use Rattle.lra_path_disjuncts.specs.Disjuncts.{disjuncts, written}
-use Rattle.lra_path_segments.specs.TreeSegmentViews.{move_view}
-use Rattle.lra_path_disjuncts.specs.Tables.{Grows, Has, moves_at}
-use Rattle.lra_path_segments.specs.declared.segments.Move.{Move}
-use Rattle.lra_path_disjuncts.specs.declared.tables.MovesEntry.{MovesEntry}
-use Rattle.lra_path_disjuncts.specs.SegmentMoves.{live_after_steps, segment_moves, segment_moves_on}
+use Rattle.lra_path_disjuncts.specs.{Disjuncts.disjuncts, Disjuncts.written, SegmentMoves.live_after_steps, SegmentMoves.segment_moves, SegmentMoves.segment_moves_on, StepMoves.dims_after_step}
+use Rattle.lra_path_disjuncts.specs.{StepMoves.step_moves, Tables.Grows, Tables.Has, Tables.moves_at, declared.tables.MovesEntry.MovesEntry}
+use Rattle.lra_path_segments.specs.{Segments.SegmentStep, Segments.each_then, TreeSegmentViews.move_view, declared.segments.Move.Move}
 use Rattle.lra_path_segments.proofs.Lists.{each_then_assoc, each_then_nil}
 use Rattle.lra_path_disjuncts.proofs.GuardSteps.{then_has}
 

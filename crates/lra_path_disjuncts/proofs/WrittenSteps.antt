@@ -3,10 +3,8 @@ use Rattle.std.proofs.Common.{◌≡◌, ℕ, List, [], ◌∷◌, length, inl, 
 use Rattle.lra_domain.specs.Moves.{SomeLeads}
 use Rattle.lra_program.specs.Step.{State}
 use Rattle.lra_path_segments.specs.Segments.{SegmentStep, RunsOps}
-use Rattle.lra_path_disjuncts.specs.StepMoves.{dims_after_step, step_moves}
-use Rattle.lra_path_disjuncts.specs.Disjuncts.{disjuncts, written}
-use Rattle.lra_path_disjuncts.proofs.StepLaws.{step_leads, step_length}
-use Rattle.lra_path_disjuncts.proofs.SideSteps.{disjuncts_lead, then_leads}
+use Rattle.lra_path_disjuncts.specs.{Disjuncts.disjuncts, Disjuncts.written, StepMoves.dims_after_step, StepMoves.step_moves}
+use Rattle.lra_path_disjuncts.proofs.{SideSteps.disjuncts_lead, SideSteps.then_leads, StepLaws.step_leads, StepLaws.step_length}
 
 pub written_lead : (ops : List SegmentStep) (s t : State) → RunsOps ops s t → SomeLeads (written (length s.store) ops) s.store t.store
 written_lead [] s t e = inl (ap (λ (u : State). u.store) e)

@@ -1,14 +1,10 @@
 -- Where the moves of conditions stand in a table.
 use Rattle.std.specs.Prelude.{◌≡◌, ◌<◌, ℕ, Bool, true, false, List, ◌++◌, length}
-use Rattle.lra_domain.specs.Actions.{Action}
-use Rattle.lra_domain.specs.Changes.{actions_of}
-use Rattle.lra_domain.specs.declared.changes.Change.{Change}
+use Rattle.lra_domain.specs.{Actions.Action, Changes.actions_of, declared.changes.Change.Change}
 use Rattle.lra_program.specs.Program.{Cond, both_of, either_of}
 use Rattle.lra_program.specs.ProgramViews.{all_of, any_of}
 use Rattle.lra_analysis_spec.specs.MovesOf.{guard, in_turn}
-use Rattle.lra_path_disjuncts.specs.Tables.{Has}
-use Rattle.lra_path_disjuncts.specs.declared.conditions.Both.{Both}
-use Rattle.lra_path_disjuncts.specs.declared.tables.MovesEntry.{MovesEntry}
+use Rattle.lra_path_disjuncts.specs.{Tables.Has, declared.conditions.Both.Both, declared.tables.MovesEntry.MovesEntry}
 
 -- both where the condition is true and where it is false
 abbrev pub HasBoth : List MovesEntry → ℕ → ℕ → Cond → Both → Type 0

@@ -3,9 +3,7 @@ use Rattle.std.specs.Prelude.{◌≡◌, ℕ, List, ◌++◌}
 use Rattle.lra_base.specs.declared.case_labels.CaseLabel.{CaseLabel}
 use Rattle.lra_operations.specs.declared.tree.Arm.{Arm}
 use Rattle.lra_analysis_spec.specs.declared.linearization.Linearized.{Linearized}
-use Rattle.lra_path_disjuncts.specs.StepMoves.{unmatched_moves}
-use Rattle.lra_path_disjuncts.specs.Tables.{Has}
-use Rattle.lra_path_disjuncts.specs.declared.tables.MovesEntry.{MovesEntry}
+use Rattle.lra_path_disjuncts.specs.{StepMoves.unmatched_moves, Tables.Has, declared.tables.MovesEntry.MovesEntry}
 use Rattle.lra_path_segments.specs.Labels.{label_at, labels_in}
 
 -- one arm more, in front of whichever labels the later ones are

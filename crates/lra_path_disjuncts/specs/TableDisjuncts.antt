@@ -1,15 +1,10 @@
 -- What is still to be written of the sides of moves in a table.
 use Rattle.std.specs.Prelude.{ℕ, ◌+◌, ◌-◌, nat_lt, if◌then◌else◌, List, [], ◌∷◌, ◌++◌, map, Vec}
-use Rattle.std.specs.Borrow.{Bor}
-use Rattle.std.specs.Global.{Global}
-use Rattle.std.specs.List.{sum_by}
-use Rattle.lra_domain.specs.Actions.{Action}
-use Rattle.lra_domain.specs.Changes.{action_of}
-use Rattle.lra_domain.specs.declared.changes.Change.{Change}
+use Rattle.std.specs.{Borrow.Bor, Global.Global, List.sum_by}
 use Rattle.lra_domain.specs.Moves.{Moves, stay, make, first_then, join_of}
-use Rattle.lra_path_disjuncts.specs.Tables.{moves_at, disjunct_at}
-use Rattle.lra_path_disjuncts.specs.declared.tables.MovesEntry.{MovesEntry}
-use Rattle.lra_path_disjuncts.specs.declared.tables.PendingDisjunct.{PendingDisjunct}
+use Rattle.lra_domain.specs.{Actions.Action, Changes.action_of, declared.changes.Change.Change}
+use Rattle.lra_path_disjuncts.specs.{Tables.moves_at, Tables.disjunct_at, declared.tables.MovesEntry.MovesEntry}
+use Rattle.lra_path_disjuncts.specs.{declared.tables.PendingDisjunct.PendingDisjunct}
 
 -- what is written
 abbrev pub all_done : List (Bor Change) → List Action

@@ -1,22 +1,19 @@
 //! The moves of the program's least changes in a table, those of ways, and those of the globals' first values.
 
-ghost use Rattle.std.specs.Prelude.{◌≡◌, ◌<◌, ◌^◌, ◌-◌, ◌+◌, pos, suc, length, map, replicate, slice_set};
-ghost use Rattle.std.specs.Prelude.{Some, IfOk, OnOk};
+ghost use Rattle.std.specs.Prelude.{◌≡◌, ◌<◌, ◌^◌, ◌-◌, ◌+◌, pos, suc, length, map, replicate, slice_set, Some, IfOk};
+ghost use Rattle.std.specs.Prelude.{OnOk};
 ghost use Rattle.lra_base.specs.declared.number_types.NumberType.TheVariants.{Int};
-ghost use Rattle.lra_analysis_spec.specs.Live.{live_after_op};
-ghost use Rattle.lra_domain.specs.Moves.{first_then, make};
+ghost use Rattle.lra_analysis_spec.specs.Linearization.{LinearizedFits, linearized};
 ghost use Rattle.lra_analysis_spec.specs.MovesOf.{append_set, drop_last, first_values, guard, moves_of, push_all};
 ghost use Rattle.lra_analysis_spec.specs.MovesOf.{set_target, set_to, above_least, below_greatest, within_type};
-ghost use Rattle.lra_analysis_spec.specs.Linear.{constant_form};
-ghost use Rattle.lra_analysis_spec.specs.Linearization.{LinearizedFits, linearized};
 ghost use Rattle.lra_analysis_spec.specs.declared.linearization.Linearized.TheVariants.{Linear, Unseen};
-ghost use Rattle.lra_domain.specs.Actions.{embed, test};
+ghost use Rattle.lra_analysis_spec.specs.{Linear.constant_form, Live.live_after_op};
+ghost use Rattle.lra_domain.specs.{Actions.embed, Actions.test, Moves.first_then, Moves.make};
 ghost use Rattle.lra_linear_spec.specs.declared.ConKind.TheVariants.{Ge};
 ghost use Rattle.lra_operations.specs.TreeViews.{op_view};
-ghost use Rattle.lra_path_disjuncts.specs.StepMoves.{dims_after_step, step_moves};
-ghost use Rattle.lra_path_segments.specs.TreeSegmentViews.{move_view};
 ghost use Rattle.lra_path_disjuncts.specs.Tables.{Grows, Has, IsTable, moves_at};
-ghost use Rattle.lra_path_disjuncts.specs.SegmentMoves.{segment_moves};
+ghost use Rattle.lra_path_disjuncts.specs.{SegmentMoves.segment_moves, StepMoves.dims_after_step, StepMoves.step_moves};
+ghost use Rattle.lra_path_segments.specs.TreeSegmentViews.{move_view};
 ghost use Rattle.lra_program.specs.ProgramViews.{argument_view, cond_view, expr_view};
 
 use crate::conditions::{ConditionContext, push_cases};

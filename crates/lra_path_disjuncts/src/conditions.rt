@@ -1,15 +1,13 @@
 //! The moves of a condition in a table: where it is true and where it is false, each of its comparisons taken once.
 
 ghost use Rattle.std.specs.Prelude.{◌≡◌, ◌<◌, ◌^◌, ◌-◌, length, map, true, false, IfOk, OnOk};
-ghost use Rattle.lra_base.specs.OperatorViews.{comparison_view};
-ghost use Rattle.lra_base.specs.Operators.{differs};
-ghost use Rattle.lra_domain.specs.Actions.{remove_last};
-ghost use Rattle.lra_domain.specs.Changes.{action_of, actions_of};
+ghost use Rattle.lra_base.specs.{OperatorViews.comparison_view, Operators.differs};
 ghost use Rattle.lra_domain.specs.Moves.{make, first_then, join_of};
+ghost use Rattle.lra_domain.specs.{Actions.remove_last, Changes.action_of, Changes.actions_of};
 ghost use Rattle.lra_analysis_spec.specs.Linear.{comparison_test};
 ghost use Rattle.lra_analysis_spec.specs.MovesOf as moves;
-ghost use Rattle.lra_analysis_spec.specs.MovesOf.{comparison_moves, in_cases, in_turn, linearized_moves, test_moves};
 ghost use Rattle.lra_analysis_spec.specs.Linearization.{Divides, LinearizedFits, linearized_difference};
+ghost use Rattle.lra_analysis_spec.specs.MovesOf.{comparison_moves, in_cases, in_turn, linearized_moves, test_moves};
 ghost use Rattle.lra_path_disjuncts.specs.Conditions.{AreIn, HasBoth};
 ghost use Rattle.lra_path_disjuncts.specs.Tables.{Grows, Has, IsTable, moves_at};
 ghost use Rattle.lra_program.specs.Program.{compare, nonzero};

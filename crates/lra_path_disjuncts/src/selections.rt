@@ -2,13 +2,10 @@
 
 ghost use Rattle.std.specs.Prelude.{List, ◌∷◌, ◌<◌, ◌^◌, ◌-◌, length, IfOk, OnOk};
 ghost use Rattle.lra_base.specs.declared.case_labels.CaseLabel.{CaseLabel};
-ghost use Rattle.lra_analysis_spec.specs.MovesOf.{number_moves};
-ghost use Rattle.lra_analysis_spec.specs.Linearization.{LinearizedFits};
-ghost use Rattle.lra_path_disjuncts.specs.PassedLabels.{PutsLabel};
-ghost use Rattle.lra_path_segments.specs.Labels.{labels_in};
+ghost use Rattle.lra_analysis_spec.specs.{Linearization.LinearizedFits, MovesOf.number_moves};
 ghost use Rattle.lra_path_disjuncts.specs.StepMoves.{step_moves, unmatched_moves};
-ghost use Rattle.lra_path_segments.specs.TreeSegmentViews.{selection_view};
-ghost use Rattle.lra_path_disjuncts.specs.Tables.{Grows, Has, IsTable};
+ghost use Rattle.lra_path_disjuncts.specs.{PassedLabels.PutsLabel, Tables.Grows, Tables.Has, Tables.IsTable};
+ghost use Rattle.lra_path_segments.specs.{Labels.labels_in, TreeSegmentViews.selection_view};
 
 use crate::conditions::push_comparison;
 use crate::tables::{MovesEntry, push_first_then, push_stay};

@@ -1,15 +1,12 @@
 //! Moves in a table, each behind those of which it is made, so that what stands in several of them stands there once;
 //! and their sides, which are counted before they are written out.
 
-ghost use Rattle.std.specs.Prelude.{[], ◌∷◌, ◌≡◌, ◌<◌, ◌≤◌, ◌+◌, ◌*◌, ◌++◌, length};
-ghost use Rattle.std.specs.Prelude.{IfOk, OnOk};
-ghost use Rattle.lra_domain.specs.Changes.{action_of};
-ghost use Rattle.lra_domain.specs.Moves.{stay, make, first_then, join_of};
+ghost use Rattle.std.specs.Prelude.{[], ◌∷◌, ◌≡◌, ◌<◌, ◌≤◌, ◌+◌, ◌*◌, ◌++◌, length, IfOk, OnOk};
+ghost use Rattle.lra_domain.specs.{Changes.action_of, Moves.stay, Moves.make, Moves.first_then, Moves.join_of};
 ghost use Rattle.lra_path_disjuncts.specs.Disjuncts.{greatest_paths, disjuncts};
-ghost use Rattle.lra_path_disjuncts.specs.Tables.{all_moves, capped, count_of, made_of, moves_at, disjunct_at};
 ghost use Rattle.lra_path_disjuncts.specs.TableDisjuncts.{all_done, all_pending, pending_disjuncts_size, pending_size};
-ghost use Rattle.lra_path_disjuncts.specs.TableDisjuncts.{lists_done};
-ghost use Rattle.lra_path_disjuncts.specs.TableDisjuncts.{one_of, disjunct_pending};
+ghost use Rattle.lra_path_disjuncts.specs.TableDisjuncts.{lists_done, one_of, disjunct_pending};
+ghost use Rattle.lra_path_disjuncts.specs.Tables.{all_moves, capped, count_of, made_of, moves_at, disjunct_at};
 ghost use Rattle.lra_path_disjuncts.specs.Tables.{IsMadeOfEarlier, IsTable, Has, Grows};
 
 use lra_domain::Change;

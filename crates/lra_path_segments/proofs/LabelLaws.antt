@@ -1,15 +1,11 @@
 -- Which of a `switch`'s labels a value goes to, and the ways of arms, which are those of a row of trees.
-use Rattle.std.proofs.Common.{◌≡◌, ℤ, List, ◌++◌, Bool, true, false, refl, sym, ap, ◌∙◌}
-use Rattle.std.specs.Prelude.{cond, ◌||◌, if◌then◌else◌}
-use Rattle.std.specs.List.{list_any}
-use Rattle.std.proofs.lemmas.Bool.Decides.{Decides-int_eq}
-use Rattle.lra_base.specs.declared.case_labels.CaseLabel.{CaseLabel}
-use Rattle.lra_base.specs.declared.case_labels.CaseLabel.TheVariants.{Case, Default}
+use Rattle.std.proofs.{Common.◌≡◌, Common.ℤ, Common.List, Common.◌++◌, Common.Bool, Common.true, Common.false, Common.refl, Common.sym, Common.ap, Common.◌∙◌, lemmas.Bool.Decides.Decides-int_eq}
+use Rattle.std.specs.{List.list_any, Prelude.cond, Prelude.◌||◌, Prelude.if◌then◌else◌}
 use Rattle.lra_base.specs.CaseLabels.{is_same_case, goal_of}
+use Rattle.lra_base.specs.{declared.case_labels.CaseLabel.CaseLabel, declared.case_labels.CaseLabel.TheVariants.Case, declared.case_labels.CaseLabel.TheVariants.Default}
 use Rattle.lra_operations.specs.Tree.{Completion, normal, jump, empty, Arms, no_arms, entry, arm, entries_of}
 use Rattle.lra_operations.proofs.ArmRows.{arms_row, row_behind}
-use Rattle.lra_path_segments.specs.Segments.{each_then, segments_by, then_outs, then_ways, through, through_arms, enter, enter_arms}
-use Rattle.lra_path_segments.specs.Segments.{exit_suffixes, arms_exit_suffixes, inside, inside_arms}
+use Rattle.lra_path_segments.specs.Segments.{each_then, segments_by, then_outs, then_ways, through, through_arms, enter, enter_arms, exit_suffixes, arms_exit_suffixes, inside, inside_arms}
 
 pub neither : (a b : Bool) → (a || b) ≡ false → (a ≡ false) × (b ≡ false)
 neither true b e = absurd (let no : true ≡ false = e in cc)

@@ -1,9 +1,7 @@
 -- Lists that are made of each of the ones with each of the others.
 use Rattle.std.proofs.Common.{◌≡◌, List, [], ◌∷◌, ◌++◌, map, inl, inr, refl, sym, ap, ◌∙◌, subst, append_assoc, append-nil}
-use Rattle.std.proofs.lemmas.List.{map-append}
-use Rattle.std.proofs.lemmas.Grind.{flat_map-append}
+use Rattle.std.proofs.{lemmas.Grind.flat_map-append, lemmas.List.map-append, lemmas.List.Elements.Contains-append_left, lemmas.List.Elements.Contains-append_right}
 use Rattle.std.specs.List.{Contains, flat_map}
-use Rattle.std.proofs.lemmas.List.Elements.{Contains-append_left, Contains-append_right}
 use Rattle.lra_linear_spec.proofs.Membership.{contains_none, contains_cases, map_has}
 use Rattle.lra_path_segments.specs.Segments.{each_then}
 

@@ -1,13 +1,10 @@
 -- Steps of loops over stretches: what is seen of the lists that they make.
-use Rattle.std.proofs.Common.{◌≡◌, ℕ, ◌+◌, ◌<◌, List, [], ◌∷◌, ◌++◌, map, filter, length, take, get_or, Bool, true, false, not, cond, refl, sym, ap, ◌∙◌, subst}
-use Rattle.std.proofs.Common.{append_assoc, append-nil}
+use Rattle.std.proofs.Common.{◌≡◌, ℕ, ◌+◌, ◌<◌, List, [], ◌∷◌, ◌++◌, map, filter, length, take, get_or, Bool, true, false, not, cond, refl, sym, ap, ◌∙◌, subst, append_assoc, append-nil}
+use Rattle.std.proofs.{lemmas.Grind.flat_map-append, lemmas.List.map-append, lemmas.List.take_more, lemmas.List.Elements.filter-append}
 use Rattle.std.specs.Prelude as outcome
 use Rattle.std.specs.Prelude.{OnOk}
-use Rattle.std.proofs.lemmas.List.{map-append, take_more}
-use Rattle.std.proofs.lemmas.List.Elements.{filter-append}
-use Rattle.std.proofs.lemmas.Grind.{flat_map-append}
-use Rattle.lra_path_segments.specs.TreeSegments.{TreeSegment, Kind, is_of, segments_of_kind, segments_not_of_kind, joined_segments, all_joined}
 use Rattle.lra_path_segments.specs.TreeSegmentViews.{tree_segment_view, seen}
+use Rattle.lra_path_segments.specs.TreeSegments.{TreeSegment, Kind, is_of, segments_of_kind, segments_not_of_kind, joined_segments, all_joined}
 use Rattle.lra_path_segments.specs.declared.segments.TreeSegment as declared
 
 abbrev D : Type 0

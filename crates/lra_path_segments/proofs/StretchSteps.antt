@@ -1,30 +1,19 @@
 -- The stretches of a tree are its ways, each kind in its order.
-use Rattle.std.proofs.Common.{◌≡◌, ℕ, List, [], ◌∷◌, ◌++◌, map, filter, flat_map, Bool, true, false, not, cond, Option, Some, None, refl, sym, ap, ◌∙◌}
-use Rattle.std.proofs.Common.{append-nil, append_assoc}
+use Rattle.std.proofs.Common.{◌≡◌, ℕ, List, [], ◌∷◌, ◌++◌, map, filter, flat_map, Bool, true, false, not, cond, Option, Some, None, refl, sym, ap, ◌∙◌, append-nil, append_assoc}
 use Rattle.std.specs.List.{list_any}
-use Rattle.lra_base.specs.declared.case_labels.CaseLabel.{CaseLabel}
-use Rattle.lra_base.specs.declared.case_labels.CaseLabel.TheVariants.{Default}
-use Rattle.lra_base.specs.CaseLabels.{is_same_case}
-use Rattle.lra_program.specs.Program.{Expr, Cond}
-use Rattle.lra_program.specs.Step.{Op, test}
-use Rattle.lra_operations.specs.Tree.{Exit, broken, continued, returned, Completion, normal, jump, Node, empty, probe, point, act, check, seq, choose, iterate, catch, leave}
-use Rattle.lra_operations.specs.Tree.{select, Arms, no_arms, entry, arm, entries_of}
+use Rattle.lra_base.specs.{CaseLabels.is_same_case, declared.case_labels.CaseLabel.CaseLabel, declared.case_labels.CaseLabel.TheVariants.Default}
+use Rattle.lra_program.specs.{Program.Expr, Program.Cond, Step.Op, Step.test}
+use Rattle.lra_operations.specs.Tree.{Exit, broken, continued, returned, Completion, normal, jump, Node, empty, probe, point, act, check, seq, choose, iterate, catch, leave, select, Arms, no_arms}
+use Rattle.lra_operations.specs.Tree.{entry, arm, entries_of}
 use Rattle.lra_operations.proofs.ArmRows.{arms_row}
-use Rattle.lra_path_segments.specs.Segments.{SegmentStep, does, Goal, comes_to, GoalSegment, Segment, Suffix, same_exit, each_then}
-use Rattle.lra_path_segments.specs.Segments.{then_way, then_ways, then_out, then_outs, segment_by, segments_by}
-use Rattle.lra_path_segments.specs.Segments.{prepend_step, prepend_step_to_goal, with_test, tested_way, into_body, out_of_body, segment_to, through, enter}
-use Rattle.lra_path_segments.specs.Segments.{exit_suffixes, inside}
-use Rattle.lra_path_segments.specs.Segments.{goes_in, past_labels, through_arms, through_labels, enter_arms, enter_labels}
-use Rattle.lra_path_segments.specs.TreeSegments.{End, exits, reaches, TreeSegment, tree_segment, starts, same_how, exits_as, starting, leaving}
-use Rattle.lra_path_segments.specs.TreeSegments.{segments_of_kind, segments_not_of_kind, joined_segments}
-use Rattle.lra_path_segments.specs.TreeSegments.{all_joined, sequenced}
-use Rattle.lra_path_segments.specs.TreeSegments.{prefixed_by, prefixed, chosen_segments, source_or, back_to, turned, body_order, looped, ended, caught}
-use Rattle.lra_path_segments.specs.TreeSegments.{tree_segments}
-use Rattle.lra_path_segments.specs.TreeSegments.{nothing_done, past_all, labelled, selected, arms_segments, from_labels}
-use Rattle.lra_path_segments.specs.TreeSegments.{goal_segments_at, suffixes_at, segments_at, passed, entered, gone, met, AreSegmentsOf}
+use Rattle.lra_path_segments.specs.Segments.{SegmentStep, does, Goal, comes_to, GoalSegment, Segment, Suffix, same_exit, each_then, then_way, then_ways, then_out, then_outs, segment_by, segments_by}
+use Rattle.lra_path_segments.specs.Segments.{prepend_step, prepend_step_to_goal, with_test, tested_way, into_body, out_of_body, segment_to, through, enter, exit_suffixes, inside, goes_in, past_labels}
+use Rattle.lra_path_segments.specs.TreeSegments.{End, exits, reaches, TreeSegment, tree_segment, starts, same_how, exits_as, starting, leaving, segments_of_kind, segments_not_of_kind, joined_segments}
+use Rattle.lra_path_segments.specs.TreeSegments.{all_joined, sequenced, prefixed_by, prefixed, chosen_segments, source_or, back_to, turned, body_order, looped, ended, caught, tree_segments}
+use Rattle.lra_path_segments.specs.TreeSegments.{nothing_done, past_all, labelled, selected, arms_segments, from_labels, goal_segments_at, suffixes_at, segments_at, passed, entered, gone, met}
+use Rattle.lra_path_segments.specs.{Segments.through_arms, Segments.through_labels, Segments.enter_arms, Segments.enter_labels, TreeSegments.AreSegmentsOf}
+use Rattle.lra_path_segments.proofs.FlatSteps.{flat_same, flat_none, flat_picked, flat_both, flat_unless, flat_two, flat_mapped, mapped_flat, flat_flat, all_mapped, both_same}
 use Rattle.lra_path_segments.proofs.LabelLaws.{through_row, enter_row, outs_row, inside_row}
-use Rattle.lra_path_segments.proofs.FlatSteps.{flat_same, flat_none, flat_picked, flat_both, flat_unless, flat_two, flat_mapped, mapped_flat, flat_flat}
-use Rattle.lra_path_segments.proofs.FlatSteps.{all_mapped, both_same}
 
 abbrev ends : TreeSegment → Bool
 ends s = exits_as normal s.end

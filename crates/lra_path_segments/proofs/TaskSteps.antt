@@ -1,42 +1,27 @@
 -- A tree that is gone along by a list of what is due: its ways come last of those that are there, and each step leaves
 -- fewer steps.
-use Rattle.std.proofs.Common.{rules, Box, Vec, Global, ◌≡◌, ◌∙◌, Bool, true, false, ℕ, ◌+◌, ◌<◌, List, [], ◌∷◌, ◌++◌, length, map, refl, sym}
-use Rattle.std.proofs.Common.{ap, subst, arith, append-nil}
+use Rattle.std.proofs.Common.{rules, Box, Vec, Global, ◌≡◌, ◌∙◌, Bool, true, false, ℕ, ◌+◌, ◌<◌, List, [], ◌∷◌, ◌++◌, length, map, refl, sym, ap, subst, arith, append-nil}
+use Rattle.std.proofs.{lemmas.List.map-append, lemmas.List.nil_from_length, lemmas.List.Sums.sum_by_push}
 use Rattle.std.specs.Prelude as outcome
-use Rattle.std.specs.Prelude.{OnOk}
-use Rattle.std.proofs.lemmas.List.{map-append, nil_from_length}
-use Rattle.std.proofs.lemmas.List.Sums.{sum_by_push}
-use Rattle.lra_program.specs.declared.program.Cond.{Cond}
-use Rattle.std.specs.List.{list_any}
-use Rattle.lra_base.specs.declared.case_labels.CaseLabel.{CaseLabel}
-use Rattle.lra_base.specs.declared.case_labels.CaseLabel.TheVariants.{Default}
-use Rattle.lra_base.specs.CaseLabels.{is_same_case}
-use Rattle.lra_program.specs.declared.program.Expr.{Expr}
-use Rattle.lra_program.specs.ProgramViews.{expr_view}
-use Rattle.lra_operations.specs.Tree.{Node, Arms, no_arms, entry, arm}
+use Rattle.std.specs.{List.list_any, Prelude.OnOk}
+use Rattle.lra_program.specs.{ProgramViews.expr_view, declared.program.Cond.Cond, declared.program.Expr.Expr}
+use Rattle.lra_base.specs.{CaseLabels.is_same_case, declared.case_labels.CaseLabel.CaseLabel, declared.case_labels.CaseLabel.TheVariants.Default}
 use Rattle.lra_operations.specs.TreeViews.{arm_view, arms_before, arms_of, node_view, row}
-use Rattle.lra_operations.specs.declared.tree.Arm.{Arm}
+use Rattle.lra_operations.specs.declared.tree.Node.{the_lemmas as node_lemmas, Node-F, out-Node, roll-Node, roll-out-Node}
+use Rattle.lra_operations.specs.{Tree.Node, Tree.Arms, Tree.no_arms, Tree.entry, Tree.arm, declared.probes.Probe.Probe, declared.tree.Arm.Arm}
 use Rattle.lra_operations.specs.declared.tree.Arm.TheVariants as armed
 use Rattle.lra_operations.specs.declared.tree.Exit as declared_exit
 use Rattle.lra_operations.specs.declared.tree.Node as declared
 use Rattle.lra_operations.specs.declared.tree.Op as declared_op
-use Rattle.lra_operations.specs.declared.probes.Probe.{Probe}
-use Rattle.lra_operations.specs.declared.tree.Node.{the_lemmas as node_lemmas, Node-F, out-Node, roll-Node, roll-out-Node}
 use Rattle.lra_operations.specs.declared.tree.Node.TheVariants as at
 use Rattle.lra_operations.proofs.ArmViews.{entry_view, tree_view}
 use Rattle.lra_linearize.proofs.TreeViews.{select_view, seq_view}
-use Rattle.lra_path_segments.specs.Labels.{labels_in}
-use Rattle.lra_path_segments.specs.Segments.{SegmentStep, goes_in}
-use Rattle.lra_path_segments.specs.TreeSegments.{AreSegmentsOf, TreeSegment, from_labels, labelled, nothing_done, past_all, selected, sequenced, tree_segments}
-use Rattle.lra_path_segments.specs.TreeSegments.{arms_segments}
-use Rattle.lra_path_segments.proofs.ArmSteps.{each_arm, view_last}
-use Rattle.lra_path_segments.proofs.StretchSteps.{are_ways}
+use Rattle.lra_path_segments.specs.Tasks.{arm_steps, arms_on, arms_size, joined_last, labelled_last, stack_on, stack, top, below, row_on, effect, run, steps_in_row, steps_of, task_size, all_left}
 use Rattle.lra_path_segments.specs.TreeSegmentViews.{arms_seen, seen, selection_view}
-use Rattle.lra_path_segments.specs.declared.segments.Selection.{Selection}
+use Rattle.lra_path_segments.specs.TreeSegments.{AreSegmentsOf, TreeSegment, from_labels, labelled, nothing_done, past_all, selected, sequenced, tree_segments, arms_segments}
+use Rattle.lra_path_segments.specs.{Labels.labels_in, Segments.SegmentStep, Segments.goes_in, declared.segments.Selection.Selection, declared.trees.Task.Task}
+use Rattle.lra_path_segments.proofs.{ArmSteps.each_arm, ArmSteps.view_last, StretchSteps.are_ways}
 use Rattle.lra_path_segments.specs.declared.segments.TreeSegment as declared_stretch
-use Rattle.lra_path_segments.specs.declared.trees.Task.{Task}
-use Rattle.lra_path_segments.specs.Tasks.{arm_steps, arms_on, arms_size, joined_last, labelled_last}
-use Rattle.lra_path_segments.specs.Tasks.{stack_on, stack, top, below, row_on, effect, run, steps_in_row, steps_of, task_size, all_left}
 
 abbrev V : Type 0
 V = Vec declared_stretch.TreeSegment Global

@@ -2,8 +2,7 @@
 use Rattle.std.specs.Prelude.{List, map}
 use Rattle.lra_base.specs.declared.case_labels.CaseLabel.{CaseLabel}
 use Rattle.lra_operations.specs.Tree.{no_arms, entries_of}
-use Rattle.lra_operations.specs.TreeViews.{arm_view, arms_of}
-use Rattle.lra_operations.specs.declared.tree.Arm.{Arm}
+use Rattle.lra_operations.specs.{TreeViews.arm_view, TreeViews.arms_of, declared.tree.Arm.Arm}
 
 -- the labels among the arms
 abbrev pub labels_in : List Arm → List CaseLabel

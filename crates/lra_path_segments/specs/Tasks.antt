@@ -1,23 +1,20 @@
 -- What is still to be done while the ways of a tree are made, from its leaves up.
 use Rattle.std.specs.Prelude.{ℕ, ◌+◌, List, [], ◌∷◌, map, Vec}
-use Rattle.std.specs.Global.{Global}
-use Rattle.std.specs.List.{sum_by}
+use Rattle.std.specs.{Global.Global, List.sum_by}
 use Rattle.lra_base.specs.declared.case_labels.CaseLabel.{CaseLabel}
 use Rattle.lra_program.specs.ProgramViews.{cond_view}
-use Rattle.lra_operations.specs.Tree.{Node, Arms, no_arms, entry, arm}
 use Rattle.lra_operations.specs.TreeViews.{arm_view, arms_of, exit_view, node_view}
-use Rattle.lra_operations.specs.declared.tree.Arm.{Arm}
 use Rattle.lra_operations.specs.declared.tree.Arm.TheFolds.{fold-Arm, fold-Node}
 use Rattle.lra_operations.specs.declared.tree.Arm.TheOpen.{Arm-F, Node-F}
+use Rattle.lra_operations.specs.{Tree.Node, Tree.Arms, Tree.no_arms, Tree.entry, Tree.arm, declared.tree.Arm.Arm}
 use Rattle.lra_operations.specs.declared.tree.Node as declared
-use Rattle.lra_path_segments.specs.Segments.{SegmentStep}
+use Rattle.lra_path_segments.specs.TreeSegmentViews.{move_view, seen, selection_view}
 use Rattle.lra_path_segments.specs.TreeSegments.{TreeSegment, sequenced, chosen_segments, looped, caught, labelled}
 use Rattle.lra_path_segments.specs.TreeSegments.{selected, tree_segments}
-use Rattle.lra_path_segments.specs.TreeSegmentViews.{move_view, seen, selection_view}
-use Rattle.lra_path_segments.specs.declared.segments.TreeSegment as declared_stretch
-use Rattle.lra_path_segments.specs.declared.trees.Task.{Task}
 use Rattle.lra_path_segments.specs.declared.trees.Task.TheVariants.{Tree, Row, Sequence, Choice, Round, Catch}
 use Rattle.lra_path_segments.specs.declared.trees.Task.TheVariants.{LabelledArms, Label, Select}
+use Rattle.lra_path_segments.specs.{Segments.SegmentStep, declared.trees.Task.Task}
+use Rattle.lra_path_segments.specs.declared.segments.TreeSegment as declared_stretch
 
 -- the ways that are there: the last list of them is the first here
 abbrev pub stack_on : List (List TreeSegment) → List (Vec declared_stretch.TreeSegment Global) → List (List TreeSegment)

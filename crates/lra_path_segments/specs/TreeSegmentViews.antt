@@ -7,18 +7,15 @@ use Rattle.lra_operations.specs.Tree as graph
 use Rattle.lra_operations.specs.TreeViews.{arm_view, arms_of, exit_view, op_view}
 use Rattle.lra_path_segments.specs.Segments as ways
 use Rattle.lra_path_segments.specs.TreeSegments as stretches
-use Rattle.lra_path_segments.specs.declared.segments.End.{End}
-use Rattle.lra_path_segments.specs.declared.segments.End.TheVariants as end
-use Rattle.lra_path_segments.specs.declared.segments.Goal.{Goal}
-use Rattle.lra_path_segments.specs.declared.segments.Goal.TheVariants as goal
 use Rattle.lra_path_segments.specs.declared.segments.Completion.{Completion}
-use Rattle.lra_path_segments.specs.declared.segments.Completion.TheVariants as how
-use Rattle.lra_path_segments.specs.declared.segments.Kind.{Kind}
-use Rattle.lra_path_segments.specs.declared.segments.Kind.TheVariants as kind
-use Rattle.lra_path_segments.specs.declared.segments.Move.{Move}
-use Rattle.lra_path_segments.specs.declared.segments.Move.TheVariants as move
-use Rattle.lra_path_segments.specs.declared.segments.Selection.{Selection}
 use Rattle.lra_path_segments.specs.declared.segments.TreeSegment.{TreeSegment}
+use Rattle.lra_path_segments.specs.{declared.segments.End.End, declared.segments.Goal.Goal, declared.segments.Kind.Kind}
+use Rattle.lra_path_segments.specs.{declared.segments.Move.Move, declared.segments.Selection.Selection}
+use Rattle.lra_path_segments.specs.declared.segments.End.TheVariants as end
+use Rattle.lra_path_segments.specs.declared.segments.Goal.TheVariants as goal
+use Rattle.lra_path_segments.specs.declared.segments.Completion.TheVariants as how
+use Rattle.lra_path_segments.specs.declared.segments.Kind.TheVariants as kind
+use Rattle.lra_path_segments.specs.declared.segments.Move.TheVariants as move
 
 -- the arms of a `switch`, and the value that goes to this one of its labels
 abbrev pub arms_seen : Selection → graph.Arms

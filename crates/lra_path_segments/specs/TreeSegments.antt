@@ -1,19 +1,14 @@
 -- All ways of a tree in one list, as they are made from its leaves up: from its start, or from a point in it, to where
 -- it is left or a goal is met.
-use Rattle.std.specs.Prelude.{◌≡◌, ℕ, List, [], ◌∷◌, ◌++◌, map, Bool, true, false, not, if◌then◌else◌}
-use Rattle.std.specs.Prelude.{Option, None, Some}
-use Rattle.std.specs.List.{flat_map, filter, list_any}
-use Rattle.lra_base.specs.declared.case_labels.CaseLabel.{CaseLabel}
-use Rattle.lra_base.specs.declared.case_labels.CaseLabel.TheVariants.{Default}
+use Rattle.std.specs.Prelude.{◌≡◌, ℕ, List, [], ◌∷◌, ◌++◌, map, Bool, true, false, not, if◌then◌else◌, Option, None}
+use Rattle.std.specs.{List.flat_map, List.filter, List.list_any, Prelude.Some}
 use Rattle.lra_base.specs.CaseLabels.{is_same_case}
-use Rattle.lra_program.specs.Program.{Cond}
-use Rattle.lra_program.specs.Step.{test}
-use Rattle.lra_operations.specs.Tree.{Exit, Completion, normal, jump, Node, empty, probe, point, act}
-use Rattle.lra_operations.specs.Tree.{check, seq, choose, iterate, catch, leave, select}
-use Rattle.lra_operations.specs.Tree.{Arms, no_arms, entry, arm, entries_of}
+use Rattle.lra_base.specs.{declared.case_labels.CaseLabel.CaseLabel, declared.case_labels.CaseLabel.TheVariants.Default}
+use Rattle.lra_program.specs.{Program.Cond, Step.test}
+use Rattle.lra_operations.specs.Tree.{Exit, Completion, normal, jump, Node, empty, probe, point, act, check, seq}
+use Rattle.lra_operations.specs.Tree.{choose, iterate, catch, leave, select, Arms, no_arms, entry, arm, entries_of}
 use Rattle.lra_path_segments.specs.Segments.{SegmentStep, does, Goal, comes_to, violates, GoalSegment, Segment, Suffix}
-use Rattle.lra_path_segments.specs.Segments.{same_exit, goes_in}
-use Rattle.lra_path_segments.specs.Segments.{through, enter, exit_suffixes, inside}
+use Rattle.lra_path_segments.specs.Segments.{same_exit, goes_in, through, enter, exit_suffixes, inside}
 
 -- where a stretch ends: the tree is left so, or a goal is met
 pub data End : Type 0 where

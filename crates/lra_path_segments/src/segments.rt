@@ -3,14 +3,12 @@
 
 ghost use Rattle.std.specs.Prelude.{◌≡◌, [], ◌∷◌, ◌++◌, cond, map, option_to_list, IfOk, OnOk};
 ghost use Rattle.lra_program.specs.ProgramViews.{cond_view};
-ghost use Rattle.lra_operations.specs.Tree.{normal};
-ghost use Rattle.lra_operations.specs.TreeViews.{exit_view};
+ghost use Rattle.lra_operations.specs.{Tree.normal, TreeViews.exit_view};
 ghost use Rattle.lra_path_segments.specs.TreeSegments as ways;
+ghost use Rattle.lra_path_segments.specs.TreeSegmentViews.{end_view, completion_view, kind_view, move_view, seen};
 ghost use Rattle.lra_path_segments.specs.TreeSegments.{all_joined, body_order, exits_as, segments_not_of_kind};
 ghost use Rattle.lra_path_segments.specs.TreeSegments.{tree_segment, segments_of_kind};
-ghost use Rattle.lra_path_segments.specs.TreeSegmentViews.{end_view, completion_view, kind_view, move_view, seen};
-ghost use Rattle.lra_path_segments.specs.TreeSegmentViews.{tree_segment_view};
-ghost use Rattle.lra_path_segments.specs.Segments.{same_exit};
+ghost use Rattle.lra_path_segments.specs.{Segments.same_exit, TreeSegmentViews.tree_segment_view};
 
 use lra_base::CaseLabel;
 use lra_operations::{Arm, Exit, Op};

@@ -1,21 +1,19 @@
 //! The ways of a tree, from its leaves up. The tree is gone along by a list of what is due, and not by calls, so it may
 //! be as deep as memory allows.
 
-ghost use Rattle.std.specs.Prelude.{◌≡◌, ◌<◌, ◌+◌, ◌||◌, [], ◌∷◌, IfOk, OnOk, List, None, map, option_to_list};
 ghost use Rattle.std.specs.List.{list_any};
-ghost use Rattle.lra_base.specs.declared.case_labels.CaseLabel.TheVariants.{Default};
-ghost use Rattle.lra_base.specs.CaseLabels.{is_same_case};
+ghost use Rattle.std.specs.Prelude.{◌≡◌, ◌<◌, ◌+◌, ◌||◌, [], ◌∷◌, IfOk, OnOk, List, None, map, option_to_list};
+ghost use Rattle.lra_base.specs.{CaseLabels.is_same_case, declared.case_labels.CaseLabel.TheVariants.Default};
 ghost use Rattle.lra_program.specs.ProgramViews.{cond_view};
 ghost use Rattle.lra_operations.specs.Tree as graph;
 ghost use Rattle.lra_operations.specs.TreeViews.{arm_view, arms_of, exit_view, node_view};
 ghost use Rattle.lra_path_segments.specs.Labels.{label_at, labels_in};
 ghost use Rattle.lra_path_segments.specs.Tasks.{all_left, below, task_size, effect, row_on, row_size, run, stack};
-ghost use Rattle.lra_path_segments.specs.Tasks.{steps_of};
-ghost use Rattle.lra_path_segments.specs.Tasks.{arm_steps, arms_on, arms_size, labelled_last, top};
+ghost use Rattle.lra_path_segments.specs.Tasks.{steps_of, arm_steps, arms_on, arms_size, labelled_last, top};
 ghost use Rattle.lra_path_segments.specs.TreeSegments as ways;
+ghost use Rattle.lra_path_segments.specs.TreeSegmentViews.{arms_seen, end_view, move_view, seen, selection_view};
 ghost use Rattle.lra_path_segments.specs.TreeSegments.{AreSegmentsOf, nothing_done, past_all, tree_segment};
 ghost use Rattle.lra_path_segments.specs.TreeSegments.{tree_segments};
-ghost use Rattle.lra_path_segments.specs.TreeSegmentViews.{arms_seen, end_view, move_view, seen, selection_view};
 
 use crate::segments::{
     Completion, End, Goal, Move, Selection, TreeSegment, catch_jumps, choose, enter_row, go_round,

@@ -1,37 +1,24 @@
 -- Ways from one source: what comes into the table leaves the paths of those before, and all of them together are those
 -- that lead from the source.
-use Rattle.std.proofs.Common.{◌≡◌, ◌≤◌, ◌<◌, ℕ, zero, suc, ◌+◌, List, [], ◌∷◌, ◌++◌, length, map, take, Option, Some, None, Bool, true, false, inl, inr}
-use Rattle.std.proofs.Common.{refl, sym, ap, ◌∙◌, subst, arith, append-nil, append_assoc, get_or, ◌&&◌}
-use Rattle.std.specs.Prelude.{slice_get, cond, nat_eq}
-use Rattle.std.specs.List.{flat_map, filter}
-use Rattle.std.proofs.lemmas.Grind.{flat_map-append}
-use Rattle.std.proofs.lemmas.Bool.{cases_lt}
-use Rattle.std.proofs.lemmas.List.{map-append, take_more}
-use Rattle.lra_domain.specs.Actions.{Action}
-use Rattle.lra_domain.specs.Moves.{Moves, stay, first_then}
-use Rattle.lra_program.specs.declared.program.GlobalVariable.{GlobalVariable}
-use Rattle.lra_program.specs.Sites.{Site}
+use Rattle.std.proofs.Common.{◌≡◌, ◌≤◌, ◌<◌, ℕ, zero, suc, ◌+◌, List, [], ◌∷◌, ◌++◌, length, map, take, Option, Some, None, Bool, true, false, inl, inr, refl, sym, ap, ◌∙◌, subst, arith, append-nil}
+use Rattle.std.proofs.{Common.append_assoc, Common.get_or, Common.◌&&◌, lemmas.Bool.cases_lt, lemmas.Grind.flat_map-append, lemmas.List.map-append, lemmas.List.take_more}
+use Rattle.std.specs.{List.flat_map, List.filter, Prelude.slice_get, Prelude.cond, Prelude.nat_eq}
+use Rattle.lra_domain.specs.{Actions.Action, Moves.Moves, Moves.stay, Moves.first_then}
+use Rattle.lra_program.specs.{Sites.Site, declared.program.GlobalVariable.GlobalVariable}
 use Rattle.lra_operations.specs.Tree.{Node}
 use Rattle.lra_analysis_spec.specs.MovesOf.{first_values}
 use Rattle.lra_path_segments.specs.Segments.{SegmentStep, Goal, each_then, enter, inside, GoalSegment, Segment}
-use Rattle.lra_path_disjuncts.specs.Disjuncts.{disjuncts, written, greatest_paths}
-use Rattle.lra_paths.specs.Paths.{live_of, same_goal, started, actions_between_in, AreFewFrom, HasTooManyIn}
-use Rattle.lra_path_segments.specs.TreeSegments.{AreSegmentsOf, entered, met, TreeSegment, tree_segment, End, exits, reaches}
-use Rattle.lra_paths.specs.Sources.{ArePlaced, all_departing, departing, ending, to_goal, to_goal_by, first_from, live_from, point_from, same_point}
-use Rattle.lra_paths.specs.Sources.{AreFewTo, AreManyTo, IsDeparture, IsSource, Adds}
 use Rattle.lra_path_segments.specs.TreeSegmentViews.{goal_view, seen, tree_segment_view}
-use Rattle.lra_path_disjuncts.specs.Tables.{IsTable, Has, Grows, moves_at}
-use Rattle.lra_path_disjuncts.specs.SegmentMoves.{segment_moves}
-use Rattle.lra_paths.specs.declared.paths.Departure.{Departure}
-use Rattle.lra_paths.specs.declared.sources.SourceSegment.{SourceSegment}
+use Rattle.lra_path_segments.specs.TreeSegments.{AreSegmentsOf, entered, met, TreeSegment, tree_segment, End, exits, reaches}
+use Rattle.lra_path_disjuncts.specs.Disjuncts.{disjuncts, written, greatest_paths}
+use Rattle.lra_path_disjuncts.specs.{SegmentMoves.segment_moves, Tables.IsTable, Tables.Has, Tables.Grows, Tables.moves_at, declared.tables.MovesEntry.MovesEntry}
+use Rattle.lra_paths.specs.Paths.{live_of, same_goal, started, actions_between_in, AreFewFrom, HasTooManyIn}
+use Rattle.lra_paths.specs.Sources.{ArePlaced, all_departing, departing, ending, to_goal, to_goal_by, first_from, live_from, point_from, same_point, AreFewTo, AreManyTo, IsDeparture, IsSource, Adds}
+use Rattle.lra_paths.specs.{declared.paths.Departure.Departure, declared.sources.Source.Source, declared.sources.SourceSegment.SourceSegment}
 use Rattle.lra_path_segments.specs.declared.segments.Goal as declared
 use Rattle.lra_path_segments.specs.declared.segments.TreeSegment as declared_stretch
-use Rattle.lra_paths.specs.declared.sources.Source.{Source}
-use Rattle.lra_path_disjuncts.specs.declared.tables.MovesEntry.{MovesEntry}
 use Rattle.lra_path_segments.proofs.FlatSteps.{flat_same, flat_filter, flat_flat, both_same}
-use Rattle.lra_path_disjuncts.proofs.TableSteps.{has_at, within}
-use Rattle.lra_path_disjuncts.proofs.GuardSteps.{still_in, still_at, grows_on}
-use Rattle.lra_path_disjuncts.proofs.WayMoveSteps.{way_sides}
+use Rattle.lra_path_disjuncts.proofs.{GuardSteps.still_in, GuardSteps.still_at, GuardSteps.grows_on, TableSteps.has_at, TableSteps.within, WayMoveSteps.way_sides}
 
 -- one list ---------------------------------------------------------------------------------------------------------------
 

@@ -1,19 +1,9 @@
 -- The tree that stands for a well-formed program follows its runs.
 use Rattle.std.proofs.Common.{◌≡◌, ℕ, ℤ, List, length, Some, ap}
 use Rattle.std.specs.Prelude.{slice_get}
-use Rattle.lra_program.specs.Program.{Program}
-use Rattle.lra_program.specs.WellFormed.{AreGoodGlobals, IsWellFormed}
-use Rattle.lra_program.specs.Step.{State}
-use Rattle.lra_program.specs.Run.{Point}
-use Rattle.lra_program.specs.Sites.{Site, sites_of}
-use Rattle.lra_program.specs.Traces.{Trace, NoChange}
-use Rattle.lra_operations.specs.Tree.{Node}
-use Rattle.lra_operations.specs.Traces.{to_point}
-use Rattle.lra_operations.specs.Agree.{AreDistinct, IsInlinedTree}
-use Rattle.lra_operations.specs.TracesAgree.{TreeRunsUpTo, TracesAgree}
-use Rattle.lra_inline_sound.proofs.Agreement.{graphs_have_trails}
-use Rattle.lra_inline_sound.proofs.DistinctSites.{distinct_sites}
-use Rattle.lra_inline_sound.proofs.Performed.{performed}
+use Rattle.lra_program.specs.{Program.Program, Run.Point, Sites.Site, Sites.sites_of, Step.State, Traces.Trace, Traces.NoChange, WellFormed.AreGoodGlobals, WellFormed.IsWellFormed}
+use Rattle.lra_operations.specs.{Agree.AreDistinct, Agree.IsInlinedTree, Traces.to_point, TracesAgree.TreeRunsUpTo, TracesAgree.TracesAgree, Tree.Node}
+use Rattle.lra_inline_sound.proofs.{Agreement.graphs_have_trails, DistinctSites.distinct_sites, Performed.performed}
 
 -- the tree comes to the points of the program's runs, on their trails; no two points are the same
 pub record FollowsRuns (P : Program) (g : Node) : Type 0 where

@@ -1,17 +1,11 @@
 -- The laws on programs, as they are claimed.
 use Rattle.std.proofs.Common.{ℕ, ℤ, List, Bool}
 use Rattle.std.specs.Prelude.{IsTrue}
-use Rattle.lra_program.specs.Program.{Program}
-use Rattle.lra_program.specs.WellFormed.{IsWellFormed}
-use Rattle.lra_operations.specs.Tree.{Node}
-use Rattle.lra_operations.specs.Agree.{IsInlinedTree}
+use Rattle.lra_program.specs.{Program.Program, Traces.Trace, Traces.NoChange, WellFormed.IsWellFormed}
+use Rattle.lra_operations.specs.{Agree.IsInlinedTree, Traces.RunExtent, Traces.RunsUpTo, Tree.Node}
 use Rattle.lra_path_segments.specs.Segments.{Goal}
-use Rattle.lra_program.specs.Traces.{Trace, NoChange}
-use Rattle.lra_operations.specs.Traces.{RunExtent, RunsUpTo}
-use Rattle.lra_paths.proofs.Came.{came}
+use Rattle.lra_paths.proofs.{Came.came, CoverSteps.paths_cover, CoverSteps.kept, FollowedRuns.graphs_follow_runs}
 use Rattle.lra_paths.specs.Covers.{HasGone, PathsCover, AreInductiveAlong, HoldInAllRuns}
-use Rattle.lra_paths.proofs.FollowedRuns.{graphs_follow_runs}
-use Rattle.lra_paths.proofs.CoverSteps.{paths_cover, kept}
 
 pub all_paths_cover : (P : Program) (g : Node) → IsWellFormed P → IsInlinedTree P g → PathsCover P g
 all_paths_cover P g well is = paths_cover P g (graphs_follow_runs P g well is)

@@ -1,31 +1,20 @@
 -- In the tree of a program each condition that is asserted stands right behind its point: so only ways from that point lead to
 -- where it is false.
-use Rattle.std.proofs.Common.{◌≡◌, ◌≢◌, ℕ, zero, suc, ◌+◌, ◌<◌, ◌≤◌, List, [], ◌∷◌, ◌++◌, map, filter, flat_map, length, Option, Bool, true, false, cond}
-use Rattle.std.proofs.Common.{inl, inr, refl, sym, ap, ◌∙◌, subst, arith, append-nil}
-use Rattle.std.specs.Prelude.{nat_eq, ◌&&◌}
-use Rattle.std.specs.List.{All, range_with_len}
-use Rattle.std.proofs.lemmas.Bool.{cases_lt, eqb-true}
+use Rattle.std.proofs.Common.{◌≡◌, ◌≢◌, ℕ, zero, suc, ◌+◌, ◌<◌, ◌≤◌, List, [], ◌∷◌, ◌++◌, map, filter, flat_map, length, Option, Bool, true, false, cond, inl, inr, refl, sym, ap, ◌∙◌, subst, arith}
 use Rattle.std.proofs.lemmas.List.Elements.{All-nil, All-cons, All-head, All-tail, All-append, All-map, All-weaker}
-use Rattle.lra_base.specs.declared.number_types.NumberType.{NumberType}
-use Rattle.lra_program.specs.declared.receivers.Receiver.{Receiver}
+use Rattle.std.proofs.{Common.append-nil, lemmas.Bool.cases_lt, lemmas.Bool.eqb-true}
+use Rattle.std.specs.{List.All, List.range_with_len, Prelude.nat_eq, Prelude.◌&&◌}
+use Rattle.lra_base.specs.{declared.case_labels.CaseLabel.CaseLabel, declared.number_types.NumberType.NumberType}
 use Rattle.lra_program.specs.Program.{Expr, Cond, Call, Rvalue, Stmt, Cases, BlockItems, Program}
-use Rattle.lra_program.specs.Value.{Argument}
-use Rattle.lra_program.specs.Step.{Op, test}
-use Rattle.lra_program.specs.Sites.{Site, sites_of}
-use Rattle.lra_base.specs.declared.case_labels.CaseLabel.{CaseLabel}
-use Rattle.lra_operations.specs.Tree.{Exit, normal, Node, empty, point, act, check, seq, choose, iterate, catch, leave, select}
-use Rattle.lra_operations.specs.Tree.{Arms, no_arms, entry, arm}
+use Rattle.lra_program.specs.{Sites.Site, Sites.sites_of, Step.Op, Step.test, Value.Argument, declared.receivers.Receiver.Receiver}
+use Rattle.lra_operations.specs.Inlined.{InlineState, InlineStmt, InlineItems, InlineCases, InlineDeclarator, InlineLoop, InlineRvalue, InlineCall, as_nothing, as_block, as_absent, as_assign}
+use Rattle.lra_operations.specs.Inlined.{as_write, as_write_call, as_call, as_if, as_loop, as_for, as_break, as_continue, as_return, as_return_value, as_return_call, as_end, as_end_value, as_end_call}
+use Rattle.lra_operations.specs.Inlined.{as_assert, as_switch, as_no_cases, as_labelled, as_stated, as_assume, as_none, as_declaration, as_array, as_statement, as_fresh, as_given, is_loop, as_value}
+use Rattle.lra_operations.specs.Tree.{Exit, normal, Node, empty, point, act, check, seq, choose, iterate, catch, leave, select, Arms, no_arms, entry, arm}
+use Rattle.lra_operations.specs.{Agree.IsInlinedTree, Inlined.as_result, Inlined.is_call}
 use Rattle.lra_operations.proofs.ArmRows.{arms_row}
-use Rattle.lra_operations.specs.Agree.{IsInlinedTree}
-use Rattle.lra_operations.specs.Inlined.{InlineState, InlineStmt, InlineItems, InlineCases, InlineDeclarator, InlineLoop, InlineRvalue, InlineCall}
-use Rattle.lra_operations.specs.Inlined.{as_nothing, as_block, as_absent, as_assign, as_write, as_write_call, as_call, as_if, as_loop, as_for}
-use Rattle.lra_operations.specs.Inlined.{as_break, as_continue, as_return, as_return_value, as_return_call, as_end, as_end_value, as_end_call, as_assert}
-use Rattle.lra_operations.specs.Inlined.{as_switch, as_no_cases, as_labelled, as_stated}
-use Rattle.lra_operations.specs.Inlined.{as_assume, as_none, as_declaration, as_array, as_statement, as_fresh, as_given, is_loop, as_value, as_result, is_call}
-use Rattle.lra_path_segments.specs.Segments.{SegmentStep, does, goes_in, prepend_step_to_goal, enter_arms, enter_labels}
-use Rattle.lra_path_segments.specs.Segments.{Goal, comes_to, violates, GoalSegment, Segment, then_way, segment_by, tested_way, into_body, out_of_body}
-use Rattle.lra_path_segments.specs.Segments.{segment_to, through, enter}
-use Rattle.lra_path_segments.specs.Segments.{exit_suffixes, inside, Suffix, then_ways, segments_by}
+use Rattle.lra_path_segments.specs.Segments.{SegmentStep, does, goes_in, prepend_step_to_goal, enter_arms, enter_labels, Goal, comes_to, violates, GoalSegment, Segment, then_way, segment_by}
+use Rattle.lra_path_segments.specs.Segments.{tested_way, into_body, out_of_body, segment_to, through, enter, exit_suffixes, inside, Suffix, then_ways, segments_by}
 use Rattle.lra_path_segments.proofs.LabelLaws.{enter_row, inside_row}
 use Rattle.lra_path_disjuncts.specs.Disjuncts.{written}
 use Rattle.lra_paths.specs.Paths.{same_goal, started, live_at, actions_between, path_by, paths_between, violations_of}

@@ -1,20 +1,10 @@
 -- Paths to one goal, way by way.
-use Rattle.std.proofs.Common.{◌≡◌, ◌≤◌, ◌<◌, ℕ, suc, ◌+◌, List, [], ◌∷◌, ◌++◌, length, take, sym, ap, ◌∙◌, arith, append-nil}
-use Rattle.std.proofs.Common.{get_or, length-append, Bool, true, false, cond, subst, refl, inl, inr, ◌⊎◌}
-use Rattle.std.proofs.lemmas.Bool.{cases_lt, eqb-true}
-use Rattle.std.proofs.lemmas.List.{take_all}
-use Rattle.std.proofs.Math.Seq.{take-suc}
-use Rattle.std.proofs.lemmas.Grind.{flat_map-append}
-use Rattle.std.proofs.lemmas.List.Folds.{length-flat_map-take}
+use Rattle.std.proofs.Common.{◌≡◌, ◌≤◌, ◌<◌, ℕ, suc, ◌+◌, List, [], ◌∷◌, ◌++◌, length, take, sym, ap, ◌∙◌, arith, append-nil, get_or, length-append, Bool, true, false, cond, subst, refl, inl, inr}
+use Rattle.std.proofs.{Common.◌⊎◌, Math.Seq.take-suc, lemmas.Bool.cases_lt, lemmas.Bool.eqb-true, lemmas.Grind.flat_map-append, lemmas.List.take_all, lemmas.List.Folds.length-flat_map-take}
 use Rattle.lra_domain.specs.Actions.{Action}
-use Rattle.lra_path_segments.specs.Segments.{Goal, comes_to, violates}
-use Rattle.lra_path_disjuncts.specs.Disjuncts.{disjuncts, greatest_paths}
-use Rattle.lra_paths.specs.Paths.{same_goal}
-use Rattle.lra_paths.specs.Sources.{AreFewFor, AreFewTo, to_goal, to_goal_by}
-use Rattle.lra_path_segments.specs.TreeSegmentViews.{goal_view}
-use Rattle.lra_path_disjuncts.specs.Tables.{capped, moves_at}
-use Rattle.lra_paths.specs.declared.sources.SourceSegment.{SourceSegment}
-use Rattle.lra_path_disjuncts.specs.declared.tables.MovesEntry.{MovesEntry}
+use Rattle.lra_path_segments.specs.{Segments.Goal, Segments.comes_to, Segments.violates, TreeSegmentViews.goal_view}
+use Rattle.lra_path_disjuncts.specs.{Disjuncts.disjuncts, Disjuncts.greatest_paths, Tables.capped, Tables.moves_at, declared.tables.MovesEntry.MovesEntry}
+use Rattle.lra_paths.specs.{Paths.same_goal, Sources.AreFewFor, Sources.AreFewTo, Sources.to_goal, Sources.to_goal_by, declared.sources.SourceSegment.SourceSegment}
 use Rattle.lra_path_disjuncts.proofs.TableSteps.{capped_few, capped_many, capped_plus}
 
 module _ (es : List MovesEntry) (goal : Goal) (ways : List SourceSegment) (i : ℕ) (d : SourceSegment) (inside : i < length ways) where

@@ -1,19 +1,13 @@
 -- Operations from the start lead where one of their lists of actions leads.
-use Rattle.std.proofs.Common.{ℤ, List, [], map, length}
+use Rattle.std.proofs.{Common.ℤ, Common.List, Common.[], Common.map, Common.length, lemmas.List.length-map}
 use Rattle.lra_domain.specs.Moves.{SomeLeads}
-use Rattle.lra_program.specs.WellFormed.{AreGoodGlobals}
-use Rattle.lra_program.specs.Program.{Program}
-use Rattle.lra_program.specs.declared.program.GlobalVariable.{GlobalVariable}
-use Rattle.lra_program.specs.Step.{State}
-use Rattle.lra_program.specs.Run.{begun}
+use Rattle.lra_program.specs.{Program.Program, Run.begun, Step.State, WellFormed.AreGoodGlobals, declared.program.GlobalVariable.GlobalVariable}
 use Rattle.lra_analysis_spec.specs.MovesOf.{first_values}
 use Rattle.lra_analysis_spec.proofs.Keeping.{first_lead}
-use Rattle.std.proofs.lemmas.List.{length-map}
 use Rattle.lra_path_segments.specs.Segments.{SegmentStep, RunsOps}
 use Rattle.lra_path_disjuncts.specs.Disjuncts.{disjuncts, written}
 use Rattle.lra_paths.specs.Paths.{from_start}
-use Rattle.lra_path_disjuncts.proofs.SideSteps.{disjuncts_lead, then_leads}
-use Rattle.lra_path_disjuncts.proofs.WrittenSteps.{written_from}
+use Rattle.lra_path_disjuncts.proofs.{SideSteps.disjuncts_lead, SideSteps.then_leads, WrittenSteps.written_from}
 
 -- from the start, where the globals come to their first values
 pub start_leads : (P : Program) → AreGoodGlobals P.globals → (ops : List SegmentStep) (draws : List ℤ) (t : State) → RunsOps ops (begun P draws) t → SomeLeads

@@ -1,18 +1,13 @@
 -- Ways of small trees, and what they are written out as. Which slip an example would catch stands beside it.
 use Rattle.std.proofs.Common.{◌≡◌, ℤ, pos, negsuc, List, [], ◌∷◌, true, false, refl}
 use Rattle.lra_linear_spec.specs.declared.ConKind.TheVariants.{Ge, Eq}
-use Rattle.lra_base.specs.declared.number_types.NumberType.TheVariants.{Long}
-use Rattle.lra_base.specs.Operators.{below, differs}
-use Rattle.lra_program.specs.Program.{Expr, Cond, literal, read, input, compare, local}
-use Rattle.lra_program.specs.Step.{Op, truncate_to, test}
-use Rattle.lra_program.proofs.RunExamples.{long_variable}
-use Rattle.lra_operations.specs.Tree.{broken, continued, normal, Node, empty, point, act, check, seq, choose, iterate, catch, leave}
-use Rattle.lra_domain.specs.Actions.{Action}
-use Rattle.lra_domain.specs.Actions as action
-use Rattle.lra_domain.specs.Moves.{make, first_then, join_of, cases}
-use Rattle.lra_base.specs.declared.case_labels.CaseLabel.{CaseLabel}
 use Rattle.lra_base.specs.declared.case_labels.CaseLabel.TheVariants.{Case, Default}
-use Rattle.lra_operations.specs.Tree.{select, no_arms, entry, arm}
+use Rattle.lra_base.specs.{Operators.below, Operators.differs, declared.case_labels.CaseLabel.CaseLabel, declared.number_types.NumberType.TheVariants.Long}
+use Rattle.lra_program.specs.{Program.Expr, Program.Cond, Program.literal, Program.read, Program.input, Program.compare, Program.local, Step.Op, Step.truncate_to, Step.test}
+use Rattle.lra_program.proofs.RunExamples.{long_variable}
+use Rattle.lra_operations.specs.Tree.{broken, continued, normal, Node, empty, point, act, check, seq, choose, iterate, catch, leave, select, no_arms, entry, arm}
+use Rattle.lra_domain.specs.{Actions.Action, Moves.make, Moves.first_then, Moves.join_of, Moves.cases}
+use Rattle.lra_domain.specs.Actions as action
 use Rattle.lra_path_segments.specs.Segments.{SegmentStep, does, goes, comes_to, violates, through, enter, exit_suffixes, inside}
 use Rattle.lra_path_disjuncts.specs.Disjuncts.{disjuncts, written}
 

@@ -1,12 +1,10 @@
 -- Paths of a program: from its start or from a point to the next one, or to where an assertion is false, with all that
 -- is done on the way. The start has the number 0, the points those from 1 on.
-use Rattle.std.specs.Prelude.{◌≤◌, ◌<◌, ℕ, zero, suc, List, map, length, Bool, false, ◌&&◌, nat_eq}
-use Rattle.std.specs.Prelude.{Option, Some, None, slice_get}
-use Rattle.std.specs.List.{flat_map, filter, range_with_len}
+use Rattle.std.specs.Prelude.{◌≤◌, ◌<◌, ℕ, zero, suc, List, map, length, Bool, false, ◌&&◌, nat_eq, Option, Some, None}
+use Rattle.std.specs.{List.flat_map, List.filter, List.range_with_len, Prelude.slice_get}
 use Rattle.lra_domain.specs.Actions.{Action}
-use Rattle.lra_program.specs.Program.{Program}
 use Rattle.lra_program.specs.declared.program.GlobalVariable.{GlobalVariable}
-use Rattle.lra_program.specs.Sites.{Site, sites_of}
+use Rattle.lra_program.specs.{Program.Program, Sites.Site, Sites.sites_of}
 use Rattle.lra_operations.specs.Tree.{Node}
 use Rattle.lra_analysis_spec.specs.MovesOf.{first_values}
 use Rattle.lra_path_segments.specs.Segments.{SegmentStep, Goal, comes_to, violates, GoalSegment, Segment, each_then}

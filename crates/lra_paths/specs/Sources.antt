@@ -1,23 +1,16 @@
 -- The ways from one source, with a table of their moves, and the paths that are written out of it.
 use Rattle.std.specs.Prelude.{◌≡◌, ◌<◌, ◌≤◌, ℕ, zero, suc, List, [], ◌∷◌, ◌++◌, Bool, true, false, cond, nat_eq, length}
-use Rattle.std.specs.Prelude.{Option, Some, None, slice_get}
-use Rattle.std.specs.List.{flat_map}
-use Rattle.lra_domain.specs.Actions.{Action}
-use Rattle.lra_domain.specs.Moves.{Moves, stay, first_then}
-use Rattle.lra_program.specs.declared.program.GlobalVariable.{GlobalVariable}
-use Rattle.lra_program.specs.Sites.{Site}
+use Rattle.std.specs.{List.flat_map, Prelude.Option, Prelude.Some, Prelude.None, Prelude.slice_get}
+use Rattle.lra_domain.specs.{Actions.Action, Moves.Moves, Moves.stay, Moves.first_then}
+use Rattle.lra_program.specs.{Sites.Site, declared.program.GlobalVariable.GlobalVariable}
 use Rattle.lra_analysis_spec.specs.MovesOf.{first_values}
-use Rattle.lra_path_segments.specs.Segments.{SegmentStep, Goal}
-use Rattle.lra_path_disjuncts.specs.Disjuncts.{disjuncts, greatest_paths}
-use Rattle.lra_paths.specs.Paths.{live_of, same_goal}
 use Rattle.lra_path_segments.specs.TreeSegments.{End, exits, reaches, TreeSegment}
-use Rattle.lra_path_segments.specs.TreeSegmentViews.{goal_view}
+use Rattle.lra_path_segments.specs.{Segments.SegmentStep, Segments.Goal, TreeSegmentViews.goal_view}
+use Rattle.lra_path_disjuncts.specs.Disjuncts.{disjuncts, greatest_paths}
 use Rattle.lra_path_disjuncts.specs.Tables.{Has, IsTable, Grows, moves_at}
-use Rattle.lra_path_disjuncts.specs.SegmentMoves.{segment_moves}
-use Rattle.lra_paths.specs.declared.paths.Departure.{Departure}
-use Rattle.lra_paths.specs.declared.sources.SourceSegment.{SourceSegment}
-use Rattle.lra_paths.specs.declared.sources.Source.{Source}
-use Rattle.lra_path_disjuncts.specs.declared.tables.MovesEntry.{MovesEntry}
+use Rattle.lra_path_disjuncts.specs.{SegmentMoves.segment_moves, declared.tables.MovesEntry.MovesEntry}
+use Rattle.lra_paths.specs.{Paths.live_of, Paths.same_goal, declared.paths.Departure.Departure}
+use Rattle.lra_paths.specs.{declared.sources.Source.Source, declared.sources.SourceSegment.SourceSegment}
 
 -- the paths of a way, where it has this goal
 abbrev pub to_goal_by : List MovesEntry → Goal → SourceSegment → List (List Action)

@@ -1,9 +1,7 @@
 -- Where the assertion at a point is false, only paths from that point lead there.
 use Rattle.std.specs.Prelude.{◌≡◌, ◌<◌, ℕ, suc, length}
-use Rattle.lra_program.specs.Program.{Program}
-use Rattle.lra_program.specs.Sites.{sites_of}
-use Rattle.lra_operations.specs.Tree.{Node}
-use Rattle.lra_operations.specs.Agree.{IsInlinedTree}
+use Rattle.lra_program.specs.{Program.Program, Sites.sites_of}
+use Rattle.lra_operations.specs.{Agree.IsInlinedTree, Tree.Node}
 use Rattle.lra_path_segments.specs.Segments.{violates}
 use Rattle.lra_paths.specs.Paths.{paths_between, violations_of}
 

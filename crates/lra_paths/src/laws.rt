@@ -1,8 +1,7 @@
 //! Laws: each of these does nothing, and its contract is the theorem.
 
 ghost use Rattle.lra_paths.specs.Covers.{AllPathsCover, SegmentsCover, InductiveHolds};
-ghost use Rattle.lra_paths.specs.Violations.{ViolationsAreOwn};
-ghost use Rattle.lra_paths.specs.FewPaths.{FewExcludeMany};
+ghost use Rattle.lra_paths.specs.{FewPaths.FewExcludeMany, Violations.ViolationsAreOwn};
 
 /// What a run of a tree has done since the last point that it met goes along a way of the tree.
 pub fn segments_cover()

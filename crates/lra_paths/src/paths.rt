@@ -2,15 +2,14 @@
 //! table, out of which its paths are written.
 
 ghost use Rattle.std.specs.Prelude.{◌≡◌, ◌<◌, ℕ, length, map, slice_get, Err, IfOk, OnOk};
-ghost use Rattle.lra_operations.specs.Tree.{Node};
-ghost use Rattle.lra_operations.specs.TreeViews.{node_view, site_view};
+ghost use Rattle.lra_operations.specs.{Tree.Node, TreeViews.node_view, TreeViews.site_view};
 ghost use Rattle.lra_paths.specs.Paths.{AreFewIn, HasTooManyIn, actions_between_in, live_of};
 ghost use Rattle.lra_paths.specs.Sources as sources;
-ghost use Rattle.lra_paths.specs.Sources.{Adds, IsDeparture, IsSource, all_departing, departing, ending};
-ghost use Rattle.lra_paths.specs.Sources.{same_point, to_goal};
+ghost use Rattle.lra_paths.specs.Sources.{Adds, IsDeparture, IsSource, all_departing, departing, ending, same_point};
+ghost use Rattle.lra_paths.specs.Sources.{to_goal};
 ghost use Rattle.lra_path_segments.specs.TreeSegments as ways;
-ghost use Rattle.lra_path_segments.specs.TreeSegments.{AreSegmentsOf};
 ghost use Rattle.lra_path_segments.specs.TreeSegmentViews.{end_view, goal_view, move_view, seen, tree_segment_view};
+ghost use Rattle.lra_path_segments.specs.TreeSegments.{AreSegmentsOf};
 ghost use Rattle.lra_path_disjuncts.specs.Tables.{IsTable, moves_at};
 ghost use Rattle.lra_path_segments.specs.Segments as trees;
 ghost use Rattle.lra_paths.specs.declared.paths.PathsFailure.TheVariants.{TooMany};

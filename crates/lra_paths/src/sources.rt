@@ -1,12 +1,10 @@
 //! The paths from one source, written out for one goal at a time.
 
 ghost use Rattle.std.specs.Prelude.{[], ◌≡◌, ◌≤◌, ◌++◌, length, cond, true, false, OnOk, IfOk};
-ghost use Rattle.lra_path_disjuncts.specs.Disjuncts.{greatest_paths, disjuncts};
-ghost use Rattle.lra_paths.specs.Paths.{same_goal};
-ghost use Rattle.lra_paths.specs.Sources.{AreFewTo, AreManyTo, to_goal};
-ghost use Rattle.lra_path_segments.specs.TreeSegmentViews.{goal_view};
-ghost use Rattle.lra_path_disjuncts.specs.TableDisjuncts.{lists_done};
 ghost use Rattle.lra_path_disjuncts.specs.Tables.{IsTable, capped, count_of, moves_at};
+ghost use Rattle.lra_path_disjuncts.specs.{Disjuncts.greatest_paths, Disjuncts.disjuncts, TableDisjuncts.lists_done};
+ghost use Rattle.lra_paths.specs.{Paths.same_goal, Sources.AreFewTo, Sources.AreManyTo, Sources.to_goal};
+ghost use Rattle.lra_path_segments.specs.TreeSegmentViews.{goal_view};
 
 use lra_domain::Change;
 use lra_path_disjuncts::{GREATEST_PATHS, MovesEntry, add_capped, disjuncts_at, write_disjuncts};

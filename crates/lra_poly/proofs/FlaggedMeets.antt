@@ -1,21 +1,15 @@
 -- A meet that goes on from the lists at hand is flagged only where these strain.
 use Rattle.std.proofs.Common.{◌≡◌, ◌∙◌, ℕ, suc, List, [], ◌∷◌, ◌++◌, ap, refl, subst, sym, inl, inr}
-use Rattle.std.specs.List.{Contains}
 use Rattle.std.proofs.lemmas.List.{append-nil, append_assoc}
-use Rattle.lra_linear_spec.specs.Descriptions.{LinearRow}
-use Rattle.lra_linear_spec.specs.OperationStrain.{with_positivity}
-use Rattle.lra_linear_spec.specs.Polyhedra.{Polyhedron}
-use Rattle.lra_linear_spec.specs.Strain.{Loss, Strains}
+use Rattle.std.specs.List.{Contains}
+use Rattle.lra_linear_spec.specs.{Descriptions.LinearRow, OperationStrain.with_positivity, Polyhedra.Polyhedron, Strain.Loss, Strain.Strains}
 use Rattle.lra_linear_spec.proofs.Membership.{contains_cases, contains_head, contains_none, contains_tail}
-use Rattle.lra_cone.specs.Cones.{ConeContent}
-use Rattle.lra_cone.specs.Conversions.{AreTried, IsConversion}
+use Rattle.lra_cone.specs.{Cones.ConeContent, Conversions.AreTried, Conversions.IsConversion}
 use Rattle.lra_duality.specs.Incremental.{MayGoOn}
 use Rattle.lra_description_pair.specs.TriedRows.{IsOfTried, OwnListStrains}
 use Rattle.lra_description_pair.proofs.PairLosses.{own_strain}
-use Rattle.lra_poly.specs.declared.outcome.Outcome.TheVariants.{Exact, Flagged}
 use Rattle.lra_poly.specs.Restricted.{IsRestricted, IsTried}
-use Rattle.lra_poly.specs.Outcomes.{first_loss}
-use Rattle.lra_poly.specs.StrainsAfter.{StrainsAfter}
+use Rattle.lra_poly.specs.{Outcomes.first_loss, StrainsAfter.StrainsAfter, declared.outcome.Outcome.TheVariants.Exact, declared.outcome.Outcome.TheVariants.Flagged}
 
 same_head : {A : Type 0} {x y : A} {xs ys : List A} → x ∷ xs ≡ y ∷ ys → x ≡ y
 same_head e = cc

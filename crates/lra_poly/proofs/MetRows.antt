@@ -1,26 +1,20 @@
 -- Inclusions that are answered by Yes, and what is kept of rows that are met with a polyhedron.
 use Rattle.std.proofs.Common.{◌≡◌, ◌∙◌, ◌↔◌, ℕ, List, ◌∷◌, ◌++◌, ap, refl, subst, sym, Bool, true, false, drop, IsTrue, inl, inr, []}
-use Rattle.std.specs.List.{Contains}
 use Rattle.std.proofs.lemmas.List.Elements.{All-contains, Contains-append_right}
-use Rattle.lra_linear_spec.specs.Descriptions.{Con, LinearRow, inequality}
+use Rattle.std.specs.List.{Contains}
 use Rattle.lra_linear_spec.specs.OperationStrain.{FromRowsStrains, with_positivity}
-use Rattle.lra_linear_spec.specs.Polyhedra.{Polyhedron, positivity}
-use Rattle.lra_linear_spec.specs.Strain.{Loss}
+use Rattle.lra_linear_spec.specs.{Descriptions.Con, Descriptions.LinearRow, Descriptions.inequality, Polyhedra.Polyhedron, Polyhedra.positivity, Strain.Loss}
 use Rattle.lra_linear_spec.proofs.Membership.{contains_head}
 use Rattle.lra_systems.specs.FirstPlaces.{FirstAt}
 use Rattle.lra_duality.specs.Inclusions.{IsInclusion, Satisfies, SatisfiesAll, Passes, ViolatesFirst, Violates}
-use Rattle.lra_duality.specs.declared.inclusion.Inclusion.{Inclusion}
 use Rattle.lra_duality.specs.declared.inclusion.Inclusion.TheVariants.{Yes, No, Wide}
+use Rattle.lra_duality.specs.{Incremental.MayGoOn, declared.inclusion.Inclusion.Inclusion}
 use Rattle.lra_duality.proofs.MaximumLemmas.{never_both}
-use Rattle.lra_duality.specs.Incremental.{MayGoOn}
-use Rattle.lra_description_pair.specs.OwnLists.{IsPositive}
-use Rattle.lra_description_pair.specs.TriedRows.{IsOfTried}
+use Rattle.lra_description_pair.specs.{OwnLists.IsPositive, TriedRows.IsOfTried}
 use Rattle.lra_description_pair.proofs.MadeLemmas.{tried_is_made}
 use Rattle.lra_poly.specs.Restricted.{IsMetWith, IsSeenWithin, IsSettled, IsTried}
-use Rattle.lra_poly.specs.Outcomes.{IsOfRows, first_loss}
+use Rattle.lra_poly.specs.{Outcomes.IsOfRows, Outcomes.first_loss, declared.outcome.Outcome.Outcome, declared.outcome.Outcome.TheVariants.Exact, declared.outcome.Outcome.TheVariants.Flagged}
 use Rattle.lra_poly.proofs.PolyLemmas.{becomes_told}
-use Rattle.lra_poly.specs.declared.outcome.Outcome.{Outcome}
-use Rattle.lra_poly.specs.declared.outcome.Outcome.TheVariants.{Exact, Flagged}
 
 at_place : {A : Type 0} (P Q R : A → Type 0) (list : List A) (place : ℕ) (f : FirstAt P Q list place) → ((x : A) → Contains list x → R x) → R f.member
 at_place P Q R list place f h = h f.member (subst (λ l. Contains l f.member) (sym f.is) (Contains-append_right f.earlier (f.member ∷ f.later) f.member (contains_head f.member f.later)))

@@ -1,8 +1,6 @@
 -- The outcomes of two calls in a row as one.
 use Rattle.std.proofs.Common.{◌≡◌, ◌≢◌, refl, sym, subst}
-use Rattle.lra_poly.specs.declared.outcome.Outcome.{Outcome}
-use Rattle.lra_poly.specs.declared.outcome.Outcome.TheVariants.{Exact, Flagged}
-use Rattle.lra_poly.specs.Outcomes.{first_of}
+use Rattle.lra_poly.specs.{Outcomes.first_of, declared.outcome.Outcome.Outcome, declared.outcome.Outcome.TheVariants.Exact, declared.outcome.Outcome.TheVariants.Flagged}
 
 pub later_told : (own later : Outcome) → own ≡ Exact → first_of own later ≡ later
 later_told own later e = subst (λ (o : Outcome). first_of o later ≡ later) (sym e) refl

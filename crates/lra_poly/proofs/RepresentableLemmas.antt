@@ -1,14 +1,9 @@
 -- The two lists of a polyhedron make a formed one.
 use Rattle.std.proofs.Common.{◌≡◌, ◌∙◌, ℕ, ℤ, Bool, List, [], ◌∷◌, ap, inl, inr, refl, subst, sym}
-use Rattle.std.specs.List.{All, Contains}
 use Rattle.std.proofs.lemmas.List.Elements.{All-contains}
-use Rattle.lra_linear_spec.specs.Descriptions.{LinearRow}
-use Rattle.lra_linear_spec.specs.Representable.{AreInRange, IsRepresentable, KeepsLimit}
-use Rattle.lra_linear_spec.specs.Kinds.{is_equality, is_line}
-use Rattle.lra_linear_spec.specs.Polyhedra.{IsPolyhedron, Polyhedron}
-use Rattle.lra_linear_spec.specs.Range.{InRange}
-use Rattle.lra_linear_spec.specs.declared.ConKind.{ConKind}
-use Rattle.lra_linear_spec.specs.declared.GenKind.{GenKind}
+use Rattle.std.specs.List.{All, Contains}
+use Rattle.lra_linear_spec.specs.{Descriptions.LinearRow, Kinds.is_equality, Kinds.is_line, Polyhedra.IsPolyhedron, Polyhedra.Polyhedron, Range.InRange, Representable.AreInRange}
+use Rattle.lra_linear_spec.specs.{Representable.IsRepresentable, Representable.KeepsLimit, declared.ConKind.ConKind, declared.GenKind.GenKind}
 use Rattle.lra_systems.specs.LinearSystems.{FitKinds, LinearSystem, constraints, generators, rows_by_kind}
 use Rattle.lra_bits.specs.Matrix.{Matrix}
 use Rattle.lra_duality.specs.Saturations.{saturation_of}

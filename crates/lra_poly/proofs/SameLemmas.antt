@@ -1,14 +1,9 @@
 -- Polyhedra of the same dimensions and constraints are the same.
 use Rattle.std.proofs.Common.{◌≡◌, ◌≢◌, ◌∙◌, Bool, false, ap, length, sym, subst}
-use Rattle.std.specs.Bool.{one_answer}
-use Rattle.std.specs.Prelude.{◌↔◌, IsTrue}
-use Rattle.lra_linear_spec.specs.Descriptions.{Con, rows_of}
-use Rattle.lra_linear_spec.specs.Points.{SameSet}
-use Rattle.lra_linear_spec.specs.Polyhedra.{IsPolyhedron, Polyhedron}
-use Rattle.lra_linear_spec.specs.declared.ConKind.{ConKind}
+use Rattle.std.specs.{Bool.one_answer, Prelude.◌↔◌, Prelude.IsTrue}
+use Rattle.lra_linear_spec.specs.{Descriptions.Con, Descriptions.rows_of, Kinds.is_equality, Points.SameSet, Polyhedra.IsPolyhedron, Polyhedra.Polyhedron, declared.ConKind.ConKind}
 use Rattle.lra_systems.specs.LinearSystems.{LinearSystem, constraints}
 use Rattle.lra_linear_spec.proofs.OneSpelling.{same_points_same_lists}
-use Rattle.lra_linear_spec.specs.Kinds.{is_equality}
 use Rattle.lra_description_pair.proofs.OwnRows.{rows_of_given}
 use Rattle.lra_poly.specs.Equality.{polyhedron_Decides, polyhedron_eq}
 

@@ -1,14 +1,9 @@
 -- An operation that takes in generators which give its exact result.
 use Rattle.std.proofs.Common.{◌≡◌, ℕ, List, subst, inl, inr}
-use Rattle.lra_linear_spec.specs.Descriptions.{Gen, LinearRow}
 use Rattle.lra_linear_spec.specs.OperationStrain.{FromGeneratorsStrains, GeneratorsStrain, with_positivity}
-use Rattle.lra_linear_spec.specs.Points.{IsWithin, PointSet, SameSet}
-use Rattle.lra_linear_spec.specs.Polyhedra.{Polyhedron}
-use Rattle.lra_linear_spec.specs.Strain.{Loss}
+use Rattle.lra_linear_spec.specs.{Descriptions.Gen, Descriptions.LinearRow, Points.IsWithin, Points.PointSet, Points.SameSet, Polyhedra.Polyhedron, Strain.Loss, declared.GenKind.GenKind}
 use Rattle.lra_systems.specs.LinearSystems.{LinearSystem, generators}
-use Rattle.lra_linear_spec.specs.declared.GenKind.{GenKind}
-use Rattle.lra_poly.specs.Outcomes.{Becomes, IsOfGenerators}
-use Rattle.lra_poly.specs.declared.outcome.Outcome.{Outcome}
+use Rattle.lra_poly.specs.{Outcomes.Becomes, Outcomes.IsOfGenerators, declared.outcome.Outcome.Outcome}
 use Rattle.lra_poly.proofs.PolyLemmas.{becomes_same, result_strain}
 
 -- the list, which stands for these generators, gives the set

@@ -1,17 +1,11 @@
 -- What is told of generators that strain.
 use Rattle.std.proofs.Common.{◌≡◌, ◌≢◌, ◌∙◌, ℕ, List, [], ◌∷◌, ◌++◌, refl, subst, sym, inl, inr}
-use Rattle.lra_linear_spec.specs.Descriptions.{LinearRow}
-use Rattle.lra_linear_spec.specs.Polyhedra.{Polyhedron}
-use Rattle.lra_linear_spec.specs.Strain.{Loss}
-use Rattle.lra_linear_spec.specs.declared.GenKind.{GenKind}
+use Rattle.lra_linear_spec.specs.{Descriptions.LinearRow, Polyhedra.Polyhedron, Strain.Loss, declared.GenKind.GenKind}
 use Rattle.lra_systems.specs.LinearSystems.{LinearSystem, generators}
 use Rattle.lra_duality.specs.Incremental.{MayTurn}
-use Rattle.lra_description_pair.specs.TakenPoints.{IsOfPoints}
-use Rattle.lra_description_pair.specs.TriedRows.{StrainsWhenTried}
-use Rattle.lra_poly.specs.declared.outcome.Outcome.{Outcome}
-use Rattle.lra_poly.specs.declared.outcome.Outcome.TheVariants.{Exact, Flagged}
-use Rattle.lra_poly.specs.Outcomes.{IfFlagged, first_loss}
+use Rattle.lra_description_pair.specs.{TakenPoints.IsOfPoints, TriedRows.StrainsWhenTried}
 use Rattle.lra_poly.specs.United.{AreTriedPoints, CannotExtend, UnitesAnew}
+use Rattle.lra_poly.specs.{Outcomes.IfFlagged, Outcomes.first_loss, declared.outcome.Outcome.Outcome, declared.outcome.Outcome.TheVariants.Exact, declared.outcome.Outcome.TheVariants.Flagged}
 
 some_told : (l : Loss) (losses : List Loss) → l ∷ losses ≢ []
 some_told l losses e = cc

@@ -1,16 +1,10 @@
 -- Equality of polyhedra by their lists, and what of a polyhedron is hashed.
-use Rattle.std.proofs.Common.{◌≡◌, ◌++◌, Bool, ap}
-use Rattle.std.proofs.lemmas.Bool.Decides.{Decides-and}
-use Rattle.std.proofs.Math.Bool.{beq}
-use Rattle.std.specs.Bool.{Decides}
+use Rattle.std.proofs.{Common.◌≡◌, Common.◌++◌, Common.Bool, Common.ap, Math.Bool.beq, lemmas.Bool.Decides.Decides-and}
 use Rattle.std.specs.Cmp.{IsEquivalence, booleans_Decides, decided, unsigned_Decides}
 use Rattle.std.specs.Cmp.Lexicographic.{pointwise, pointwise_decides}
-use Rattle.std.specs.Cmp.Rules.{signed_items}
+use Rattle.std.specs.{Bool.Decides, Cmp.Rules.signed_items, Ordering.int_eq, Prelude.◌&&◌, Prelude.nat_eq}
 use Rattle.std.specs.Hash as fed
-use Rattle.std.specs.Ordering.{int_eq}
-use Rattle.std.specs.Prelude.{◌&&◌, nat_eq}
-use Rattle.lra_linear_spec.specs.Descriptions.{LinearRow, rows_of}
-use Rattle.lra_linear_spec.specs.Polyhedra.{Polyhedron}
+use Rattle.lra_linear_spec.specs.{Descriptions.LinearRow, Descriptions.rows_of, Polyhedra.Polyhedron}
 
 abbrev pub given_eq : LinearRow → LinearRow → Bool
 given_eq g h = pointwise int_eq g.row h.row && beq g.equal h.equal

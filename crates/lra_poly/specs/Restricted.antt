@@ -1,16 +1,11 @@
 -- What meets and tests make of a polyhedron, flagged or not.
 use Rattle.std.specs.Prelude.{◌≡◌, ◌⊎◌, ℕ, List, [], ◌++◌}
-use Rattle.lra_linear_spec.specs.Descriptions.{LinearRow}
 use Rattle.lra_linear_spec.specs.OperationStrain.{with_positivity}
-use Rattle.lra_linear_spec.specs.Polyhedra.{Polyhedron}
-use Rattle.lra_linear_spec.specs.Strain.{Loss}
+use Rattle.lra_linear_spec.specs.{Descriptions.LinearRow, Polyhedra.Polyhedron, Strain.Loss}
 use Rattle.lra_description_pair.specs.TriedRows.{IsOfTried}
-use Rattle.lra_duality.specs.Inclusions.{IsInclusion}
-use Rattle.lra_duality.specs.Incremental.{MayGoOn}
-use Rattle.lra_duality.specs.declared.inclusion.Inclusion.TheVariants.{Yes}
-use Rattle.lra_poly.specs.declared.outcome.Outcome.{Outcome}
+use Rattle.lra_duality.specs.{Inclusions.IsInclusion, Incremental.MayGoOn, declared.inclusion.Inclusion.TheVariants.Yes}
 use Rattle.lra_poly.specs.declared.outcome.Outcome.TheVariants.{Exact, Flagged}
-use Rattle.lra_poly.specs.Outcomes.{first_loss}
+use Rattle.lra_poly.specs.{Outcomes.first_loss, declared.outcome.Outcome.Outcome}
 
 -- the rows were tried behind the first ones, and the first loss is told
 pub record IsTried (n : ℕ) (first all : List LinearRow) (made : Polyhedron) (o : Outcome) : Type 0 where

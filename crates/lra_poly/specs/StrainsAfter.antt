@@ -1,8 +1,7 @@
 -- Losses of rows that are tried behind others.
-use Rattle.std.specs.Prelude.{◌≡◌, ◌⊎◌, ℕ, suc, List, [], ◌∷◌, ◌++◌}
 use Rattle.std.specs.List.{Contains}
-use Rattle.lra_linear_spec.specs.Descriptions.{LinearRow}
-use Rattle.lra_linear_spec.specs.Strain.{Loss, Strains}
+use Rattle.std.specs.Prelude.{◌≡◌, ◌⊎◌, ℕ, suc, List, [], ◌∷◌, ◌++◌}
+use Rattle.lra_linear_spec.specs.{Descriptions.LinearRow, Strain.Loss, Strain.Strains}
 
 -- behind the first rows, and some of the others, the next one strains, or all of these themselves
 pub record StrainsAfter (n : ℕ) (first all : List LinearRow) (loss : Loss) : Type 0 where

@@ -1,13 +1,9 @@
 -- What hulls, and generators that are taken in, make of a polyhedron where they are flagged.
 use Rattle.std.specs.Prelude.{◌≡◌, ◌⊎◌, ℕ, List, ◌++◌}
-use Rattle.lra_linear_spec.specs.Descriptions.{LinearRow}
-use Rattle.lra_linear_spec.specs.Polyhedra.{Polyhedron}
-use Rattle.lra_linear_spec.specs.Strain.{Loss}
-use Rattle.lra_description_pair.specs.TakenPoints.{IsOfPoints}
-use Rattle.lra_description_pair.specs.TriedRows.{StrainsWhenTried}
+use Rattle.lra_linear_spec.specs.{Descriptions.LinearRow, Polyhedra.Polyhedron, Strain.Loss}
+use Rattle.lra_description_pair.specs.{TakenPoints.IsOfPoints, TriedRows.StrainsWhenTried}
 use Rattle.lra_duality.specs.Incremental.{MayTurn}
-use Rattle.lra_poly.specs.declared.outcome.Outcome.{Outcome}
-use Rattle.lra_poly.specs.Outcomes.{first_loss}
+use Rattle.lra_poly.specs.{Outcomes.first_loss, declared.outcome.Outcome.Outcome}
 
 -- the generators were tried from nothing, and the first loss is told
 pub record AreTriedPoints (n : ℕ) (given : List LinearRow) (made : Polyhedron) (o : Outcome) : Type 0 where

@@ -2,14 +2,12 @@
 
 ghost use Rattle.std.specs.Prelude.{◌≡◌, List};
 ghost use Rattle.lra_linear_spec.specs.Descriptions.{Con, Gen, LinearRow};
-ghost use Rattle.lra_linear_spec.specs.OperationStrain.{with_positivity};
-ghost use Rattle.lra_linear_spec.specs.Points.{SameSet};
 ghost use Rattle.lra_linear_spec.specs.Polyhedra.{Polyhedron, IsPolyhedron};
+ghost use Rattle.lra_linear_spec.specs.{OperationStrain.with_positivity, Points.SameSet};
 ghost use Rattle.lra_linear_spec.specs.Strain as strain;
 ghost use Rattle.lra_duality.specs.Incremental.{MayGoOn};
-ghost use Rattle.lra_poly.specs.declared.outcome.Outcome.TheVariants.{Flagged};
-ghost use Rattle.lra_poly.specs.Restricted.{IsRestricted};
 ghost use Rattle.lra_poly.specs.StrainsAfter.{StrainsAfter};
+ghost use Rattle.lra_poly.specs.{Restricted.IsRestricted, declared.outcome.Outcome.TheVariants.Flagged};
 
 /// Two polyhedra with the same points have the same constraints and the same generators, whatever made them; and the
 /// constraints of a polyhedron have the points that its generators have.

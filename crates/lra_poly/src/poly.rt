@@ -1,28 +1,23 @@
 //! Closed polyhedra.
 
-ghost use Rattle.std.specs.Prelude.{◌≡◌, ◌↔◌, ◌<◌, ◌∷◌, ◌++◌, [], length, drop, IsTrue, IfOk, IfSome, IsSome};
-ghost use Rattle.std.specs.Prelude.{IfNone, OnErr};
+ghost use Rattle.std.specs.Prelude.{◌≡◌, ◌↔◌, ◌<◌, ◌∷◌, ◌++◌, [], length, drop, IsTrue, IfOk, IfSome, IsSome, IfNone};
+ghost use Rattle.std.specs.Prelude.{OnErr};
 ghost use Rattle.lra_linear_spec.specs.Descriptions.{AreGenerators, Con, Gen, Holds};
-ghost use Rattle.lra_linear_spec.specs.Representable.{IsRepresentable, KeepsLimit};
 ghost use Rattle.lra_linear_spec.specs.OperationStrain.{AddTestStrains, MeetStrains, HullStrains, with_positivity};
 ghost use Rattle.lra_linear_spec.specs.Points.{IsEmptySet, IsWithin, SameSet};
 ghost use Rattle.lra_linear_spec.specs.Polyhedra.{IsPolyhedron, IsPolyhedronOf};
-ghost use Rattle.lra_linear_spec.specs.SetOperations.{Meet, Union, Hull};
-ghost use Rattle.lra_linear_spec.specs.Vectors.{negated};
+ghost use Rattle.lra_linear_spec.specs.Representable.{IsRepresentable, KeepsLimit};
+ghost use Rattle.lra_linear_spec.specs.{SetOperations.Meet, SetOperations.Union, SetOperations.Hull, Vectors.negated};
 ghost use Rattle.lra_systems.specs.Dimensions.{too_many_dimensions};
 ghost use Rattle.lra_systems.specs.LinearSystems.{constraints, generators, FitKinds};
-ghost use Rattle.lra_description_pair.specs.KeptRows.{IsOfSome};
-ghost use Rattle.lra_description_pair.specs.OwnLists.{IsPositive};
-ghost use Rattle.lra_description_pair.specs.TriedRows.{StrainsWhenTried};
-ghost use Rattle.lra_duality.specs.Inclusions.{IsInclusion, TellsInclusion};
-ghost use Rattle.lra_duality.specs.Maxima.{IsMaximum, TellsMaximum, ValueInRange};
+ghost use Rattle.lra_description_pair.specs.{KeptRows.IsOfSome, OwnLists.IsPositive, TriedRows.StrainsWhenTried};
+ghost use Rattle.lra_duality.specs.{Inclusions.IsInclusion, Inclusions.TellsInclusion, Maxima.IsMaximum};
+ghost use Rattle.lra_duality.specs.{Maxima.TellsMaximum, Maxima.ValueInRange, Rows.test_row, Saturations.saturation_of};
 ghost use Rattle.lra_poly.specs.Outcomes.{Becomes, IfFlagged, IsOfGenerators, IsOfRows};
 ghost use Rattle.lra_poly.specs.Restricted.{IsMetWith, IsRestricted, IsSeenWithin, IsTried};
 ghost use Rattle.lra_poly.specs.United.{AreTriedPoints, CannotExtend, UnitesAnew};
 ghost use Rattle.lra_poly.specs.declared.outcome.Outcome.TheVariants.{Exact};
 ghost use Rattle.lra_linear_forms.specs.Form.{form_row};
-ghost use Rattle.lra_duality.specs.Rows.{test_row};
-ghost use Rattle.lra_duality.specs.Saturations.{saturation_of};
 
 use crate::outcome::{Outcome, outcome_of};
 use lra_bits::SatMatrix;
@@ -60,8 +55,7 @@ impl Drop for Poly {
 
 impl Model for Poly {
     ghost use Rattle.std.specs.Prelude.{◌≡◌};
-    ghost use Rattle.lra_linear_spec.specs.Representable.{KeepsLimit};
-    ghost use Rattle.lra_linear_spec.specs.Polyhedra.{Polyhedron, IsPolyhedron};
+    ghost use Rattle.lra_linear_spec.specs.{Polyhedra.Polyhedron, Polyhedra.IsPolyhedron, Representable.KeepsLimit};
     ghost use Rattle.lra_systems.specs.LinearSystems.{constraints, generators, FitKinds};
     ghost use Rattle.lra_duality.specs.Saturations.{saturation_of};
 

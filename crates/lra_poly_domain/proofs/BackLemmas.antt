@@ -1,27 +1,14 @@
 -- Going back over an assignment and a test, and the meet.
-use Rattle.std.proofs.Common.{◌≡◌, ◌∙◌, ℕ, suc, ℤ, pos, List, ◌∷◌, length, ap, subst, sym}
+use Rattle.std.proofs.{Common.◌≡◌, Common.◌∙◌, Common.ℕ, Common.suc, Common.ℤ, Common.pos, Common.List, Common.◌∷◌, Common.length, Common.ap, Common.subst, Common.sym, Math.ListN.length-set}
 use Rattle.std.specs.Prelude.{slice_set}
-use Rattle.std.proofs.Math.ListN.{length-set}
-use Rattle.lra_domain.specs.Actions.{Leads, assign, test}
-use Rattle.lra_domain.specs.Backward.{TransfersBackTo, MeetsBoth}
+use Rattle.lra_domain.specs.{Actions.Leads, Actions.assign, Actions.test, Backward.TransfersBackTo, Backward.MeetsBoth}
 use Rattle.lra_linear_forms.specs.Form.{Form, form_row, form_value}
-use Rattle.lra_linear_spec.specs.Descriptions.{Con}
-use Rattle.lra_linear_spec.specs.Representable.{IsRepresentable}
-use Rattle.lra_linear_spec.specs.OperationStrain.{AddTestStrains, MeetStrains, PreimageStrains}
-use Rattle.lra_linear_spec.specs.Points.{IsPoint}
-use Rattle.lra_linear_spec.specs.Polyhedra.{IsPolyhedronOf, Polyhedron}
-use Rattle.lra_linear_spec.specs.SetOperations.{Meet, Preimage}
-use Rattle.lra_linear_spec.specs.declared.ConKind.{ConKind}
-use Rattle.lra_poly.specs.Outcomes.{Becomes}
+use Rattle.lra_linear_spec.specs.{Descriptions.Con, OperationStrain.AddTestStrains, OperationStrain.MeetStrains, OperationStrain.PreimageStrains, Points.IsPoint, Polyhedra.IsPolyhedronOf}
+use Rattle.lra_linear_spec.specs.{Polyhedra.Polyhedron, Representable.IsRepresentable, SetOperations.Meet, SetOperations.Preimage, declared.ConKind.ConKind}
+use Rattle.lra_poly.specs.{Outcomes.Becomes, declared.outcome.Outcome.Outcome}
 use Rattle.lra_duality.specs.Rows.{test_row}
-use Rattle.lra_poly.specs.declared.outcome.Outcome.{Outcome}
-use Rattle.lra_poly_domain.specs.Content.{PolyhedronGamma}
-use Rattle.lra_poly_domain.specs.Covering.{covered_from, store_point}
-use Rattle.lra_poly_domain.specs.Growth.{exactness_of}
-use Rattle.lra_poly_domain.specs.Abstraction.{polyhedron_abstraction}
-use Rattle.lra_poly_domain.specs.Reach.{form_product, leads_reach}
-use Rattle.lra_poly_domain.specs.Backward.{IsPre, PreStrains, polyhedron_backward}
-use Rattle.lra_poly_domain.specs.Sets.{reached}
+use Rattle.lra_poly_domain.specs.{Abstraction.polyhedron_abstraction, Backward.IsPre, Backward.PreStrains, Backward.polyhedron_backward, Content.PolyhedronGamma, Covering.covered_from}
+use Rattle.lra_poly_domain.specs.{Covering.store_point, Growth.exactness_of, Reach.form_product, Reach.leads_reach, Sets.reached}
 use Rattle.lra_poly_domain.proofs.OutcomeLemmas.{of_exact, of_flagged}
 
 -- a store from which the assignment leads into P is a point that it brings there

@@ -1,20 +1,13 @@
 -- What the greatest values of a form and of its opposite tell is what a polyhedron tells of the form.
 use Rattle.std.proofs.Common.{◌≡◌, ◌⊎◌, ℤ, neg_ℤ, List, [], ◌∷◌, None, Result, Ok, Err, IsErr, inl, inr, true, ap, refl, subst, sym}
-use Rattle.std.specs.List.{All, Contains}
-use Rattle.std.specs.Prelude.{option_map}
 use Rattle.std.proofs.lemmas.List.Elements.{All-contains}
+use Rattle.std.specs.{List.All, List.Contains, Prelude.option_map}
 use Rattle.lra_linear_forms.specs.Form.{Form, form_row}
-use Rattle.lra_linear_spec.specs.CheckedArithmetic.{checked_product}
-use Rattle.lra_linear_spec.specs.Descriptions.{LinearRow, inequality}
-use Rattle.lra_linear_spec.specs.OperationStrain.{MaximiseStrains}
-use Rattle.lra_linear_spec.specs.Polyhedra.{Polyhedron}
-use Rattle.lra_linear_spec.specs.Vectors.{negated}
+use Rattle.lra_linear_spec.specs.{CheckedArithmetic.checked_product, Descriptions.LinearRow, Descriptions.inequality, OperationStrain.MaximiseStrains, Polyhedra.Polyhedron, Vectors.negated}
 use Rattle.lra_linear_spec.specs.declared.Excess as E
-use Rattle.lra_linear_spec.proofs.Membership.{contains_cases, contains_head, contains_none}
-use Rattle.lra_linear_spec.proofs.Products.{negated_twice}
-use Rattle.lra_duality.specs.Maxima.{IsMaximum, StaysInRange, TellsMaximum}
-use Rattle.lra_duality.specs.declared.maximum.Maximum.{Maximum}
+use Rattle.lra_linear_spec.proofs.{Membership.contains_cases, Membership.contains_head, Membership.contains_none, Products.negated_twice}
 use Rattle.lra_duality.specs.declared.maximum.Maximum.TheVariants.{Empty, Wide, Unbounded, At}
+use Rattle.lra_duality.specs.{Maxima.IsMaximum, Maxima.StaysInRange, Maxima.TellsMaximum, declared.maximum.Maximum.Maximum}
 use Rattle.lra_duality.proofs.MaximumLemmas.{opposite_fails}
 use Rattle.lra_poly_domain.specs.Bounded.{IsGreatestRounded, PolyhedronBounded, rounded_down}
 

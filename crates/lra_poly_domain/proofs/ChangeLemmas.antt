@@ -1,18 +1,9 @@
 -- The least changes and the join: what the operations give keeps the points and covers what is defined.
 use Rattle.std.proofs.Common.{◌≡◌, ◌∙◌, ℕ, inl, inr, sym, subst}
-use Rattle.lra_domain.specs.Actions.{Action, ActionFits, dims_after}
-use Rattle.lra_domain.specs.Abstraction.{Joins, TransfersTo}
-use Rattle.lra_linear_spec.specs.Descriptions.{Con}
-use Rattle.lra_linear_spec.specs.Representable.{IsRepresentable}
-use Rattle.lra_linear_spec.specs.OperationStrain.{HullStrains}
-use Rattle.lra_linear_spec.specs.Points.{IsPoint, IsWithin}
-use Rattle.lra_linear_spec.specs.Polyhedra.{IsPolyhedron, Polyhedron}
-use Rattle.lra_poly.specs.Outcomes.{Becomes}
-use Rattle.lra_poly.specs.declared.outcome.Outcome.{Outcome}
-use Rattle.lra_poly_domain.specs.Covering.{covered_from}
-use Rattle.lra_poly_domain.specs.Growth.{exactness_of}
-use Rattle.lra_poly_domain.specs.Abstraction.{polyhedron_abstraction}
-use Rattle.lra_poly_domain.specs.Sets.{ChangeStrains, IsChanged, IsJoin, hull_of, reached}
+use Rattle.lra_domain.specs.{Abstraction.Joins, Abstraction.TransfersTo, Actions.Action, Actions.ActionFits, Actions.dims_after}
+use Rattle.lra_linear_spec.specs.{Descriptions.Con, OperationStrain.HullStrains, Points.IsPoint, Points.IsWithin, Polyhedra.IsPolyhedron, Polyhedra.Polyhedron, Representable.IsRepresentable}
+use Rattle.lra_poly.specs.{Outcomes.Becomes, declared.outcome.Outcome.Outcome}
+use Rattle.lra_poly_domain.specs.{Abstraction.polyhedron_abstraction, Covering.covered_from, Growth.exactness_of, Sets.ChangeStrains, Sets.IsChanged, Sets.IsJoin, Sets.hull_of, Sets.reached}
 use Rattle.lra_poly_domain.proofs.OutcomeLemmas.{of_exact, of_flagged}
 
 -- ---- what the operations give

@@ -1,44 +1,26 @@
 -- How a head grows.
 use Rattle.std.proofs.Common.{◌≡◌, ◌≢◌, ◌∙◌, ℕ, ℤ, Bool, true, false, ◌⊎◌, List, [], ◌∷◌, ◌++◌, inl, inr, sym, refl, subst}
-use Rattle.std.specs.Prelude.{◌||◌, IsTrue}
-use Rattle.std.specs.List.{Contains}
-use Rattle.std.proofs.lemmas.Bool.{false≢true, or_parts}
-use Rattle.std.proofs.lemmas.List.Elements.{Contains-append_right}
-use Rattle.lra_domain.specs.Abstraction.{Grew}
-use Rattle.lra_domain.specs.Rank.{RankBelow}
-use Rattle.lra_domain.specs.declared.Exactness.{Exactness}
+use Rattle.std.proofs.{lemmas.Bool.false≢true, lemmas.Bool.or_parts, lemmas.List.Elements.Contains-append_right}
+use Rattle.std.specs.{List.Contains, Prelude.◌||◌, Prelude.IsTrue}
+use Rattle.lra_domain.specs.{Abstraction.Grew, Rank.RankBelow, declared.Exactness.Exactness, declared.Mode.Mode}
 use Rattle.lra_domain.specs.declared.Exactness.TheVariants as degree
 use Rattle.lra_domain.specs.declared.Grown.TheVariants as Grown
-use Rattle.lra_domain.specs.declared.Mode.{Mode}
 use Rattle.lra_domain.specs.declared.Mode.TheVariants as how
 use Rattle.lra_linear_spec.specs.declared.Excess as E
-use Rattle.lra_linear_spec.specs.declared.Cause.TheVariants.{Excess}
-use Rattle.lra_linear_spec.specs.Descriptions.{Con, LinearRow}
 use Rattle.lra_linear_spec.specs.OperationStrain.{HullStrains, InclusionStrains, ProductsPass, WideningPasses, valid_on}
-use Rattle.lra_linear_spec.specs.Points.{IsPoint, IsWithin}
-use Rattle.lra_linear_spec.specs.Polyhedra.{IsPolyhedron, IsPolyhedronOf, Polyhedron}
-use Rattle.lra_linear_spec.specs.Strain.{Loss}
-use Rattle.lra_linear_spec.specs.Widening.{LimitedWidening, StandardWidening, StandardFrom}
-use Rattle.lra_linear_spec.proofs.Descriptions.{con_none}
-use Rattle.lra_linear_spec.proofs.Polyhedra.{polyhedron_unique}
-use Rattle.lra_poly.specs.Outcomes.{Becomes}
+use Rattle.lra_linear_spec.specs.{Descriptions.Con, Descriptions.LinearRow, Points.IsPoint, Points.IsWithin, Polyhedra.IsPolyhedron, Polyhedra.IsPolyhedronOf, Polyhedra.Polyhedron, Strain.Loss}
+use Rattle.lra_linear_spec.specs.{Widening.LimitedWidening, Widening.StandardWidening, Widening.StandardFrom, declared.Cause.TheVariants.Excess}
+use Rattle.lra_linear_spec.proofs.{Descriptions.con_none, Polyhedra.polyhedron_unique}
+use Rattle.lra_poly.specs.{Outcomes.Becomes, declared.outcome.Outcome.Outcome}
 use Rattle.lra_duality.specs.declared.inclusion.Inclusion.TheVariants as inclusion
-use Rattle.lra_poly.specs.declared.outcome.Outcome.{Outcome}
 use Rattle.lra_duality.proofs.InclusionLemmas.{inclusion_tells}
 use Rattle.lra_poly_widening.specs.Rank.{Falls, IsLowerRank, kept_thresholds, rank_of}
-use Rattle.lra_poly_widening.specs.Widenings.{HaveColumns, IsOutside, IsRefusal}
-use Rattle.lra_poly_widening.specs.declared.error.WidenError.{WidenError}
-use Rattle.lra_poly_widening.specs.declared.error.WidenError.TheVariants.{NotIncluded}
-use Rattle.lra_poly_domain.specs.Content.{PolyhedronLeq, HeadContent, WellFormedHead}
-use Rattle.lra_poly_domain.specs.Covering.{covered_from}
+use Rattle.lra_poly_widening.specs.{Widenings.HaveColumns, Widenings.IsOutside, Widenings.IsRefusal, declared.error.WidenError.WidenError, declared.error.WidenError.TheVariants.NotIncluded}
 use Rattle.lra_poly_domain.specs.Growth.{HasGrown, IsJoined, IsStruck, IsWidening, StrikePasses, exactness_of, head, some_passes, takes_thresholds}
 use Rattle.lra_poly_domain.specs.Heads.{PolyhedronGrowthStrains, IsGrown, IsLeft, WideningStrains, thresholds_left, grown_set, head_rank}
-use Rattle.lra_poly_domain.specs.Abstraction.{polyhedron_abstraction}
-use Rattle.lra_poly_domain.specs.Sets.{IsJoin, hull_of}
+use Rattle.lra_poly_domain.specs.{Abstraction.polyhedron_abstraction, Content.PolyhedronLeq, Content.HeadContent, Content.WellFormedHead, Covering.covered_from, Sets.IsJoin, Sets.hull_of}
 use Rattle.lra_poly_domain.proofs.ChangeLemmas.{left_in_hull, right_in_hull}
-use Rattle.lra_poly_domain.proofs.OutcomeLemmas.{of_exact, of_flagged}
-use Rattle.lra_poly_domain.proofs.StrikeLemmas.{kept_valid, some_product}
-use Rattle.lra_poly_domain.proofs.UniverseLemmas.{all_no_row, up_falls}
+use Rattle.lra_poly_domain.proofs.{OutcomeLemmas.of_exact, OutcomeLemmas.of_flagged, StrikeLemmas.kept_valid, StrikeLemmas.some_product, UniverseLemmas.all_no_row, UniverseLemmas.up_falls}
 
 -- ---- joins
 pub is_joined : (p next q : Polyhedron) (o : Outcome) → Becomes p.dims (hull_of p next) (HullStrains p next) q o → IsJoined p next q (exactness_of o)

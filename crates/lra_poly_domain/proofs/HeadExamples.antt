@@ -1,10 +1,8 @@
 -- Worked examples of heads: x from 0 to 1 becomes x from 0 to 9.
 use Rattle.std.proofs.Common.{◌≡◌, pos, negsuc, [], ◌∷◌, refl}
 use Rattle.lra_domain.specs.declared.Mode.TheVariants as how
-use Rattle.lra_linear_spec.specs.Descriptions.{LinearRow, inequality}
-use Rattle.lra_linear_spec.specs.Polyhedra.{Polyhedron}
-use Rattle.lra_poly_domain.specs.Content.{listed, polyhedron_parts}
-use Rattle.lra_poly_domain.specs.Heads.{thresholds_left}
+use Rattle.lra_linear_spec.specs.{Descriptions.LinearRow, Descriptions.inequality, Polyhedra.Polyhedron}
+use Rattle.lra_poly_domain.specs.{Content.listed, Content.polyhedron_parts, Heads.thresholds_left}
 
 abbrev to_one : Polyhedron
 to_one = record {

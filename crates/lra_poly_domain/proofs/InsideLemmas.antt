@@ -1,9 +1,7 @@
 -- What an inclusion answers.
 use Rattle.std.proofs.Common.{◌≡◌, subst}
 use Rattle.lra_domain.specs.declared.Included.{Included}
-use Rattle.lra_linear_spec.specs.Descriptions.{Con}
-use Rattle.lra_linear_spec.specs.Points.{IsWithin}
-use Rattle.lra_linear_spec.specs.Polyhedra.{Polyhedron}
+use Rattle.lra_linear_spec.specs.{Descriptions.Con, Points.IsWithin, Polyhedra.Polyhedron}
 use Rattle.lra_poly_domain.specs.Content.{PolyhedronAnswers, PolyhedronLeq}
 
 pub outside : (p q : Polyhedron) → ¬ (IsWithin p.dims (Con p.rows) (Con q.rows)) → ¬ (PolyhedronLeq p q)

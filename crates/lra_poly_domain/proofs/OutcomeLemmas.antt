@@ -2,8 +2,7 @@
 use Rattle.std.proofs.Common.{◌≡◌}
 use Rattle.lra_domain.specs.declared.Exactness.TheVariants as degree
 use Rattle.lra_linear_spec.specs.Strain.{Loss}
-use Rattle.lra_poly.specs.Outcomes.{IfExact, IfFlagged}
-use Rattle.lra_poly.specs.declared.outcome.Outcome.{Outcome}
+use Rattle.lra_poly.specs.{Outcomes.IfExact, Outcomes.IfFlagged, declared.outcome.Outcome.Outcome}
 use Rattle.lra_poly.specs.declared.outcome.Outcome.TheVariants as told
 use Rattle.lra_poly_domain.specs.Growth.{exactness_of}
 

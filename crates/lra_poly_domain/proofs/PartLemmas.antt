@@ -1,21 +1,15 @@
 -- The one part of a polyhedron as the code's list of rows.
 use Rattle.std.proofs.Common.{◌≡◌, ◌∙◌, ℕ, ℤ, pos, Bool, true, false, cond, map, List, [], ◌∷◌, length, inl, inr, ap, sym, refl, subst, arith}
-use Rattle.std.specs.Prelude.{◌↔◌, IsTrue}
-use Rattle.std.specs.List.{All, list_any}
 use Rattle.std.proofs.lemmas.List.Elements.{All-cons, All-nil}
-use Rattle.lra_domain.specs.Laws.{PartsAreExact}
-use Rattle.lra_domain.specs.Parts.{SomePartHolds}
-use Rattle.lra_linear_spec.specs.Descriptions.{Con, LinearRow, rows_of}
-use Rattle.lra_linear_spec.specs.Kinds.{constraint_kind, is_equality}
-use Rattle.lra_linear_spec.specs.declared.ConKind.{ConKind}
-use Rattle.lra_linear_spec.specs.declared.ConKind.TheVariants as con
-use Rattle.lra_linear_spec.specs.Points.{IsEmptySet}
+use Rattle.std.specs.{List.All, List.list_any, Prelude.◌↔◌, Prelude.IsTrue}
+use Rattle.lra_domain.specs.{Laws.PartsAreExact, Parts.SomePartHolds}
 use Rattle.lra_linear_spec.specs.Polyhedra.{IsPolyhedron, IsPolyhedronOf, Polyhedron}
+use Rattle.lra_linear_spec.specs.{Descriptions.Con, Descriptions.LinearRow, Descriptions.rows_of, Kinds.constraint_kind, Kinds.is_equality, Points.IsEmptySet, declared.ConKind.ConKind}
+use Rattle.lra_linear_spec.specs.declared.ConKind.TheVariants as con
 use Rattle.lra_linear_spec.proofs.Descriptions.{con_none}
 use Rattle.lra_systems.specs.LinearSystems.{LinearSystem, constraints, rows_by_kind}
 use Rattle.lra_poly_domain.specs.Content.{PolyhedronGamma, is_absurd, listed, polyhedron_parts}
-use Rattle.lra_poly_domain.specs.Abstraction.{polyhedron_abstraction}
-use Rattle.lra_poly_domain.specs.Covering.{empty_parts, parts_empty, store_point}
+use Rattle.lra_poly_domain.specs.{Abstraction.polyhedron_abstraction, Covering.empty_parts, Covering.parts_empty, Covering.store_point}
 
 -- ---- the list whose constraints they are
 pub kind_back : (kind : ConKind) → constraint_kind (is_equality kind) ≡ kind

@@ -1,16 +1,11 @@
 -- What heads hold.
 use Rattle.std.proofs.Common.{◌≡◌, suc, ℤ, List, length}
 use Rattle.std.specs.List.{All}
-use Rattle.lra_linear_spec.specs.Representable.{IsRepresentable}
-use Rattle.lra_linear_spec.specs.Kinds.{is_equality}
-use Rattle.lra_linear_spec.specs.Polyhedra.{Polyhedron}
-use Rattle.lra_linear_spec.specs.Range.{InRange}
-use Rattle.lra_linear_spec.specs.declared.ConKind.{ConKind}
+use Rattle.lra_linear_spec.specs.{Kinds.is_equality, Polyhedra.Polyhedron, Range.InRange, Representable.IsRepresentable, declared.ConKind.ConKind}
 use Rattle.lra_poly.proofs.RepresentableLemmas.{listed_in_range}
 use Rattle.lra_systems.specs.LinearSystems.{LinearSystem, constraints}
 use Rattle.lra_poly_widening.proofs.WideningLemmas.{seen_columns}
-use Rattle.lra_poly_domain.specs.Content.{WellFormedHead}
-use Rattle.lra_poly_domain.specs.Growth.{head}
+use Rattle.lra_poly_domain.specs.{Content.WellFormedHead, Growth.head}
 
 -- a formed polyhedron and a list of rows of its width make a formed head
 pub head_is_formed : (p : Polyhedron) (given : LinearSystem ConKind) (rows : List (List ℤ)) → IsRepresentable p → given.dims ≡ p.dims →

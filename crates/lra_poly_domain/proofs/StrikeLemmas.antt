@@ -1,14 +1,10 @@
 -- Given rows that are struck for their products: where no product passes, what is kept are the rows that are valid on both.
 use Rattle.std.proofs.Common.{◌≡◌, ◌∙◌, Bool, true, false, cond, List, [], ◌∷◌, Result, Ok, Err, ap, refl}
-use Rattle.std.specs.Prelude.{◌&&◌, not}
-use Rattle.std.specs.List.{list_all}
 use Rattle.std.proofs.lemmas.Bool.{or_parts}
+use Rattle.std.specs.{List.list_all, Prelude.◌&&◌, Prelude.not}
 use Rattle.lra_linear_spec.specs.declared.Excess as E
-use Rattle.lra_linear_spec.specs.CheckedArithmetic.{checked_product}
-use Rattle.lra_linear_spec.specs.Descriptions.{LinearRow}
 use Rattle.lra_linear_spec.specs.OperationStrain.{ProductsPass, valid_on}
-use Rattle.lra_linear_spec.specs.Polyhedra.{Polyhedron}
-use Rattle.lra_linear_spec.specs.Widening.{holds_with, is_valid}
+use Rattle.lra_linear_spec.specs.{CheckedArithmetic.checked_product, Descriptions.LinearRow, Polyhedra.Polyhedron, Widening.holds_with, Widening.is_valid}
 use Rattle.lra_poly_widening.specs.Rank.{fits, holds_in_range, kept_thresholds}
 use Rattle.lra_poly_widening.proofs.Counting.{any_said}
 use Rattle.lra_poly_domain.specs.Growth.{row_passes, some_passes}

@@ -1,32 +1,16 @@
 -- The polyhedron of all points has no constraint. So a polyhedron with one is another, and its rank falls where it is given up.
 use Rattle.std.proofs.Common.{◌≡◌, ◌≢◌, ◌∙◌, ◌<◌, ◌≤◌, ℕ, suc, ℤ, pos, ◌+ℤ◌, ◌*ℤ◌, ◌<ℤ◌, List, [], length, true, false, inl, inr, ap, sym, subst, arith}
-use Rattle.std.proofs.Math.ListN.{length-set}
-use Rattle.std.proofs.lemmas.Int.{ints}
-use Rattle.std.proofs.lemmas.Bool.{cases_lt}
-use Rattle.std.proofs.lemmas.List.Elements.{Contains-append_cases, Contains-append_right}
-use Rattle.std.specs.List.{Contains}
-use Rattle.std.specs.Prelude.{slice_set}
-use Rattle.lra_linear_spec.specs.Cones.{both_ways}
-use Rattle.lra_linear_spec.specs.Descriptions.{Con, LinearRow, Holds, HoldsWith, rows_as}
-use Rattle.lra_linear_spec.specs.Echelon.{pivot}
-use Rattle.lra_linear_spec.specs.Points.{IsPoint}
-use Rattle.lra_linear_spec.specs.Polyhedra.{HasPoint, IsPolyhedron, IsPolyhedronOf, Polyhedron, positivity}
-use Rattle.lra_linear_spec.specs.Vectors.{cleared, entry, product}
-use Rattle.lra_linear_spec.proofs.Descriptions.{con_none}
-use Rattle.lra_linear_spec.proofs.Lines.{in_lines, zeros_length}
-use Rattle.lra_linear_spec.proofs.Membership.{contains_none}
-use Rattle.lra_linear_spec.proofs.OneSpelling.{given_from, positivity_product}
-use Rattle.lra_linear_spec.proofs.Pivots.{echelon_pivot, echelon_positive}
+use Rattle.std.proofs.{Math.ListN.length-set, lemmas.Bool.cases_lt, lemmas.Int.ints, lemmas.List.Elements.Contains-append_cases, lemmas.List.Elements.Contains-append_right}
+use Rattle.std.specs.{List.Contains, Prelude.slice_set}
+use Rattle.lra_linear_spec.specs.{Cones.both_ways, Descriptions.Con, Descriptions.LinearRow, Descriptions.Holds, Descriptions.HoldsWith, Descriptions.rows_as, Echelon.pivot, Points.IsPoint}
+use Rattle.lra_linear_spec.specs.{Polyhedra.HasPoint, Polyhedra.IsPolyhedron, Polyhedra.IsPolyhedronOf, Polyhedra.Polyhedron, Polyhedra.positivity, Vectors.cleared, Vectors.entry, Vectors.product}
 use Rattle.lra_linear_spec.proofs.Products.{entry_past, entry_set_other, product_comm}
-use Rattle.lra_linear_spec.proofs.Ring.{ring, v, ◌⊕◌, ◌⊗◌}
-use Rattle.lra_linear_spec.proofs.Signs.{not_both}
-use Rattle.lra_linear_spec.proofs.SetOperations.{product_set}
+use Rattle.lra_linear_spec.proofs.{Descriptions.con_none, Lines.in_lines, Lines.zeros_length, Membership.contains_none, OneSpelling.given_from, OneSpelling.positivity_product, Pivots.echelon_pivot}
+use Rattle.lra_linear_spec.proofs.{Pivots.echelon_positive, Ring.ring, Ring.v, Ring.◌⊕◌, Ring.◌⊗◌, SetOperations.product_set, Signs.not_both}
 use Rattle.lra_description_pair.proofs.PairLists.{origin}
 use Rattle.lra_duality.proofs.PolyhedronLemmas.{falsity_is_empty}
-use Rattle.lra_poly_widening.specs.Rank.{Falls}
-use Rattle.lra_poly_widening.specs.Widenings.{HaveColumns}
-use Rattle.lra_poly_widening.proofs.Facets.{facet_row, no_pivot_first}
-use Rattle.lra_poly_widening.proofs.RankLaw.{rank_falls}
+use Rattle.lra_poly_widening.specs.{Rank.Falls, Widenings.HaveColumns}
+use Rattle.lra_poly_widening.proofs.{Facets.facet_row, Facets.no_pivot_first, RankLaw.rank_falls}
 
 -- ---- no equality holds at all points
 -- the point with 1 as one coordinate and 0 as the others

@@ -2,12 +2,9 @@
 use Rattle.std.specs.Prelude.{◌≡◌, ◌≤◌, []}
 use Rattle.lra_domain.specs.Abstraction.{Abstraction}
 use Rattle.lra_linear_spec.specs.declared.Excess as E
-use Rattle.lra_linear_spec.specs.Descriptions.{Con}
-use Rattle.lra_linear_spec.specs.Representable.{IsRepresentable}
 use Rattle.lra_linear_spec.specs.OperationStrain.{HullStrains, InclusionStrains}
-use Rattle.lra_linear_spec.specs.Points.{IsEmptySet}
 use Rattle.lra_linear_spec.specs.Polyhedra.{IsPolyhedron, IsPolyhedronOf, Polyhedron}
-use Rattle.lra_linear_spec.specs.Strain.{Loss}
+use Rattle.lra_linear_spec.specs.{Descriptions.Con, Points.IsEmptySet, Representable.IsRepresentable, Strain.Loss}
 use Rattle.lra_systems.specs.LinearSystems.{constraints}
 use Rattle.lra_poly_domain.specs.Bounded.{PolyhedronBounded}
 use Rattle.lra_poly_domain.specs.Content.{PolyhedronAnswers, PolyhedronLeq, HeadContent, WellFormedHead}

@@ -4,11 +4,9 @@ use Rattle.std.specs.Prelude.{suc}
 use Rattle.lra_domain.specs.Actions.{Action, assign, forget, test, embed, remove_last}
 use Rattle.lra_domain.specs.Backward.{BackwardAbstraction}
 use Rattle.lra_linear_forms.specs.Form.{form_row}
-use Rattle.lra_linear_spec.specs.Descriptions.{Con}
 use Rattle.lra_linear_spec.specs.OperationStrain.{AddTestStrains, MeetStrains, PreimageStrains}
 use Rattle.lra_linear_spec.specs.Polyhedra.{IsPolyhedronOf, Polyhedron}
-use Rattle.lra_linear_spec.specs.SetOperations.{Meet, Preimage}
-use Rattle.lra_linear_spec.specs.Strain.{Loss}
+use Rattle.lra_linear_spec.specs.{Descriptions.Con, SetOperations.Meet, SetOperations.Preimage, Strain.Loss}
 use Rattle.lra_duality.specs.Rows.{test_row}
 use Rattle.lra_poly_domain.specs.Sets.{IsChanged}
 

@@ -1,18 +1,12 @@
 -- What a polyhedron and a head of one hold, and which stores they have.
 use Rattle.std.specs.Prelude.{◌≡◌, ◌&&◌, suc, ℤ, pos, int_le, Bool, false, not, cond, map, List, [], ◌∷◌, length}
-use Rattle.std.specs.List.{All, Contains, list_all, list_any}
-use Rattle.std.specs.Ordering.{int_eq}
+use Rattle.std.specs.{List.All, List.Contains, List.list_all, List.list_any, Ordering.int_eq}
 use Rattle.lra_domain.specs.declared.Included.{Included}
 use Rattle.lra_domain.specs.declared.Included.TheVariants.{Yes, No, Wide}
 use Rattle.lra_linear_spec.specs.declared.Excess as E
-use Rattle.lra_linear_spec.specs.Descriptions.{Con, LinearRow, rows_of}
-use Rattle.lra_linear_spec.specs.Representable.{IsRepresentable}
-use Rattle.lra_linear_spec.specs.Kinds.{constraint_kind}
-use Rattle.lra_linear_spec.specs.OperationStrain.{InclusionStrains}
-use Rattle.lra_linear_spec.specs.Points.{IsWithin}
-use Rattle.lra_linear_spec.specs.Polyhedra.{Polyhedron}
-use Rattle.lra_linear_spec.specs.Range.{InRange}
-use Rattle.lra_linear_spec.specs.declared.ConKind.{ConKind}
+use Rattle.lra_linear_spec.specs.{Descriptions.Con, Descriptions.LinearRow, Descriptions.rows_of, Kinds.constraint_kind}
+use Rattle.lra_linear_spec.specs.{OperationStrain.InclusionStrains, Points.IsWithin, Polyhedra.Polyhedron}
+use Rattle.lra_linear_spec.specs.{Range.InRange, Representable.IsRepresentable, declared.ConKind.ConKind}
 use Rattle.lra_systems.specs.LinearSystems.{LinearSystem}
 
 -- what a loop's head holds: the polyhedron that was reached, and the given rows that no growth has struck

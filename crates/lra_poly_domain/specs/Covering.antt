@@ -1,29 +1,22 @@
 -- Lemmas on parts and on what covers what.
-use Rattle.std.proofs.Common.{◌≡◌, ◌∙◌, ◌≤◌, ℕ, zero, suc, ℤ, pos, neg_ℤ, ◌+ℤ◌, ◌*ℤ◌, ◌<ℤ◌, ◌≤ℤ◌, Bool}
-use Rattle.std.proofs.Common.{true, false, cond, ◌⊎◌, inl, inr, List, [], ◌∷◌, length, ap, sym, refl, subst, arith}
-use Rattle.std.proofs.lemmas.Bool.{and_parts}
-use Rattle.std.proofs.lemmas.Int.{ints}
-use Rattle.std.specs.Prelude.{◌||◌, int_le, not}
-use Rattle.std.specs.Cmp.{signed_Decides}
+use Rattle.std.proofs.Common.{◌≡◌, ◌∙◌, ◌≤◌, ℕ, zero, suc, ℤ, pos, neg_ℤ, ◌+ℤ◌, ◌*ℤ◌, ◌<ℤ◌, ◌≤ℤ◌, Bool, true, false}
+use Rattle.std.proofs.Common.{cond, ◌⊎◌, inl, inr, List, [], ◌∷◌, length, ap, sym, refl, subst, arith}
+use Rattle.std.proofs.{lemmas.Bool.and_parts, lemmas.Int.ints}
 use Rattle.std.specs.List.{Contains, list_all, list_any}
-use Rattle.std.specs.Ordering.{int_eq}
-use Rattle.lra_linear_spec.specs.Descriptions.{Con, LinearRow, Holds, HoldsWith, inequality}
+use Rattle.std.specs.{Cmp.signed_Decides, Ordering.int_eq, Prelude.◌||◌, Prelude.int_le, Prelude.not}
+use Rattle.lra_linear_spec.specs.Descriptions.{Con, LinearRow, Holds, HoldsWith, inequality, system_of}
 use Rattle.lra_linear_spec.specs.Points.{IsEmptySet, IsPoint, IsWithin, PointSet}
 use Rattle.lra_linear_spec.specs.Polyhedra.{HasPoint, IsPolyhedron, Polyhedron, falsity}
 use Rattle.lra_linear_spec.specs.SetOperations.{Hull}
 use Rattle.lra_linear_spec.specs.Vectors.{dot, entry, negated, product, zeros}
-use Rattle.lra_linear_spec.proofs.Membership.{contains_none}
-use Rattle.lra_linear_spec.proofs.Products.{negated_dot, product_none}
-use Rattle.lra_linear_spec.proofs.Ring.{ring, v, ⊖, ◌⊕◌, ◌⊗◌}
-use Rattle.lra_linear_spec.proofs.SetOperations.{has_vertex}
 use Rattle.lra_linear_spec.proofs.Signs.{between_opposites, times_positive}
+use Rattle.lra_linear_spec.proofs.{Membership.contains_none, Products.negated_dot, Products.product_none, Ring.ring}
+use Rattle.lra_linear_spec.proofs.{Ring.v, Ring.⊖, Ring.◌⊕◌, Ring.◌⊗◌, SetOperations.has_vertex}
 use Rattle.lra_duality.proofs.PolyhedronLemmas.{none_where_empty}
 use Rattle.lra_poly_widening.proofs.Counting.{any_said}
 use Rattle.lra_domain.specs.Actions.{Within}
-use Rattle.lra_linear_spec.specs.Descriptions.{system_of}
 use Rattle.lra_poly_domain.specs.Content.{PolyhedronLeq, PolyhedronGamma, is_absurd, is_negative, listed}
-use Rattle.lra_poly_domain.specs.Content.{polyhedron_parts}
-use Rattle.lra_poly_domain.specs.Sets.{IsJoin}
+use Rattle.lra_poly_domain.specs.{Content.polyhedron_parts, Sets.IsJoin}
 
 -- ---- where a row holds at no point
 flat_dot : (cs : List ℤ) (u : ℕ → ℤ) → list_all (λ x. int_eq x (pos 0)) cs ≡ true → dot cs u ≡ pos 0

@@ -1,22 +1,17 @@
 -- What is told of a head's growth before the head is changed.
-use Rattle.std.specs.Prelude.{◌≡◌, ◌≢◌, ◌⊎◌, ◌||◌, ℤ, Bool, true, false, not, IsTrue, List}
 use Rattle.std.specs.List.{list_any}
-use Rattle.lra_domain.specs.declared.Exactness.{Exactness}
+use Rattle.std.specs.Prelude.{◌≡◌, ◌≢◌, ◌⊎◌, ◌||◌, ℤ, Bool, true, false, not, IsTrue, List}
+use Rattle.lra_domain.specs.{declared.Exactness.Exactness, declared.Mode.Mode}
 use Rattle.lra_domain.specs.declared.Exactness.TheVariants as degree
-use Rattle.lra_domain.specs.declared.Mode.{Mode}
 use Rattle.lra_domain.specs.declared.Mode.TheVariants as how
-use Rattle.lra_linear_spec.specs.CheckedArithmetic.{checked_product}
-use Rattle.lra_linear_spec.specs.Descriptions.{Con, LinearRow}
-use Rattle.lra_linear_spec.specs.OperationStrain.{HullStrains}
-use Rattle.lra_linear_spec.specs.Points.{IsWithin}
 use Rattle.lra_linear_spec.specs.Polyhedra.{IsPolyhedron, IsPolyhedronOf, Polyhedron}
-use Rattle.lra_linear_spec.specs.Strain.{Loss}
+use Rattle.lra_linear_spec.specs.{CheckedArithmetic.checked_product, Descriptions.Con, Descriptions.LinearRow}
+use Rattle.lra_linear_spec.specs.{OperationStrain.HullStrains, Points.IsWithin, Strain.Loss}
 use Rattle.lra_poly.specs.declared.outcome.Outcome.{Outcome}
 use Rattle.lra_poly.specs.declared.outcome.Outcome.TheVariants as told
 use Rattle.lra_poly_widening.specs.Rank.{Falls, IsLowerRank, fits, rank_of}
-use Rattle.lra_poly_domain.specs.Content.{HeadContent}
 use Rattle.lra_poly_domain.specs.Heads.{PolyhedronGrowthStrains, IsGrown, IsLeft, WideningStrains, grown_set}
-use Rattle.lra_poly_domain.specs.Sets.{IsJoin, hull_of}
+use Rattle.lra_poly_domain.specs.{Content.HeadContent, Sets.IsJoin, Sets.hull_of}
 
 -- exact where nothing was lost
 abbrev pub exactness_of : Outcome → Exactness

@@ -2,19 +2,14 @@
 -- A widening limited by the tightest of them is the same set as one limited by all; only the lists that may strain are
 -- shorter.
 use Rattle.std.specs.Prelude.{◌≡◌, List, [], ◌⊎◌}
-use Rattle.lra_domain.specs.declared.Mode.{Mode}
+use Rattle.lra_domain.specs.{declared.Mode.Mode, declared.Rank.Rank}
 use Rattle.lra_domain.specs.declared.Mode.TheVariants as how
-use Rattle.lra_domain.specs.declared.Rank.{Rank}
-use Rattle.lra_linear_spec.specs.Descriptions.{Con, LinearRow}
 use Rattle.lra_linear_spec.specs.OperationStrain.{HullStrains, LimitedStrains, StandardStrains, valid_on}
-use Rattle.lra_linear_spec.specs.Points.{PointSet}
 use Rattle.lra_linear_spec.specs.Polyhedra.{IsPolyhedronOf, Polyhedron}
-use Rattle.lra_linear_spec.specs.Strain.{Loss}
 use Rattle.lra_linear_spec.specs.Widening.{LimitedWidening, StandardWidening}
-use Rattle.lra_poly_widening.specs.Rank.{kept_thresholds, rank_of}
-use Rattle.lra_poly_widening.specs.Tightest.{TightestStrains}
-use Rattle.lra_poly_domain.specs.Content.{HeadContent}
-use Rattle.lra_poly_domain.specs.Sets.{IsJoin}
+use Rattle.lra_linear_spec.specs.{Descriptions.Con, Descriptions.LinearRow, Points.PointSet, Strain.Loss}
+use Rattle.lra_poly_widening.specs.{Rank.kept_thresholds, Rank.rank_of, Tightest.TightestStrains}
+use Rattle.lra_poly_domain.specs.{Content.HeadContent, Sets.IsJoin}
 
 -- the points of P, grown by the join Q of P and next
 abbrev pub grown_set : Mode → Polyhedron → Polyhedron → List LinearRow → PointSet

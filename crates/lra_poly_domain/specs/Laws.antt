@@ -1,29 +1,20 @@
 -- The laws of polyhedra.
 use Rattle.std.proofs.Common.{◌≡◌, ◌∙◌, ◌≤◌, ℕ, suc, ℤ, pos, List, [], ◌∷◌, length, ap, sym, refl, subst, arith}
+use Rattle.std.proofs.{Common.replicate, lemmas.List.length-replicate}
 use Rattle.lra_domain.specs.Actions.{Action, Leads, Within, assign, dims_after, embed, forget, remove_last, test}
-use Rattle.lra_domain.specs.Backward.{SingleBackward}
+use Rattle.lra_domain.specs.{Backward.SingleBackward, Laws.Laws, Laws.BaseLaws, Laws.SingleLaws, declared.Mode.Mode}
 use Rattle.lra_linear_forms.specs.Form.{form_row}
-use Rattle.lra_linear_spec.specs.SetOperations.{Meet, Preimage}
-use Rattle.lra_domain.specs.Laws.{Laws, BaseLaws, SingleLaws}
-use Rattle.lra_domain.specs.declared.Mode.{Mode}
-use Rattle.std.proofs.Common.{replicate}
-use Rattle.std.proofs.lemmas.List.{length-replicate}
-use Rattle.lra_linear_spec.specs.Descriptions.{Con, LinearRow}
-use Rattle.lra_linear_spec.specs.Representable.{IsRepresentable}
-use Rattle.lra_linear_spec.specs.Points.{IsWithin, PointSet}
 use Rattle.lra_linear_spec.specs.Polyhedra.{IsPolyhedronOf, Polyhedron}
-use Rattle.lra_linear_spec.proofs.Descriptions.{con_none}
-use Rattle.lra_linear_spec.proofs.Polyhedra.{polyhedron_unique}
+use Rattle.lra_linear_spec.specs.{Descriptions.Con, Descriptions.LinearRow, Points.IsWithin, Points.PointSet}
+use Rattle.lra_linear_spec.specs.{Representable.IsRepresentable, SetOperations.Meet, SetOperations.Preimage}
+use Rattle.lra_linear_spec.proofs.{Descriptions.con_none, Polyhedra.polyhedron_unique}
 use Rattle.lra_poly_domain.specs.Content.{HeadContent, PolyhedronGamma, polyhedron_parts}
 use Rattle.lra_poly_domain.specs.Covering.{covered_has, covered_refl, covered_trans, joined_covered, one_part}
-use Rattle.lra_poly_domain.specs.Covering.{parts_empty}
-use Rattle.lra_poly_domain.specs.Covering.{same_covered, store_point}
+use Rattle.lra_poly_domain.specs.Covering.{parts_empty, same_covered, store_point}
 use Rattle.lra_poly_domain.specs.Heads.{IsGrown, thresholds_left, grown_set}
-use Rattle.lra_poly_domain.specs.Abstraction.{polyhedron_abstraction}
-use Rattle.lra_poly_domain.specs.Reach.{leads_reach}
 use Rattle.lra_poly_domain.specs.Rounding.{bounded_between, nothing_told, one_told}
-use Rattle.lra_poly_domain.specs.Backward.{IsPre, polyhedron_backward}
-use Rattle.lra_poly_domain.specs.Sets.{KeepsPoints, hull_of, reached}
+use Rattle.lra_poly_domain.specs.{Abstraction.polyhedron_abstraction, Backward.IsPre, Backward.polyhedron_backward}
+use Rattle.lra_poly_domain.specs.{Reach.leads_reach, Sets.KeepsPoints, Sets.hull_of, Sets.reached}
 
 partless_has : (p : Polyhedron) → polyhedron_parts p ≡ [] → (s : List ℤ) → ¬ PolyhedronGamma p s
 partless_has p e s h = parts_empty p p.dims e (pos 1 ∷ s) (store_point p.dims s h.0) h.1

@@ -1,25 +1,17 @@
 -- The stores to which a change leads are among the points to which it leads.
 use Rattle.std.proofs.Common.{◌≡◌, ◌≢◌, ◌∙◌, ◌++◌, ◌+◌, ◌-◌, ◌≤◌, ℕ, zero, suc, ℤ, pos, ◌+ℤ◌, ◌*ℤ◌, List, [], ◌∷◌}
 use Rattle.std.proofs.Common.{length, take, ap, sym, refl, subst, arith}
-use Rattle.std.proofs.Math.ListN.{length-set}
-use Rattle.std.proofs.lemmas.List.{length-append}
+use Rattle.std.proofs.{Math.ListN.length-set, lemmas.List.length-append}
 use Rattle.std.specs.Prelude.{slice_set}
 use Rattle.lra_domain.specs.Actions.{ActionFits, Action, Leads, assign, dims_after, embed, forget, remove_last, test}
 use Rattle.lra_linear_forms.specs.Form.{Form, KindHolds, form_value, form_row}
 use Rattle.lra_linear_spec.specs.Descriptions.{Con, Holds, HoldsWith}
-use Rattle.lra_linear_spec.specs.Kinds.{is_equality}
-use Rattle.lra_linear_spec.specs.declared.ConKind.{ConKind}
+use Rattle.lra_linear_spec.specs.{Kinds.is_equality, Points.SamePoint, Polyhedra.Polyhedron, SetOperations.assigned}
+use Rattle.lra_linear_spec.specs.{Vectors.entry, Vectors.product, declared.ConKind.ConKind}
 use Rattle.lra_linear_spec.specs.declared.ConKind.TheVariants as con
-use Rattle.lra_linear_spec.specs.Points.{SamePoint}
-use Rattle.lra_linear_spec.specs.Polyhedra.{Polyhedron}
-use Rattle.lra_linear_spec.specs.SetOperations.{assigned}
-use Rattle.lra_linear_spec.specs.Vectors.{entry, product}
-use Rattle.lra_linear_spec.proofs.Products.{entry_set_other}
-use Rattle.lra_linear_spec.proofs.Ring.{ring, v, ◌⊗◌}
+use Rattle.lra_linear_spec.proofs.{Products.entry_set_other, Ring.ring, Ring.v, Ring.◌⊗◌}
 use Rattle.lra_duality.specs.Rows.{test_row}
-use Rattle.lra_poly_domain.specs.Content.{PolyhedronGamma}
-use Rattle.lra_poly_domain.specs.Covering.{store_point}
-use Rattle.lra_poly_domain.specs.Sets.{reached}
+use Rattle.lra_poly_domain.specs.{Content.PolyhedronGamma, Covering.store_point, Sets.reached}
 
 -- ---- lists
 take_front : (s more : List ℤ) (n : ℕ) → length s ≡ n → take n (s ++ more) ≡ s

@@ -1,28 +1,21 @@
 -- What is told of a form bounds its value at each store, and is one thing.
-use Rattle.std.proofs.Common.{◌≡◌, ◌≢◌, ◌∙◌, ◌⊎◌, ℤ, pos, neg_ℤ, ◌+ℤ◌, ◌*ℤ◌, ◌<ℤ◌, ◌≤ℤ◌, List, [], ◌∷◌}
-use Rattle.std.proofs.Common.{Option, None, Some, inl, inr, ap, sym, refl, subst, arith}
-use Rattle.std.specs.Prelude.{option_map}
-use Rattle.std.specs.Int.{int_div_euclid}
-use Rattle.std.specs.Ordering.{int_cmp, MatchOrdering}
-use Rattle.std.specs.declared.cmp.Ordering.{Ordering}
-use Rattle.std.specs.declared.cmp.Ordering.TheVariants.{Equal}
+use Rattle.std.proofs.Common.{◌≡◌, ◌≢◌, ◌∙◌, ◌⊎◌, ℤ, pos, neg_ℤ, ◌+ℤ◌, ◌*ℤ◌, ◌<ℤ◌, ◌≤ℤ◌, List, [], ◌∷◌, Option, None}
+use Rattle.std.proofs.Common.{Some, inl, inr, ap, sym, refl, subst, arith}
 use Rattle.std.proofs.lemmas.Int.{ints}
+use Rattle.std.specs.{Cmp.int_cmp_is, Cmp.int_ranks, Int.int_div_euclid, Ordering.int_cmp, Ordering.MatchOrdering}
+use Rattle.std.specs.{Prelude.option_map, declared.cmp.Ordering.Ordering, declared.cmp.Ordering.TheVariants.Equal}
 use Rattle.lra_domain.specs.Bounds.{IsLowerBound, IsBetween, IsUpperBound}
 use Rattle.lra_linear_forms.specs.Form.{Form, form_row, form_value}
-use Rattle.lra_linear_spec.specs.Descriptions.{Con}
-use Rattle.lra_linear_spec.specs.Points.{IsEmptySet}
-use Rattle.lra_linear_spec.specs.Polyhedra.{Polyhedron}
 use Rattle.lra_linear_spec.specs.Vectors.{entry, negated, product}
+use Rattle.lra_linear_spec.specs.{Descriptions.Con, Points.IsEmptySet, Polyhedra.Polyhedron}
 use Rattle.lra_linear_spec.proofs.Products.{negated_dot}
 use Rattle.lra_linear_spec.proofs.Ring.{mul_nonnegative, ring, v, ⊖, ◌⊕◌, ◌⊗◌}
 use Rattle.lra_linear_spec.proofs.Signs.{as_nat, cases_sign, divide_nonnegative, positive_is_nonnegative, positive_nat}
 use Rattle.lra_duality.specs.Maxima.{IsAtMost, IsGreatestValue}
-use Rattle.std.specs.Cmp.{int_cmp_is, int_ranks}
 use Rattle.lra_row.proofs.Ratio.{euclid, ratio_apart, rem_bounds}
 use Rattle.lra_poly_domain.specs.Bounded.{IsGreatestRounded, IsLeastRounded, PolyhedronBounded}
 use Rattle.lra_poly_domain.specs.Content.{PolyhedronGamma, polyhedron_parts}
-use Rattle.lra_poly_domain.specs.Covering.{parts_empty, store_point}
-use Rattle.lra_poly_domain.specs.Reach.{form_product}
+use Rattle.lra_poly_domain.specs.{Covering.parts_empty, Covering.store_point, Reach.form_product}
 
 -- ---- quotients rounded downwards
 -- what is at most a fraction is at most its floor

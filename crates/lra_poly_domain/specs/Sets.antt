@@ -1,13 +1,11 @@
 -- The least changes and joins as operations on sets of points, and when they strain.
 use Rattle.std.specs.Prelude.{◌≡◌, ◌-◌, suc}
 use Rattle.lra_domain.specs.Actions.{Action, ActionFits, assign, forget, test, embed, remove_last, dims_after}
-use Rattle.lra_linear_spec.specs.Descriptions.{Con, Holds}
 use Rattle.lra_linear_spec.specs.OperationStrain.{AddTestStrains, EmbedStrains, ForgetStrains, ImageStrains}
 use Rattle.lra_linear_spec.specs.OperationStrain.{RemoveLastStrains}
-use Rattle.lra_linear_spec.specs.Points.{IsWithin, PointSet}
 use Rattle.lra_linear_spec.specs.Polyhedra.{IsPolyhedronOf, Polyhedron}
 use Rattle.lra_linear_spec.specs.SetOperations.{Embed, Forget, Hull, Image, Meet, RemoveLast, Union}
-use Rattle.lra_linear_spec.specs.Strain.{Loss}
+use Rattle.lra_linear_spec.specs.{Descriptions.Con, Descriptions.Holds, Points.IsWithin, Points.PointSet, Strain.Loss}
 use Rattle.lra_linear_forms.specs.Form.{form_row}
 use Rattle.lra_duality.specs.Rows.{test_row}
 

@@ -1,10 +1,8 @@
 //! How a head's value grows, and which given rows are left.
 
 ghost use Rattle.std.specs.Prelude.{◌≡◌, ◌≢◌, [], IfOk};
-ghost use Rattle.lra_domain.specs.declared.Exactness.TheVariants.{Flagged};
-ghost use Rattle.lra_domain.specs.declared.Mode.TheVariants.{Join};
-ghost use Rattle.lra_linear_spec.specs.Descriptions.{Con};
-ghost use Rattle.lra_linear_spec.specs.Polyhedra.{IsPolyhedronOf};
+ghost use Rattle.lra_domain.specs.{declared.Exactness.TheVariants.Flagged, declared.Mode.TheVariants.Join};
+ghost use Rattle.lra_linear_spec.specs.{Descriptions.Con, Polyhedra.IsPolyhedronOf};
 ghost use Rattle.lra_poly_widening.specs.Rank.{kept_thresholds};
 ghost use Rattle.lra_systems.specs.LinearSystems.{constraints};
 ghost use Rattle.lra_poly_domain.specs.Growth.{HasGrown, IsStruck, head, takes_thresholds};

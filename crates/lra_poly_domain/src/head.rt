@@ -1,17 +1,13 @@
 //! What is held at a loop's head.
 
 ghost use Rattle.std.specs.Prelude.{◌≡◌, ◌≢◌, IfOk};
-ghost use Rattle.lra_domain.specs.declared.Exactness.TheVariants.{Flagged};
-ghost use Rattle.lra_domain.specs.declared.Mode.TheVariants.{Join};
-ghost use Rattle.lra_domain.specs.Abstraction.{Grew};
-ghost use Rattle.lra_domain.specs.Rank.{RankBelow, RankFits};
+ghost use Rattle.lra_domain.specs.{Abstraction.Grew, Rank.RankBelow, Rank.RankFits};
+ghost use Rattle.lra_domain.specs.{declared.Exactness.TheVariants.Flagged, declared.Mode.TheVariants.Join};
 ghost use Rattle.lra_linear_spec.specs.declared.Excess as E;
 ghost use Rattle.lra_linear_spec.specs.OperationStrain.{InclusionStrains};
 ghost use Rattle.lra_systems.specs.LinearSystems.{constraints};
 ghost use Rattle.lra_poly_domain.specs.Content.{PolyhedronLeq, WellFormedHead};
-ghost use Rattle.lra_poly_domain.specs.Growth.{head};
-ghost use Rattle.lra_poly_domain.specs.Heads.{head_rank};
-ghost use Rattle.lra_poly_domain.specs.Abstraction.{polyhedron_abstraction};
+ghost use Rattle.lra_poly_domain.specs.{Abstraction.polyhedron_abstraction, Growth.head, Heads.head_rank};
 
 use crate::growth::{give_up, grow_value};
 use lra_domain::{Exactness, Mode, Rank};
@@ -42,8 +38,7 @@ impl Model for PolyhedronHead {
     ghost use Rattle.std.specs.Prelude.{◌≡◌};
     ghost use Rattle.lra_domain.specs.Rank.{RankFits};
     ghost use Rattle.lra_systems.specs.LinearSystems.{constraints};
-    ghost use Rattle.lra_poly_domain.specs.Content.{HeadContent};
-    ghost use Rattle.lra_poly_domain.specs.Heads.{head_rank};
+    ghost use Rattle.lra_poly_domain.specs.{Content.HeadContent, Heads.head_rank};
 
     ghost Value = { HeadContent };
 

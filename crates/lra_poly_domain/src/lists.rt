@@ -1,7 +1,6 @@
 //! Lists of constraints.
 
-ghost use Rattle.std.specs.Prelude.{◌≡◌, suc, length};
-ghost use Rattle.std.specs.List.{All, list_any};
+ghost use Rattle.std.specs.{List.All, List.list_any, Prelude.◌≡◌, Prelude.suc, Prelude.length};
 ghost use Rattle.lra_systems.specs.LinearSystems.{constraints, generators};
 ghost use Rattle.lra_poly_domain.specs.Growth.{product_passes, row_passes, some_passes};
 

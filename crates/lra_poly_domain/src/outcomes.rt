@@ -3,9 +3,7 @@
 ghost use Rattle.std.specs.Prelude.{◌≡◌, neg_ℤ, option_map, IfSome};
 ghost use Rattle.lra_linear_spec.specs.Range.{InRange};
 ghost use Rattle.lra_duality.specs.Maxima.{ValueInRange};
-ghost use Rattle.lra_poly_domain.specs.Bounded.{rounded_down};
-ghost use Rattle.lra_poly_domain.specs.Content.{PolyhedronAnswers};
-ghost use Rattle.lra_poly_domain.specs.Growth.{exactness_of};
+ghost use Rattle.lra_poly_domain.specs.{Bounded.rounded_down, Content.PolyhedronAnswers, Growth.exactness_of};
 
 use lra_domain::{Exactness, Included};
 use lra_duality::{Inclusion, Maximum};

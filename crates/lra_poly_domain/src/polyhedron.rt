@@ -1,11 +1,8 @@
 //! Closed polyhedra as a domain.
 
 ghost use Rattle.std.specs.Prelude.{◌≡◌, ◌≢◌, IfOk, OnErr, OnOk};
-ghost use Rattle.lra_domain.specs.Abstraction.{Grew};
-ghost use Rattle.lra_domain.specs.Parts.{CapsWithin};
-ghost use Rattle.lra_domain.specs.Rank.{RankBelow, RankFits};
-ghost use Rattle.lra_linear_spec.specs.Representable.{IsRepresentable};
-ghost use Rattle.lra_linear_spec.specs.Polyhedra.{IsPolyhedron};
+ghost use Rattle.lra_domain.specs.{Abstraction.Grew, Parts.CapsWithin, Rank.RankBelow, Rank.RankFits};
+ghost use Rattle.lra_linear_spec.specs.{Polyhedra.IsPolyhedron, Representable.IsRepresentable};
 ghost use Rattle.lra_systems.specs.LinearSystems.{constraints, generators, FitKinds};
 ghost use Rattle.lra_poly_domain.specs.Abstraction.{polyhedron_abstraction};
 

@@ -2,8 +2,7 @@
 
 ghost use Rattle.std.specs.Prelude.{◌≡◌, ◌≢◌, IfOk};
 ghost use Rattle.lra_domain.specs.declared.Mode.TheVariants.{Join, Widen, Limited, Tightest};
-ghost use Rattle.lra_linear_spec.specs.Descriptions.{Con};
-ghost use Rattle.lra_linear_spec.specs.Points.{IsWithin};
+ghost use Rattle.lra_linear_spec.specs.{Descriptions.Con, Points.IsWithin};
 ghost use Rattle.lra_systems.specs.LinearSystems.{constraints};
 ghost use Rattle.lra_poly_domain.specs.Growth.{IsJoined, IsWidening};
 

@@ -1,19 +1,11 @@
 -- Images: the generators with the form's value as one coordinate.
 use Rattle.std.proofs.Common.{◌≡◌, ℕ, suc, ◌<◌, List, ap, sym, ◌∙◌, subst, ℤ, ◌*ℤ◌, arith}
 use Rattle.std.specs.Prelude.{IfOk, Result, Ok}
-use Rattle.lra_linear_spec.specs.Descriptions.{Con, Gen}
-use Rattle.lra_linear_spec.specs.OperationStrain.{mapped}
-use Rattle.lra_linear_spec.specs.Points.{IsWithin, PointSet, SameSet}
-use Rattle.lra_linear_spec.specs.Polyhedra.{IsPolyhedron, Polyhedron}
-use Rattle.lra_linear_spec.specs.SetOperations.{Forget, Image, assigned}
-use Rattle.lra_linear_spec.specs.Strain.{Loss}
-use Rattle.lra_linear_spec.specs.Vectors.{entry, product}
-use Rattle.lra_linear_spec.specs.declared.GenKind.{GenKind}
-use Rattle.lra_linear_spec.proofs.Polyhedra.{con_gen}
-use Rattle.lra_linear_spec.proofs.Products.{entry_set_other}
+use Rattle.lra_linear_spec.specs.{Descriptions.Con, Descriptions.Gen, OperationStrain.mapped, Points.IsWithin, Points.PointSet, Points.SameSet, Polyhedra.IsPolyhedron, Polyhedra.Polyhedron}
+use Rattle.lra_linear_spec.specs.{SetOperations.Forget, SetOperations.Image, SetOperations.assigned, Strain.Loss, Vectors.entry, Vectors.product, declared.GenKind.GenKind}
+use Rattle.lra_linear_spec.proofs.{Polyhedra.con_gen, Products.entry_set_other}
 use Rattle.lra_systems.specs.LinearSystems.{LinearSystem, generators}
-use Rattle.lra_mapped_systems.proofs.Assigning.{assigned_map, assigning}
-use Rattle.lra_mapped_systems.proofs.MappedSets.{mapped_from, mapped_in, widths_of}
+use Rattle.lra_mapped_systems.proofs.{Assigning.assigned_map, Assigning.assigning, MappedSets.mapped_from, MappedSets.mapped_in, MappedSets.widths_of}
 use Rattle.lra_poly.proofs.TakenGenerators.{Takes}
 
 pub assigned_generators : (p : Polyhedron) (k : ℕ) (form : List ℤ) → IsPolyhedron p → 0 < k → k < suc p.dims →

@@ -1,21 +1,15 @@
 -- A preimage under a form is the image under the form that takes it back.
 use Rattle.std.proofs.Common.{◌≡◌, ℕ, suc, ◌<◌, List, length, ap, arith, refl, sym, ◌∙◌, subst, ℤ, pos, ◌*ℤ◌, ◌<ℤ◌, Option, Some, ◌+◌, add-one}
-use Rattle.std.specs.Option.{IfSome}
 use Rattle.std.proofs.lemmas.Option.{IfSome_then}
-use Rattle.lra_linear_spec.specs.Descriptions.{Con, system_of}
-use Rattle.lra_linear_spec.specs.Points.{IsPoint, SamePoint, SameSet}
-use Rattle.lra_linear_spec.specs.Polyhedra.{IsPolyhedron, IsPolyhedronOf, Polyhedron}
-use Rattle.lra_linear_spec.specs.SetOperations.{Image, Preimage, assigned}
-use Rattle.lra_linear_spec.specs.Vectors.{entry, product}
-use Rattle.lra_linear_spec.proofs.Descriptions.{gen_generated, generated_gen}
-use Rattle.lra_linear_spec.proofs.Polyhedra.{con_gen}
-use Rattle.lra_linear_spec.proofs.Ring.{ring, v, ◌⊗◌}
+use Rattle.std.specs.Option.{IfSome}
+use Rattle.lra_linear_spec.specs.{Descriptions.Con, Descriptions.system_of, Points.IsPoint, Points.SamePoint, Points.SameSet, Polyhedra.IsPolyhedron, Polyhedra.IsPolyhedronOf, Polyhedra.Polyhedron}
+use Rattle.lra_linear_spec.specs.{SetOperations.Image, SetOperations.Preimage, SetOperations.assigned, Vectors.entry, Vectors.product}
+use Rattle.lra_linear_spec.proofs.{Descriptions.gen_generated, Descriptions.generated_gen, Polyhedra.con_gen, Ring.ring, Ring.v, Ring.◌⊗◌}
 use Rattle.lra_linear_forms.specs.Form.{Form, form_row}
 use Rattle.lra_poly.proofs.PolyLemmas.{same_polyhedron}
 use Rattle.lra_mapped_systems.specs.Moving.{IsInverse}
-use Rattle.lra_mapped_systems.proofs.Assigning.{assigning, assigning_linear, set_entry}
-use Rattle.lra_mapped_systems.proofs.Sums.{generated_same_point, linear_times}
 use Rattle.lra_mapped_systems.proofs.TakenBack.{assigned_twice, assigned_width, first_stays, taken_forth}
+use Rattle.lra_mapped_systems.proofs.{Assigning.assigning, Assigning.assigning_linear, Assigning.set_entry, Sums.generated_same_point, Sums.linear_times}
 
 -- rows of one point are assigned to one point
 assigned_same : (k : ℕ) (f x z : List ℤ) → 0 < k → k < length x → k < length z → SamePoint x z → SamePoint (assigned k f x) (assigned k f z)

@@ -1,31 +1,18 @@
 -- Time-elapse: the generators of the first, and those of the second as directions.
-use Rattle.std.proofs.Common.{◌≡◌, ℕ, zero, suc, ◌<◌, List, [], ◌∷◌, ◌++◌, length, map, ap, refl, sym, ◌∙◌, subst, ℤ}
-use Rattle.std.proofs.Common.{pos, ◌+ℤ◌, ◌*ℤ◌, ◌<ℤ◌, ◌≤ℤ◌, arith, inl, inr, ◌⊎◌}
-use Rattle.std.specs.List.{Contains}
+use Rattle.std.proofs.Common.{◌≡◌, ℕ, zero, suc, ◌<◌, List, [], ◌∷◌, ◌++◌, length, map, ap, refl, sym, ◌∙◌, subst, ℤ, pos, ◌+ℤ◌, ◌*ℤ◌, ◌<ℤ◌, ◌≤ℤ◌, arith, inl, inr, ◌⊎◌}
 use Rattle.std.proofs.lemmas.List.Elements.{Contains-append_cases}
-use Rattle.lra_linear_spec.specs.Cones.{Generated}
-use Rattle.lra_linear_spec.specs.Descriptions.{Con, Gen, LinearRow, system_of}
+use Rattle.std.specs.List.{Contains}
 use Rattle.lra_linear_spec.specs.OperationStrain.{FromGeneratorsStrains, TimeElapseStrains, as_directions}
-use Rattle.lra_linear_spec.specs.Points.{IsEmptySet, IsPoint, IsWithin}
 use Rattle.lra_linear_spec.specs.Polyhedra.{HasPoint, IsPolyhedron, IsPolyhedronOf, Polyhedron, falsity}
-use Rattle.lra_linear_spec.specs.SetOperations.{OnTheWay, TimeElapse}
-use Rattle.lra_linear_spec.specs.Strain.{Loss}
-use Rattle.lra_linear_spec.specs.Vectors.{blend, cleared, entry, negated, product}
-use Rattle.lra_linear_spec.proofs.Combinations.{generated_divided, generated_plus, generated_row, generated_same}
-use Rattle.lra_linear_spec.proofs.Combinations.{generated_times}
-use Rattle.lra_linear_spec.proofs.Descriptions.{gen_generated, generated_gen}
-use Rattle.lra_linear_spec.proofs.LinearMaps.{generated_left, generated_nonneg, generated_right}
-use Rattle.lra_linear_spec.proofs.OneSpelling.{falsity_never, far}
-use Rattle.lra_linear_spec.proofs.Polyhedra.{con_gen}
+use Rattle.lra_linear_spec.specs.{Cones.Generated, Descriptions.Con, Descriptions.Gen, Descriptions.LinearRow, Descriptions.system_of, Points.IsEmptySet, Points.IsPoint, Points.IsWithin}
+use Rattle.lra_linear_spec.specs.{SetOperations.OnTheWay, SetOperations.TimeElapse, Strain.Loss, Vectors.blend, Vectors.cleared, Vectors.entry, Vectors.negated, Vectors.product}
+use Rattle.lra_linear_spec.proofs.Combinations.{generated_divided, generated_plus, generated_row, generated_same, generated_times}
 use Rattle.lra_linear_spec.proofs.Products.{blend_length, dot_linear, dot_same, entry_blend, product_none}
-use Rattle.lra_linear_spec.proofs.Ring.{ring, v, ◌⊕◌, ◌⊗◌}
-use Rattle.lra_linear_spec.proofs.SetOperations.{has_vertex}
 use Rattle.lra_linear_spec.proofs.Signs.{as_nat, divide_nonnegative, positive_is_nonnegative, positive_nat, times_positive}
-use Rattle.lra_linear_spec.proofs.Lines.{zeros_length}
-use Rattle.lra_linear_spec.proofs.Membership.{map_from}
+use Rattle.lra_linear_spec.proofs.{Descriptions.gen_generated, Descriptions.generated_gen, LinearMaps.generated_left, LinearMaps.generated_nonneg, LinearMaps.generated_right, Lines.zeros_length}
+use Rattle.lra_linear_spec.proofs.{Membership.map_from, OneSpelling.falsity_never, OneSpelling.far, Polyhedra.con_gen, Ring.ring, Ring.v, Ring.◌⊕◌, Ring.◌⊗◌, SetOperations.has_vertex}
 use Rattle.lra_descriptions.proofs.SeveralKinds.{system_append}
-use Rattle.lra_poly.specs.Outcomes.{Becomes, IfExact, IfFlagged, IsOfGenerators}
-use Rattle.lra_poly.specs.declared.outcome.Outcome.{Outcome}
+use Rattle.lra_poly.specs.{Outcomes.Becomes, Outcomes.IfExact, Outcomes.IfFlagged, Outcomes.IsOfGenerators, declared.outcome.Outcome.Outcome}
 use Rattle.lra_poly.proofs.PolyLemmas.{hull_holds, if_exact, if_flagged, valid_with}
 use Rattle.lra_duality.proofs.PolyhedronLemmas.{rows_width}
 use Rattle.lra_mapped_systems.proofs.Sums.{IsLinear, generated_mapped, system_mapped}

@@ -1,31 +1,19 @@
 -- Further dimensions: the generators with columns of zeros, and a line along each new dimension.
-use Rattle.std.proofs.Common.{◌≡◌, ℕ, zero, suc, ◌+◌, ◌-◌, List, [], ◌∷◌, ◌++◌, length, map, take, drop, true, ap, refl}
-use Rattle.std.proofs.Common.{sym, ◌∙◌, subst, ℤ, pos, neg_ℤ, ◌+ℤ◌, ◌*ℤ◌, ◌<ℤ◌, arith, inl, inr}
+use Rattle.std.proofs.Common.{◌≡◌, ℕ, zero, suc, ◌+◌, ◌-◌, List, [], ◌∷◌, ◌++◌, length, map, take, drop, true, ap, refl, sym, ◌∙◌, subst, ℤ, pos, neg_ℤ, ◌+ℤ◌, ◌*ℤ◌, ◌<ℤ◌, arith, inl, inr}
+use Rattle.std.proofs.{lemmas.List.length-drop, lemmas.List.length-take-le, lemmas.List.take_all, lemmas.List.Elements.Contains-append_cases}
 use Rattle.std.specs.List.{Contains}
-use Rattle.std.proofs.lemmas.List.{length-drop, length-take-le, take_all}
-use Rattle.std.proofs.lemmas.List.Elements.{Contains-append_cases}
-use Rattle.lra_linear_spec.specs.Cones.{Generated, both_ways}
 use Rattle.lra_linear_spec.specs.Descriptions.{Con, Gen, LinearRow, rows_as, system_of}
-use Rattle.lra_linear_spec.specs.OperationStrain.{embedded}
-use Rattle.lra_linear_spec.specs.Points.{IsPoint, SameSet}
-use Rattle.lra_linear_spec.specs.Polyhedra.{IsPolyhedron, Polyhedron}
-use Rattle.lra_linear_spec.specs.SetOperations.{Embed}
-use Rattle.lra_linear_spec.specs.Vectors.{entry, negated, units, zeros}
+use Rattle.lra_linear_spec.specs.{Cones.Generated, Cones.both_ways, OperationStrain.embedded, Points.IsPoint, Points.SameSet, Polyhedra.IsPolyhedron, Polyhedra.Polyhedron, SetOperations.Embed}
+use Rattle.lra_linear_spec.specs.{Vectors.entry, Vectors.negated, Vectors.units, Vectors.zeros, declared.GenKind.GenKind}
 use Rattle.lra_linear_spec.proofs.Combinations.{generated_plus, generated_row, generated_same, generated_zero}
-use Rattle.lra_linear_spec.proofs.Descriptions.{gen_generated, generated_gen}
-use Rattle.lra_linear_spec.proofs.LinearMaps.{generated_left, generated_right}
-use Rattle.lra_linear_spec.proofs.Lines.{generated_described, whole_described}
-use Rattle.lra_linear_spec.proofs.Membership.{map_from}
-use Rattle.lra_linear_spec.proofs.Polyhedra.{con_gen}
-use Rattle.lra_linear_spec.proofs.Ring.{ring, v, ◌⊕◌, ◌⊗◌}
+use Rattle.lra_linear_spec.proofs.{Descriptions.gen_generated, Descriptions.generated_gen, LinearMaps.generated_left, LinearMaps.generated_right, Lines.generated_described, Lines.whole_described}
+use Rattle.lra_linear_spec.proofs.{Membership.map_from, Polyhedra.con_gen, Ring.ring, Ring.v, Ring.◌⊕◌, Ring.◌⊗◌}
 use Rattle.lra_systems.specs.LinearSystems.{LinearSystem, generators}
-use Rattle.lra_linear_spec.specs.declared.GenKind.{GenKind}
 use Rattle.lra_descriptions.proofs.SeveralKinds.{system_append, system_lines}
-use Rattle.lra_mapped_systems.proofs.ListLemmas.{longer_entry, short_divisor}
-use Rattle.lra_mapped_systems.proofs.MappedSets.{widths_of}
+use Rattle.lra_mapped_systems.proofs.Sums.{IsLinear, generated_linear, generated_mapped, mapped_by, system_mapped}
+use Rattle.lra_mapped_systems.proofs.{ListLemmas.longer_entry, ListLemmas.short_divisor, MappedSets.widths_of}
 use Rattle.lra_poly.proofs.TakenGenerators.{Takes}
 use Rattle.lra_poly_images.proofs.ShortenedSets.{columns_linear, first_columns, short_entry}
-use Rattle.lra_mapped_systems.proofs.Sums.{IsLinear, generated_linear, generated_mapped, mapped_by, system_mapped}
 
 -- ---- rows with zeros behind them
 zeros_negated : (k : ℕ) → zeros k ≡ negated (zeros k)

@@ -1,32 +1,18 @@
 -- A coordinate that may be anything: a line along it, beside the generators.
-use Rattle.std.proofs.Common.{◌≡◌, ◌≢◌, ℕ, suc, ◌<◌, List, [], ◌∷◌, ◌++◌, length, ap, sym, ◌∙◌, subst, ℤ}
+use Rattle.std.proofs.Common.{◌≡◌, ◌≢◌, ℕ, suc, ◌<◌, List, [], ◌∷◌, ◌++◌, length, ap, sym, ◌∙◌, subst, ℤ, pos, neg_ℤ, ◌+ℤ◌, ◌*ℤ◌, ◌<ℤ◌, arith, ◌⊎◌, inl, inr}
+use Rattle.std.proofs.{lemmas.Bool.cases_eq, lemmas.Int.ints}
 use Rattle.std.specs.Prelude.{IfSome, Option, None, Some}
-use Rattle.std.proofs.Common.{pos, neg_ℤ, ◌+ℤ◌, ◌*ℤ◌, ◌<ℤ◌, arith, ◌⊎◌, inl, inr}
-use Rattle.std.proofs.lemmas.Int.{ints}
-use Rattle.std.proofs.lemmas.Bool.{cases_eq}
-use Rattle.lra_linear_spec.specs.Cones.{Generated}
-use Rattle.lra_linear_spec.specs.Descriptions.{Con, Gen, LinearRow, line, system_of}
-use Rattle.lra_linear_spec.specs.OperationStrain.{unit_row}
-use Rattle.lra_linear_spec.specs.Points.{IsPoint, SameSet}
 use Rattle.lra_linear_spec.specs.Polyhedra.{IsPolyhedron, IsPolyhedronOf, Polyhedron}
-use Rattle.lra_linear_spec.specs.SetOperations.{Forget, SameBut}
-use Rattle.lra_linear_spec.specs.Vectors.{blend, entry, negated, sum_of}
+use Rattle.lra_linear_spec.specs.{Cones.Generated, Descriptions.Con, Descriptions.Gen, Descriptions.LinearRow, Descriptions.line, Descriptions.system_of, OperationStrain.unit_row, Points.IsPoint}
+use Rattle.lra_linear_spec.specs.{Points.SameSet, SetOperations.Forget, SetOperations.SameBut, Vectors.blend, Vectors.entry, Vectors.negated, Vectors.sum_of, declared.GenKind.GenKind}
 use Rattle.lra_linear_spec.proofs.Combinations.{generated_divided, generated_plus, generated_same, generated_times}
-use Rattle.lra_linear_spec.proofs.Descriptions.{gen_generated, generated_gen}
-use Rattle.lra_linear_spec.proofs.LinearMaps.{generated_left, generated_right, sum_generated}
-use Rattle.lra_linear_spec.proofs.Lines.{line_times}
-use Rattle.lra_linear_spec.proofs.Polyhedra.{con_gen}
-use Rattle.lra_linear_spec.proofs.Products.{blend_length, entry_blend}
-use Rattle.lra_linear_spec.proofs.Ring.{ring, v, ⊖, ◌⊕◌, ◌⊗◌}
-use Rattle.lra_linear_spec.proofs.Signs.{as_nat, positive_is_nonnegative, positive_nat, times_positive}
-use Rattle.lra_linear_spec.proofs.UnitRows.{unit_here, unit_length, unit_other}
+use Rattle.lra_linear_spec.proofs.{Descriptions.gen_generated, Descriptions.generated_gen, LinearMaps.generated_left, LinearMaps.generated_right, LinearMaps.sum_generated, Lines.line_times}
+use Rattle.lra_linear_spec.proofs.{Polyhedra.con_gen, Products.blend_length, Products.entry_blend, Ring.ring, Ring.v, Ring.⊖, Ring.◌⊕◌, Ring.◌⊗◌, Signs.as_nat, Signs.positive_is_nonnegative}
+use Rattle.lra_linear_spec.proofs.{Signs.positive_nat, Signs.times_positive, UnitRows.unit_here, UnitRows.unit_length, UnitRows.unit_other}
 use Rattle.lra_descriptions.proofs.SeveralKinds.{system_append}
 use Rattle.lra_systems.specs.LinearSystems.{LinearSystem, generators}
-use Rattle.lra_linear_spec.specs.declared.GenKind.{GenKind}
-use Rattle.lra_mapped_systems.proofs.ListLemmas.{line_seen}
-use Rattle.lra_poly.proofs.PolyLemmas.{same_polyhedron}
-use Rattle.lra_poly.proofs.TakenGenerators.{Takes}
-use Rattle.lra_mapped_systems.proofs.Sums.{with_line}
+use Rattle.lra_mapped_systems.proofs.{ListLemmas.line_seen, Sums.with_line}
+use Rattle.lra_poly.proofs.{PolyLemmas.same_polyhedron, TakenGenerators.Takes}
 
 -- ---- into the cone
 -- d x = e from + f unit, where the columns but k are those of from

@@ -1,16 +1,10 @@
 -- A coordinate that is given up where the outcome is flagged.
 use Rattle.std.proofs.Common.{◌≡◌, ◌∙◌, ◌<◌, ℕ, ℤ, List, inl, inr, refl, subst, sym}
-use Rattle.lra_linear_spec.specs.Descriptions.{Con, Gen}
-use Rattle.lra_linear_spec.specs.OperationStrain.{ForgetStrains, ImageStrains}
-use Rattle.lra_linear_spec.specs.Points.{IsPoint, IsWithin}
-use Rattle.lra_linear_spec.specs.Polyhedra.{Polyhedron}
-use Rattle.lra_linear_spec.specs.SetOperations.{Forget, Image}
-use Rattle.lra_linear_spec.specs.Strain.{Loss}
-use Rattle.lra_linear_spec.specs.declared.GenKind.{GenKind}
+use Rattle.lra_linear_spec.specs.{Descriptions.Con, Descriptions.Gen, OperationStrain.ForgetStrains, OperationStrain.ImageStrains, Points.IsPoint, Points.IsWithin, Polyhedra.Polyhedron}
+use Rattle.lra_linear_spec.specs.{SetOperations.Forget, SetOperations.Image, Strain.Loss, declared.GenKind.GenKind}
 use Rattle.lra_systems.specs.LinearSystems.{LinearSystem, generators}
 use Rattle.lra_poly.specs.Outcomes.{Becomes, IfFlagged, IsOfGenerators}
-use Rattle.lra_poly.specs.declared.outcome.Outcome.{Outcome}
-use Rattle.lra_poly.specs.declared.outcome.Outcome.TheVariants.{Exact, Flagged}
+use Rattle.lra_poly.specs.{declared.outcome.Outcome.Outcome, declared.outcome.Outcome.TheVariants.Exact, declared.outcome.Outcome.TheVariants.Flagged}
 use Rattle.lra_poly_images.specs.Forgetting.{IsForgetResult}
 use Rattle.lra_poly_images.proofs.AssignedSets.{image_forgets}
 

@@ -1,20 +1,12 @@
 -- Why lists aren't moved, and what is left of those that are formed.
 use Rattle.std.proofs.Common.{◌≡◌, ℕ, suc, ◌+◌, add-one, List, ℤ, [], inl, inr, ◌⊎◌, subst}
 use Rattle.std.specs.List.{Contains}
-use Rattle.lra_linear_spec.specs.declared.ConKind.{ConKind}
-use Rattle.lra_linear_spec.specs.Descriptions.{LinearRow}
-use Rattle.lra_linear_spec.specs.OperationStrain.{substituted_rows, with_positivity}
+use Rattle.lra_linear_spec.specs.{Descriptions.LinearRow, OperationStrain.substituted_rows, OperationStrain.with_positivity, Polyhedra.Polyhedron, declared.ConKind.ConKind}
 use Rattle.lra_systems.specs.LinearSystems.{LinearSystem, constraints}
-use Rattle.lra_mapped_systems.specs.Forming.{AllFormed}
-use Rattle.lra_poly.specs.Restricted.{IsTried}
+use Rattle.lra_mapped_systems.specs.{Forming.AllFormed, Moving.AssignmentPasses, Moving.MovePasses, Moving.OnExcess, Moving.StaysBackFor, Moving.StaysFor, Moving.SubstitutionPasses, Moving.IsInverse}
+use Rattle.lra_poly.specs.{Outcomes.IfFlagged, Restricted.IsTried, declared.outcome.Outcome.Outcome, declared.outcome.Outcome.TheVariants.Exact, declared.outcome.Outcome.TheVariants.Flagged}
 use Rattle.lra_poly_images.specs.FormedPreimages.{IsOfFormed}
-use Rattle.lra_linear_spec.specs.Polyhedra.{Polyhedron}
-use Rattle.lra_row.specs.declared.error.RowError.{RowError}
-use Rattle.lra_row.specs.declared.error.RowError.TheVariants.{Excess, Memory}
-use Rattle.lra_poly.specs.declared.outcome.Outcome.{Outcome}
-use Rattle.lra_poly.specs.declared.outcome.Outcome.TheVariants.{Exact, Flagged}
-use Rattle.lra_poly.specs.Outcomes.{IfFlagged}
-use Rattle.lra_mapped_systems.specs.Moving.{AssignmentPasses, MovePasses, OnExcess, StaysBackFor, StaysFor, SubstitutionPasses, IsInverse}
+use Rattle.lra_row.specs.{declared.error.RowError.RowError, declared.error.RowError.TheVariants.Excess, declared.error.RowError.TheVariants.Memory}
 
 -- a number passes in one of the lists
 pub rows_pass : (k : ℕ) (form back : List ℤ) (p : Polyhedron) (rows : List LinearRow) (error : RowError) → rows ≡ p.rows → OnExcess (SubstitutionPasses k back rows) error →

@@ -1,23 +1,14 @@
 -- The positivity row, moved: it stays as it is, and the moved equalities don't change it.
 use Rattle.std.proofs.Common.{◌≡◌, ◌≢◌, ℕ, zero, suc, ◌<◌, List, [], ◌∷◌, length, ap, refl, sym, ◌∙◌, subst, ℤ, pos, neg_ℤ, ◌+ℤ◌, ◌*ℤ◌, ◌<ℤ◌, ◌≤ℤ◌, arith, inl, inr}
-use Rattle.std.specs.List.{Contains}
 use Rattle.std.proofs.lemmas.Bool.{cases_eq}
-use Rattle.lra_linear_spec.specs.Cones.{AreDual, all_rows}
-use Rattle.lra_linear_spec.specs.Echelon.{IsEchelonOf, pivot}
-use Rattle.lra_linear_spec.specs.Polyhedra.{positivity}
-use Rattle.lra_linear_spec.specs.Vectors.{dot, entry, product, substituted}
-use Rattle.lra_linear_spec.proofs.CanonicalForms.{spanned_in_cone, spanned_negative}
-use Rattle.lra_linear_spec.proofs.LinearMaps.{generated_nonneg}
-use Rattle.lra_linear_spec.proofs.LowestTerms.{primitive_at}
-use Rattle.lra_linear_spec.proofs.Products.{dot_minus, product_comm, row_same}
-use Rattle.lra_linear_spec.proofs.Ring.{ring, v, ◌⊕◌, ◌⊗◌}
+use Rattle.std.specs.List.{Contains}
+use Rattle.lra_linear_spec.specs.{Cones.AreDual, Cones.all_rows, Echelon.IsEchelonOf, Echelon.pivot, Polyhedra.positivity, Vectors.dot, Vectors.entry, Vectors.product, Vectors.substituted}
 use Rattle.lra_linear_spec.proofs.Signs.{between_opposites, not_both, times_positive}
-use Rattle.lra_linear_spec.proofs.Spans.{spanned_row, spanned_zero}
-use Rattle.lra_linear_spec.proofs.Lines.{entry_zeros, zeros_length}
+use Rattle.lra_linear_spec.proofs.{CanonicalForms.spanned_in_cone, CanonicalForms.spanned_negative, LinearMaps.generated_nonneg, Lines.entry_zeros, Lines.zeros_length, LowestTerms.primitive_at}
+use Rattle.lra_linear_spec.proofs.{Products.dot_minus, Products.product_comm, Products.row_same, Ring.ring, Ring.v, Ring.◌⊕◌, Ring.◌⊗◌, Spans.spanned_row, Spans.spanned_zero}
 use Rattle.lra_canonical.specs.Reduced.{IsReducedBy}
 use Rattle.lra_canonical.proofs.Extension.{member_leads}
-use Rattle.lra_mapped_systems.proofs.TakenBack.{put_at, put_other, substituted_entry, substituted_width}
-use Rattle.lra_mapped_systems.proofs.Assigning.{put}
+use Rattle.lra_mapped_systems.proofs.{Assigning.put, TakenBack.put_at, TakenBack.put_other, TakenBack.substituted_entry, TakenBack.substituted_width}
 
 positivity_entry : (n j : ℕ) → 0 < j → entry (positivity n) j ≡ pos 0
 positivity_entry n zero h = absurd (omega (arith, h))

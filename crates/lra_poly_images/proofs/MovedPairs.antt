@@ -1,28 +1,18 @@
 -- Both descriptions of a cone, moved and made canonical again, are dual.
 use Rattle.std.proofs.Common.{◌≡◌, ℕ, List, [], ◌∷◌, ◌++◌, length, map, ◌<◌, ap, refl, sym, ◌∙◌, subst, ℤ, pos, neg_ℤ, ◌+ℤ◌, ◌*ℤ◌, arith, inl, inr}
-use Rattle.std.specs.Prelude.{slice_set}
-use Rattle.std.specs.List.{Contains}
-use Rattle.std.proofs.lemmas.List.{map-append}
-use Rattle.std.proofs.lemmas.List.Elements.{Contains-append_cases, Contains-append_left, Contains-append_right}
+use Rattle.std.proofs.{lemmas.List.map-append, lemmas.List.Elements.Contains-append_cases, lemmas.List.Elements.Contains-append_left, lemmas.List.Elements.Contains-append_right}
+use Rattle.std.specs.{List.Contains, Prelude.slice_set}
 use Rattle.lra_linear_spec.specs.Cones.{AreDual, Generated, all_rows, both_ways}
-use Rattle.lra_linear_spec.specs.Echelon.{IsEchelonOf, Spanned}
-use Rattle.lra_linear_spec.specs.SetOperations.{assigned}
-use Rattle.lra_linear_spec.specs.Vectors.{entry, negated, product, substituted}
-use Rattle.lra_linear_spec.proofs.CanonicalForms.{spanned_in_cone, spanned_negative}
+use Rattle.lra_linear_spec.specs.{Echelon.IsEchelonOf, Echelon.Spanned, SetOperations.assigned, Vectors.entry, Vectors.negated, Vectors.product, Vectors.substituted}
 use Rattle.lra_linear_spec.proofs.Combinations.{generated_divided, generated_plus, generated_row, generated_same, generated_times}
-use Rattle.lra_linear_spec.proofs.Descriptions.{dual_flipped}
-use Rattle.lra_linear_spec.proofs.Lines.{in_lines, signed_from}
-use Rattle.lra_linear_spec.proofs.Membership.{contains_head, contains_tail}
-use Rattle.lra_linear_spec.proofs.OneSpelling.{dual_same_cone}
 use Rattle.lra_linear_spec.proofs.Products.{dot_negated, entry_negated, negated_length, row_same}
-use Rattle.lra_linear_spec.proofs.Ring.{ring, v, ⊖, ◌⊕◌, ◌⊗◌}
-use Rattle.lra_linear_spec.proofs.Spans.{spanned_row, spanned_same}
+use Rattle.lra_linear_spec.proofs.{CanonicalForms.spanned_in_cone, CanonicalForms.spanned_negative, Descriptions.dual_flipped, Lines.in_lines, Lines.signed_from, Membership.contains_head}
+use Rattle.lra_linear_spec.proofs.{Membership.contains_tail, OneSpelling.dual_same_cone, Ring.ring, Ring.v, Ring.⊖, Ring.◌⊕◌, Ring.◌⊗◌, Spans.spanned_row, Spans.spanned_same}
 use Rattle.lra_description_pair.specs.OwnLists.{AreReducedBy}
 use Rattle.lra_description_pair.proofs.TightRows.{reduced_from, reduced_has}
 use Rattle.lra_mapped_systems.specs.Moving.{IsInverse}
-use Rattle.lra_mapped_systems.proofs.MovedForms.{linear_minus}
 use Rattle.lra_mapped_systems.proofs.TakenBack.{dual_moved, substituted_entry, substituted_width, substituting, substituting_linear}
-use Rattle.lra_mapped_systems.proofs.Assigning.{set_negated}
+use Rattle.lra_mapped_systems.proofs.{Assigning.set_negated, MovedForms.linear_minus}
 
 -- a line in either direction is in the span
 signed_spanned : (lines : List (List ℤ)) (t : List ℤ) → Contains (both_ways lines) t → Spanned lines (entry t)

@@ -1,58 +1,32 @@
 -- The image of a polyhedron under an assignment that can be taken back: both canonical lists, moved and made canonical
 -- again.
 use Rattle.std.proofs.Common.{◌≡◌, ℕ, suc, ◌<◌, ◌≤◌, arith, cond, List, [], ◌∷◌, ◌++◌, length, map, ap, refl, sym, ◌∙◌, subst, ℤ, pos, ◌<ℤ◌, ◌≤ℤ◌, inl, inr, ◌⊎◌}
-use Rattle.std.specs.List.{Contains}
-use Rattle.std.specs.List.Sorted.{IsPermutation}
-use Rattle.std.specs.Ordering.{is_eq}
-use Rattle.std.specs.declared.cmp.Ordering.{Ordering}
 use Rattle.std.proofs.lemmas.List.{length-map}
 use Rattle.std.proofs.lemmas.List.Elements.{All-contains, Contains-append_cases, Contains-append_left, Contains-append_right}
-use Rattle.lra_linear_spec.specs.Canonical.{IsCanonical}
-use Rattle.lra_linear_spec.specs.Cones.{AreDual, Generated, all_rows, both_ways}
-use Rattle.lra_linear_spec.specs.ConeStrain.{row_limit}
-use Rattle.lra_linear_spec.specs.Descriptions.{Con, LinearRow, lines_of, rays_of, system_of}
-use Rattle.lra_linear_spec.specs.Echelon.{IsEchelonOf}
-use Rattle.lra_linear_spec.specs.Representable.{KeepsLimit}
-use Rattle.lra_linear_spec.specs.OperationStrain.{mapped}
-use Rattle.lra_linear_spec.specs.Points.{IsEmptySet, IsPoint}
-use Rattle.lra_linear_spec.specs.Polyhedra.{HasPoint, IsPolyhedron, IsPolyhedronOf, Polyhedron, positivity}
-use Rattle.lra_linear_spec.specs.RowOrder.{row_cmp}
-use Rattle.lra_linear_spec.specs.SetOperations.{Image, assigned}
-use Rattle.lra_linear_spec.specs.Vectors.{entry, substituted}
-use Rattle.lra_linear_spec.proofs.CanonicalForms.{same_from_dual}
-use Rattle.lra_linear_spec.proofs.Combinations.{generated_row}
+use Rattle.std.specs.{List.Contains, List.Sorted.IsPermutation, Ordering.is_eq, declared.cmp.Ordering.Ordering}
+use Rattle.lra_linear_spec.specs.{Canonical.IsCanonical, ConeStrain.row_limit, Cones.AreDual, Cones.Generated, Cones.all_rows, Cones.both_ways, Descriptions.Con, Descriptions.LinearRow}
+use Rattle.lra_linear_spec.specs.{Descriptions.lines_of, Descriptions.rays_of, Descriptions.system_of, Echelon.IsEchelonOf, OperationStrain.mapped, Points.IsEmptySet, Points.IsPoint}
+use Rattle.lra_linear_spec.specs.{Polyhedra.HasPoint, Polyhedra.IsPolyhedron, Polyhedra.IsPolyhedronOf, Polyhedra.Polyhedron, Polyhedra.positivity, Representable.KeepsLimit, RowOrder.row_cmp}
+use Rattle.lra_linear_spec.specs.{SetOperations.Image, SetOperations.assigned, Vectors.entry, Vectors.substituted, declared.ConKind.ConKind, declared.GenKind.GenKind}
 use Rattle.lra_linear_spec.proofs.Descriptions.{dual_flipped, gen_generated, generated_gen, in_all_rows, in_system}
-use Rattle.lra_linear_spec.proofs.LinearMaps.{generated_nonneg, generated_through}
-use Rattle.lra_linear_spec.proofs.Lines.{in_lines, signed_from}
 use Rattle.lra_linear_spec.proofs.Membership.{NoRepeat, at_most, contains_cases, contains_head, contains_none, contains_tail, map_from, map_has}
-use Rattle.lra_linear_spec.proofs.OneSpelling.{columns_of, positivity_product, some_member}
-use Rattle.lra_linear_spec.proofs.Polyhedra.{con_gen, generators_lines, generators_rays}
-use Rattle.lra_linear_spec.proofs.Products.{negated_length}
-use Rattle.lra_linear_spec.proofs.RowOrder.{row_cmp_total}
-use Rattle.lra_linear_spec.proofs.Signs.{positive_is_nonnegative, zero_at_least}
-use Rattle.lra_linear_spec.specs.declared.ConKind.{ConKind}
+use Rattle.lra_linear_spec.proofs.{CanonicalForms.same_from_dual, Combinations.generated_row, LinearMaps.generated_nonneg, LinearMaps.generated_through, Lines.in_lines, Lines.signed_from}
+use Rattle.lra_linear_spec.proofs.{OneSpelling.columns_of, OneSpelling.positivity_product, OneSpelling.some_member, Polyhedra.con_gen, Polyhedra.generators_lines, Polyhedra.generators_rays}
+use Rattle.lra_linear_spec.proofs.{Products.negated_length, RowOrder.row_cmp_total, Signs.positive_is_nonnegative, Signs.zero_at_least}
 use Rattle.lra_systems.specs.LinearSystems.{FitKinds, LinearSystem, constraints, generators}
-use Rattle.lra_linear_spec.specs.declared.GenKind.{GenKind}
-use Rattle.lra_canonical.specs.Echelons.{HaveWidth}
-use Rattle.lra_canonical.specs.Reduced.{IsReducedBy}
+use Rattle.lra_canonical.specs.{Echelons.HaveWidth, Reduced.IsReducedBy}
 use Rattle.lra_canonical.proofs.Orders.{tied_itself}
 use Rattle.lra_descriptions.specs.ShownLists.{ListsGenerators, ShowsConstraints, ShowsGenerators, without}
-use Rattle.lra_description_pair.proofs.ConstraintLists.{listed_facets, listed_hold}
 use Rattle.lra_description_pair.proofs.GeneratorLists.{flat_rows, listed_counted, listed_have, nothing_generated, system_of_generators}
+use Rattle.lra_description_pair.proofs.{ConstraintLists.listed_facets, ConstraintLists.listed_hold, OwnRows.reduced_length, PairLists.few_lists, PairLists.has_point}
 use Rattle.lra_cone.proofs.Reordered.{canonical_again, dual_again}
 use Rattle.lra_description_pair.specs.OwnLists.{AreReducedBy}
-use Rattle.lra_description_pair.proofs.OwnRows.{reduced_length}
-use Rattle.lra_description_pair.proofs.PairLists.{few_lists, has_point}
-use Rattle.lra_duality.proofs.KeptFacets.{ascending_once, lines_split, rays_split}
-use Rattle.lra_duality.proofs.PolyhedronLemmas.{falsity_is_empty, with_point}
+use Rattle.lra_duality.proofs.{KeptFacets.ascending_once, KeptFacets.lines_split, KeptFacets.rays_split, PolyhedronLemmas.falsity_is_empty, PolyhedronLemmas.with_point}
 use Rattle.lra_mapped_systems.specs.Moving.{IsAssignedList, IsSubstitutedList, IsInverse}
-use Rattle.lra_poly_images.proofs.AssignedSets.{assigned_generators}
-use Rattle.lra_mapped_systems.proofs.Assigning.{assigning}
-use Rattle.lra_poly_images.proofs.MovedFacets.{pivots_above, positivity_reduced, positivity_stays, positivity_width}
-use Rattle.lra_mapped_systems.proofs.MovedForms.{canonical_moved}
 use Rattle.lra_poly_images.proofs.MovedPairs.{assigned_negated, from_form, map_all_rows, mapped_dual, moved_dual, to_form}
-use Rattle.lra_mapped_systems.proofs.Sums.{system_mapped}
+use Rattle.lra_poly_images.proofs.{AssignedSets.assigned_generators, MovedFacets.pivots_above, MovedFacets.positivity_reduced, MovedFacets.positivity_stays, MovedFacets.positivity_width}
 use Rattle.lra_mapped_systems.proofs.TakenBack.{assigned_reversible, assigned_width, first_stays, substituted_reversible, substituting}
+use Rattle.lra_mapped_systems.proofs.{Assigning.assigning, MovedForms.canonical_moved, Sums.system_mapped}
 
 -- ---- the facets as a list: the inequalities, with the positivity row before them where it is one
 -- some of them is the row, or all are others

@@ -1,18 +1,10 @@
 -- Fewer dimensions: the generators without their last columns.
-use Rattle.std.proofs.Common.{◌≡◌, ℕ, zero, suc, ◌≤◌, ◌+◌, ◌-◌, List, [], ◌∷◌, take, ap, refl, sym, ◌∙◌, subst}
-use Rattle.std.proofs.Common.{ℤ, pos, neg_ℤ, ◌+ℤ◌, ◌*ℤ◌, arith}
-use Rattle.lra_linear_spec.specs.Descriptions.{Con, Gen}
-use Rattle.lra_linear_spec.specs.OperationStrain.{shortened}
-use Rattle.lra_linear_spec.specs.Points.{IsPoint, SameSet}
-use Rattle.lra_linear_spec.specs.Polyhedra.{IsPolyhedron, Polyhedron}
-use Rattle.lra_linear_spec.specs.SetOperations.{RemoveLast}
-use Rattle.lra_linear_spec.specs.Vectors.{entry, negated}
-use Rattle.lra_linear_spec.proofs.Polyhedra.{con_gen}
-use Rattle.lra_linear_spec.proofs.Ring.{ring, v, ◌⊕◌, ◌⊗◌}
+use Rattle.std.proofs.Common.{◌≡◌, ℕ, zero, suc, ◌≤◌, ◌+◌, ◌-◌, List, [], ◌∷◌, take, ap, refl, sym, ◌∙◌, subst, ℤ, pos, neg_ℤ, ◌+ℤ◌, ◌*ℤ◌, arith}
+use Rattle.lra_linear_spec.specs.{Descriptions.Con, Descriptions.Gen, OperationStrain.shortened, Points.IsPoint, Points.SameSet, Polyhedra.IsPolyhedron, Polyhedra.Polyhedron, SetOperations.RemoveLast}
+use Rattle.lra_linear_spec.specs.{Vectors.entry, Vectors.negated, declared.GenKind.GenKind}
+use Rattle.lra_linear_spec.proofs.{Polyhedra.con_gen, Ring.ring, Ring.v, Ring.◌⊕◌, Ring.◌⊗◌}
 use Rattle.lra_systems.specs.LinearSystems.{LinearSystem, generators}
-use Rattle.lra_linear_spec.specs.declared.GenKind.{GenKind}
-use Rattle.lra_mapped_systems.proofs.MappedSets.{IsMapOf, mapped_from, mapped_in, widths_of}
-use Rattle.lra_mapped_systems.proofs.Sums.{IsLinear}
+use Rattle.lra_mapped_systems.proofs.{MappedSets.IsMapOf, MappedSets.mapped_from, MappedSets.mapped_in, MappedSets.widths_of, Sums.IsLinear}
 use Rattle.lra_poly.proofs.TakenGenerators.{Takes}
 
 -- the columns before w, and 0 from there on

@@ -1,15 +1,11 @@
 -- Images by a form without the coordinate: that coordinate is anything, and then it is the form.
 use Rattle.std.proofs.Common.{◌≡◌, ◌≢◌, ℕ, zero, suc, ◌<◌, true, List, [], ◌∷◌, length, ap, sym, ◌∙◌, subst, ℤ, pos, negsuc, neg_ℤ, ◌+ℤ◌, ◌*ℤ◌, ◌<ℤ◌, arith, ◌⊎◌, inl, inr, refl}
-use Rattle.std.specs.Prelude.{slice_set, IfSome, Option, None, Some}
 use Rattle.std.proofs.lemmas.Bool.{cases_eq}
-use Rattle.lra_linear_spec.specs.Descriptions.{Con, LinearRow, Holds}
-use Rattle.lra_linear_spec.specs.Points.{IsPoint, PointSet, SameSet}
-use Rattle.lra_linear_spec.specs.Polyhedra.{IsPolyhedronOf, Polyhedron}
-use Rattle.lra_linear_spec.specs.SetOperations.{Forget, Image, Meet, assigned}
-use Rattle.lra_linear_spec.specs.Vectors.{dot, entry, product}
-use Rattle.lra_linear_spec.proofs.Products.{dot_same, dot_scale, entry_set_other, entry_set_same}
-use Rattle.lra_linear_spec.proofs.Ring.{ring, v, ⊖, ◌⊕◌, ◌⊗◌}
+use Rattle.std.specs.Prelude.{slice_set, IfSome, Option, None, Some}
+use Rattle.lra_linear_spec.specs.{Descriptions.Con, Descriptions.LinearRow, Descriptions.Holds, Points.IsPoint, Points.PointSet, Points.SameSet, Polyhedra.IsPolyhedronOf, Polyhedra.Polyhedron}
+use Rattle.lra_linear_spec.specs.{SetOperations.Forget, SetOperations.Image, SetOperations.Meet, SetOperations.assigned, Vectors.dot, Vectors.entry, Vectors.product}
 use Rattle.lra_linear_spec.proofs.Signs.{as_nat, cancel_same, positive_is_nonnegative, positive_nat}
+use Rattle.lra_linear_spec.proofs.{Products.dot_same, Products.dot_scale, Products.entry_set_other, Products.entry_set_same, Ring.ring, Ring.v, Ring.⊖, Ring.◌⊕◌, Ring.◌⊗◌}
 use Rattle.lra_poly.proofs.PolyLemmas.{same_polyhedron}
 use Rattle.lra_poly_images.proofs.AssignedSets.{image_forgets}
 

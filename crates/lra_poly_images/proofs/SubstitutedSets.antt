@@ -1,20 +1,13 @@
 -- Preimages: the constraints with the form put in for one coordinate.
 use Rattle.std.proofs.Common.{◌≡◌, ◌∙◌, ℕ, suc, ◌<◌, List, length, arith, refl, sym, subst, ℤ, Option, None, Some, inl, inr}
-use Rattle.std.specs.Prelude.{IfNone, IfSome}
-use Rattle.std.specs.List.{Contains}
-use Rattle.lra_linear_spec.specs.CheckedArithmetic.{checked_substitution}
-use Rattle.lra_linear_spec.specs.Descriptions.{Con, LinearRow}
+use Rattle.std.specs.{List.Contains, Prelude.IfNone, Prelude.IfSome}
 use Rattle.lra_linear_spec.specs.OperationStrain.{FormingPasses, FromRowsStrains, PreimageStrains, substituted_rows}
-use Rattle.lra_linear_spec.specs.Points.{IsWithin, SameSet}
 use Rattle.lra_linear_spec.specs.Polyhedra.{IsPolyhedron, IsPolyhedronOf, Polyhedron}
-use Rattle.lra_linear_spec.specs.SetOperations.{Preimage}
-use Rattle.lra_linear_spec.specs.Strain.{Loss}
+use Rattle.lra_linear_spec.specs.{CheckedArithmetic.checked_substitution, Descriptions.Con, Descriptions.LinearRow, Points.IsWithin, Points.SameSet, SetOperations.Preimage, Strain.Loss}
 use Rattle.lra_linear_spec.proofs.SetOperations.{preimage_con}
 use Rattle.lra_poly.proofs.PolyLemmas.{constraints_strain, if_exact, if_flagged, same_polyhedron}
 use Rattle.lra_duality.proofs.PolyhedronLemmas.{given_width}
-use Rattle.lra_poly.specs.Outcomes.{Becomes, IfExact, IfFlagged, IsOfRows}
-use Rattle.lra_poly.specs.declared.outcome.Outcome.{Outcome}
-use Rattle.lra_poly.specs.declared.outcome.Outcome.TheVariants.{Flagged}
+use Rattle.lra_poly.specs.{Outcomes.Becomes, Outcomes.IfExact, Outcomes.IfFlagged, Outcomes.IsOfRows, declared.outcome.Outcome.Outcome, declared.outcome.Outcome.TheVariants.Flagged}
 
 -- a form of the polyhedron's dimensions, for a column of it
 pub record IsAssignment (p : Polyhedron) (k : ℕ) (form : List ℤ) : Type 0 where

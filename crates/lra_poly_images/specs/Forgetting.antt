@@ -1,11 +1,8 @@
 -- A coordinate that is given up.
 use Rattle.std.specs.Prelude.{◌≡◌, ◌⊎◌, ℕ}
-use Rattle.lra_linear_spec.specs.Descriptions.{Con}
 use Rattle.lra_linear_spec.specs.OperationStrain.{ForgetStrains}
-use Rattle.lra_linear_spec.specs.Points.{IsWithin}
 use Rattle.lra_linear_spec.specs.Polyhedra.{IsPolyhedron, IsPolyhedronOf, Polyhedron}
-use Rattle.lra_linear_spec.specs.SetOperations.{Forget}
-use Rattle.lra_linear_spec.specs.Strain.{Loss}
+use Rattle.lra_linear_spec.specs.{Descriptions.Con, Points.IsWithin, SetOperations.Forget, Strain.Loss}
 
 -- q has the points of p with anything as coordinate k, and no others unless forgetting that coordinate strains
 pub record IsForgetResult (k : ℕ) (p q : Polyhedron) : Type 0 where

@@ -1,12 +1,9 @@
 -- What is left of a preimage whose constraints are converted.
-use Rattle.std.specs.Prelude.{ℕ, ℤ, List, []}
-use Rattle.std.specs.List.{Contains}
-use Rattle.lra_linear_spec.specs.Descriptions.{LinearRow}
+use Rattle.std.specs.{List.Contains, Prelude.ℕ, Prelude.ℤ, Prelude.List, Prelude.[]}
 use Rattle.lra_linear_spec.specs.OperationStrain.{substituted_rows, with_positivity}
-use Rattle.lra_linear_spec.specs.Polyhedra.{Polyhedron}
+use Rattle.lra_linear_spec.specs.{Descriptions.LinearRow, Polyhedra.Polyhedron}
 use Rattle.lra_mapped_systems.specs.Forming.{AllFormed}
-use Rattle.lra_poly.specs.declared.outcome.Outcome.{Outcome}
-use Rattle.lra_poly.specs.Restricted.{IsTried}
+use Rattle.lra_poly.specs.{Restricted.IsTried, declared.outcome.Outcome.Outcome}
 
 -- the constraints of p that can be formed, all but those in which a number passes, were tried from nothing
 pub record IsOfFormed (k : ℕ) (form : List ℤ) (p q : Polyhedron) : Type 0 where

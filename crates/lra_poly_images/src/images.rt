@@ -1,20 +1,15 @@
 //! Images and preimages under a form, and coordinates that are forgotten.
 
-ghost use Rattle.std.specs.Prelude.{◌≡◌, ◌<◌, ◌∷◌, ◌++◌, [], suc, length, None, Some, IfOk, OnErr, OnOk};
-ghost use Rattle.std.specs.Prelude.{pos, negsuc, slice_set, true, IfNone, IfSome};
+ghost use Rattle.std.specs.Prelude.{◌≡◌, ◌<◌, ◌∷◌, ◌++◌, [], suc, length, None, Some, IfOk, OnErr, OnOk, pos, negsuc};
+ghost use Rattle.std.specs.Prelude.{slice_set, true, IfNone, IfSome};
 ghost use Rattle.lra_linear_spec.specs.Descriptions.{Con, Gen, Holds, line};
-ghost use Rattle.lra_linear_spec.specs.OperationStrain.{ForgetStrains};
-ghost use Rattle.lra_linear_spec.specs.OperationStrain.{ImageStrains, PreimageStrains, unit_row};
-ghost use Rattle.lra_linear_spec.specs.Points.{IsWithin};
-ghost use Rattle.lra_linear_spec.specs.Polyhedra.{IsPolyhedronOf};
+ghost use Rattle.lra_linear_spec.specs.OperationStrain.{ForgetStrains, ImageStrains, PreimageStrains, unit_row};
 ghost use Rattle.lra_linear_spec.specs.SetOperations.{Forget, Image, Meet, Preimage};
-ghost use Rattle.lra_linear_spec.specs.Vectors.{entry};
+ghost use Rattle.lra_linear_spec.specs.{Points.IsWithin, Polyhedra.IsPolyhedronOf, Vectors.entry};
 ghost use Rattle.lra_linear_spec.specs.Strain as strain;
-ghost use Rattle.lra_poly_images.specs.Forgetting.{IsForgetResult};
-ghost use Rattle.lra_poly_images.specs.FormedPreimages.{IsOfFormed};
+ghost use Rattle.lra_poly_images.specs.{Forgetting.IsForgetResult, FormedPreimages.IsOfFormed};
 ghost use Rattle.lra_mapped_systems.specs.Moving.{StaysBackFor, StaysFor};
-ghost use Rattle.lra_poly.specs.Outcomes.{Becomes, IfFlagged, IsOfGenerators};
-ghost use Rattle.lra_poly.specs.United.{AreTriedPoints};
+ghost use Rattle.lra_poly.specs.{Outcomes.Becomes, Outcomes.IfFlagged, Outcomes.IsOfGenerators, United.AreTriedPoints};
 ghost use Rattle.lra_duality.specs.Rows.{test_row};
 ghost use Rattle.lra_linear_forms.specs.Form.{form_row};
 ghost use Rattle.lra_systems.specs.LinearSystems.{generators, FitKinds};

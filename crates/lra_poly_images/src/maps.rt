@@ -1,16 +1,12 @@
 //! Changes of the dimensions, and time-elapse.
 
 ghost use Rattle.std.specs.Prelude.{◌≡◌, ◌⊎◌, ◌<◌, ◌≤◌, ◌-◌, ◌+◌, ◌++◌, IfOk, OnErr};
-ghost use Rattle.lra_linear_spec.specs.Descriptions.{Con};
-ghost use Rattle.lra_linear_spec.specs.OperationStrain.{EmbedStrains};
-ghost use Rattle.lra_linear_spec.specs.OperationStrain.{RemoveLastStrains, TimeElapseStrains};
+ghost use Rattle.lra_linear_spec.specs.OperationStrain.{EmbedStrains, RemoveLastStrains, TimeElapseStrains};
 ghost use Rattle.lra_linear_spec.specs.OperationStrain.{as_directions, embedded, shortened};
-ghost use Rattle.lra_linear_spec.specs.Points.{IsEmptySet};
 ghost use Rattle.lra_linear_spec.specs.SetOperations.{Embed, RemoveLast, TimeElapse};
-ghost use Rattle.lra_poly.specs.Outcomes.{Becomes, IfFlagged, IsOfGenerators};
-ghost use Rattle.lra_poly.specs.United.{AreTriedPoints};
-ghost use Rattle.lra_systems.specs.Dimensions.{too_many_dimensions};
-ghost use Rattle.lra_systems.specs.LinearSystems.{generators, FitKinds};
+ghost use Rattle.lra_linear_spec.specs.{Descriptions.Con, Points.IsEmptySet};
+ghost use Rattle.lra_poly.specs.{Outcomes.Becomes, Outcomes.IfFlagged, Outcomes.IsOfGenerators, United.AreTriedPoints};
+ghost use Rattle.lra_systems.specs.{Dimensions.too_many_dimensions, LinearSystems.generators, LinearSystems.FitKinds};
 
 use lra_mapped_systems::{directions_of, embed_list, shorten, with_directions};
 use lra_poly::{Outcome, Poly};

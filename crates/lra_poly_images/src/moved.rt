@@ -1,10 +1,8 @@
 //! Images and preimages by a form that can be taken back: both lists of a polyhedron are moved, with no conversion.
 
 ghost use Rattle.std.specs.Prelude.{◌≡◌, ◌<◌, ◌⊎◌, suc, length, IfErr, IfOk, IfSome, IfNone};
-ghost use Rattle.lra_linear_spec.specs.Descriptions.{Con};
-ghost use Rattle.lra_linear_spec.specs.Points.{IsEmptySet};
-ghost use Rattle.lra_linear_spec.specs.Polyhedra.{IsPolyhedronOf};
 ghost use Rattle.lra_linear_spec.specs.SetOperations.{Image, Preimage};
+ghost use Rattle.lra_linear_spec.specs.{Descriptions.Con, Points.IsEmptySet, Polyhedra.IsPolyhedronOf};
 ghost use Rattle.lra_mapped_systems.specs.Moving.{AssignmentPasses, MovePasses, OnExcess, StaysBackFor, StaysFor};
 ghost use Rattle.lra_mapped_systems.specs.Moving.{SubstitutionPasses, IsInverse};
 

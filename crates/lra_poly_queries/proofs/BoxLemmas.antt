@@ -1,23 +1,13 @@
 -- The least box: no product of a unit row passes, and extents are told one by one.
-use Rattle.std.proofs.Common.{◌≡◌, ℕ, zero, suc, ◌+◌, Bool, true, false, cond, List, [], ◌∷◌, ◌++◌, length, ap, refl, sym, ◌∙◌}
-use Rattle.std.proofs.Common.{subst, inl, inr, ◌⊎◌, arith, ℤ, pos, negsuc, neg_ℤ, ◌+ℤ◌, ◌*ℤ◌, Result, Ok, Err, IsOk, slice_get, slice_set}
-use Rattle.std.proofs.Common.{Some, replicate, length-append, true≢false}
+use Rattle.std.proofs.Common.{◌≡◌, ℕ, zero, suc, ◌+◌, Bool, true, false, cond, List, [], ◌∷◌, ◌++◌, length, ap, refl, sym, ◌∙◌, subst, inl, inr, ◌⊎◌, arith, ℤ, pos, negsuc, neg_ℤ, ◌+ℤ◌, ◌*ℤ◌, Result}
+use Rattle.std.proofs.{Common.Ok, Common.Err, Common.IsOk, Common.slice_get, Common.slice_set, Common.Some, Common.replicate, Common.length-append, Common.true≢false, lemmas.Int.ints}
 use Rattle.std.specs.List.{All, Contains}
-use Rattle.std.proofs.lemmas.Int.{ints}
 use Rattle.lra_linear_forms.specs.Form.{Form, form_row}
-use Rattle.lra_linear_spec.specs.declared.Excess.{Excess}
-use Rattle.lra_linear_spec.specs.CheckedArithmetic.{checked_product, checked_product_from}
-use Rattle.lra_linear_spec.specs.Descriptions.{LinearRow, inequality}
-use Rattle.lra_linear_spec.specs.Representable.{AreInRange}
 use Rattle.lra_linear_spec.specs.OperationStrain.{MaximiseStrains, ProductsPass, unit_row}
-use Rattle.lra_linear_spec.specs.Polyhedra.{Polyhedron}
-use Rattle.lra_linear_spec.specs.Range.{InRange, in_range}
-use Rattle.lra_linear_spec.specs.Vectors.{negated, zeros}
-use Rattle.lra_linear_spec.proofs.CheckedArithmetic.{in_range_yes}
-use Rattle.lra_linear_spec.proofs.Membership.{contains_cases, contains_none}
-use Rattle.lra_linear_spec.proofs.UnitRows.{zeros_are}
-use Rattle.lra_poly_queries.specs.declared.boxes.Extent.{Extent}
-use Rattle.lra_poly_queries.specs.Boxed.{IsExtent, IsLeastBox, coordinate_form}
+use Rattle.lra_linear_spec.specs.{CheckedArithmetic.checked_product, CheckedArithmetic.checked_product_from, Descriptions.LinearRow, Descriptions.inequality, Polyhedra.Polyhedron, Range.InRange}
+use Rattle.lra_linear_spec.specs.{Range.in_range, Representable.AreInRange, Vectors.negated, Vectors.zeros, declared.Excess.Excess}
+use Rattle.lra_linear_spec.proofs.{CheckedArithmetic.in_range_yes, Membership.contains_cases, Membership.contains_none, UnitRows.zeros_are}
+use Rattle.lra_poly_queries.specs.{Boxed.IsExtent, Boxed.IsLeastBox, Boxed.coordinate_form, declared.boxes.Extent.Extent}
 
 -- ---- products with a unit row, or its opposite
 abbrev Number : Type 0

@@ -1,30 +1,16 @@
 -- How many equalities hold on a polyhedron.
-use Rattle.std.proofs.Common.{◌≡◌, ℕ, zero, suc, ◌<◌, ◌≤◌, ◌+◌, ◌-◌, Bool, true, false, List, [], ◌∷◌, ◌++◌, length, ap}
-use Rattle.std.proofs.Common.{refl, sym, ◌∙◌, subst, ℤ, pos, neg_ℤ, ◌+ℤ◌, ◌*ℤ◌, ◌<ℤ◌, ◌≤ℤ◌, inl, inr, arith}
+use Rattle.std.proofs.Common.{◌≡◌, ℕ, zero, suc, ◌<◌, ◌≤◌, ◌+◌, ◌-◌, Bool, true, false, List, [], ◌∷◌, ◌++◌, length, ap, refl, sym, ◌∙◌, subst, ℤ, pos, neg_ℤ, ◌+ℤ◌, ◌*ℤ◌, ◌<ℤ◌, ◌≤ℤ◌, inl, inr, arith}
+use Rattle.std.proofs.{lemmas.Bool.cases_lt, lemmas.Int.ints, lemmas.List.Elements.Contains-append_left}
 use Rattle.std.specs.List.{Contains, prefix_len}
-use Rattle.std.proofs.lemmas.Bool.{cases_lt}
-use Rattle.std.proofs.lemmas.Int.{ints}
-use Rattle.std.proofs.lemmas.List.Elements.{Contains-append_left}
-use Rattle.lra_linear_spec.specs.Cones.{Generated, all_rows}
 use Rattle.lra_linear_spec.specs.Descriptions.{LinearRow, Con, equality, rows_as, rays_of, system_of}
-use Rattle.lra_linear_spec.specs.Echelon.{IsEchelon, HasPivot, Spanned}
-use Rattle.lra_linear_spec.specs.Points.{IsEmptySet, IsPoint}
 use Rattle.lra_linear_spec.specs.Polyhedra.{HasPoint, IsPolyhedron, Polyhedron}
-use Rattle.lra_linear_spec.specs.SetOperations.{ValidOn}
-use Rattle.lra_linear_spec.specs.Vectors.{dot, entry, negated, product}
-use Rattle.lra_linear_spec.specs.Kinds.{is_equality}
-use Rattle.lra_linear_spec.specs.declared.ConKind.{ConKind}
-use Rattle.lra_linear_spec.specs.declared.ConKind.TheVariants.{Eq, Ge}
+use Rattle.lra_linear_spec.specs.{Cones.Generated, Cones.all_rows, Echelon.IsEchelon, Echelon.HasPivot, Echelon.Spanned, Kinds.is_equality, Points.IsEmptySet, Points.IsPoint, SetOperations.ValidOn}
+use Rattle.lra_linear_spec.specs.{Vectors.dot, Vectors.entry, Vectors.negated, Vectors.product, declared.ConKind.ConKind, declared.ConKind.TheVariants.Eq, declared.ConKind.TheVariants.Ge}
 use Rattle.lra_linear_spec.proofs.CanonicalForms.{lines_are_all, spanned_in_cone, spanned_negative}
-use Rattle.lra_linear_spec.proofs.Combinations.{generated_same}
-use Rattle.lra_linear_spec.proofs.Descriptions.{in_system}
-use Rattle.lra_linear_spec.proofs.LinearMaps.{generated_nonneg}
-use Rattle.lra_linear_spec.proofs.Membership.{contains_head, contains_tail}
-use Rattle.lra_linear_spec.proofs.OneSpelling.{cone_solved, given_has}
-use Rattle.lra_linear_spec.proofs.Polyhedra.{con_gen, generators_lines, generators_rays}
 use Rattle.lra_linear_spec.proofs.Products.{dot_minus, entry_negated, entry_past, negated_dot, negated_length, product_comm}
-use Rattle.lra_linear_spec.proofs.SetOperations.{has_vertex, valid_on_rows}
 use Rattle.lra_linear_spec.proofs.Signs.{between_opposites, not_both, opposite_of_zero, times_positive, zero_at_least}
+use Rattle.lra_linear_spec.proofs.{Combinations.generated_same, Descriptions.in_system, LinearMaps.generated_nonneg, Membership.contains_head, Membership.contains_tail, OneSpelling.cone_solved}
+use Rattle.lra_linear_spec.proofs.{OneSpelling.given_has, Polyhedra.con_gen, Polyhedra.generators_lines, Polyhedra.generators_rays, SetOperations.has_vertex, SetOperations.valid_on_rows}
 use Rattle.lra_duality.proofs.PolyhedronLemmas.{given_width, with_point}
 use Rattle.lra_systems.specs.LinearSystems.{LinearSystem, constraints, rows_by_kind}
 use Rattle.lra_poly_queries.specs.Shapes.{AffineDimension}

@@ -1,27 +1,13 @@
 -- Worked cases: least values, how constraints stand to polyhedra, bounds and dimensions, rounded constraints, moved
 -- points, constraints that a context gives, ends of boxes, polyhedra of parts.
 use Rattle.std.proofs.Common.{◌≡◌, suc, List, [], ◌∷◌, ◌++◌, replicate, pos, negsuc, ℤ, ◌+ℤ◌, ◌*ℤ◌, ◌<ℤ◌, ◌≤ℤ◌, refl, arith, inl, inr, Some}
-use Rattle.std.proofs.Math.Nat.{eq-one_of_dvd-one}
-use Rattle.std.proofs.lemmas.Int.{ints}
-use Rattle.std.proofs.lemmas.List.Elements.{All-nil, All-cons}
-use Rattle.lra_linear_spec.specs.Descriptions.{LinearRow, generator, inequality}
-use Rattle.lra_linear_spec.specs.Polyhedra.{Polyhedron}
-use Rattle.lra_linear_spec.specs.Strain.{Loss}
-use Rattle.lra_linear_spec.specs.Vectors.{entry}
-use Rattle.lra_linear_spec.proofs.Descriptions.{con_cons, con_none}
-use Rattle.lra_linear_spec.proofs.Membership.{contains_head, contains_tail, split_none, split_one}
+use Rattle.std.proofs.{Math.Nat.eq-one_of_dvd-one, lemmas.Int.ints, lemmas.List.Elements.All-nil, lemmas.List.Elements.All-cons}
+use Rattle.lra_linear_spec.specs.{Descriptions.LinearRow, Descriptions.generator, Descriptions.inequality, Polyhedra.Polyhedron, Strain.Loss, Vectors.entry}
+use Rattle.lra_linear_spec.proofs.{Descriptions.con_cons, Descriptions.con_none, Membership.contains_head, Membership.contains_tail, Membership.split_none, Membership.split_one}
 use Rattle.lra_duality.specs.Maxima.{DoesNotImprove, StaysInRange}
-use Rattle.lra_poly_queries.specs.declared.minimum.Minimum.TheVariants.{Empty, Unbounded}
-use Rattle.lra_poly_queries.specs.Boxed.{IsLeastEnd, coordinate_form}
-use Rattle.lra_poly_queries.specs.Minima.{IsAtLeast, IsMinimum}
-use Rattle.lra_poly_queries.specs.Joined.{counted}
-use Rattle.lra_poly_queries.specs.Moved.{Moved, chosen}
-use Rattle.lra_poly_queries.specs.Parted.{SomeHas}
-use Rattle.lra_poly_queries.specs.Related.{replaced}
-use Rattle.lra_poly_queries.specs.Relations.{HoldsNowhere, MissesZero}
-use Rattle.lra_poly_queries.specs.Shapes.{AffineDimension, HasBound}
-use Rattle.lra_poly_queries.specs.Simplified.{AreNeeded, IsRedundant, IsSublist, SimplifyStrains}
-use Rattle.lra_poly_queries.specs.Tightened.{IsTightened}
+use Rattle.lra_poly_queries.specs.{Boxed.IsLeastEnd, Boxed.coordinate_form, Joined.counted, Minima.IsAtLeast, Minima.IsMinimum, Moved.Moved, Moved.chosen, Parted.SomeHas, Related.replaced}
+use Rattle.lra_poly_queries.specs.{Relations.HoldsNowhere, Relations.MissesZero, Shapes.AffineDimension, Shapes.HasBound, Simplified.AreNeeded, Simplified.IsRedundant, Simplified.IsSublist}
+use Rattle.lra_poly_queries.specs.{Simplified.SimplifyStrains, Tightened.IsTightened, declared.minimum.Minimum.TheVariants.Empty, declared.minimum.Minimum.TheVariants.Unbounded}
 
 -- x is at least 1/2 at the point 3/2, and not at the point 1/4
 pub half_below : IsAtLeast (pos 0 ∷ pos 1 ∷ []) (pos 1) (pos 2) (pos 2 ∷ pos 3 ∷ [])

@@ -1,24 +1,12 @@
 -- A twin of a dimension: what the constraints ask of a point with one further coordinate.
-use Rattle.std.proofs.Common.{◌≡◌, ℕ, zero, suc, ◌<◌, ◌≤◌, ◌+◌, List, [], ◌∷◌, ◌++◌, length, map, drop, slice_set}
-use Rattle.std.proofs.Common.{ap, refl, sym, ◌∙◌, ℤ, pos, ◌+ℤ◌, ◌*ℤ◌, arith}
+use Rattle.std.proofs.Common.{◌≡◌, ℕ, zero, suc, ◌<◌, ◌≤◌, ◌+◌, List, [], ◌∷◌, ◌++◌, length, map, drop, slice_set, ap, refl, sym, ◌∙◌, ℤ, pos, ◌+ℤ◌, ◌*ℤ◌, arith}
 use Rattle.std.proofs.lemmas.List.{map-append}
-use Rattle.lra_linear_spec.specs.Descriptions.{Con, LinearRow}
-use Rattle.lra_linear_spec.specs.Points.{SameSet}
-use Rattle.lra_linear_spec.specs.Polyhedra.{IsPolyhedron, Polyhedron}
 use Rattle.lra_linear_spec.specs.Vectors.{cleared, dot, entry, product}
-use Rattle.lra_linear_spec.specs.declared.ConKind.{ConKind}
-use Rattle.lra_linear_spec.proofs.Products.{entry_past}
-use Rattle.lra_linear_spec.proofs.Ring.{ring, v, ◌⊕◌, ◌⊗◌}
-use Rattle.lra_linear_spec.proofs.SetOperations.{meet_con, product_set}
+use Rattle.lra_linear_spec.specs.{Descriptions.Con, Descriptions.LinearRow, Kinds.is_equality, Points.SameSet, Polyhedra.IsPolyhedron, Polyhedra.Polyhedron, declared.ConKind.ConKind}
+use Rattle.lra_linear_spec.proofs.{Products.entry_past, Ring.ring, Ring.v, Ring.◌⊕◌, Ring.◌⊗◌, SetOperations.meet_con, SetOperations.product_set}
 use Rattle.lra_systems.specs.LinearSystems.{LinearSystem, constraints, rows_by_kind}
-use Rattle.lra_linear_spec.specs.Kinds.{is_equality}
-use Rattle.lra_poly_queries.specs.Expanded.{Expanded, expanded}
-use Rattle.lra_poly_queries.specs.Joined.{counted}
-use Rattle.lra_poly_queries.specs.Moved.{chosen, moved}
-use Rattle.lra_poly_queries.specs.Related.{replaced}
-use Rattle.lra_poly_queries.proofs.JoinedSets.{con_moved, dot_within, first_rows, width_of}
-use Rattle.lra_poly_queries.proofs.RelatedSets.{replaced_length}
-use Rattle.lra_poly_queries.proofs.TakenRows.{TakesRows}
+use Rattle.lra_poly_queries.specs.{Expanded.Expanded, Expanded.expanded, Joined.counted, Moved.chosen, Moved.moved, Related.replaced}
+use Rattle.lra_poly_queries.proofs.{JoinedSets.con_moved, JoinedSets.dot_within, JoinedSets.first_rows, JoinedSets.width_of, RelatedSets.replaced_length, TakenRows.TakesRows}
 
 -- ---- lists with a member replaced
 map_set : (f : ℕ → ℤ) (l : List ℕ) (k d : ℕ) → map f (slice_set l k d) ≡ slice_set (map f l) k (f d)

@@ -1,17 +1,11 @@
 -- The hull of the points along some dimensions and along others.
 use Rattle.std.proofs.Common.{◌≡◌, ℕ, List, length, ap, sym, ◌∙◌, subst, inl, inr}
-use Rattle.lra_linear_spec.specs.Descriptions.{Con}
-use Rattle.lra_linear_spec.specs.OperationStrain.{HullStrains}
 use Rattle.lra_linear_spec.specs.Points.{IsWithin, PointSet, SameSet}
-use Rattle.lra_linear_spec.specs.Polyhedra.{IsPolyhedronOf, Polyhedron}
-use Rattle.lra_linear_spec.specs.SetOperations.{Hull, Union}
-use Rattle.lra_linear_spec.specs.Strain.{Loss}
+use Rattle.lra_linear_spec.specs.{Descriptions.Con, OperationStrain.HullStrains, Polyhedra.IsPolyhedronOf, Polyhedra.Polyhedron, SetOperations.Hull, SetOperations.Union, Strain.Loss}
 use Rattle.lra_poly.proofs.PolyLemmas.{same_polyhedron}
 use Rattle.lra_poly.specs.Outcomes.{Becomes, IfExact, IfFlagged, first_of}
-use Rattle.lra_poly.specs.declared.outcome.Outcome.{Outcome}
-use Rattle.lra_poly.specs.declared.outcome.Outcome.TheVariants.{Exact, Flagged}
-use Rattle.lra_poly_queries.specs.Folded.{FoldStrains, Folded}
-use Rattle.lra_poly_queries.specs.Moved.{MapDimsStrains, Moved}
+use Rattle.lra_poly.specs.{declared.outcome.Outcome.Outcome, declared.outcome.Outcome.TheVariants.Exact, declared.outcome.Outcome.TheVariants.Flagged}
+use Rattle.lra_poly_queries.specs.{Folded.FoldStrains, Folded.Folded, Moved.MapDimsStrains, Moved.Moved}
 
 -- ---- three calls in a row
 three_exact : (P Q R G : Type 0) → (P → Q → R → G) → (first second third : Outcome) → IfExact P first →

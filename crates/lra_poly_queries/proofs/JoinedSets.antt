@@ -1,24 +1,15 @@
 -- Constraints moved to other dimensions: what they ask of a point.
-use Rattle.std.proofs.Common.{◌≡◌, ℕ, zero, suc, ◌<◌, ◌≤◌, ◌+◌, List, [], ◌∷◌, ◌++◌, length, map, take, drop, get_or, replicate}
-use Rattle.std.proofs.Common.{ap, refl, sym, ◌∙◌, subst, ℤ, pos, ◌+ℤ◌, ◌*ℤ◌, add-one, append_assoc, arith}
+use Rattle.std.proofs.Common.{◌≡◌, ℕ, zero, suc, ◌<◌, ◌≤◌, ◌+◌, List, [], ◌∷◌, ◌++◌, length, map, take, drop, get_or, replicate, ap, refl, sym, ◌∙◌, subst, ℤ, pos, ◌+ℤ◌, ◌*ℤ◌, add-one, append_assoc}
+use Rattle.std.proofs.{Common.arith, lemmas.List.get_or_default, lemmas.List.length-append, lemmas.List.map-append, lemmas.List.take_all}
 use Rattle.std.specs.List.{Contains}
-use Rattle.std.proofs.lemmas.List.{get_or_default, length-append, map-append, take_all}
 use Rattle.lra_linear_spec.specs.Descriptions.{Con, LinearRow, Holds, HoldsWith}
-use Rattle.lra_linear_spec.specs.Kinds.{is_equality}
-use Rattle.lra_linear_spec.specs.Points.{SameSet}
-use Rattle.lra_linear_spec.specs.Polyhedra.{IsPolyhedron, Polyhedron}
-use Rattle.lra_linear_spec.specs.Vectors.{dot, entry, product}
-use Rattle.lra_linear_spec.specs.declared.ConKind.{ConKind}
-use Rattle.lra_linear_spec.proofs.Descriptions.{system_has}
-use Rattle.lra_linear_spec.proofs.Membership.{map_from, map_has}
+use Rattle.lra_linear_spec.specs.{Kinds.is_equality, Points.SameSet, Polyhedra.IsPolyhedron, Polyhedra.Polyhedron, Vectors.dot, Vectors.entry, Vectors.product, declared.ConKind.ConKind}
 use Rattle.lra_linear_spec.proofs.Products.{dot_same, entry_past}
-use Rattle.lra_linear_spec.proofs.Ring.{ring, v, ◌⊕◌, ◌⊗◌}
-use Rattle.lra_linear_spec.proofs.SetOperations.{meet_con}
+use Rattle.lra_linear_spec.proofs.{Descriptions.system_has, Membership.map_from, Membership.map_has, Ring.ring, Ring.v, Ring.◌⊕◌, Ring.◌⊗◌, SetOperations.meet_con}
 use Rattle.lra_duality.proofs.PolyhedronLemmas.{rows_width}
 use Rattle.lra_systems.specs.LinearSystems.{LinearSystem, constraints, rows_by_kind}
 use Rattle.lra_systems.proofs.LinearRows.{constraints_pushed, given_more}
-use Rattle.lra_poly_queries.specs.Joined.{Concatenated, concatenated, counted}
-use Rattle.lra_poly_queries.specs.Moved.{chosen, moved}
+use Rattle.lra_poly_queries.specs.{Joined.Concatenated, Joined.concatenated, Joined.counted, Moved.chosen, Moved.moved}
 use Rattle.lra_poly_queries.proofs.TakenRows.{TakesRows}
 
 -- ---- a row in other columns

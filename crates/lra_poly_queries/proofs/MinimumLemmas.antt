@@ -1,16 +1,10 @@
 -- A form has its least value where its opposite has its greatest.
 use Rattle.std.proofs.Common.{◌≡◌, ℕ, zero, suc, ℤ, pos, neg_ℤ, ◌*ℤ◌, List, [], ◌∷◌, ap, ◌∙◌, subst, arith, sym}
-use Rattle.std.specs.Prelude.{unsigned_abs}
 use Rattle.std.proofs.lemmas.Int.{ints}
-use Rattle.std.specs.Int.{◌∣◌}
-use Rattle.lra_linear_spec.specs.LowestTerms.{IsPrimitive}
-use Rattle.lra_linear_spec.specs.Vectors.{entry, product, negated}
-use Rattle.lra_linear_spec.specs.Polyhedra.{Polyhedron}
-use Rattle.lra_linear_spec.proofs.Products.{negated_dot}
-use Rattle.lra_linear_spec.proofs.Ring.{ring, v, ⊖, ◌⊗◌}
-use Rattle.lra_duality.specs.Maxima.{IsGreatestValue, IsMaximum, IsUnbounded, HasValue, IsAtMost}
-use Rattle.lra_duality.specs.declared.maximum.Maximum.TheVariants.{At}
-use Rattle.lra_linear_spec.specs.Descriptions.{LinearRow}
+use Rattle.std.specs.{Int.◌∣◌, Prelude.unsigned_abs}
+use Rattle.lra_linear_spec.specs.{Descriptions.LinearRow, LowestTerms.IsPrimitive, Polyhedra.Polyhedron, Vectors.entry, Vectors.product, Vectors.negated}
+use Rattle.lra_linear_spec.proofs.{Products.negated_dot, Ring.ring, Ring.v, Ring.⊖, Ring.◌⊗◌}
+use Rattle.lra_duality.specs.{Maxima.IsGreatestValue, Maxima.IsMaximum, Maxima.IsUnbounded, Maxima.HasValue, Maxima.IsAtMost, declared.maximum.Maximum.TheVariants.At}
 use Rattle.lra_poly_queries.specs.Minima.{IsAtLeast, IsLeastValue, IsUnboundedBelow}
 
 times_turned : (a b : ℤ) → neg_ℤ a *ℤ b ≡ neg_ℤ (a *ℤ b)

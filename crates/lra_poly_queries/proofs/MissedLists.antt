@@ -1,23 +1,15 @@
 -- Which signs a form misses, along a list of generators.
 use Rattle.std.proofs.Common.{◌≡◌, ℕ, ◌<◌, ◌≤◌, ◌+◌, add-one, Bool, false, List, [], ◌∷◌, ◌++◌, length, take, get_or, arith, refl, sym, ◌∙◌, subst, ap, ℤ, pos, neg_ℤ, ◌<ℤ◌, Err}
-use Rattle.std.specs.Prelude.{◌↔◌, IsTrue}
-use Rattle.std.specs.List.{All, Contains}
 use Rattle.std.proofs.lemmas.List.{take_all}
 use Rattle.std.proofs.lemmas.List.Elements.{All-contains, All-nil, All-push, Contains-append_right, Contains-append_left}
+use Rattle.std.specs.{List.All, List.Contains, Prelude.◌↔◌, Prelude.IsTrue}
 use Rattle.lra_linear_spec.specs.declared.Excess as E
-use Rattle.lra_linear_spec.specs.declared.GenKind.{GenKind}
-use Rattle.lra_linear_spec.specs.CheckedArithmetic.{checked_product}
-use Rattle.lra_linear_spec.specs.Descriptions.{LinearRow, inequality}
-use Rattle.lra_linear_spec.specs.Kinds.{is_line}
-use Rattle.lra_linear_spec.specs.OperationStrain.{ProductsPass}
-use Rattle.lra_linear_spec.specs.Vectors.{entry, negated, product}
-use Rattle.lra_linear_spec.specs.Widening.{holds_with}
-use Rattle.lra_linear_spec.proofs.Membership.{all_from, contains_head}
-use Rattle.lra_linear_spec.proofs.Products.{negated_dot}
+use Rattle.lra_linear_spec.specs.{CheckedArithmetic.checked_product, Descriptions.LinearRow, Descriptions.inequality, Kinds.is_line, OperationStrain.ProductsPass, Vectors.entry, Vectors.negated}
+use Rattle.lra_linear_spec.specs.{Vectors.product, Widening.holds_with, declared.GenKind.GenKind}
+use Rattle.lra_linear_spec.proofs.{Membership.all_from, Membership.contains_head, Products.negated_dot}
 use Rattle.lra_systems.specs.LinearSystems.{rows_by_kind}
 use Rattle.lra_systems.proofs.FirstMembers.{front, given_more, given_split, member}
-use Rattle.lra_poly_queries.specs.declared.relation.Missed.{Missed}
-use Rattle.lra_poly_queries.specs.Relations.{AreMissed, MissesAt, MissesZero, StaysAbove, StaysBelow}
+use Rattle.lra_poly_queries.specs.{Relations.AreMissed, Relations.MissesAt, Relations.MissesZero, Relations.StaysAbove, Relations.StaysBelow, declared.relation.Missed.Missed}
 
 -- ---- one generator
 as_said : (a b : Bool) → a ≡ b → IsTrue b ↔ IsTrue a

@@ -1,19 +1,10 @@
 -- Dimensions moved: the generators with their columns in the new order.
-use Rattle.std.proofs.Common.{◌≡◌, ℕ, zero, suc, ◌<◌, ◌≤◌, ◌+◌, List, [], ◌∷◌, ◌++◌, length, map, take, get_or, ap, refl, sym, ◌∙◌}
-use Rattle.std.proofs.Common.{ℤ, pos, neg_ℤ, ◌+ℤ◌, ◌*ℤ◌, add-one, arith}
-use Rattle.std.proofs.Math.Seq.{take-suc}
-use Rattle.std.proofs.lemmas.List.{map-append, take_all}
-use Rattle.lra_linear_spec.specs.Descriptions.{Con, Gen}
-use Rattle.lra_linear_spec.specs.Points.{SameSet}
-use Rattle.lra_linear_spec.specs.Polyhedra.{IsPolyhedron, Polyhedron}
-use Rattle.lra_linear_spec.specs.Vectors.{entry, negated}
-use Rattle.lra_linear_spec.specs.declared.GenKind.{GenKind}
-use Rattle.lra_linear_spec.proofs.Polyhedra.{con_gen}
-use Rattle.lra_linear_spec.proofs.Products.{entry_negated}
-use Rattle.lra_linear_spec.proofs.Ring.{ring, v, ◌⊕◌, ◌⊗◌}
+use Rattle.std.proofs.Common.{◌≡◌, ℕ, zero, suc, ◌<◌, ◌≤◌, ◌+◌, List, [], ◌∷◌, ◌++◌, length, map, take, get_or, ap, refl, sym, ◌∙◌, ℤ, pos, neg_ℤ, ◌+ℤ◌, ◌*ℤ◌, add-one, arith}
+use Rattle.std.proofs.{Math.Seq.take-suc, lemmas.List.map-append, lemmas.List.take_all}
+use Rattle.lra_linear_spec.specs.{Descriptions.Con, Descriptions.Gen, Points.SameSet, Polyhedra.IsPolyhedron, Polyhedra.Polyhedron, Vectors.entry, Vectors.negated, declared.GenKind.GenKind}
+use Rattle.lra_linear_spec.proofs.{Polyhedra.con_gen, Products.entry_negated, Ring.ring, Ring.v, Ring.◌⊕◌, Ring.◌⊗◌}
 use Rattle.lra_systems.specs.LinearSystems.{LinearSystem, generators}
-use Rattle.lra_mapped_systems.proofs.MappedSets.{IsMapOf, mapped_from, mapped_in, widths_of}
-use Rattle.lra_mapped_systems.proofs.Sums.{IsLinear}
+use Rattle.lra_mapped_systems.proofs.{MappedSets.IsMapOf, MappedSets.mapped_from, MappedSets.mapped_in, MappedSets.widths_of, Sums.IsLinear}
 use Rattle.lra_poly.proofs.TakenGenerators.{Takes}
 use Rattle.lra_poly_queries.specs.Moved.{Moved, chosen, moved}
 

@@ -1,20 +1,12 @@
 -- A polyhedron for each list of constraints, one by one; what they say of stores.
 use Rattle.std.proofs.Common.{◌≡◌, ℕ, suc, ◌<◌, ◌+◌, List, [], ◌∷◌, ◌++◌, length, take, get_or, ap, sym, ◌∙◌, subst, inl, inr, arith, ℤ, pos}
-use Rattle.std.specs.List.{All}
-use Rattle.std.proofs.lemmas.Int.{ints}
-use Rattle.std.proofs.lemmas.List.{take_more}
 use Rattle.std.proofs.lemmas.List.Elements.{All-cons, All-nil, Contains-append_left, Contains-append_right}
+use Rattle.std.proofs.{lemmas.Int.ints, lemmas.List.take_more}
+use Rattle.std.specs.List.{All}
 use Rattle.lra_domain.specs.Parts.{SomePartHolds}
-use Rattle.lra_linear_spec.specs.Descriptions.{Con}
-use Rattle.lra_linear_spec.specs.OperationStrain.{FromRowsStrains}
-use Rattle.lra_linear_spec.specs.Points.{IsPoint}
-use Rattle.lra_linear_spec.specs.Polyhedra.{IsPolyhedronOf, Polyhedron}
-use Rattle.lra_linear_spec.specs.Strain.{Loss}
-use Rattle.lra_linear_spec.specs.declared.ConKind.{ConKind}
+use Rattle.lra_linear_spec.specs.{Descriptions.Con, OperationStrain.FromRowsStrains, Points.IsPoint, Polyhedra.IsPolyhedronOf, Polyhedra.Polyhedron, Strain.Loss, declared.ConKind.ConKind}
 use Rattle.lra_linear_spec.proofs.Membership.{contains_head}
-use Rattle.lra_poly.specs.Outcomes.{IfExact, IsOfRows, first_of}
-use Rattle.lra_poly.specs.declared.outcome.Outcome.{Outcome}
-use Rattle.lra_poly.specs.declared.outcome.Outcome.TheVariants.{Exact}
+use Rattle.lra_poly.specs.{Outcomes.IfExact, Outcomes.IsOfRows, Outcomes.first_of, declared.outcome.Outcome.Outcome, declared.outcome.Outcome.TheVariants.Exact}
 use Rattle.lra_poly.proofs.PolyLemmas.{if_exact}
 use Rattle.lra_systems.specs.LinearSystems.{LinearSystem, constraints}
 use Rattle.lra_poly_queries.specs.Parted.{AreAround, AreMadeOf, ArePolyhedraOf, SomeHas, SomePartStrains}

@@ -1,25 +1,16 @@
 -- A coordinate whose new values stand to the old point as a constraint tells.
-use Rattle.std.proofs.Common.{◌≡◌, ℕ, zero, suc, ◌+◌, List, [], ◌∷◌, ◌++◌, length, replicate, slice_set, ap, refl, sym}
-use Rattle.std.proofs.Common.{◌∙◌, subst, ℤ, inl, inr}
-use Rattle.lra_linear_spec.specs.Descriptions.{Con, LinearRow}
-use Rattle.lra_linear_spec.specs.Kinds.{is_equality}
-use Rattle.lra_linear_spec.specs.Points.{IsWithin, PointSet, SameSet}
+use Rattle.std.proofs.Common.{◌≡◌, ℕ, zero, suc, ◌+◌, List, [], ◌∷◌, ◌++◌, length, replicate, slice_set, ap, refl, sym, ◌∙◌, subst, ℤ, inl, inr}
 use Rattle.lra_linear_spec.specs.Polyhedra.{IsPolyhedron, IsPolyhedronOf, Polyhedron}
-use Rattle.lra_linear_spec.specs.Strain.{Loss}
-use Rattle.lra_linear_spec.specs.declared.ConKind.{ConKind}
-use Rattle.lra_linear_spec.proofs.Descriptions.{con_cons, con_head, con_none}
-use Rattle.lra_linear_spec.proofs.SetOperations.{meet_con}
+use Rattle.lra_linear_spec.specs.{Descriptions.Con, Descriptions.LinearRow, Kinds.is_equality, Points.IsWithin, Points.PointSet, Points.SameSet, Strain.Loss, declared.ConKind.ConKind}
+use Rattle.lra_linear_spec.proofs.{Descriptions.con_cons, Descriptions.con_head, Descriptions.con_none, SetOperations.meet_con}
 use Rattle.lra_poly.proofs.PolyLemmas.{same_polyhedron}
 use Rattle.lra_poly.specs.Outcomes.{Becomes, IfExact, IfFlagged, first_of}
-use Rattle.lra_poly.specs.declared.outcome.Outcome.{Outcome}
-use Rattle.lra_poly.specs.declared.outcome.Outcome.TheVariants.{Exact, Flagged}
+use Rattle.lra_poly.specs.{declared.outcome.Outcome.Outcome, declared.outcome.Outcome.TheVariants.Exact, declared.outcome.Outcome.TheVariants.Flagged}
 use Rattle.lra_systems.specs.LinearSystems.{LinearSystem, constraints, rows_by_kind}
 use Rattle.lra_systems.proofs.LinearRows.{constraints_pushed}
-use Rattle.lra_poly_queries.specs.Joined.{counted}
-use Rattle.lra_poly_queries.specs.Moved.{MapDimsStrains, Moved, moved}
 use Rattle.lra_poly_queries.specs.Related.{ExtendStrains, Extended, ImageRelationStrains, Related, extended, replaced}
-use Rattle.lra_poly_queries.proofs.JoinedSets.{counted_length, first_rows}
-use Rattle.lra_poly_queries.proofs.TakenRows.{TakesRows}
+use Rattle.lra_poly_queries.specs.{Joined.counted, Moved.MapDimsStrains, Moved.Moved, Moved.moved}
+use Rattle.lra_poly_queries.proofs.{JoinedSets.counted_length, JoinedSets.first_rows, TakenRows.TakesRows}
 
 -- ---- one further coordinate
 extended_rows : (p : Polyhedron) (g : LinearRow) → IsPolyhedron p →

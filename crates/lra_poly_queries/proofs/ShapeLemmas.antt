@@ -1,34 +1,18 @@
 -- All points, and bounded polyhedra.
-use Rattle.std.proofs.Common.{◌≡◌, ◌⊎◌, ℕ, zero, suc, ◌<◌, ◌≤◌, ◌+◌, Bool, true, false, List, [], ◌∷◌, ◌++◌, length, ap}
-use Rattle.std.proofs.Common.{refl, sym, ◌∙◌, subst, ℤ, pos, negsuc, neg_ℤ, ◌+ℤ◌, ◌*ℤ◌, ◌<ℤ◌, ◌≤ℤ◌, inl, inr, arith, slice_set}
-use Rattle.std.specs.Prelude.{◌↔◌, ◌==◌, IsTrue, unsigned_abs}
-use Rattle.std.proofs.lemmas.Nat.Gcd.{dvd_refl, dvd-zero}
-use Rattle.std.specs.Int.{◌∣◌}
-use Rattle.std.specs.List.{All, Contains}
-use Rattle.std.proofs.lemmas.Int.{ints}
-use Rattle.std.proofs.lemmas.List.Elements.{All-contains}
+use Rattle.std.proofs.Common.{◌≡◌, ◌⊎◌, ℕ, zero, suc, ◌<◌, ◌≤◌, ◌+◌, Bool, true, false, List, [], ◌∷◌, ◌++◌, length, ap, refl, sym, ◌∙◌, subst, ℤ, pos, negsuc, neg_ℤ, ◌+ℤ◌, ◌*ℤ◌, ◌<ℤ◌, ◌≤ℤ◌, inl, inr}
+use Rattle.std.proofs.lemmas.List.Elements.{All-contains, Contains-append_cases, Contains-append_left, Contains-append_right}
+use Rattle.std.proofs.{Common.arith, Common.slice_set, lemmas.Int.ints, lemmas.Nat.Gcd.dvd_refl, lemmas.Nat.Gcd.dvd-zero}
+use Rattle.std.specs.{Int.◌∣◌, List.All, List.Contains, Prelude.◌↔◌, Prelude.◌==◌, Prelude.IsTrue, Prelude.unsigned_abs}
 use Rattle.lra_linear_spec.specs.Descriptions.{LinearRow, Con, equality, rows_as, inequality, system_of}
-use Rattle.lra_linear_spec.specs.Echelon.{pivot}
-use Rattle.lra_linear_spec.specs.Points.{IsPoint, IsWithin}
 use Rattle.lra_linear_spec.specs.Polyhedra.{HasPoint, IsPolyhedron, Polyhedron, positivity}
-use Rattle.lra_linear_spec.specs.Vectors.{blend, cleared, entry, product}
-use Rattle.lra_linear_spec.proofs.Descriptions.{FromGiven, con_none, gen_generated, system_from, system_has}
-use Rattle.lra_linear_spec.proofs.LinearMaps.{generated_nonneg}
-use Rattle.lra_linear_spec.proofs.Lines.{entry_zeros, zeros_length}
-use Rattle.lra_linear_spec.proofs.Membership.{all_from, contains_cases, contains_head, contains_none, contains_tail}
-use Rattle.lra_linear_spec.proofs.OneSpelling.{far, given_from, given_has, positivity_product}
-use Rattle.lra_linear_spec.proofs.Pivots.{echelon_positive}
-use Rattle.lra_linear_spec.proofs.Polyhedra.{con_gen, generators_are_generators}
-use Rattle.lra_linear_spec.proofs.Products.{entry_past, product_comm, row_same}
-use Rattle.lra_linear_spec.proofs.Ring.{mul_nonnegative, ring, v, ⊖, ◌⊕◌, ◌⊗◌}
-use Rattle.lra_linear_spec.proofs.SetOperations.{has_vertex, product_set, valid_on_rows}
-use Rattle.std.proofs.lemmas.List.Elements.{Contains-append_cases, Contains-append_left, Contains-append_right}
+use Rattle.lra_linear_spec.specs.{Echelon.pivot, Kinds.is_equality, Kinds.is_line, Points.IsPoint, Points.IsWithin, Vectors.blend, Vectors.cleared, Vectors.entry, Vectors.product}
+use Rattle.lra_linear_spec.specs.{declared.ConKind.ConKind, declared.GenKind.GenKind, declared.GenKind.TheVariants.Point, declared.GenKind.TheVariants.Ray, declared.GenKind.TheVariants.Line}
+use Rattle.lra_linear_spec.proofs.{Descriptions.FromGiven, Descriptions.con_none, Descriptions.gen_generated, Descriptions.system_from, Descriptions.system_has, LinearMaps.generated_nonneg}
+use Rattle.lra_linear_spec.proofs.{Lines.entry_zeros, Lines.zeros_length, Membership.all_from, Membership.contains_cases, Membership.contains_head, Membership.contains_none, Membership.contains_tail}
+use Rattle.lra_linear_spec.proofs.{OneSpelling.far, OneSpelling.given_from, OneSpelling.given_has, OneSpelling.positivity_product, Pivots.echelon_positive, Polyhedra.con_gen}
+use Rattle.lra_linear_spec.proofs.{Polyhedra.generators_are_generators, Products.entry_past, Products.product_comm, Products.row_same, Ring.mul_nonnegative, Ring.ring, Ring.v, Ring.⊖, Ring.◌⊕◌}
+use Rattle.lra_linear_spec.proofs.{Ring.◌⊗◌, SetOperations.has_vertex, SetOperations.product_set, SetOperations.valid_on_rows, Signs.add_nonnegative, Signs.cases_sign, Signs.times_positive}
 use Rattle.lra_duality.proofs.PolyhedronLemmas.{falsity_is_empty, given_width}
-use Rattle.lra_linear_spec.specs.declared.ConKind.{ConKind}
-use Rattle.lra_linear_spec.specs.declared.GenKind.{GenKind}
-use Rattle.lra_linear_spec.specs.declared.GenKind.TheVariants.{Point, Ray, Line}
-use Rattle.lra_linear_spec.specs.Kinds.{is_equality, is_line}
-use Rattle.lra_linear_spec.proofs.Signs.{add_nonnegative, cases_sign, times_positive}
 use Rattle.lra_description_pair.proofs.OwnRows.{none_of}
 use Rattle.lra_systems.specs.LinearSystems.{FitKinds, FitsKind, LinearSystem, constraints, generators, rows_by_kind}
 use Rattle.lra_poly_queries.proofs.RelationLemmas.{blend_product}

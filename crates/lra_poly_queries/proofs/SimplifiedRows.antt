@@ -1,29 +1,19 @@
 -- Constraints gone through one by one: each is left out, or kept.
-use Rattle.std.proofs.Common.{◌≡◌, ℕ, zero, suc, ◌<◌, ◌≤◌, ◌+◌, add-one, Bool, List, [], ◌∷◌, ◌++◌, length, drop, ap, refl, sym}
-use Rattle.std.proofs.Common.{◌∙◌, subst, inl, inr, ◌⊎◌, arith, ℤ, slice_get, get_or, Option, None, Some}
-use Rattle.std.specs.Prelude.{unwrap_or}
-use Rattle.std.specs.List.{Contains}
-use Rattle.std.proofs.lemmas.List.{append-nil, append_assoc, drop_all}
+use Rattle.std.proofs.Common.{◌≡◌, ℕ, zero, suc, ◌<◌, ◌≤◌, ◌+◌, add-one, Bool, List, [], ◌∷◌, ◌++◌, length, drop, ap, refl, sym, ◌∙◌, subst, inl, inr, ◌⊎◌, arith, ℤ, slice_get, get_or, Option, None}
 use Rattle.std.proofs.lemmas.List.Elements.{Contains-append_cases, Contains-append_left, Contains-append_right}
+use Rattle.std.proofs.{Common.Some, lemmas.List.append-nil, lemmas.List.append_assoc, lemmas.List.drop_all}
+use Rattle.std.specs.{List.Contains, Prelude.unwrap_or}
 use Rattle.lra_linear_spec.specs.Descriptions.{Con, LinearRow, Holds}
-use Rattle.lra_linear_spec.specs.Kinds.{is_equality}
-use Rattle.lra_linear_spec.specs.Points.{SameSet}
-use Rattle.lra_linear_spec.specs.Polyhedra.{Polyhedron}
-use Rattle.lra_linear_spec.specs.SetOperations.{Meet}
-use Rattle.lra_linear_spec.specs.Strain.{Loss}
-use Rattle.lra_linear_spec.specs.declared.ConKind.{ConKind}
+use Rattle.lra_linear_spec.specs.{Kinds.is_equality, Points.SameSet, Polyhedra.Polyhedron, SetOperations.Meet, Strain.Loss, declared.ConKind.ConKind}
 use Rattle.lra_linear_spec.proofs.Membership.{contains_cases, contains_middle, contains_tail, split_none}
 use Rattle.lra_poly.specs.Outcomes.{IfExact, IfFlagged, first_of}
-use Rattle.lra_poly.specs.declared.outcome.Outcome.{Outcome}
-use Rattle.lra_poly.specs.declared.outcome.Outcome.TheVariants.{Exact, Flagged}
+use Rattle.lra_poly.specs.{declared.outcome.Outcome.Outcome, declared.outcome.Outcome.TheVariants.Exact, declared.outcome.Outcome.TheVariants.Flagged}
 use Rattle.lra_poly.proofs.PolyLemmas.{if_exact, if_flagged}
 use Rattle.lra_duality.proofs.SaturationLemmas.{given_length}
 use Rattle.lra_systems.specs.LinearSystems.{LinearSystem, constraints, rows_by_kind}
 use Rattle.lra_systems.proofs.LinearRows.{constraints_pushed}
-use Rattle.lra_poly_queries.specs.Simplified.{AreNeeded, IsRedundant, IsNeededOrStrains, IsSimplified, IsSublist, OwnTrialStrains}
-use Rattle.lra_poly_queries.specs.Simplified.{SimplifyStrains, TellsRedundant, TrialStrains}
-use Rattle.lra_poly_queries.proofs.RelatedSets.{two_exact, two_flagged}
-use Rattle.lra_poly_queries.proofs.Sublists.{behind, sublist_fewer, sublist_longer, sublist_pushed, sublist_whole}
+use Rattle.lra_poly_queries.specs.Simplified.{AreNeeded, IsRedundant, IsNeededOrStrains, IsSimplified, IsSublist, OwnTrialStrains, SimplifyStrains, TellsRedundant, TrialStrains}
+use Rattle.lra_poly_queries.proofs.{RelatedSets.two_exact, RelatedSets.two_flagged, Sublists.behind, Sublists.sublist_fewer, Sublists.sublist_longer, Sublists.sublist_pushed, Sublists.sublist_whole}
 
 -- ---- lists
 -- a list with one more behind it is split at that one, or before it

@@ -1,13 +1,9 @@
 -- An operation that takes in constraints which give its exact result.
 use Rattle.std.proofs.Common.{◌≡◌, ℕ, List, subst}
-use Rattle.lra_linear_spec.specs.Descriptions.{Con, LinearRow}
 use Rattle.lra_linear_spec.specs.OperationStrain.{ConstraintsStrain, FromRowsStrains}
-use Rattle.lra_linear_spec.specs.Points.{PointSet, SameSet}
-use Rattle.lra_linear_spec.specs.Polyhedra.{Polyhedron}
-use Rattle.lra_linear_spec.specs.declared.ConKind.{ConKind}
+use Rattle.lra_linear_spec.specs.{Descriptions.Con, Descriptions.LinearRow, Points.PointSet, Points.SameSet, Polyhedra.Polyhedron, declared.ConKind.ConKind}
 use Rattle.lra_systems.specs.LinearSystems.{LinearSystem, constraints}
-use Rattle.lra_poly.specs.Outcomes.{Becomes, IsOfRows}
-use Rattle.lra_poly.specs.declared.outcome.Outcome.{Outcome}
+use Rattle.lra_poly.specs.{Outcomes.Becomes, Outcomes.IsOfRows, declared.outcome.Outcome.Outcome}
 use Rattle.lra_poly.proofs.PolyLemmas.{becomes_same, constraints_strain}
 
 -- the list, which stands for these constraints, gives the set

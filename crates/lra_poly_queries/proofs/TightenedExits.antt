@@ -1,23 +1,12 @@
 -- What is made of a constraint by the greatest number that divides its coefficients.
-use Rattle.std.proofs.Common.{◌≡◌, ℕ, zero, suc, Bool, List, [], ◌∷◌, ◌++◌, append-nil, length, drop, ap, refl, sym, ◌∙◌, subst, true, false}
-use Rattle.std.proofs.Common.{◌≢◌, ◌-◌, take, map, get_or, int_div, IsTrue, ◌↔◌}
-use Rattle.std.proofs.Common.{ℤ, pos, negsuc, ◌+ℤ◌, ◌*ℤ◌, ◌<ℤ◌, ◌≤ℤ◌, unsigned_abs, arith}
-use Rattle.std.specs.Int.{◌∣◌, int_div_euclid, int_rem_euclid}
-use Rattle.std.proofs.lemmas.Int.{ints}
-use Rattle.std.specs.List.{All}
-use Rattle.std.proofs.lemmas.List.{take_all}
-use Rattle.std.proofs.lemmas.List.Elements.{All-cons, All-tail}
-use Rattle.lra_linear_spec.specs.Range.{InRange}
-use Rattle.lra_linear_spec.proofs.Lines.{zeros_length}
-use Rattle.lra_linear_spec.specs.Descriptions.{equality, inequality}
-use Rattle.lra_linear_spec.specs.OperationStrain.{unit_row}
-use Rattle.lra_linear_spec.specs.Polyhedra.{falsity}
-use Rattle.lra_linear_spec.specs.Vectors.{entry, negated, zeros}
-use Rattle.lra_linear_spec.proofs.LowestTerms.{signed_quotient_is}
-use Rattle.lra_linear_spec.proofs.Ring.{ring, v, ◌⊕◌, ◌⊗◌}
+use Rattle.std.proofs.Common.{◌≡◌, ℕ, zero, suc, Bool, List, [], ◌∷◌, ◌++◌, append-nil, length, drop, ap, refl, sym, ◌∙◌, subst, true, false, ◌≢◌, ◌-◌, take, map, get_or, int_div, IsTrue, ◌↔◌, ℤ, pos}
+use Rattle.std.proofs.Common.{negsuc, ◌+ℤ◌, ◌*ℤ◌, ◌<ℤ◌, ◌≤ℤ◌, unsigned_abs, arith}
+use Rattle.std.proofs.{lemmas.Int.ints, lemmas.List.take_all, lemmas.List.Elements.All-cons, lemmas.List.Elements.All-tail}
+use Rattle.std.specs.{Int.◌∣◌, Int.int_div_euclid, Int.int_rem_euclid, List.All}
+use Rattle.lra_linear_spec.specs.{Descriptions.equality, Descriptions.inequality, OperationStrain.unit_row, Polyhedra.falsity, Range.InRange, Vectors.entry, Vectors.negated, Vectors.zeros}
+use Rattle.lra_linear_spec.proofs.{Lines.zeros_length, LowestTerms.signed_quotient_is, Ring.ring, Ring.v, Ring.◌⊕◌, Ring.◌⊗◌}
 use Rattle.lra_row.specs.Rows.{IsRowGcd}
-use Rattle.lra_row.proofs.Ratio.{euclid, rem_bounds}
-use Rattle.lra_row.proofs.RowLemmas.{divided, divided_in_range, lowest_divided, lowest_same, quotient_signed}
+use Rattle.lra_row.proofs.{Ratio.euclid, Ratio.rem_bounds, RowLemmas.divided, RowLemmas.divided_in_range, RowLemmas.lowest_divided, RowLemmas.lowest_same, RowLemmas.quotient_signed}
 use Rattle.lra_poly_queries.specs.Tightened.{IsTightened}
 use Rattle.lra_poly_queries.proofs.TightenedRows.{as_it_is, at_least_tightened, equality_tightened, no_store_tightened}
 

@@ -1,23 +1,11 @@
 -- A constraint whose coefficients are divided by a number, and its constant rounded downwards.
-use Rattle.std.proofs.Common.{◌≡◌, ◌⊎◌, ℕ, suc, ◌<◌, List, [], ◌∷◌, ◌++◌, length, drop, ap, sym, ◌∙◌, subst}
-use Rattle.std.proofs.Common.{◌+◌, ◌≤◌, get_or, take}
-use Rattle.std.proofs.Common.{ℤ, pos, neg_ℤ, ◌+ℤ◌, ◌*ℤ◌, ◌<ℤ◌, ◌≤ℤ◌, inl, inr, arith}
+use Rattle.std.proofs.Common.{◌≡◌, ◌⊎◌, ℕ, suc, ◌<◌, List, [], ◌∷◌, ◌++◌, length, drop, ap, sym, ◌∙◌, subst, ◌+◌, ◌≤◌, get_or, take, ℤ, pos, neg_ℤ, ◌+ℤ◌, ◌*ℤ◌, ◌<ℤ◌, ◌≤ℤ◌, inl, inr, arith}
+use Rattle.std.proofs.{lemmas.Int.ints, lemmas.List.get_or_default, lemmas.List.length-append, lemmas.List.take_all}
 use Rattle.std.specs.Prelude.{◌↔◌}
-use Rattle.std.proofs.lemmas.Int.{ints}
 use Rattle.lra_linear_spec.specs.Descriptions.{Con, LinearRow, equality, inequality}
-use Rattle.lra_linear_spec.specs.LowestTerms.{IsPrimitive}
-use Rattle.lra_linear_spec.specs.Points.{IsPoint, IsWithin}
-use Rattle.lra_linear_spec.specs.Polyhedra.{falsity}
-use Rattle.lra_linear_spec.specs.Vectors.{entry, product}
-use Rattle.lra_linear_spec.proofs.Descriptions.{con_cons, con_head, con_none, con_tail}
-use Rattle.lra_linear_spec.proofs.Lines.{entry_zeros}
-use Rattle.lra_linear_spec.proofs.OneSpelling.{falsity_never}
-use Rattle.lra_linear_spec.proofs.Products.{dot_same, dot_scale, product_comm}
-use Rattle.lra_linear_spec.proofs.Ring.{mul_nonnegative, ring, v, ⊖, ◌⊕◌, ◌⊗◌}
-use Rattle.lra_linear_spec.proofs.Signs.{cases_sign, no_product}
-use Rattle.std.proofs.lemmas.List.{get_or_default, length-append, take_all}
-use Rattle.lra_linear_spec.specs.Kinds.{is_equality}
-use Rattle.lra_linear_spec.specs.declared.ConKind.{ConKind}
+use Rattle.lra_linear_spec.specs.{Kinds.is_equality, LowestTerms.IsPrimitive, Points.IsPoint, Points.IsWithin, Polyhedra.falsity, Vectors.entry, Vectors.product, declared.ConKind.ConKind}
+use Rattle.lra_linear_spec.proofs.{Descriptions.con_cons, Descriptions.con_head, Descriptions.con_none, Descriptions.con_tail, Lines.entry_zeros, OneSpelling.falsity_never, Products.dot_same}
+use Rattle.lra_linear_spec.proofs.{Products.dot_scale, Products.product_comm, Ring.mul_nonnegative, Ring.ring, Ring.v, Ring.⊖, Ring.◌⊕◌, Ring.◌⊗◌, Signs.cases_sign, Signs.no_product}
 use Rattle.lra_systems.specs.LinearSystems.{LinearSystem, constraints, rows_by_kind}
 use Rattle.lra_systems.proofs.LinearRows.{constraints_pushed, given_more}
 use Rattle.lra_poly_queries.specs.Tightened.{AreTightened, IsTightened}

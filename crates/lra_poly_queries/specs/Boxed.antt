@@ -1,12 +1,9 @@
 -- The least box around a polyhedron: of each coordinate the least and the greatest value.
 use Rattle.std.specs.Prelude.{◌≡◌, ℕ, suc, ℤ, List, length, IfSome, Option, None, Some, slice_get}
-use Rattle.lra_linear_spec.specs.OperationStrain.{unit_row}
-use Rattle.lra_linear_spec.specs.Polyhedra.{Polyhedron}
-use Rattle.lra_linear_spec.specs.Range.{InRange}
+use Rattle.lra_linear_spec.specs.{OperationStrain.unit_row, Polyhedra.Polyhedron, Range.InRange}
 use Rattle.lra_duality.specs.Maxima.{IsGreatestValue, IsUnbounded}
 use Rattle.lra_poly_queries.specs.Minima.{IsLeastValue, IsUnboundedBelow}
-use Rattle.lra_poly_queries.specs.declared.boxes.Extent.{Extent}
-use Rattle.lra_poly_queries.specs.declared.boxes.Fraction.{Fraction}
+use Rattle.lra_poly_queries.specs.{declared.boxes.Extent.Extent, declared.boxes.Fraction.Fraction}
 
 -- the form whose value is the coordinate along the dimension
 abbrev pub coordinate_form : ℕ → ℕ → List ℤ

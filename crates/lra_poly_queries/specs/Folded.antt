@@ -1,11 +1,8 @@
 -- Dimensions folded into others: the hull of the points along the ones and along the others.
 use Rattle.std.specs.Prelude.{◌⊎◌, ℕ, List, length}
-use Rattle.lra_linear_spec.specs.Descriptions.{Con}
-use Rattle.lra_linear_spec.specs.OperationStrain.{HullStrains}
-use Rattle.lra_linear_spec.specs.Points.{PointSet}
 use Rattle.lra_linear_spec.specs.Polyhedra.{IsPolyhedronOf, Polyhedron}
 use Rattle.lra_linear_spec.specs.SetOperations.{Hull, Union}
-use Rattle.lra_linear_spec.specs.Strain.{Loss}
+use Rattle.lra_linear_spec.specs.{Descriptions.Con, OperationStrain.HullStrains, Points.PointSet, Strain.Loss}
 use Rattle.lra_poly_queries.specs.Moved.{MapDimsStrains, Moved}
 
 abbrev pub Folded : Polyhedron → List ℕ → List ℕ → PointSet

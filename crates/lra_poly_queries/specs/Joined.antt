@@ -1,11 +1,7 @@
 -- Polyhedra side by side: constraints moved to other dimensions, and taken together.
 use Rattle.std.specs.Prelude.{ℕ, zero, suc, ◌+◌, List, [], ◌∷◌, ◌++◌, take, drop, replicate}
-use Rattle.lra_linear_spec.specs.Descriptions.{Con, LinearRow}
-use Rattle.lra_linear_spec.specs.OperationStrain.{ConstraintsStrain}
-use Rattle.lra_linear_spec.specs.Points.{PointSet}
-use Rattle.lra_linear_spec.specs.Polyhedra.{Polyhedron}
-use Rattle.lra_linear_spec.specs.Strain.{Loss}
-use Rattle.lra_linear_spec.specs.Vectors.{entry}
+use Rattle.lra_linear_spec.specs.{Descriptions.Con, Descriptions.LinearRow, OperationStrain.ConstraintsStrain}
+use Rattle.lra_linear_spec.specs.{Points.PointSet, Polyhedra.Polyhedron, Strain.Loss, Vectors.entry}
 use Rattle.lra_poly_queries.specs.Moved.{moved}
 
 -- k dimensions in turn, from s on

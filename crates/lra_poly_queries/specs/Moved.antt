@@ -1,11 +1,8 @@
 -- Dimensions moved: each new dimension is, in turn, one of the old ones.
 use Rattle.std.specs.Prelude.{ℕ, suc, ℤ, List, ◌∷◌, length, map}
 use Rattle.lra_linear_spec.specs.Descriptions.{Con, LinearRow}
-use Rattle.lra_linear_spec.specs.OperationStrain.{GeneratorsStrain}
 use Rattle.lra_linear_spec.specs.Points.{IsPoint, PointSet, SamePoint}
-use Rattle.lra_linear_spec.specs.Polyhedra.{Polyhedron}
-use Rattle.lra_linear_spec.specs.Strain.{Loss}
-use Rattle.lra_linear_spec.specs.Vectors.{entry}
+use Rattle.lra_linear_spec.specs.{OperationStrain.GeneratorsStrain, Polyhedra.Polyhedron, Strain.Loss, Vectors.entry}
 
 -- the row with its column 0, then the columns of these dimensions
 abbrev pub chosen : List ℕ → List ℤ → List ℤ

@@ -1,13 +1,9 @@
 -- A coordinate whose new values stand to the old point as a constraint tells.
 use Rattle.std.specs.Prelude.{◌⊎◌, ℕ, ◌+◌, List, [], ◌∷◌, ◌++◌, slice_set}
 use Rattle.lra_linear_spec.specs.Descriptions.{Con, LinearRow, Holds}
-use Rattle.lra_linear_spec.specs.OperationStrain.{ConstraintsStrain}
-use Rattle.lra_linear_spec.specs.Points.{PointSet}
-use Rattle.lra_linear_spec.specs.Polyhedra.{IsPolyhedronOf, Polyhedron}
-use Rattle.lra_linear_spec.specs.SetOperations.{Embed, Meet}
-use Rattle.lra_linear_spec.specs.Strain.{Loss}
-use Rattle.lra_poly_queries.specs.Joined.{counted}
-use Rattle.lra_poly_queries.specs.Moved.{MapDimsStrains, Moved, moved}
+use Rattle.lra_linear_spec.specs.{OperationStrain.ConstraintsStrain, Points.PointSet, Polyhedra.IsPolyhedronOf}
+use Rattle.lra_linear_spec.specs.{Polyhedra.Polyhedron, SetOperations.Embed, SetOperations.Meet, Strain.Loss}
+use Rattle.lra_poly_queries.specs.{Joined.counted, Moved.MapDimsStrains, Moved.Moved, Moved.moved}
 
 -- the points of P with one further coordinate that meet the constraint
 abbrev pub Extended : ℕ → LinearRow → PointSet → PointSet

@@ -1,14 +1,10 @@
 -- How a constraint stands to a polyhedron: which signs its form takes at the points, told by the generators.
-use Rattle.std.specs.Prelude.{◌≡◌, ◌↔◌, ℤ, pos, ◌<ℤ◌, List, IsTrue}
 use Rattle.std.specs.List.{All}
+use Rattle.std.specs.Prelude.{◌≡◌, ◌↔◌, ℤ, pos, ◌<ℤ◌, List, IsTrue}
 use Rattle.lra_linear_spec.specs.Descriptions.{LinearRow, Con, Holds, inequality, equality}
-use Rattle.lra_linear_spec.specs.Points.{IsEmptySet}
-use Rattle.lra_linear_spec.specs.Polyhedra.{Polyhedron}
-use Rattle.lra_linear_spec.specs.SetOperations.{Meet, ValidOn}
-use Rattle.lra_linear_spec.specs.Vectors.{entry, negated, product}
-use Rattle.lra_linear_spec.specs.Widening.{holds_with}
-use Rattle.lra_poly_queries.specs.declared.relation.Missed.{Missed}
-use Rattle.lra_poly_queries.specs.declared.relation.Relation.{Relation}
+use Rattle.lra_linear_spec.specs.{Points.IsEmptySet, Polyhedra.Polyhedron, SetOperations.Meet, SetOperations.ValidOn}
+use Rattle.lra_linear_spec.specs.{Vectors.entry, Vectors.negated, Vectors.product, Widening.holds_with}
+use Rattle.lra_poly_queries.specs.{declared.relation.Missed.Missed, declared.relation.Relation.Relation}
 
 -- no point at which the constraint holds
 abbrev pub HoldsNowhere : Polyhedron → LinearRow → Type 0

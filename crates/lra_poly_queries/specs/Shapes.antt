@@ -1,11 +1,8 @@
 -- What a polyhedron is as a whole: all points, or bounded; how many dimensions it has.
 use Rattle.std.specs.Prelude.{◌≡◌, ◌↔◌, ◌+◌, ℕ, suc, ℤ, pos, List, [], length}
-use Rattle.lra_linear_spec.specs.Descriptions.{Con, equality}
 use Rattle.lra_linear_spec.specs.Echelon.{IsEchelon, Spanned}
-use Rattle.lra_linear_spec.specs.Points.{IsPoint, SameSet}
-use Rattle.lra_linear_spec.specs.Polyhedra.{Polyhedron}
-use Rattle.lra_linear_spec.specs.SetOperations.{ValidOn}
-use Rattle.lra_linear_spec.specs.Vectors.{entry}
+use Rattle.lra_linear_spec.specs.{Descriptions.Con, Descriptions.equality, Points.IsPoint, Points.SameSet}
+use Rattle.lra_linear_spec.specs.{Polyhedra.Polyhedron, SetOperations.ValidOn, Vectors.entry}
 use Rattle.lra_duality.specs.Maxima.{IsAtMost}
 
 -- each point is in it

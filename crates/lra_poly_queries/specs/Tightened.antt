@@ -1,9 +1,7 @@
 -- Constraints rounded to whole points. A store of whole numbers s is the point with the divisor 1.
 use Rattle.std.specs.Prelude.{◌≡◌, ◌↔◌, ◌⊎◌, ℕ, ℤ, pos, List, ◌∷◌, [], length, drop}
 use Rattle.lra_linear_spec.specs.Descriptions.{LinearRow, Holds}
-use Rattle.lra_linear_spec.specs.LowestTerms.{IsPrimitive}
-use Rattle.lra_linear_spec.specs.Points.{IsWithin}
-use Rattle.lra_linear_spec.specs.Vectors.{entry}
+use Rattle.lra_linear_spec.specs.{LowestTerms.IsPrimitive, Points.IsWithin, Vectors.entry}
 
 -- the same stores, and no further points; only 1 divides each coefficient, or all are 0
 pub record IsTightened (n : ℕ) (g t : LinearRow) : Type 0 where

@@ -2,11 +2,8 @@
 
 ghost use Rattle.std.specs.Prelude.{◌≡◌, ◌↔◌, ◌<◌, length, IfOk, IfSome, IsNone};
 ghost use Rattle.lra_linear_forms.specs.Form.{form_row};
-ghost use Rattle.lra_linear_spec.specs.declared.Excess.{Excess};
-ghost use Rattle.lra_linear_spec.specs.Descriptions.{Con};
 ghost use Rattle.lra_linear_spec.specs.OperationStrain.{MaximiseStrains};
-ghost use Rattle.lra_linear_spec.specs.Points.{IsEmptySet};
-ghost use Rattle.lra_linear_spec.specs.Vectors.{negated};
+ghost use Rattle.lra_linear_spec.specs.{Descriptions.Con, Points.IsEmptySet, Vectors.negated, declared.Excess.Excess};
 ghost use Rattle.lra_poly_queries.specs.Boxed.{FractionInRange, IsExtent, IsGreatestEnd, IsLeastBox, IsLeastEnd};
 ghost use Rattle.lra_poly_queries.specs.Boxed.{coordinate_form};
 

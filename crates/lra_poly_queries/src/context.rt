@@ -1,8 +1,7 @@
 //! Constraints without those that a context gives.
 
 ghost use Rattle.std.specs.Prelude.{◌≡◌, ◌∷◌, ◌++◌, ◌<◌, ◌≤◌, List, [], suc, drop, length, IfOk};
-ghost use Rattle.lra_linear_spec.specs.Descriptions.{LinearRow};
-ghost use Rattle.lra_linear_spec.specs.Kinds.{is_equality};
+ghost use Rattle.lra_linear_spec.specs.{Descriptions.LinearRow, Kinds.is_equality};
 ghost use Rattle.lra_linear_spec.specs.declared.Cause.TheVariants as of_cause;
 ghost use Rattle.lra_systems.specs.LinearSystems.{constraints};
 ghost use Rattle.lra_poly_queries.specs.Simplified.{IsSimplified, TellsRedundant};

@@ -1,15 +1,12 @@
 //! Polyhedra side by side.
 
 ghost use Rattle.std.specs.Prelude.{◌≡◌, ◌<◌, ◌+◌, ◌++◌, length, replicate, IfOk};
-ghost use Rattle.lra_linear_spec.specs.Descriptions.{Con};
-ghost use Rattle.lra_linear_spec.specs.Kinds.{is_equality};
+ghost use Rattle.lra_linear_spec.specs.{Descriptions.Con, Kinds.is_equality};
 ghost use Rattle.lra_poly.specs.Outcomes.{Becomes};
-ghost use Rattle.lra_systems.specs.Dimensions.{too_many_dimensions};
-ghost use Rattle.lra_systems.specs.LinearSystems.{constraints};
-ghost use Rattle.lra_poly_queries.specs.Expanded.{ExpandStrains, Expanded};
+ghost use Rattle.lra_systems.specs.{Dimensions.too_many_dimensions, LinearSystems.constraints};
 ghost use Rattle.lra_poly_queries.specs.Joined.{ConcatenateStrains, Concatenated, counted};
-ghost use Rattle.lra_poly_queries.specs.Moved.{moved};
 ghost use Rattle.lra_poly_queries.specs.Related.{ExtendStrains, Extended, ImageRelationStrains, Related, replaced};
+ghost use Rattle.lra_poly_queries.specs.{Expanded.ExpandStrains, Expanded.Expanded, Moved.moved};
 
 use crate::moving::{choose, map_dims};
 use lra_linear_spec::ConKind;

@@ -1,9 +1,7 @@
 //! Dimensions moved, dropped and folded.
 
 ghost use Rattle.std.specs.Prelude.{◌≡◌, ◌<◌, suc, length, IfOk};
-ghost use Rattle.lra_linear_spec.specs.Descriptions.{Con};
-ghost use Rattle.lra_linear_spec.specs.Range.{InRange};
-ghost use Rattle.lra_linear_spec.specs.Vectors.{entry};
+ghost use Rattle.lra_linear_spec.specs.{Descriptions.Con, Range.InRange, Vectors.entry};
 ghost use Rattle.lra_poly.specs.Outcomes.{Becomes};
 ghost use Rattle.lra_systems.specs.LinearSystems.{generators, FitKinds};
 ghost use Rattle.lra_poly_queries.specs.Folded.{FoldStrains, Folded};

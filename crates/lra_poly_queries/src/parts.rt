@@ -1,7 +1,6 @@
 //! The polyhedra of any value's parts.
 
-ghost use Rattle.std.specs.Prelude.{◌≡◌, List, ℤ, length, IfOk};
-ghost use Rattle.std.specs.List.{All};
+ghost use Rattle.std.specs.{List.All, Prelude.◌≡◌, Prelude.List, Prelude.ℤ, Prelude.length, Prelude.IfOk};
 ghost use Rattle.lra_domain.specs.Parts.{SomePartHolds};
 ghost use Rattle.lra_poly.specs.Outcomes.{IfExact};
 ghost use Rattle.lra_poly_queries.specs.Parted.{AreMadeOf, SomeHas};

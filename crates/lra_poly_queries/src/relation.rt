@@ -1,13 +1,10 @@
 //! How a constraint stands to a polyhedron.
 
-ghost use Rattle.std.specs.Prelude.{◌≡◌, ◌↔◌, ◌⊎◌, ◌∷◌, ◌<◌, ◌<ℤ◌, [], suc, pos, length, IsTrue, IfErr, IfOk};
-ghost use Rattle.std.specs.Prelude.{Err, false, true};
-ghost use Rattle.std.specs.List.{All};
+ghost use Rattle.std.specs.Prelude.{◌≡◌, ◌↔◌, ◌⊎◌, ◌∷◌, ◌<◌, ◌<ℤ◌, [], suc, pos, length, IsTrue, IfErr, IfOk, Err};
+ghost use Rattle.std.specs.{List.All, Prelude.false, Prelude.true};
 ghost use Rattle.lra_linear_spec.specs.CheckedArithmetic.{checked_product};
 ghost use Rattle.lra_linear_spec.specs.Descriptions.{LinearRow, inequality};
-ghost use Rattle.lra_linear_spec.specs.Kinds.{is_equality};
-ghost use Rattle.lra_linear_spec.specs.OperationStrain.{ProductsPass};
-ghost use Rattle.lra_linear_spec.specs.Vectors.{entry};
+ghost use Rattle.lra_linear_spec.specs.{Kinds.is_equality, OperationStrain.ProductsPass, Vectors.entry};
 ghost use Rattle.lra_duality.specs.Maxima.{StaysInRange};
 ghost use Rattle.lra_systems.specs.LinearSystems.{generators};
 ghost use Rattle.lra_poly_queries.specs.Relations.{AreMissed, IsRelation, MissesAt};

@@ -1,17 +1,11 @@
 //! Constraints rounded to whole points.
 
-ghost use Rattle.std.specs.Prelude.{◌≡◌, ◌≢◌, ◌↔◌, ◌∷◌, ◌<◌, ◌<ℤ◌, ◌≤ℤ◌, List, ℤ, suc, pos, length, map, int_div};
-ghost use Rattle.std.specs.Prelude.{true, unsigned_abs, IfOk, IsTrue};
-ghost use Rattle.std.specs.Int.{int_rem_euclid};
-ghost use Rattle.std.specs.List.{All};
-ghost use Rattle.lra_linear_spec.specs.Descriptions.{Con};
+ghost use Rattle.std.specs.Prelude.{◌≡◌, ◌≢◌, ◌↔◌, ◌∷◌, ◌<◌, ◌<ℤ◌, ◌≤ℤ◌, List, ℤ, suc, pos, length, map, int_div, true};
+ghost use Rattle.std.specs.{Int.int_rem_euclid, List.All, Prelude.unsigned_abs, Prelude.IfOk, Prelude.IsTrue};
 ghost use Rattle.lra_linear_spec.specs.Kinds.{is_equality};
-ghost use Rattle.lra_linear_spec.specs.Points.{IsWithin};
-ghost use Rattle.lra_linear_spec.specs.Polyhedra.{falsity};
-ghost use Rattle.lra_linear_spec.specs.Range.{InRange};
+ghost use Rattle.lra_linear_spec.specs.{Descriptions.Con, Points.IsWithin, Polyhedra.falsity, Range.InRange};
 ghost use Rattle.lra_row.specs.Rows.{IsRowGcd};
-ghost use Rattle.lra_systems.specs.Dimensions.{too_many_dimensions};
-ghost use Rattle.lra_systems.specs.LinearSystems.{constraints};
+ghost use Rattle.lra_systems.specs.{Dimensions.too_many_dimensions, LinearSystems.constraints};
 ghost use Rattle.lra_poly_queries.specs.Tightened.{AreTightened, IsTightened};
 
 use lra_linear_spec::ConKind;

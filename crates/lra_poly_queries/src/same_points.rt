@@ -1,8 +1,7 @@
 //! Whether two polyhedra have the same points.
 
 ghost use Rattle.std.specs.Prelude.{◌≡◌, ◌↔◌, IsTrue};
-ghost use Rattle.lra_linear_spec.specs.Descriptions.{Con};
-ghost use Rattle.lra_linear_spec.specs.Points.{SameSet};
+ghost use Rattle.lra_linear_spec.specs.{Descriptions.Con, Points.SameSet};
 
 use lra_poly::Poly;
 

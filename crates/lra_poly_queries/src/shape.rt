@@ -1,10 +1,8 @@
 //! What a polyhedron is as a whole.
 
-ghost use Rattle.std.specs.Prelude.{◌≡◌, ◌↔◌, IsNone, IsTrue, IfSome};
 ghost use Rattle.std.specs.List.{All, prefix_len};
-ghost use Rattle.lra_linear_spec.specs.Descriptions.{Con};
-ghost use Rattle.lra_linear_spec.specs.Kinds.{is_equality};
-ghost use Rattle.lra_linear_spec.specs.Points.{IsEmptySet};
+ghost use Rattle.std.specs.Prelude.{◌≡◌, ◌↔◌, IsNone, IsTrue, IfSome};
+ghost use Rattle.lra_linear_spec.specs.{Descriptions.Con, Kinds.is_equality, Points.IsEmptySet};
 ghost use Rattle.lra_poly_queries.specs.Shapes.{AffineDimension, IsBounded, IsUniverse};
 
 use lra_linear_spec::{ConKind, GenKind};

@@ -1,25 +1,16 @@
 -- Constraints that hold in the range, and which generators they saturate, place by place.
 use Rattle.std.proofs.Common.{Bool, Err, List, Ok, Result, [], ap, arith, cond, false, get_or, length, map, not, pos, refl, suc, sym, take, true, zero, ℕ, ℤ, ◌+◌, ◌<◌, ◌∙◌, ◌++◌, ◌∷◌, ◌≡◌, ◌≢◌}
-use Rattle.std.specs.Prelude.{◌&&◌, ◌||◌, slice_index_or}
 use Rattle.std.proofs.lemmas.Bool.{and_parts}
-use Rattle.std.specs.Bool.{beq}
-use Rattle.std.specs.List.{filter, list_all, list_any}
-use Rattle.std.specs.Ordering.{int_eq}
+use Rattle.std.specs.{Bool.beq, List.filter, List.list_all, List.list_any, Ordering.int_eq, Prelude.◌&&◌, Prelude.◌||◌, Prelude.slice_index_or}
 use Rattle.lra_bits.specs.TruthValues.{value_at}
-use Rattle.lra_linear_spec.specs.CheckedArithmetic.{checked_product}
+use Rattle.lra_linear_spec.specs.{CheckedArithmetic.checked_product, Descriptions.LinearRow, Polyhedra.Polyhedron, Vectors.product, Widening.holds_with, Widening.is_tight_as}
 use Rattle.lra_linear_spec.specs.declared.Excess as E
-use Rattle.lra_linear_spec.specs.Descriptions.{LinearRow}
-use Rattle.lra_linear_spec.specs.Polyhedra.{Polyhedron}
-use Rattle.lra_linear_spec.specs.Vectors.{product}
-use Rattle.lra_linear_spec.specs.Widening.{holds_with, is_tight_as}
 use Rattle.lra_linear_spec.proofs.CheckedArithmetic.{checked_product_value}
 use Rattle.lra_systems.specs.LinearSystems.{rows_by_kind}
 use Rattle.lra_systems.proofs.FirstMembers.{front, member}
 use Rattle.lra_duality.specs.Saturations.{saturated}
-use Rattle.lra_poly_widening.specs.Rank.{fits, held_thresholds, holds_in_range, is_free}
-use Rattle.lra_poly_widening.specs.Saturated.{is_zero, same_values, vanishes}
-use Rattle.lra_poly_widening.proofs.Loops.{front_step}
-use Rattle.lra_poly_widening.proofs.TightLists.{same_saturate}
+use Rattle.lra_poly_widening.specs.{Rank.fits, Rank.held_thresholds, Rank.holds_in_range, Rank.is_free, Saturated.is_zero, Saturated.same_values, Saturated.vanishes}
+use Rattle.lra_poly_widening.proofs.{Loops.front_step, TightLists.same_saturate}
 
 -- ---- products in the range
 zero_alike : (r g : List ℤ) → fits (checked_product r g) ≡ true → vanishes r g ≡ int_eq (product r g) (pos 0)

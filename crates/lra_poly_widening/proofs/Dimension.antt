@@ -1,19 +1,13 @@
 -- The number of rows of an echelon form: one whose span lies in that of another has no more rows than it, and spans as much where it
 -- has as many.
 use Rattle.std.proofs.Common.{List, [], ap, arith, inl, inr, length, neg_ℤ, pos, refl, subst, suc, sym, zero, ℕ, ℤ, ◌*ℤ◌, ◌*◌, ◌++◌, ◌+ℤ◌, ◌<◌, ◌≤◌, ◌∙◌, ◌∷◌, ◌≡◌, ◌⊎◌}
-use Rattle.std.proofs.lemmas.Int.{ints}
-use Rattle.std.proofs.lemmas.Bool.{cases_lt}
-use Rattle.std.proofs.lemmas.List.{length-append}
 use Rattle.std.proofs.lemmas.List.Elements.{Contains-append_cases, Contains-append_left, Contains-append_right}
+use Rattle.std.proofs.{lemmas.Bool.cases_lt, lemmas.Int.ints, lemmas.List.length-append}
 use Rattle.std.specs.List.{Contains}
-use Rattle.lra_linear_spec.specs.Echelon.{Before, IsEchelon, HasPivot, Spanned}
-use Rattle.lra_linear_spec.specs.Vectors.{entry}
+use Rattle.lra_linear_spec.specs.{Echelon.Before, Echelon.IsEchelon, Echelon.HasPivot, Echelon.Spanned, Vectors.entry}
 use Rattle.lra_linear_spec.proofs.Membership.{NoRepeat, contains_cases, contains_head, contains_none, contains_split, contains_tail}
-use Rattle.lra_linear_spec.proofs.Products.{entry_past}
-use Rattle.lra_linear_spec.proofs.Ring.{ring, v, ⊖, ◌⊕◌, ◌⊗◌}
-use Rattle.lra_linear_spec.proofs.Signs.{as_nat, not_both, positive_nat}
 use Rattle.lra_linear_spec.proofs.Spans.{all_zero, drop_head, early, spanned_divided, spanned_head, spanned_linear, spanned_more, spanned_row, spanned_same, spanned_zero}
-use Rattle.lra_linear_spec.proofs.AdjacentPairs.{both_positive}
+use Rattle.lra_linear_spec.proofs.{AdjacentPairs.both_positive, Products.entry_past, Ring.ring, Ring.v, Ring.⊖, Ring.◌⊕◌, Ring.◌⊗◌, Signs.as_nat, Signs.not_both, Signs.positive_nat}
 
 -- ---- pairs of members
 -- Each member of the one list is related to one of the other, no two of them to the same: so the one is no longer, and where it is as

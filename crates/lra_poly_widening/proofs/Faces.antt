@@ -1,35 +1,18 @@
 -- The faces of a polyhedron with a point, told by its generators: what is 0 on all of them is spanned by the equalities, and what is at
 -- least 0 on them and 0 where a facet is stands beside that facet.
 use Rattle.std.proofs.Common.{Bool, List, [], ap, arith, false, inl, inr, length, neg_ℤ, negsuc, pos, refl, subst, suc, sym, true, zero, ℕ, ℤ, ◌*ℤ◌, ◌++◌, ◌+ℤ◌, ◌<◌, ◌∙◌, ◌∷◌, ◌≡◌, ◌≤ℤ◌, ◌⊎◌}
-use Rattle.std.proofs.lemmas.Int.{ints}
-use Rattle.std.proofs.lemmas.List.Elements.{Contains-append_left, Contains-append_right}
-use Rattle.std.specs.Bool.{beq}
-use Rattle.std.specs.Cmp.{signed_Decides}
-use Rattle.std.specs.List.{Contains, list_all}
-use Rattle.std.specs.Ordering.{int_eq}
-use Rattle.lra_linear_spec.specs.Cones.{Generated, Solves, all_rows, both_ways}
-use Rattle.lra_linear_spec.specs.Descriptions.{Con, LinearRow, lines_of, rays_of, system_of}
-use Rattle.lra_linear_spec.specs.Echelon.{Spanned}
-use Rattle.lra_linear_spec.specs.Points.{IsPoint, IsWithin}
-use Rattle.lra_linear_spec.specs.Polyhedra.{HasPoint, Polyhedron}
-use Rattle.lra_linear_spec.proofs.Saturation.{Beside, IsExtreme, TightToo, room}
-use Rattle.lra_linear_spec.specs.SetOperations.{ValidOn}
-use Rattle.lra_linear_spec.specs.Vectors.{blend, dot, entry, negated, product, signed_sum}
-use Rattle.lra_linear_spec.specs.Widening.{is_tight_as, is_valid, saturates}
-use Rattle.lra_linear_spec.proofs.CanonicalForms.{lines_are_all, ray_extreme, spanned_in_cone}
-use Rattle.lra_linear_spec.proofs.Combinations.{generated_same}
+use Rattle.std.proofs.{lemmas.Int.ints, lemmas.List.Elements.Contains-append_left, lemmas.List.Elements.Contains-append_right}
+use Rattle.std.specs.{Bool.beq, Cmp.signed_Decides, List.Contains, List.list_all, Ordering.int_eq}
+use Rattle.lra_linear_spec.specs.{Cones.Generated, Cones.Solves, Cones.all_rows, Cones.both_ways, Descriptions.Con, Descriptions.LinearRow, Descriptions.lines_of, Descriptions.rays_of}
+use Rattle.lra_linear_spec.specs.{Descriptions.system_of, Echelon.Spanned, Points.IsPoint, Points.IsWithin, Polyhedra.HasPoint, Polyhedra.Polyhedron, SetOperations.ValidOn, Vectors.blend, Vectors.dot}
+use Rattle.lra_linear_spec.specs.{Vectors.entry, Vectors.negated, Vectors.product, Vectors.signed_sum, Widening.is_tight_as, Widening.is_valid, Widening.saturates}
 use Rattle.lra_linear_spec.proofs.Descriptions.{holds_at_least, in_all_rows, in_system, system_from, system_has}
-use Rattle.lra_linear_spec.proofs.LinearMaps.{generated_nonneg}
-use Rattle.lra_linear_spec.proofs.Lines.{in_lines, in_lines_negated, signed_from}
-use Rattle.lra_linear_spec.proofs.Membership.{contains_head, contains_tail, list_all_at, list_all_from}
-use Rattle.lra_linear_spec.proofs.OneSpelling.{cone_solved}
-use Rattle.lra_linear_spec.proofs.Polyhedra.{con_gen, generators_lines, generators_rays}
 use Rattle.lra_linear_spec.proofs.Products.{blend_length, dot_negated, dot_plus, dot_same, dot_scale, dot_zero, entry_blend, entry_negated, negated_dot, negated_length, product_comm}
-use Rattle.lra_linear_spec.proofs.Ring.{ring, v, ◌⊕◌, ◌⊗◌}
-use Rattle.lra_linear_spec.proofs.SetOperations.{has_vertex, valid_on_rows}
 use Rattle.lra_linear_spec.proofs.Signs.{between_opposites, no_product, opposite_of_zero, zero_at_least}
-use Rattle.lra_linear_spec.proofs.Spans.{spanned_through}
-use Rattle.lra_linear_spec.proofs.Widening.{valid_decides}
+use Rattle.lra_linear_spec.proofs.{CanonicalForms.lines_are_all, CanonicalForms.ray_extreme, CanonicalForms.spanned_in_cone, Combinations.generated_same, LinearMaps.generated_nonneg, Lines.in_lines}
+use Rattle.lra_linear_spec.proofs.{Lines.in_lines_negated, Lines.signed_from, Membership.contains_head, Membership.contains_tail, Membership.list_all_at, Membership.list_all_from}
+use Rattle.lra_linear_spec.proofs.{OneSpelling.cone_solved, Polyhedra.con_gen, Polyhedra.generators_lines, Polyhedra.generators_rays, Ring.ring, Ring.v, Ring.◌⊕◌, Ring.◌⊗◌, Saturation.Beside}
+use Rattle.lra_linear_spec.proofs.{Saturation.IsExtreme, Saturation.TightToo, Saturation.room, SetOperations.has_vertex, SetOperations.valid_on_rows, Spans.spanned_through, Widening.valid_decides}
 use Rattle.lra_cone.proofs.Taking.{same_test}
 
 -- the rows of the constraints, and of the generators, those of both signs in both directions

@@ -1,31 +1,20 @@
 -- Each facet of the polyhedron of some rows stands beside one of them (by Farkas 1902, over a dual description of the rows, which
 -- exists by Minkowski 1896).
 use Rattle.std.proofs.Common.{List, [], ap, arith, inl, inr, length, neg_ℤ, negsuc, pos, refl, subst, suc, sym, zero, ℕ, ℤ, ◌*ℤ◌, ◌++◌, ◌+ℤ◌, ◌<ℤ◌, ◌<◌, ◌∙◌, ◌∷◌, ◌≡◌, ◌≢◌, ◌≤ℤ◌, ◌⊎◌}
-use Rattle.std.proofs.lemmas.Int.{ints}
-use Rattle.std.proofs.lemmas.List.Elements.{Contains-append_left}
+use Rattle.std.proofs.{lemmas.Int.ints, lemmas.List.Elements.Contains-append_left}
 use Rattle.std.specs.List.{Contains}
-use Rattle.lra_linear_spec.specs.Cones.{Generated, Solves, both_ways}
-use Rattle.lra_linear_spec.specs.Descriptions.{Con, LinearRow, system_of}
-use Rattle.lra_linear_spec.specs.LowestTerms.{IsPrimitive}
-use Rattle.lra_linear_spec.specs.Points.{IsPoint}
 use Rattle.lra_linear_spec.specs.Polyhedra.{HasPoint, IsPolyhedronOf, Polyhedron, positivity}
-use Rattle.lra_linear_spec.proofs.Saturation.{Beside, IsExtreme}
 use Rattle.lra_linear_spec.specs.Vectors.{behind_zero, dot, entry, product, sum_of, zeros}
-use Rattle.lra_linear_spec.proofs.CanonicalForms.{on_lines, ray_extreme}
+use Rattle.lra_linear_spec.specs.{Cones.Generated, Cones.Solves, Cones.both_ways, Descriptions.Con, Descriptions.LinearRow, Descriptions.system_of, LowestTerms.IsPrimitive, Points.IsPoint}
 use Rattle.lra_linear_spec.proofs.Combinations.{generated_divided, generated_plus, generated_same, generated_times, generated_zero}
-use Rattle.lra_linear_spec.proofs.Descriptions.{con_solves, solves_con, system_from, system_has}
-use Rattle.lra_linear_spec.proofs.LinearMaps.{generated_right, generated_through, sum_generated}
-use Rattle.lra_linear_spec.proofs.Lines.{entry_zeros, zeros_length}
-use Rattle.lra_linear_spec.proofs.LowestTerms.{primitive_at, same_multiple}
-use Rattle.lra_linear_spec.proofs.Membership.{contains_cases, contains_head, contains_none, contains_tail}
 use Rattle.lra_linear_spec.proofs.OneSpelling.{columns_of, cone_solved, far, gone, gone_divisor, gone_product, positivity_product, rows_hold, some_member}
-use Rattle.lra_linear_spec.proofs.Products.{blend_length, negated_dot, negated_length, product_comm, row_same}
-use Rattle.lra_linear_spec.proofs.Ring.{mul_nonnegative, ring, v, ⊖, ◌⊕◌, ◌⊗◌}
-use Rattle.lra_linear_spec.proofs.Signs.{add_nonnegative, cancel_same, not_both, times_positive}
-use Rattle.lra_linear_spec.proofs.Spans.{all_zero}
+use Rattle.lra_linear_spec.proofs.{CanonicalForms.on_lines, CanonicalForms.ray_extreme, Descriptions.con_solves, Descriptions.solves_con, Descriptions.system_from, Descriptions.system_has}
+use Rattle.lra_linear_spec.proofs.{LinearMaps.generated_right, LinearMaps.generated_through, LinearMaps.sum_generated, Lines.entry_zeros, Lines.zeros_length, LowestTerms.primitive_at}
+use Rattle.lra_linear_spec.proofs.{LowestTerms.same_multiple, Membership.contains_cases, Membership.contains_head, Membership.contains_none, Membership.contains_tail, Products.blend_length}
+use Rattle.lra_linear_spec.proofs.{Products.negated_dot, Products.negated_length, Products.product_comm, Products.row_same, Ring.mul_nonnegative, Ring.ring, Ring.v, Ring.⊖, Ring.◌⊕◌, Ring.◌⊗◌}
+use Rattle.lra_linear_spec.proofs.{Saturation.Beside, Saturation.IsExtreme, Signs.add_nonnegative, Signs.cancel_same, Signs.not_both, Signs.times_positive, Spans.all_zero}
 use Rattle.lra_canonical.proofs.Solutions.{description_exists}
-use Rattle.lra_poly_widening.proofs.Dimension.{pivot_row}
-use Rattle.lra_poly_widening.proofs.Faces.{IsAbove, above_generated, beside_back, con, equality_flat, facet_not_flat, gen, line_flat}
+use Rattle.lra_poly_widening.proofs.{Dimension.pivot_row, Faces.IsAbove, Faces.above_generated, Faces.beside_back, Faces.con, Faces.equality_flat, Faces.facet_not_flat, Faces.gen, Faces.line_flat}
 
 -- ---- a dual description of each list of rows of one width
 behind_from : (n : ℕ) (rows : List (List ℤ)) → ((t : List ℤ) → Contains rows t → length t ≡ n) → (t : List ℤ) → Contains (behind_zero rows) t → length t ≡ suc n

@@ -1,7 +1,6 @@
 -- Lists of rows with their kinds, gone through place by place: those that pass a test, and how many.
 use Rattle.std.proofs.Common.{Bool, List, [], add-one, ap, arith, cond, false, get_or, length, refl, sym, take, true, ℕ, ℤ, ◌+◌, ◌++◌, ◌<◌, ◌∙◌, ◌∷◌, ◌≡◌, ◌≤◌}
-use Rattle.std.proofs.lemmas.List.{append_assoc, length-append, take_all}
-use Rattle.std.proofs.lemmas.List.Elements.{filter-append}
+use Rattle.std.proofs.{lemmas.List.append_assoc, lemmas.List.length-append, lemmas.List.take_all, lemmas.List.Elements.filter-append}
 use Rattle.std.specs.List.{filter}
 use Rattle.lra_linear_spec.specs.Descriptions.{LinearRow}
 use Rattle.lra_systems.specs.LinearSystems.{LinearSystem, rows_by_kind}

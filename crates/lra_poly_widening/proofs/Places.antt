@@ -1,26 +1,17 @@
 -- Rows with their kinds at places.
 use Rattle.std.proofs.Common.{Bool, Err, IsErr, List, Ok, Result, [], ap, arith, get_or, length, subst, suc, sym, zero, ℕ, ℤ, ◌++◌, ◌<◌, ◌∙◌, ◌∷◌, ◌≡◌}
-use Rattle.std.specs.List.{All, Contains}
 use Rattle.std.proofs.lemmas.List.Elements.{Contains-append_left, Contains-append_right}
-use Rattle.lra_linear_spec.specs.CheckedArithmetic.{checked_product}
+use Rattle.std.specs.List.{All, Contains}
+use Rattle.lra_linear_spec.specs.{CheckedArithmetic.checked_product, Descriptions.LinearRow, Kinds.is_equality, Kinds.is_line, Polyhedra.Polyhedron, Strain.Loss, declared.ConKind.ConKind}
+use Rattle.lra_linear_spec.specs.{declared.GenKind.GenKind, declared.GenKind.TheVariants.Point}
 use Rattle.lra_linear_spec.specs.declared.Cause.TheVariants as cause
-use Rattle.lra_linear_spec.specs.declared.ConKind.{ConKind}
 use Rattle.lra_linear_spec.specs.declared.Excess as E
-use Rattle.lra_linear_spec.specs.Descriptions.{LinearRow}
-use Rattle.lra_linear_spec.specs.Kinds.{is_equality, is_line}
-use Rattle.lra_linear_spec.specs.Polyhedra.{Polyhedron}
-use Rattle.lra_linear_spec.specs.Strain.{Loss}
 use Rattle.lra_linear_spec.proofs.Membership.{contains_head, contains_tail}
-use Rattle.lra_duality.specs.declared.inclusion.Inclusion.TheVariants.{Wide}
-use Rattle.lra_systems.specs.FirstPlaces.{FirstAt}
-use Rattle.lra_duality.specs.Inclusions.{IsInclusion, Satisfies, SatisfiesAll, Passes}
+use Rattle.lra_duality.specs.{Inclusions.IsInclusion, Inclusions.Satisfies, Inclusions.SatisfiesAll, Inclusions.Passes, declared.inclusion.Inclusion.TheVariants.Wide}
+use Rattle.lra_systems.specs.{FirstPlaces.FirstAt, LinearSystems.LinearSystem, LinearSystems.constraints, LinearSystems.generators, LinearSystems.rows_by_kind}
 use Rattle.lra_systems.proofs.FirstMembers.{member}
 use Rattle.lra_duality.proofs.InclusionLemmas.{has_member}
-use Rattle.lra_systems.specs.LinearSystems.{LinearSystem, constraints, generators, rows_by_kind}
-use Rattle.lra_linear_spec.specs.declared.GenKind.{GenKind}
-use Rattle.lra_linear_spec.specs.declared.GenKind.TheVariants.{Point}
-use Rattle.lra_poly_widening.specs.Validity.{IsValidity}
-use Rattle.lra_poly_widening.specs.Widenings.{PassesOnBoth}
+use Rattle.lra_poly_widening.specs.{Validity.IsValidity, Widenings.PassesOnBoth}
 use Rattle.lra_poly_widening.specs.declared.validity.Validity.TheVariants as told
 
 -- ---- a member is among the rows

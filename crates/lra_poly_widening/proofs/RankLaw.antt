@@ -1,37 +1,21 @@
 -- The rank falls with each widening that isn't the old value: the affine hull grows or stays; if it stays, each inequality of the result
 -- that no given row stands for comes from one of the old value's, no two from the same, and not all are reached.
 use Rattle.std.proofs.Common.{Bool, List, [], ap, arith, false, inl, inr, length, pos, refl, subst, suc, sym, true, ℕ, ℤ, ◌*ℤ◌, ◌++◌, ◌<◌, ◌∙◌, ◌∷◌, ◌≡◌, ◌≢◌, ◌≤ℤ◌, ◌⊎◌}
-use Rattle.std.proofs.lemmas.Bool.{cases_lt, or_cases}
-use Rattle.std.proofs.lemmas.Int.{ints}
 use Rattle.std.proofs.lemmas.List.Elements.{Contains-append_cases, Contains-append_left, Contains-append_right}
+use Rattle.std.proofs.{lemmas.Bool.cases_lt, lemmas.Bool.or_cases, lemmas.Int.ints}
 use Rattle.std.specs.List.{Contains, filter, list_all, list_any}
-use Rattle.lra_linear_spec.specs.Cones.{Generated, both_ways}
 use Rattle.lra_linear_spec.specs.Descriptions.{Con, LinearRow, Holds, HoldsWith, rows_as, system_of}
-use Rattle.lra_linear_spec.specs.Echelon.{Spanned}
-use Rattle.lra_linear_spec.specs.Points.{IsPoint, IsWithin}
-use Rattle.lra_linear_spec.specs.Polyhedra.{HasPoint, IsPolyhedron, IsWithoutPoint, Polyhedron, falsity}
-use Rattle.lra_linear_spec.proofs.Saturation.{Beside}
-use Rattle.lra_linear_spec.specs.Vectors.{dot, entry, negated, product}
-use Rattle.lra_linear_spec.specs.Widening.{is_tight, is_tight_as, saturates}
-use Rattle.lra_linear_spec.proofs.CanonicalForms.{ray_extreme, spanned_in_cone}
-use Rattle.lra_linear_spec.proofs.Descriptions.{holds_at_least}
-use Rattle.lra_linear_spec.proofs.Lines.{in_lines, in_lines_negated}
-use Rattle.lra_linear_spec.proofs.Membership.{contains_head, contains_none, filter_from, filter_has}
+use Rattle.lra_linear_spec.specs.{Cones.Generated, Cones.both_ways, Echelon.Spanned, Points.IsPoint, Points.IsWithin, Polyhedra.HasPoint, Polyhedra.IsPolyhedron, Polyhedra.IsWithoutPoint}
+use Rattle.lra_linear_spec.specs.{Polyhedra.Polyhedron, Polyhedra.falsity, Vectors.dot, Vectors.entry, Vectors.negated, Vectors.product, Widening.is_tight, Widening.is_tight_as, Widening.saturates}
 use Rattle.lra_linear_spec.proofs.OneSpelling.{cone_solved, falsity_never, given_from, rows_hold, same_points_same_lists, some_member}
-use Rattle.lra_linear_spec.proofs.Products.{negated_dot, product_comm}
-use Rattle.lra_linear_spec.proofs.Signs.{between_opposites, divide_nonnegative}
-use Rattle.lra_linear_spec.proofs.Ring.{mul_nonnegative}
-use Rattle.lra_linear_spec.proofs.SetOperations.{has_vertex}
-use Rattle.lra_linear_spec.proofs.Spans.{spanned_row}
-use Rattle.lra_linear_spec.proofs.Widening.{valid_decides}
-use Rattle.lra_poly_widening.specs.Rank.{Falls, equalities_from, free, held_thresholds, holds_in_range, kept_thresholds}
-use Rattle.lra_poly_widening.specs.Widenings.{KeepsRows}
+use Rattle.lra_linear_spec.proofs.{CanonicalForms.ray_extreme, CanonicalForms.spanned_in_cone, Descriptions.holds_at_least, Lines.in_lines, Lines.in_lines_negated, Membership.contains_head}
+use Rattle.lra_linear_spec.proofs.{Membership.contains_none, Membership.filter_from, Membership.filter_has, Products.negated_dot, Products.product_comm, Ring.mul_nonnegative, Saturation.Beside}
+use Rattle.lra_linear_spec.proofs.{SetOperations.has_vertex, Signs.between_opposites, Signs.divide_nonnegative, Spans.spanned_row, Widening.valid_decides}
+use Rattle.lra_poly_widening.specs.{Rank.Falls, Rank.equalities_from, Rank.free, Rank.held_thresholds, Rank.holds_in_range, Rank.kept_thresholds, Widenings.KeepsRows}
 use Rattle.lra_poly_widening.proofs.Counting.{IsFree, any_from, any_said, equalities_many, free_apart, free_has, free_said, holds_valid, kept_all, kept_at, kept_fewer, kept_held}
-use Rattle.lra_poly_widening.proofs.Dimension.{Matched, few_rows, no_longer, smaller_span}
 use Rattle.lra_poly_widening.proofs.Faces.{IsFlat, beside_back, beside_product, beside_zero, con, equality_flat, facet_not_flat, flat_said, flat_spanned, gen, line_flat, lines_dot, same_face}
-use Rattle.lra_poly_widening.proofs.Faces.{spanned_dot}
-use Rattle.lra_poly_widening.proofs.Faces.{test_above, tight_as_back, tight_as_from, tight_as_said, true_multiple, within_above, within_flat, within_spans}
-use Rattle.lra_poly_widening.proofs.Facets.{beside_same, facet_row, no_pivot_first}
+use Rattle.lra_poly_widening.proofs.Faces.{spanned_dot, test_above, tight_as_back, tight_as_from, tight_as_said, true_multiple, within_above, within_flat, within_spans}
+use Rattle.lra_poly_widening.proofs.{Dimension.Matched, Dimension.few_rows, Dimension.no_longer, Dimension.smaller_span, Facets.beside_same, Facets.facet_row, Facets.no_pivot_first}
 
 -- P lies in R, both with a point, and their affine hulls are the same
 record SameHull (p r : Polyhedron) (h : HasPoint p) (k : HasPoint r) : Type 0 where

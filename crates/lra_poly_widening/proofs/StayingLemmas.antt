@@ -1,15 +1,9 @@
 -- What a widening keeps where it is flagged.
 use Rattle.std.proofs.Common.{◌≡◌, ◌++◌, ℕ, List, [], inr, subst}
-use Rattle.lra_linear_spec.specs.Descriptions.{LinearRow}
-use Rattle.lra_linear_spec.specs.OperationStrain.{tight_on, with_positivity}
-use Rattle.lra_linear_spec.specs.Polyhedra.{Polyhedron}
-use Rattle.lra_linear_spec.specs.declared.ConKind.{ConKind}
+use Rattle.lra_linear_spec.specs.{Descriptions.LinearRow, OperationStrain.tight_on, OperationStrain.with_positivity, Polyhedra.Polyhedron, declared.ConKind.ConKind}
 use Rattle.lra_systems.specs.LinearSystems.{LinearSystem, constraints}
-use Rattle.lra_poly.specs.declared.outcome.Outcome.{Outcome}
-use Rattle.lra_poly.specs.declared.outcome.Outcome.TheVariants.{Exact, Flagged}
-use Rattle.lra_poly.specs.Restricted.{IsTried}
-use Rattle.lra_poly_widening.specs.Rank.{kept_thresholds}
-use Rattle.lra_poly_widening.specs.StayingRows.{IsOfStaying, StaysOrIsGivenUp}
+use Rattle.lra_poly.specs.{Restricted.IsTried, declared.outcome.Outcome.Outcome, declared.outcome.Outcome.TheVariants.Exact, declared.outcome.Outcome.TheVariants.Flagged}
+use Rattle.lra_poly_widening.specs.{Rank.kept_thresholds, StayingRows.IsOfStaying, StayingRows.StaysOrIsGivenUp}
 
 pub of_staying : (p q r : Polyhedron) (given : List LinearRow) (list : LinearSystem ConKind) (o : Outcome) → list.dims ≡ p.dims → constraints list ≡ tight_on p q ++ kept_thresholds p q given →
     IsTried list.dims (with_positivity list.dims []) (constraints list) r o → IsOfStaying p q given r

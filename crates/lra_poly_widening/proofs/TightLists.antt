@@ -1,15 +1,9 @@
 -- Tightness by lists of truth values.
 use Rattle.std.proofs.Common.{Bool, List, [], ap, arith, length, map, pos, refl, subst, suc, sym, take, zero, ℕ, ℤ, ◌∙◌, ◌∷◌, ◌≡◌, ◌≤◌}
-use Rattle.std.specs.Prelude.{◌&&◌, ◌||◌}
 use Rattle.std.proofs.lemmas.List.{length-map, take_all}
-use Rattle.std.specs.Bool.{beq}
-use Rattle.std.specs.List.{All, list_all, list_any}
-use Rattle.std.specs.Ordering.{int_eq}
+use Rattle.std.specs.{Bool.beq, List.All, List.list_all, List.list_any, Ordering.int_eq, Prelude.◌&&◌, Prelude.◌||◌}
 use Rattle.lra_bits.specs.TruthValues.{are_true}
-use Rattle.lra_linear_spec.specs.Descriptions.{LinearRow}
-use Rattle.lra_linear_spec.specs.Polyhedra.{Polyhedron}
-use Rattle.lra_linear_spec.specs.Vectors.{product}
-use Rattle.lra_linear_spec.specs.Widening.{is_tight, is_tight_as, saturates}
+use Rattle.lra_linear_spec.specs.{Descriptions.LinearRow, Polyhedra.Polyhedron, Vectors.product, Widening.is_tight, Widening.is_tight_as, Widening.saturates}
 use Rattle.lra_systems.specs.LinearSystems.{LinearSystem, rows_by_kind}
 use Rattle.lra_duality.specs.Saturations.{saturated}
 use Rattle.lra_duality.proofs.SaturationLemmas.{rows_saturate}

@@ -1,35 +1,21 @@
 -- Where the tightest of some rows hold, all of them do; so the widening that is limited by these is that which is limited by all.
 use Rattle.std.proofs.Common.{◌≡◌, ◌≢◌, ◌∙◌, ◌<◌, ◌≤◌, ℕ, zero, suc, ℤ, pos, ◌+ℤ◌, ◌*ℤ◌, Bool, true, false, not, cond, List, [], ◌∷◌, length, inl, inr, refl, sym, ap, subst, arith}
+use Rattle.std.proofs.{lemmas.Bool.and_parts, lemmas.Int.ints}
 use Rattle.std.specs.Prelude.{◌&&◌, ◌||◌, ◌≤ℤ◌, ◌<ℤ◌, int_lt, negsuc}
-use Rattle.std.specs.Cmp.Lexicographic.{pointwise}
-use Rattle.std.specs.Cmp.Rules.{signed_items}
-use Rattle.std.specs.List.{Contains, filter, list_any}
-use Rattle.std.specs.Ordering.{int_eq}
-use Rattle.std.proofs.lemmas.Bool.{and_parts}
-use Rattle.std.proofs.lemmas.Int.{ints}
-use Rattle.lra_linear_spec.specs.Descriptions.{Con, LinearRow, Holds, HoldsWith}
-use Rattle.lra_linear_spec.specs.Kinds.{is_equality}
-use Rattle.lra_linear_spec.specs.Points.{IsPoint, IsWithin, SameSet}
-use Rattle.lra_linear_spec.specs.declared.ConKind.{ConKind}
-use Rattle.lra_linear_spec.specs.declared.ConKind.TheVariants.{Ge, Eq}
+use Rattle.std.specs.{Cmp.Lexicographic.pointwise, Cmp.Rules.signed_items, List.Contains, List.filter, List.list_any, Ordering.int_eq}
+use Rattle.lra_linear_spec.specs.{Descriptions.Con, Descriptions.LinearRow, Descriptions.Holds, Descriptions.HoldsWith, Kinds.is_equality, OperationStrain.LimitedStrains, OperationStrain.valid_on}
+use Rattle.lra_linear_spec.specs.{Points.IsPoint, Points.IsWithin, Points.SameSet, Polyhedra.HasPoint, Polyhedra.IsPolyhedron, Polyhedra.Polyhedron, Vectors.dot, Vectors.entry, Vectors.product}
+use Rattle.lra_linear_spec.specs.{Widening.LimitedWidening, Widening.is_valid, declared.ConKind.ConKind, declared.ConKind.TheVariants.Ge, declared.ConKind.TheVariants.Eq}
 use Rattle.lra_systems.specs.LinearSystems.{LinearSystem, constraints, rows_by_kind}
-use Rattle.lra_linear_spec.specs.Vectors.{dot, entry, product}
 use Rattle.lra_linear_spec.proofs.Membership.{contains_cases, contains_none, filter_from, filter_has}
-use Rattle.lra_linear_spec.proofs.Ring.{mul_nonnegative, ring, v, ◌⊕◌, ◌⊗◌}
-use Rattle.lra_linear_spec.specs.OperationStrain.{LimitedStrains, valid_on}
-use Rattle.lra_linear_spec.specs.Polyhedra.{HasPoint, IsPolyhedron, Polyhedron}
-use Rattle.lra_linear_spec.specs.Widening.{LimitedWidening, is_valid}
-use Rattle.lra_linear_spec.proofs.Widening.{valid_decides}
-use Rattle.lra_poly.specs.declared.outcome.Outcome.{Outcome}
-use Rattle.lra_poly.specs.declared.outcome.Outcome.TheVariants.{Exact, Flagged}
+use Rattle.lra_linear_spec.proofs.{Ring.mul_nonnegative, Ring.ring, Ring.v, Ring.◌⊕◌, Ring.◌⊗◌, Widening.valid_decides}
 use Rattle.lra_poly.specs.Outcomes.{Becomes, IfExact, IfFlagged}
+use Rattle.lra_poly.specs.{declared.outcome.Outcome.Outcome, declared.outcome.Outcome.TheVariants.Exact, declared.outcome.Outcome.TheVariants.Flagged}
 use Rattle.lra_poly.proofs.PolyLemmas.{becomes_same}
-use Rattle.lra_poly_widening.specs.Rank.{Falls, kept_thresholds}
 use Rattle.lra_poly_widening.specs.Tightest.{TightestStrains, TightestTell, is_loose, is_lower, is_tighter, tightest}
-use Rattle.lra_poly_widening.specs.Widenings.{HaveColumns, IsLimitedWidening, PassesOnBoth}
-use Rattle.lra_poly_widening.proofs.Counting.{any_said, holds_valid, kept_at}
-use Rattle.lra_poly_widening.proofs.RankLaw.{rank_falls}
+use Rattle.lra_poly_widening.specs.{Rank.Falls, Rank.kept_thresholds, Widenings.HaveColumns, Widenings.IsLimitedWidening, Widenings.PassesOnBoth}
 use Rattle.lra_poly_widening.proofs.WideningLemmas.{around_point, limited_empty, passes_widening}
+use Rattle.lra_poly_widening.proofs.{Counting.any_said, Counting.holds_valid, Counting.kept_at, RankLaw.rank_falls}
 
 -- ---- lower rows
 less_said : (c d : ℤ) → int_lt c d ≡ true → c <ℤ d

@@ -1,8 +1,6 @@
 -- Lists of truth values that are the same.
 use Rattle.std.proofs.Common.{Bool, List, [], arith, false, length, refl, suc, sym, true, zero, ℕ, ◌<◌, ◌≤◌, ◌∷◌, ◌≡◌}
-use Rattle.std.specs.Prelude.{◌&&◌, ◌↔◌, IsTrue, slice_index_or}
-use Rattle.std.specs.Bool.{beq}
-use Rattle.std.specs.List.{list_any}
+use Rattle.std.specs.{Bool.beq, List.list_any, Prelude.◌&&◌, Prelude.◌↔◌, Prelude.IsTrue, Prelude.slice_index_or}
 use Rattle.lra_bits.specs.TruthValues.{IsSubset, value_at}
 use Rattle.lra_poly_widening.specs.Saturated.{same_values}
 

@@ -1,20 +1,13 @@
 -- What the tests of a row with each generator tell.
 use Rattle.std.proofs.Common.{Bool, Err, List, Ok, Result, [], ap, arith, cond, false, get_or, inl, inr, length, refl, subst, suc, sym, true, zero, ℕ, ℤ, ◌++◌, ◌<◌, ◌∙◌, ◌∷◌, ◌≡◌, ◌⊎◌, IsOk}
-use Rattle.std.specs.Prelude.{◌&&◌}
 use Rattle.std.proofs.lemmas.List.Elements.{All-append, All-contains, Contains-append_cases, Contains-append_left, Contains-append_right}
-use Rattle.std.specs.List.{All, Contains, list_all}
-use Rattle.lra_linear_spec.specs.CheckedArithmetic.{checked_product}
+use Rattle.std.specs.{List.All, List.Contains, List.list_all, Prelude.◌&&◌}
+use Rattle.lra_linear_spec.specs.{CheckedArithmetic.checked_product, Descriptions.LinearRow, OperationStrain.valid_on, Polyhedra.Polyhedron, Widening.holds_with, Widening.is_valid}
 use Rattle.lra_linear_spec.specs.declared.Excess as E
-use Rattle.lra_linear_spec.specs.Descriptions.{LinearRow}
-use Rattle.lra_linear_spec.specs.OperationStrain.{valid_on}
-use Rattle.lra_linear_spec.specs.Polyhedra.{Polyhedron}
-use Rattle.lra_linear_spec.specs.Widening.{holds_with, is_valid}
 use Rattle.lra_linear_spec.proofs.Membership.{contains_head, contains_tail, list_all_at, list_all_from}
 use Rattle.lra_duality.specs.Inclusions.{Satisfies}
-use Rattle.lra_poly_widening.specs.Rank.{fits, holds_in_range, kept_thresholds}
-use Rattle.lra_poly_widening.specs.Validity.{IsValidity}
-use Rattle.lra_poly_widening.specs.declared.validity.Validity.{Validity}
 use Rattle.lra_poly_widening.specs.declared.validity.Validity.TheVariants.{Fails, Holds, Wide}
+use Rattle.lra_poly_widening.specs.{Rank.fits, Rank.holds_in_range, Rank.kept_thresholds, Validity.IsValidity, declared.validity.Validity.Validity}
 use Rattle.lra_poly_widening.proofs.Loops.{filter_step}
 
 -- ---- of two lists

@@ -1,12 +1,9 @@
 -- The rank of a polyhedron over given rows. It falls with each widening that isn't the old value: the affine hull
 -- grows, or a given row is lost, or an inequality goes that none of these rows stands for.
 use Rattle.std.specs.Prelude.{◌≡◌, ◌⊎◌, ◌<◌, ◌&&◌, ℕ, suc, Bool, true, false, not, List, [], ◌∷◌, length, Result, Ok}
-use Rattle.std.specs.Prelude.{Err}
-use Rattle.std.specs.List.{filter, list_all, list_any}
-use Rattle.lra_linear_spec.specs.CheckedArithmetic.{checked_product}
-use Rattle.lra_linear_spec.specs.Descriptions.{LinearRow}
-use Rattle.lra_linear_spec.specs.Polyhedra.{Polyhedron}
+use Rattle.std.specs.{List.filter, List.list_all, List.list_any, Prelude.Err}
 use Rattle.lra_linear_spec.specs.Widening.{holds_with, is_tight_as}
+use Rattle.lra_linear_spec.specs.{CheckedArithmetic.checked_product, Descriptions.LinearRow, Polyhedra.Polyhedron}
 
 abbrev pub fits : {A E : Type 0} → Result A E → Bool
 fits (Ok x) = true

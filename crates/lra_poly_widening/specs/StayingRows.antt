@@ -1,13 +1,9 @@
 -- What a widening keeps where it is flagged.
 use Rattle.std.specs.Prelude.{◌⊎◌, List, [], ◌++◌}
-use Rattle.lra_linear_spec.specs.Descriptions.{LinearRow}
 use Rattle.lra_linear_spec.specs.OperationStrain.{tight_on, with_positivity}
-use Rattle.lra_linear_spec.specs.Polyhedra.{Polyhedron}
-use Rattle.lra_poly.specs.declared.outcome.Outcome.{Outcome}
-use Rattle.lra_poly.specs.Restricted.{IsTried}
-use Rattle.lra_poly.specs.Outcomes.{IfFlagged}
-use Rattle.lra_poly_widening.specs.Rank.{kept_thresholds}
-use Rattle.lra_poly_widening.specs.Widenings.{IsGivenUp}
+use Rattle.lra_linear_spec.specs.{Descriptions.LinearRow, Polyhedra.Polyhedron}
+use Rattle.lra_poly.specs.{Outcomes.IfFlagged, Restricted.IsTried, declared.outcome.Outcome.Outcome}
+use Rattle.lra_poly_widening.specs.{Rank.kept_thresholds, Widenings.IsGivenUp}
 
 -- the rows of Q that are tight on P, and the given ones that hold in the range on both, were tried from nothing
 pub record IsOfStaying (p q : Polyhedron) (given : List LinearRow) (r : Polyhedron) : Type 0 where

@@ -1,15 +1,10 @@
 -- Of given rows the tightest alone, and a widening that is limited by these. It gives the set of the widening that is
 -- limited by all of them (`TightestTell`), from a shorter list.
 use Rattle.std.specs.Prelude.{◌⊎◌, ◌&&◌, ℕ, ℤ, Bool, false, not, List, [], ◌∷◌, int_lt}
-use Rattle.std.specs.Cmp.Lexicographic.{pointwise}
-use Rattle.std.specs.List.{filter, list_any}
-use Rattle.std.specs.Ordering.{int_eq}
+use Rattle.std.specs.{Cmp.Lexicographic.pointwise, List.filter, List.list_any, Ordering.int_eq}
 use Rattle.lra_linear_spec.specs.Descriptions.{LinearRow, Con}
 use Rattle.lra_linear_spec.specs.OperationStrain.{LimitedStrains, WideningPasses}
-use Rattle.lra_linear_spec.specs.Points.{IsWithin}
-use Rattle.lra_linear_spec.specs.Polyhedra.{Polyhedron}
-use Rattle.lra_linear_spec.specs.Strain.{Loss}
-use Rattle.lra_linear_spec.specs.Widening.{LimitedWidening}
+use Rattle.lra_linear_spec.specs.{Points.IsWithin, Polyhedra.Polyhedron, Strain.Loss, Widening.LimitedWidening}
 use Rattle.lra_poly_widening.specs.Rank.{kept_thresholds}
 
 -- the rows have equal coefficients, and the constant of the first is lower

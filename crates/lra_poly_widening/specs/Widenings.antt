@@ -1,21 +1,17 @@
 -- What is told of a widening.
-use Rattle.std.specs.Prelude.{◌≡◌, ◌⊎◌, ℕ, suc, true, List, [], ◌++◌, length}
 use Rattle.std.specs.List.{Contains}
+use Rattle.std.specs.Prelude.{◌≡◌, ◌⊎◌, ℕ, suc, true, List, [], ◌++◌, length}
 use Rattle.lra_linear_spec.specs.declared.Excess as E
-use Rattle.lra_linear_spec.specs.declared.Cause.TheVariants.{Excess}
-use Rattle.lra_linear_spec.specs.Descriptions.{LinearRow, Con}
 use Rattle.lra_linear_spec.specs.OperationStrain.{LimitedStrains, ProductsPass}
-use Rattle.lra_linear_spec.specs.Points.{IsWithin}
 use Rattle.lra_linear_spec.specs.Polyhedra.{HasPoint, IsPolyhedronOf, Polyhedron}
+use Rattle.lra_linear_spec.specs.{Descriptions.LinearRow, Descriptions.Con, Points.IsWithin, Widening.is_tight}
+use Rattle.lra_linear_spec.specs.{Widening.LimitedWidening, declared.Cause.TheVariants.Excess}
 use Rattle.lra_linear_spec.specs.Strain as strain
-use Rattle.lra_linear_spec.specs.Widening.{is_tight, LimitedWidening}
-use Rattle.lra_duality.specs.declared.inclusion.Inclusion.TheVariants.{Yes, No, Wide}
-use Rattle.lra_poly.specs.declared.outcome.Outcome.{Outcome}
 use Rattle.lra_duality.specs.Inclusions.{IsInclusion}
-use Rattle.lra_poly.specs.Outcomes.{Becomes, IfExact}
-use Rattle.lra_poly_widening.specs.Rank.{holds_in_range}
-use Rattle.lra_poly_widening.specs.declared.error.WidenError.{WidenError}
+use Rattle.lra_duality.specs.declared.inclusion.Inclusion.TheVariants.{Yes, No, Wide}
+use Rattle.lra_poly.specs.{Outcomes.Becomes, Outcomes.IfExact, declared.outcome.Outcome.Outcome}
 use Rattle.lra_poly_widening.specs.declared.error.WidenError.TheVariants.{NotIncluded, Memory}
+use Rattle.lra_poly_widening.specs.{Rank.holds_in_range, declared.error.WidenError.WidenError}
 
 -- the place is that of the first generator of P outside Q, and no product before it passes
 abbrev pub IsOutside : Polyhedron → Polyhedron → ℕ → Type 0

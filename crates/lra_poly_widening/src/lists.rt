@@ -1,19 +1,15 @@
 //! The constraints that widenings take in.
 
 ghost use Rattle.std.specs.Prelude.{◌≡◌, ◌++◌, ◌∷◌, [], suc, cond, length, map, Bool, List, IfOk, OnOk};
-ghost use Rattle.lra_linear_spec.specs.Descriptions.{Con, LinearRow};
-ghost use Rattle.lra_linear_spec.specs.Kinds.{is_equality};
-ghost use Rattle.lra_linear_spec.specs.OperationStrain.{tight_on, valid_on};
-ghost use Rattle.lra_linear_spec.specs.Polyhedra.{IsPolyhedronOf};
+ghost use Rattle.lra_linear_spec.specs.{Descriptions.Con, Descriptions.LinearRow, Kinds.is_equality};
+ghost use Rattle.lra_linear_spec.specs.{OperationStrain.tight_on, OperationStrain.valid_on, Polyhedra.IsPolyhedronOf};
 ghost use Rattle.lra_linear_spec.specs.declared.Cause.TheVariants as of_cause;
 ghost use Rattle.lra_systems.specs.LinearSystems.{constraints};
-ghost use Rattle.lra_duality.specs.declared.inclusion.Inclusion.TheVariants.{Wide};
 ghost use Rattle.lra_duality.specs.Inclusions.{IsInclusion};
+ghost use Rattle.lra_duality.specs.{Saturations.saturated, declared.inclusion.Inclusion.TheVariants.Wide};
 ghost use Rattle.lra_poly.specs.Outcomes.{IfExact, IfFlagged};
 ghost use Rattle.lra_linear_spec.specs.Widening.{is_tight};
-ghost use Rattle.lra_poly_widening.specs.Rank.{kept_thresholds};
-ghost use Rattle.lra_duality.specs.Saturations.{saturated};
-ghost use Rattle.lra_poly_widening.specs.Widenings.{PassesOnBoth};
+ghost use Rattle.lra_poly_widening.specs.{Rank.kept_thresholds, Widenings.PassesOnBoth};
 
 use crate::saturation::{all_saturated, is_full_or_among};
 use crate::validity::{holds_on_both, validity_on_both};

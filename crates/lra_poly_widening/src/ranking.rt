@@ -1,9 +1,8 @@
 //! The rank of a polyhedron over given constraints.
 
-ghost use Rattle.std.specs.Prelude.{◌≡◌, ◌&&◌, cond, length, map, not, suc};
 ghost use Rattle.std.specs.List.{filter, list_any};
-ghost use Rattle.lra_linear_spec.specs.Descriptions.{LinearRow};
-ghost use Rattle.lra_linear_spec.specs.Kinds.{is_equality};
+ghost use Rattle.std.specs.Prelude.{◌≡◌, ◌&&◌, cond, length, map, not, suc};
+ghost use Rattle.lra_linear_spec.specs.{Descriptions.LinearRow, Kinds.is_equality};
 ghost use Rattle.lra_systems.specs.LinearSystems.{constraints, generators};
 ghost use Rattle.lra_duality.specs.Saturations.{saturated, saturation_of};
 ghost use Rattle.lra_poly_widening.specs.Rank.{equalities_from, free, held_thresholds, holds_in_range, rank_of};

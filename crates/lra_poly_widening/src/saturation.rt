@@ -1,7 +1,7 @@
 //! Which generators rows saturate, as truth values in words.
 
-ghost use Rattle.std.specs.Prelude.{◌≡◌, ◌||◌, IfOk, length, map};
 ghost use Rattle.std.specs.List.{All, list_any};
+ghost use Rattle.std.specs.Prelude.{◌≡◌, ◌||◌, IfOk, length, map};
 ghost use Rattle.lra_bits.specs.TruthValues.{are_true};
 ghost use Rattle.lra_systems.specs.LinearSystems.{constraints, generators};
 ghost use Rattle.lra_duality.specs.Saturations.{saturated};

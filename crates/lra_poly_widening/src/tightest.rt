@@ -1,16 +1,11 @@
 //! The widening that is limited by the tightest of given constraints.
 
-ghost use Rattle.std.specs.Prelude.{◌≡◌, ◌≢◌, ℕ, IfErr, IfOk};
-ghost use Rattle.std.specs.List.{list_any};
-ghost use Rattle.lra_linear_spec.specs.Descriptions.{Con};
-ghost use Rattle.lra_linear_spec.specs.Kinds.{is_equality};
-ghost use Rattle.lra_linear_spec.specs.Points.{IsWithin};
-ghost use Rattle.lra_linear_spec.specs.Widening.{LimitedWidening};
+ghost use Rattle.std.specs.{List.list_any, Prelude.◌≡◌, Prelude.◌≢◌, Prelude.ℕ, Prelude.IfErr, Prelude.IfOk};
+ghost use Rattle.lra_linear_spec.specs.{Descriptions.Con, Kinds.is_equality, Points.IsWithin, Widening.LimitedWidening};
 ghost use Rattle.lra_systems.specs.LinearSystems.{constraints};
 ghost use Rattle.lra_poly.specs.Outcomes.{Becomes};
-ghost use Rattle.lra_poly_widening.specs.Rank.{Falls};
 ghost use Rattle.lra_poly_widening.specs.Tightest.{is_loose, is_lower, tightest, TightestStrains};
-ghost use Rattle.lra_poly_widening.specs.Widenings.{IsOutside, IsRefusal};
+ghost use Rattle.lra_poly_widening.specs.{Rank.Falls, Widenings.IsOutside, Widenings.IsRefusal};
 
 use crate::error::WidenError;
 use crate::lists::{given_loss, held_on_both, no_rows, push_if};

@@ -1,11 +1,10 @@
 //! Whether rows hold on polyhedra, told by their generators.
 
-ghost use Rattle.std.specs.Prelude.{◌≡◌, ◌&&◌, ◌++◌, ◌⊎◌, suc, length};
 ghost use Rattle.std.specs.Option.{MatchOption};
+ghost use Rattle.std.specs.Prelude.{◌≡◌, ◌&&◌, ◌++◌, ◌⊎◌, suc, length};
 ghost use Rattle.lra_linear_spec.specs.Kinds.{is_equality};
 ghost use Rattle.lra_systems.specs.LinearSystems.{generators};
-ghost use Rattle.lra_poly_widening.specs.Rank.{holds_in_range};
-ghost use Rattle.lra_poly_widening.specs.Validity.{IsValidity};
+ghost use Rattle.lra_poly_widening.specs.{Rank.holds_in_range, Validity.IsValidity};
 
 use lra_duality::accepts;
 use lra_linear_spec::{ConKind, Excess};

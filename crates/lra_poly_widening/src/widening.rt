@@ -1,17 +1,14 @@
 //! The standard and the limited widening (after Halbwachs 1979).
 
 ghost use Rattle.std.specs.Prelude.{◌≡◌, ◌≢◌, ℕ, List, [], IfOk, IfErr};
-ghost use Rattle.lra_linear_spec.specs.Descriptions.{Con, LinearRow};
 ghost use Rattle.lra_linear_spec.specs.OperationStrain.{LimitedStrains, StandardStrains};
-ghost use Rattle.lra_linear_spec.specs.Points.{IsEmptySet, IsWithin};
-ghost use Rattle.lra_linear_spec.specs.Polyhedra.{IsPolyhedron};
-ghost use Rattle.lra_linear_spec.specs.Widening.{LimitedWidening, StandardWidening};
+ghost use Rattle.lra_linear_spec.specs.{Descriptions.Con, Descriptions.LinearRow, Points.IsEmptySet, Points.IsWithin};
+ghost use Rattle.lra_linear_spec.specs.{Polyhedra.IsPolyhedron, Widening.LimitedWidening, Widening.StandardWidening};
 ghost use Rattle.lra_systems.specs.LinearSystems.{constraints};
 ghost use Rattle.lra_poly.specs.Outcomes.{Becomes};
-ghost use Rattle.lra_poly_widening.specs.Rank.{Falls};
 ghost use Rattle.lra_poly_widening.specs.Widenings.{HaveColumns, IsOutside, IsRefusal, IsLimitedWidening};
 ghost use Rattle.lra_poly_widening.specs.Widenings.{LiesOrIsGivenUp};
-ghost use Rattle.lra_poly_widening.specs.StayingRows.{IsOfStaying, StaysOrIsGivenUp};
+ghost use Rattle.lra_poly_widening.specs.{Rank.Falls, StayingRows.IsOfStaying, StayingRows.StaysOrIsGivenUp};
 
 use crate::error::WidenError;
 use crate::lists::{add_held, given_loss, inclusion_loss, no_rows, tight_rows, universe};

@@ -1,23 +1,14 @@
 -- Lemmas on answers, fitting parts and the ends of a settling.
-use Rattle.std.proofs.Common.{◌≡◌, ◌⊎◌, ◌↔◌, ℕ, ◌≤◌, ◌<◌, ℤ, List, [], ◌∷◌, ◌++◌, length, refl, ap, sym, subst, ◌∙◌, inl, inr}
-use Rattle.std.proofs.Common.{arith, length-append}
+use Rattle.std.proofs.Common.{◌≡◌, ◌⊎◌, ◌↔◌, ℕ, ◌≤◌, ◌<◌, ℤ, List, [], ◌∷◌, ◌++◌, length, refl, ap, sym, subst, ◌∙◌, inl, inr, arith, length-append}
 use Rattle.std.specs.Prelude.{flat_map}
-use Rattle.lra_domain.specs.declared.Exactness.{Exactness}
-use Rattle.lra_domain.specs.declared.Exactness.TheVariants.{Exact, Flagged}
-use Rattle.lra_domain.specs.declared.Included.{Included}
-use Rattle.lra_domain.specs.declared.Included.TheVariants.{Yes, No, Wide}
-use Rattle.lra_domain.specs.Abstraction.{Abstraction}
-use Rattle.lra_domain.specs.Laws.{BaseLaws}
-use Rattle.lra_powerset.specs.Lists.{EachPart, SomePart}
-use Rattle.lra_powerset.specs.ListLemmas.{each_map}
-use Rattle.lra_powerset.proofs.PartLists.{each_append, each_left, each_right}
-use Rattle.lra_powerset.specs.Values.{AreUndecided, IsUndecided, PartsIncluded, SetGamma}
-use Rattle.lra_powerset.specs.declared.joins.Collapsing.TheVariants.{Strained, Further}
+use Rattle.lra_domain.specs.{Abstraction.Abstraction, Laws.BaseLaws, declared.Exactness.Exactness, declared.Exactness.TheVariants.Exact, declared.Exactness.TheVariants.Flagged}
+use Rattle.lra_domain.specs.{declared.Included.Included, declared.Included.TheVariants.Yes, declared.Included.TheVariants.No, declared.Included.TheVariants.Wide}
 use Rattle.lra_powerset.specs.Outcomes.{AnswersWhether, both, either, HaveDims, IsReduced, AreMerged, BecameOne, LastTwoBecomeJoin, CollapsesOnce, IsCollapsed}
-use Rattle.lra_powerset.specs.Content.{PartFits}
-use Rattle.lra_powerset.specs.Laws.{nil_front}
-use Rattle.lra_powerset.proofs.ReductionLemmas.{cover_trans, reduced_covers, reduced_exact, reduced_strains, reduced_each, reduced_fewer}
+use Rattle.lra_powerset.specs.declared.joins.Collapsing.TheVariants.{Strained, Further}
+use Rattle.lra_powerset.specs.{Content.PartFits, Laws.nil_front, ListLemmas.each_map, Lists.EachPart, Lists.SomePart, Values.AreUndecided, Values.IsUndecided, Values.PartsIncluded, Values.SetGamma}
 use Rattle.lra_powerset.proofs.CollapseLemmas.{meet_covers, meet_strains, merged_each, settled_on, settled_whole}
+use Rattle.lra_powerset.proofs.PartLists.{each_append, each_left, each_right}
+use Rattle.lra_powerset.proofs.ReductionLemmas.{cover_trans, reduced_covers, reduced_exact, reduced_strains, reduced_each, reduced_fewer}
 
 pub told_of : (A S : Type 0) (i : Included) → (i ≡ Yes → A) → (i ≡ No → ¬ A) → (i ≡ Wide → S) → AnswersWhether A S i
 told_of A S Yes y n w = y refl

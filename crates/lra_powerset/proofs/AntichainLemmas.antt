@@ -1,17 +1,10 @@
 -- Lemmas on parts of which none lies in another: what a reduction leaves, and a reduction in which only the last is new.
-use Rattle.std.proofs.Common.{◌≡◌, ◌⊎◌, ℕ, List, [], ◌∷◌, ◌++◌, refl, ap, sym, subst, ◌∙◌, inl, inr}
-use Rattle.std.proofs.Common.{append_assoc, append-nil}
-use Rattle.lra_domain.specs.declared.Exactness.TheVariants.{Exact}
-use Rattle.lra_domain.specs.declared.Included.{Included}
+use Rattle.std.proofs.Common.{◌≡◌, ◌⊎◌, ℕ, List, [], ◌∷◌, ◌++◌, refl, ap, sym, subst, ◌∙◌, inl, inr, append_assoc, append-nil}
 use Rattle.lra_domain.specs.declared.Included.TheVariants.{Yes, No, Wide}
-use Rattle.lra_domain.specs.Abstraction.{Abstraction}
-use Rattle.lra_powerset.specs.Antichains.{IsAntichain, PrefixIsAntichain}
-use Rattle.lra_powerset.specs.Lists.{EachPart, SomePart}
-use Rattle.lra_powerset.specs.ListLemmas.{each_map, some_of_each}
-use Rattle.lra_powerset.specs.Reduction.{BelowStrains, IsDropped, DropStrains}
-use Rattle.lra_powerset.specs.Values.{IsUndecided}
+use Rattle.lra_domain.specs.{Abstraction.Abstraction, declared.Exactness.TheVariants.Exact, declared.Included.Included}
 use Rattle.lra_powerset.specs.Outcomes.{AnswerDropped, HaveDims, IsReduced, CollapsesOnce, AnswersWhether, all_decided, kept}
-use Rattle.lra_powerset.specs.declared.joins.Collapsing.TheVariants.{Further}
+use Rattle.lra_powerset.specs.{Antichains.IsAntichain, Antichains.PrefixIsAntichain, ListLemmas.each_map, ListLemmas.some_of_each, Lists.EachPart, Lists.SomePart, Reduction.BelowStrains}
+use Rattle.lra_powerset.specs.{Reduction.IsDropped, Reduction.DropStrains, Values.IsUndecided, declared.joins.Collapsing.TheVariants.Further}
 use Rattle.lra_powerset.proofs.PartLists.{each_append, each_left, each_right, some_left, some_right}
 
 -- what a reduction leaves ---------------------------------------------------------------------------------------------------

@@ -1,23 +1,11 @@
 -- Lemmas on parts that are changed one by one.
-use Rattle.std.proofs.Common.{◌≡◌, ◌≢◌, ◌⊎◌, ℕ, zero, suc, ◌≤◌, List, [], ◌∷◌, ◌++◌, length, refl, ap, sym, subst, ◌∙◌, inl, inr}
-use Rattle.std.proofs.Common.{arith, append_assoc, append-nil, length-append}
-use Rattle.lra_domain.specs.declared.Exactness.{Exactness}
-use Rattle.lra_domain.specs.declared.Exactness.TheVariants.{Exact, Flagged}
-use Rattle.lra_domain.specs.Actions.{Action, dims_after}
-use Rattle.lra_domain.specs.Abstraction.{Abstraction, TransfersTo, Joins}
-use Rattle.lra_domain.specs.Laws.{Laws, BaseLaws}
-use Rattle.lra_powerset.specs.Lists.{EachPart, SomePart, PartByPart}
-use Rattle.lra_powerset.specs.ListLemmas.{each_map}
-use Rattle.lra_powerset.proofs.PartLists.{each_append, each_left, each_right, some_left, some_right}
-use Rattle.lra_powerset.specs.Content.{SetContent, nonempty_parts, with_nonempty}
-use Rattle.lra_powerset.specs.Reduction.{ReducesAfter}
-use Rattle.lra_powerset.specs.Joins.{CollapsesTo, CollapseStrains}
-use Rattle.lra_powerset.specs.Values.{PartsIncluded, SetTransferred, SetStrains}
-use Rattle.lra_powerset.specs.Abstraction.{set_abstraction}
-use Rattle.lra_domain.specs.Abstraction.{worse}
-use Rattle.lra_powerset.specs.Outcomes.{HaveDims, IsAppended, IsCollapsed, AreChanged}
-use Rattle.lra_powerset.specs.Content.{PartFits}
-use Rattle.lra_powerset.proofs.ReductionLemmas.{cover_trans, leaves_each}
+use Rattle.std.proofs.Common.{◌≡◌, ◌≢◌, ◌⊎◌, ℕ, zero, suc, ◌≤◌, List, [], ◌∷◌, ◌++◌, length, refl, ap, sym, subst, ◌∙◌, inl, inr, arith, append_assoc, append-nil, length-append}
+use Rattle.lra_domain.specs.Abstraction.{Abstraction, TransfersTo, Joins, worse}
+use Rattle.lra_domain.specs.{Actions.Action, Actions.dims_after, Laws.Laws, Laws.BaseLaws, declared.Exactness.Exactness, declared.Exactness.TheVariants.Exact, declared.Exactness.TheVariants.Flagged}
+use Rattle.lra_powerset.specs.Content.{SetContent, nonempty_parts, with_nonempty, PartFits}
+use Rattle.lra_powerset.specs.{Abstraction.set_abstraction, Joins.CollapsesTo, Joins.CollapseStrains, ListLemmas.each_map, Lists.EachPart, Lists.SomePart, Lists.PartByPart, Outcomes.HaveDims}
+use Rattle.lra_powerset.specs.{Outcomes.IsAppended, Outcomes.IsCollapsed, Outcomes.AreChanged, Reduction.ReducesAfter, Values.PartsIncluded, Values.SetTransferred, Values.SetStrains}
+use Rattle.lra_powerset.proofs.{PartLists.each_append, PartLists.each_left, PartLists.each_right, PartLists.some_left, PartLists.some_right, ReductionLemmas.cover_trans, ReductionLemmas.leaves_each}
 
 -- parts that aren't empty -------------------------------------------------------------------------------------------------
 

@@ -1,22 +1,12 @@
 -- Lemmas on lists that are kept within their cap.
-use Rattle.std.proofs.Common.{◌≡◌, ◌⊎◌, ℕ, zero, suc, ◌≤◌, ◌<◌, List, [], ◌∷◌, ◌++◌, length, refl, sym, subst, inl, inr}
-use Rattle.std.proofs.Common.{arith}
-use Rattle.lra_domain.specs.declared.Exactness.{Exactness}
-use Rattle.lra_domain.specs.declared.Exactness.TheVariants.{Exact, Flagged}
-use Rattle.lra_domain.specs.Abstraction.{Abstraction, Joins}
-use Rattle.lra_domain.specs.Laws.{BaseLaws}
-use Rattle.lra_powerset.specs.Lists.{EachPart, SomePart}
-use Rattle.lra_powerset.specs.ListLemmas.{each_map}
-use Rattle.lra_powerset.proofs.PartLists.{each_append, each_left, each_right, some_left, some_right}
-use Rattle.lra_powerset.specs.Reduction.{Reduces}
+use Rattle.std.proofs.Common.{◌≡◌, ◌⊎◌, ℕ, zero, suc, ◌≤◌, ◌<◌, List, [], ◌∷◌, ◌++◌, length, refl, sym, subst, inl, inr, arith}
+use Rattle.lra_domain.specs.Abstraction.{Abstraction, Joins, worse}
+use Rattle.lra_domain.specs.{Laws.BaseLaws, declared.Exactness.Exactness, declared.Exactness.TheVariants.Exact, declared.Exactness.TheVariants.Flagged}
 use Rattle.lra_powerset.specs.Joins.{JoinsOnStrains, LastTwoJoin, LastTwoStrain, CollapsesTo, CollapseStrains}
-use Rattle.lra_powerset.specs.Values.{PartsIncluded}
-use Rattle.lra_domain.specs.Abstraction.{worse}
 use Rattle.lra_powerset.specs.Outcomes.{IsReduced, IsMerged, LastTwoBecomeJoin, IsCollapsed}
-use Rattle.lra_powerset.specs.Content.{PartFits}
-use Rattle.lra_powerset.specs.Single.{join_same, leaves_same}
-use Rattle.lra_powerset.proofs.ReductionLemmas.{cover_trans, reduced_covers, reduced_exact, reduced_strains}
-use Rattle.lra_powerset.proofs.ReductionLemmas.{leaves_each, reduced_more, reduced_each}
+use Rattle.lra_powerset.specs.{Content.PartFits, ListLemmas.each_map, Lists.EachPart, Lists.SomePart, Reduction.Reduces, Single.join_same, Single.leaves_same, Values.PartsIncluded}
+use Rattle.lra_powerset.proofs.PartLists.{each_append, each_left, each_right, some_left, some_right}
+use Rattle.lra_powerset.proofs.ReductionLemmas.{cover_trans, reduced_covers, reduced_exact, reduced_strains, leaves_each, reduced_more, reduced_each}
 
 -- covering ----------------------------------------------------------------------------------------------------------------
 

@@ -1,25 +1,13 @@
 -- Lemmas on how heads grow.
-use Rattle.std.proofs.Common.{◌≡◌, ◌≢◌, ◌⊎◌, ℕ, ◌<◌, ℤ, Bool, true, false, List, [], ◌∷◌, length, Option, Some, None, refl, sym}
-use Rattle.std.proofs.Common.{subst, ◌∙◌, inl, inr, arith}
+use Rattle.std.proofs.Common.{◌≡◌, ◌≢◌, ◌⊎◌, ℕ, ◌<◌, ℤ, Bool, true, false, List, [], ◌∷◌, length, Option, Some, None, refl, sym, subst, ◌∙◌, inl, inr, arith}
 use Rattle.lra_systems.specs.LinearSystems.{LinearSystem}
 use Rattle.lra_linear_spec.specs.declared.ConKind.{ConKind}
-use Rattle.lra_domain.specs.declared.Exactness.{Exactness}
-use Rattle.lra_domain.specs.declared.Exactness.TheVariants.{Exact, Flagged}
-use Rattle.lra_domain.specs.declared.Included.TheVariants.{Yes, No, Wide}
-use Rattle.lra_domain.specs.declared.Mode.{Mode}
-use Rattle.lra_domain.specs.declared.Mode.TheVariants.{Join}
-use Rattle.lra_domain.specs.declared.Grown.{Grown}
-use Rattle.lra_domain.specs.declared.Grown.TheVariants.{Stable, Grew as grew_by}
-use Rattle.lra_domain.specs.Rank.{RankBelow, RankFits}
 use Rattle.lra_domain.specs.Abstraction.{Abstraction, Starts, Grew, GrowthStrains}
-use Rattle.lra_domain.specs.Laws.{Laws, BaseLaws}
-use Rattle.lra_powerset.specs.Lists.{EachPart, SomePart}
-use Rattle.lra_powerset.specs.ListLemmas.{each_map}
-use Rattle.lra_powerset.specs.Content.{HeadForm, many, one}
-use Rattle.lra_powerset.specs.Joins.{JoinsOn, Merges}
-use Rattle.lra_powerset.specs.Heads.{GrowsBy, FormCovered, Widens}
-use Rattle.lra_powerset.specs.Outcomes.{AreMerged, HaveDims}
-use Rattle.lra_powerset.specs.Growth.{MergesExactly, StartsAndGrows, BecomesOne, StaysWithAll, OneAnswers}
+use Rattle.lra_domain.specs.declared.Included.TheVariants.{Yes, No, Wide}
+use Rattle.lra_domain.specs.{Laws.Laws, Laws.BaseLaws, Rank.RankBelow, Rank.RankFits, declared.Exactness.Exactness, declared.Exactness.TheVariants.Exact, declared.Exactness.TheVariants.Flagged}
+use Rattle.lra_domain.specs.{declared.Grown.Grown, declared.Grown.TheVariants.Stable, declared.Grown.TheVariants.Grew as grew_by, declared.Mode.Mode, declared.Mode.TheVariants.Join}
+use Rattle.lra_powerset.specs.{Content.HeadForm, Content.many, Content.one, Growth.MergesExactly, Growth.StartsAndGrows, Growth.BecomesOne, Growth.StaysWithAll, Growth.OneAnswers, Heads.GrowsBy}
+use Rattle.lra_powerset.specs.{Heads.FormCovered, Heads.Widens, Joins.JoinsOn, Joins.Merges, ListLemmas.each_map, Lists.EachPart, Lists.SomePart, Outcomes.AreMerged, Outcomes.HaveDims}
 
 -- joins of parts ----------------------------------------------------------------------------------------------------------
 

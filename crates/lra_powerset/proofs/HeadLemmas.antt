@@ -1,38 +1,20 @@
 -- Lemmas on the heads of sets.
-use Rattle.std.proofs.Common.{◌≡◌, ◌≢◌, ◌⊎◌, ℕ, ℤ, List, [], ◌∷◌, ◌++◌, length, Option, Some, None, refl, ap, sym}
-use Rattle.std.proofs.Common.{subst, ◌∙◌, inl, inr, arith}
+use Rattle.std.proofs.Common.{◌≡◌, ◌≢◌, ◌⊎◌, ℕ, ℤ, List, [], ◌∷◌, ◌++◌, length, Option, Some, None, refl, ap, sym, subst, ◌∙◌, inl, inr, arith}
 use Rattle.lra_systems.specs.LinearSystems.{LinearSystem}
 use Rattle.lra_linear_spec.specs.declared.ConKind.{ConKind}
-use Rattle.lra_domain.specs.declared.Exactness.{Exactness}
-use Rattle.lra_domain.specs.declared.Exactness.TheVariants.{Exact, Flagged}
-use Rattle.lra_domain.specs.declared.Included.{Included}
-use Rattle.lra_domain.specs.declared.Included.TheVariants.{Yes, No, Wide}
-use Rattle.lra_domain.specs.declared.Mode.{Mode}
-use Rattle.lra_domain.specs.declared.Mode.TheVariants.{Join, Widen, Limited, Tightest}
-use Rattle.lra_domain.specs.declared.Grown.{Grown}
-use Rattle.lra_domain.specs.declared.Grown.TheVariants.{Stable, Grew as grew_by}
-use Rattle.lra_domain.specs.Rank.{RankBelow}
 use Rattle.lra_domain.specs.Abstraction.{Abstraction, Grew, Values}
-use Rattle.lra_domain.specs.Laws.{Laws, BaseLaws}
-use Rattle.lra_powerset.specs.Lists.{EachPart, SomePart}
-use Rattle.lra_powerset.specs.ListLemmas.{each_map}
-use Rattle.lra_powerset.proofs.PartLists.{each_append, some_left, some_right}
-use Rattle.lra_powerset.specs.Content.{SetContent, HeadForm, many, one, whole, SetHead, nonempty_parts, with_nonempty}
-use Rattle.lra_powerset.specs.Joins.{Merges, MergeStrains, CollapsesTo}
-use Rattle.lra_powerset.specs.Values.{PartsIncluded, IsTopPart}
-use Rattle.lra_powerset.specs.Heads.{HeadFormGamma, SetHeadGamma, FormStarts, FormStays, OneStrains, HeadFormStrains, HeadAnswers}
-use Rattle.lra_powerset.specs.Heads.{FormValued, HeadFormValueStrains, FormGrown, HeadGrown, HeadGrowStrains, Widens}
-use Rattle.lra_powerset.specs.Heads.{WidenStrains, FormCovered, HeadCovered, HeadGivenUp, form_rank}
-use Rattle.lra_powerset.specs.Abstraction.{set_abstraction}
-use Rattle.lra_powerset.specs.Outcomes.{HaveDims, IsCollapsed, AnswersWhether}
-use Rattle.lra_powerset.specs.Content.{PartFits}
-use Rattle.lra_powerset.specs.Forms.{HeadFormFits, HeadFits}
-use Rattle.lra_powerset.specs.Laws.{fits_formed, form_fine, parts_within, started_has, whole_is_filled, with_filled_rows}
-use Rattle.lra_powerset.specs.Values.{AreUndecided}
-use Rattle.lra_powerset.specs.Heads.{BeginsAsOne, FormLeft, GrowsBy}
+use Rattle.lra_domain.specs.declared.Grown.TheVariants.{Stable, Grew as grew_by}
+use Rattle.lra_domain.specs.declared.Mode.TheVariants.{Join, Widen, Limited, Tightest}
+use Rattle.lra_domain.specs.{Laws.Laws, Laws.BaseLaws, Rank.RankBelow, declared.Exactness.Exactness, declared.Exactness.TheVariants.Exact, declared.Exactness.TheVariants.Flagged, declared.Grown.Grown}
+use Rattle.lra_domain.specs.{declared.Included.Included, declared.Included.TheVariants.Yes, declared.Included.TheVariants.No, declared.Included.TheVariants.Wide, declared.Mode.Mode}
+use Rattle.lra_powerset.specs.Content.{SetContent, HeadForm, many, one, whole, SetHead, nonempty_parts, with_nonempty, PartFits}
 use Rattle.lra_powerset.specs.Growth.{StartsAnew, BecomesOne, HasAll, OneGrew, OneAnswers, SingleAnswers, LiesIn, HasGrown, valued_set}
-use Rattle.lra_powerset.proofs.AnswerLemmas.{fits_dims}
-use Rattle.lra_powerset.proofs.GrowthLemmas.{merge_same, merge_stays, has_all}
+use Rattle.lra_powerset.specs.Heads.{HeadFormGamma, SetHeadGamma, FormStarts, FormStays, OneStrains, HeadFormStrains, HeadAnswers, FormValued, HeadFormValueStrains, FormGrown, HeadGrown}
+use Rattle.lra_powerset.specs.Heads.{HeadGrowStrains, Widens, WidenStrains, FormCovered, HeadCovered, HeadGivenUp, form_rank, BeginsAsOne, FormLeft, GrowsBy}
+use Rattle.lra_powerset.specs.Laws.{fits_formed, form_fine, parts_within, started_has, whole_is_filled, with_filled_rows}
+use Rattle.lra_powerset.specs.{Abstraction.set_abstraction, Forms.HeadFormFits, Forms.HeadFits, Joins.Merges, Joins.MergeStrains, Joins.CollapsesTo, ListLemmas.each_map, Lists.EachPart}
+use Rattle.lra_powerset.specs.{Lists.SomePart, Outcomes.HaveDims, Outcomes.IsCollapsed, Outcomes.AnswersWhether, Values.PartsIncluded, Values.IsTopPart, Values.AreUndecided}
+use Rattle.lra_powerset.proofs.{AnswerLemmas.fits_dims, GrowthLemmas.merge_same, GrowthLemmas.merge_stays, GrowthLemmas.has_all, PartLists.each_append, PartLists.some_left, PartLists.some_right}
 
 -- modes of widening -------------------------------------------------------------------------------------------------------
 

@@ -2,17 +2,9 @@
 use Rattle.std.proofs.Common.{◌≡◌, ◌≤◌, ◌<◌, ◌^◌, ℕ, List, length, sym, ap, subst, ◌∙◌, arith}
 use Rattle.lra_systems.specs.LinearSystems.{LinearSystem}
 use Rattle.lra_linear_spec.specs.declared.ConKind.{ConKind}
-use Rattle.lra_domain.specs.declared.Exactness.{Exactness}
-use Rattle.lra_domain.specs.declared.Included.{Included}
-use Rattle.lra_domain.specs.Abstraction.{Abstraction}
-use Rattle.lra_domain.specs.Rank.{RankFits}
-use Rattle.lra_domain.specs.Laws.{BaseLaws}
-use Rattle.lra_powerset.specs.Content.{HeadForm, one, whole}
+use Rattle.lra_domain.specs.{Abstraction.Abstraction, Laws.BaseLaws, Rank.RankFits, declared.Exactness.Exactness, declared.Included.Included}
 use Rattle.lra_powerset.specs.Values.{AreUndecided, PartsIncluded}
-use Rattle.lra_powerset.specs.Heads.{FormStarts}
-use Rattle.lra_powerset.specs.Outcomes.{AnswersWhether}
-use Rattle.lra_powerset.specs.Growth.{StartsAnew}
-use Rattle.lra_powerset.specs.Forms.{HeadFormFits, HeadFits}
+use Rattle.lra_powerset.specs.{Content.HeadForm, Content.one, Content.whole, Forms.HeadFormFits, Forms.HeadFits, Growth.StartsAnew, Heads.FormStarts, Outcomes.AnswersWhether}
 use Rattle.lra_powerset.proofs.HeadLemmas.{whole_fits}
 
 -- the head of a head that fits, given up, fits

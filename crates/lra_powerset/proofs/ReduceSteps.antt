@@ -1,15 +1,8 @@
 -- What the reduction of a set keeps, and what it gives, whether it ends or memory is wanting.
 use Rattle.std.proofs.Common.{◌≡◌, ℕ, ◌≤◌, List, length, sym, ap, subst, arith}
 use Rattle.std.specs.Prelude.{Result, Ok, Err, IfOk, OnOk, OnErr}
-use Rattle.lra_domain.specs.declared.Exactness.{Exactness}
-use Rattle.lra_domain.specs.declared.Exactness.TheVariants.{Exact, Flagged}
-use Rattle.lra_domain.specs.Abstraction.{Abstraction}
-use Rattle.lra_domain.specs.Laws.{BaseLaws}
-use Rattle.lra_powerset.specs.Lists.{EachPart}
-use Rattle.lra_powerset.specs.Reduction.{Reduces, ReduceStrains}
-use Rattle.lra_powerset.specs.Values.{PartsIncluded}
-use Rattle.lra_powerset.specs.Outcomes.{IsReduced}
-use Rattle.lra_powerset.specs.Content.{PartFits}
+use Rattle.lra_domain.specs.{Abstraction.Abstraction, Laws.BaseLaws, declared.Exactness.Exactness, declared.Exactness.TheVariants.Exact, declared.Exactness.TheVariants.Flagged}
+use Rattle.lra_powerset.specs.{Content.PartFits, Lists.EachPart, Outcomes.IsReduced, Reduction.Reduces, Reduction.ReduceStrains, Values.PartsIncluded}
 use Rattle.lra_powerset.proofs.ReductionLemmas.{reduced_covers, reduced_exact, reduced_strains, reduced_each, reduced_fewer}
 
 module _ {V H E : Type 0} (m : Abstraction V H) (ps qs : List V) where

@@ -1,18 +1,11 @@
 -- Lemmas on answers and reductions.
-use Rattle.std.proofs.Common.{◌≡◌, ◌⊎◌, suc, ◌≤◌, List, [], ◌∷◌, ◌++◌, length, refl, sym, subst, ◌∙◌, inl, inr}
-use Rattle.std.proofs.Common.{arith, append_assoc}
-use Rattle.lra_domain.specs.declared.Exactness.{Exactness}
-use Rattle.lra_domain.specs.declared.Exactness.TheVariants.{Exact, Flagged}
-use Rattle.lra_domain.specs.declared.Included.{Included}
-use Rattle.lra_domain.specs.declared.Included.TheVariants.{Yes, No, Wide}
-use Rattle.lra_domain.specs.Abstraction.{Abstraction}
-use Rattle.lra_domain.specs.Laws.{BaseLaws}
-use Rattle.lra_powerset.specs.Lists.{EachPart, SomePart}
-use Rattle.lra_powerset.specs.ListLemmas.{each_map, some_map, some_of_each}
-use Rattle.lra_powerset.proofs.PartLists.{each_append, some_left, some_right}
-use Rattle.lra_powerset.specs.Reduction.{IsDropped, ReducesAfter, ReducesAfterStrains, Reduces, ReduceStrains}
-use Rattle.lra_powerset.specs.Values.{PartsIncluded}
+use Rattle.std.proofs.Common.{◌≡◌, ◌⊎◌, suc, ◌≤◌, List, [], ◌∷◌, ◌++◌, length, refl, sym, subst, ◌∙◌, inl, inr, arith, append_assoc}
+use Rattle.lra_domain.specs.{Abstraction.Abstraction, Laws.BaseLaws, declared.Exactness.Exactness, declared.Exactness.TheVariants.Exact, declared.Exactness.TheVariants.Flagged}
+use Rattle.lra_domain.specs.{declared.Included.Included, declared.Included.TheVariants.Yes, declared.Included.TheVariants.No, declared.Included.TheVariants.Wide}
 use Rattle.lra_powerset.specs.Outcomes.{AnswersWhether, either, all_decided, AnswerDropped, kept, IsReduced}
+use Rattle.lra_powerset.specs.Reduction.{IsDropped, ReducesAfter, ReducesAfterStrains, Reduces, ReduceStrains}
+use Rattle.lra_powerset.specs.{ListLemmas.each_map, ListLemmas.some_map, ListLemmas.some_of_each, Lists.EachPart, Lists.SomePart, Values.PartsIncluded}
+use Rattle.lra_powerset.proofs.PartLists.{each_append, some_left, some_right}
 
 -- answers -----------------------------------------------------------------------------------------------------------------
 

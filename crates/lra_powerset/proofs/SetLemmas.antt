@@ -1,32 +1,17 @@
 -- Lemmas on sets of parts.
-use Rattle.std.proofs.Common.{◌≡◌, ◌⊎◌, ℕ, ◌≤◌, ◌^◌, ℤ, List, [], ◌∷◌, ◌++◌, length, refl, ap, sym}
-use Rattle.std.proofs.Common.{subst, ◌∙◌, inl, inr, arith}
+use Rattle.std.proofs.Common.{◌≡◌, ◌⊎◌, ℕ, ◌≤◌, ◌^◌, ℤ, List, [], ◌∷◌, ◌++◌, length, refl, ap, sym, subst, ◌∙◌, inl, inr, arith}
 use Rattle.std.proofs.lemmas.List.Elements.{All-append}
-use Rattle.std.specs.Prelude.{flat_map}
-use Rattle.std.specs.List.{All}
+use Rattle.std.specs.{List.All, Prelude.flat_map}
 use Rattle.lra_systems.specs.LinearSystems.{LinearSystem}
 use Rattle.lra_linear_spec.specs.declared.ConKind.{ConKind}
-use Rattle.lra_domain.specs.declared.Exactness.{Exactness}
-use Rattle.lra_domain.specs.Actions.{Action, dims_after, Within}
-use Rattle.lra_domain.specs.Parts.{CapsWithin, SomePartHolds}
-use Rattle.lra_domain.specs.Abstraction.{Abstraction, TransfersTo, Joins}
-use Rattle.lra_domain.specs.Laws.{Laws, PartsAreExact, BaseLaws}
-use Rattle.lra_powerset.specs.declared.changes.BorrowedChange.{BorrowedChange}
-use Rattle.lra_powerset.specs.declared.changes.BorrowedChange.TheVariants.{Assign, Forget, Test, Embed, RemoveLast}
-use Rattle.lra_powerset.specs.Changes.{ChangeFits, borrowed_action}
-use Rattle.lra_powerset.specs.Lists.{EachPart, SomePart}
-use Rattle.lra_powerset.proofs.PartLists.{each_append}
-use Rattle.lra_powerset.specs.Content.{SetContent, HeadForm}
-use Rattle.lra_powerset.specs.Heads.{FormStarts}
-use Rattle.lra_powerset.specs.Growth.{StartsAnew}
-use Rattle.lra_powerset.specs.Values.{PartsIncluded, SetCapped, SetGamma, SetTop, SetBottom}
-use Rattle.lra_powerset.specs.Abstraction.{set_abstraction}
-use Rattle.lra_domain.specs.Abstraction.{worse}
-use Rattle.lra_powerset.specs.Outcomes.{HaveDims, IsCollapsed, AreChanged}
-use Rattle.lra_powerset.specs.Content.{PartFits}
+use Rattle.lra_domain.specs.Abstraction.{Abstraction, TransfersTo, Joins, worse}
+use Rattle.lra_domain.specs.{Actions.Action, Actions.dims_after, Actions.Within, Laws.Laws, Laws.PartsAreExact, Laws.BaseLaws, Parts.CapsWithin, Parts.SomePartHolds, declared.Exactness.Exactness}
 use Rattle.lra_powerset.specs.Laws.{parts_within, inside_covers, whole_is_filled}
-use Rattle.lra_powerset.proofs.AnswerLemmas.{fits_dims, fits_none}
-use Rattle.lra_powerset.proofs.ChangeLemmas.{Appended, set_meets, set_joins}
+use Rattle.lra_powerset.specs.Values.{PartsIncluded, SetCapped, SetGamma, SetTop, SetBottom}
+use Rattle.lra_powerset.specs.declared.changes.BorrowedChange.TheVariants.{Assign, Forget, Test, Embed, RemoveLast}
+use Rattle.lra_powerset.specs.{Abstraction.set_abstraction, Changes.ChangeFits, Changes.borrowed_action, Content.SetContent, Content.HeadForm, Content.PartFits, Growth.StartsAnew, Heads.FormStarts}
+use Rattle.lra_powerset.specs.{Lists.EachPart, Lists.SomePart, Outcomes.HaveDims, Outcomes.IsCollapsed, Outcomes.AreChanged, declared.changes.BorrowedChange.BorrowedChange}
+use Rattle.lra_powerset.proofs.{AnswerLemmas.fits_dims, AnswerLemmas.fits_none, ChangeLemmas.Appended, ChangeLemmas.set_meets, ChangeLemmas.set_joins, PartLists.each_append}
 
 -- a set that lies in another has no store beyond its
 pub inside_stores : {V H : Type 0} (m : Abstraction V H) → Laws m → BaseLaws m → (a b : SetContent V)

@@ -1,15 +1,10 @@
 -- Lemmas on the loops that tell of each part whether it goes, and leave out those that go.
-use Rattle.std.proofs.Common.{◌≡◌, ℕ, suc, ◌+◌, ◌-◌, ◌<◌, List, [], ◌∷◌, ◌++◌, length, take, refl, ap, sym, subst, ◌∙◌}
-use Rattle.std.proofs.Common.{arith, append_assoc, append-nil, length-append}
-use Rattle.std.proofs.Math.Seq.{take-append_seam}
-use Rattle.std.proofs.lemmas.List.Edits.{remove-append_right}
+use Rattle.std.proofs.Common.{◌≡◌, ℕ, suc, ◌+◌, ◌-◌, ◌<◌, List, [], ◌∷◌, ◌++◌, length, take, refl, ap, sym, subst, ◌∙◌, arith, append_assoc, append-nil, length-append}
+use Rattle.std.proofs.{Math.Seq.take-append_seam, lemmas.List.Edits.remove-append_right}
 use Rattle.std.specs.List.{remove}
-use Rattle.lra_domain.specs.declared.Included.{Included}
-use Rattle.lra_domain.specs.declared.Included.TheVariants.{Yes, No, Wide}
-use Rattle.lra_domain.specs.Abstraction.{Abstraction}
+use Rattle.lra_domain.specs.{Abstraction.Abstraction, declared.Included.Included, declared.Included.TheVariants.Yes, declared.Included.TheVariants.No, declared.Included.TheVariants.Wide}
 use Rattle.lra_powerset.proofs.PartLists.{each_left, each_right}
-use Rattle.lra_powerset.specs.Reduction.{IsDropped, DropStrains}
-use Rattle.lra_powerset.specs.Outcomes.{AnswersWhether, AnswerDropped, HaveDims, kept}
+use Rattle.lra_powerset.specs.{Outcomes.AnswersWhether, Outcomes.AnswerDropped, Outcomes.HaveDims, Outcomes.kept, Reduction.IsDropped, Reduction.DropStrains}
 
 -- what was told of the parts before the rest, and what will be told of the rest, is told of all
 pub record TellLoop {V H : Type 0} (m : Abstraction V H) (parts rest : List V) (told : List Included) : Type 0 where

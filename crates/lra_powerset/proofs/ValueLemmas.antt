@@ -1,24 +1,13 @@
 -- Lemmas on the values of heads, their ranks and how many parts they have.
-use Rattle.std.proofs.Common.{◌≡◌, ℕ, zero, suc, ◌≤◌, ◌<◌, ◌^◌, List, [], ◌∷◌, length, refl, ap, sym}
-use Rattle.std.proofs.Common.{subst, ◌∙◌, inl, arith}
+use Rattle.std.proofs.Common.{◌≡◌, ℕ, zero, suc, ◌≤◌, ◌<◌, ◌^◌, List, [], ◌∷◌, length, refl, ap, sym, subst, ◌∙◌, inl, arith}
 use Rattle.lra_systems.specs.LinearSystems.{LinearSystem}
 use Rattle.lra_linear_spec.specs.declared.ConKind.{ConKind}
-use Rattle.lra_domain.specs.declared.Exactness.{Exactness}
-use Rattle.lra_domain.specs.declared.Exactness.TheVariants.{Exact}
-use Rattle.lra_domain.specs.Rank.{RankFits}
 use Rattle.lra_domain.specs.Abstraction.{Abstraction, Starts, Values}
-use Rattle.lra_domain.specs.Laws.{Laws, BaseLaws}
-use Rattle.lra_powerset.specs.Lists.{EachPart, SomePart}
-use Rattle.lra_powerset.specs.Content.{SetContent, HeadForm, many, one, whole, SetHead, nonempty_parts}
-use Rattle.lra_powerset.specs.Values.{PartsIncluded, IsTopPart}
+use Rattle.lra_domain.specs.{Laws.Laws, Laws.BaseLaws, Rank.RankFits, declared.Exactness.Exactness, declared.Exactness.TheVariants.Exact}
 use Rattle.lra_powerset.specs.Heads.{HeadFormGamma, FormStarts, FormValued, FormCapped, HeadCapped, counted, form_rank}
-use Rattle.lra_powerset.specs.Abstraction.{set_abstraction}
-use Rattle.lra_powerset.specs.Content.{PartFits}
-use Rattle.lra_powerset.specs.Laws.{form_fine, started_has}
-use Rattle.lra_powerset.specs.Forms.{HeadFormFits, HeadFits}
-use Rattle.lra_powerset.specs.Growth.{valued_set}
-use Rattle.lra_powerset.proofs.CollapseLemmas.{covers_itself}
-use Rattle.lra_powerset.proofs.ChangeLemmas.{with_filled_each, with_filled_some, with_filled_few, with_filled_inside}
+use Rattle.lra_powerset.specs.{Abstraction.set_abstraction, Content.SetContent, Content.HeadForm, Content.many, Content.one, Content.whole, Content.SetHead, Content.nonempty_parts, Content.PartFits}
+use Rattle.lra_powerset.specs.{Forms.HeadFormFits, Forms.HeadFits, Growth.valued_set, Laws.form_fine, Laws.started_has, Lists.EachPart, Lists.SomePart, Values.PartsIncluded, Values.IsTopPart}
+use Rattle.lra_powerset.proofs.{ChangeLemmas.with_filled_each, ChangeLemmas.with_filled_some, ChangeLemmas.with_filled_few, ChangeLemmas.with_filled_inside, CollapseLemmas.covers_itself}
 
 covers_same : {V H : Type 0} (m : Abstraction V H) → BaseLaws m → (ps qs : List V) → ps ≡ qs → PartsIncluded m.leq ps qs
 covers_same {V} m pl ps qs e = subst (λ (xs : List V). PartsIncluded m.leq ps xs) e (covers_itself m pl ps)

@@ -1,16 +1,12 @@
 -- The meaning of sets of parts, from that of their parts.
 use Rattle.std.specs.Prelude.{flat_map}
-use Rattle.lra_domain.specs.Abstraction.{Abstraction}
-use Rattle.lra_powerset.specs.Content.{SetContent, SetHead}
-use Rattle.lra_domain.specs.Actions.{HoldsStores}
-use Rattle.lra_powerset.specs.Forms.{HeadFits}
-use Rattle.lra_powerset.specs.Values.{PartsBounded, WellFormedSet, SetKeeps}
-use Rattle.lra_powerset.specs.Values.{SetGamma, SetCapped, SetLeq, SetTop, SetBottom, SetTransferred, SetStrains}
-use Rattle.lra_powerset.specs.Values.{SetJoined, SetJoinStrains, SetIncluded, SetInclusionStrains}
+use Rattle.lra_domain.specs.{Abstraction.Abstraction, Actions.HoldsStores}
 use Rattle.lra_powerset.specs.Heads.{SetHeadGamma, HeadCapped, form_rank, HeadCovered, HeadStarts, HeadStays}
-use Rattle.lra_powerset.specs.Heads.{HeadAnswers}
-use Rattle.lra_powerset.specs.Heads.{HeadGivenUp, HeadGrown, HeadLeft, HeadGrowStrains, HeadValued}
-use Rattle.lra_powerset.specs.Heads.{HeadFormValueStrains}
+use Rattle.lra_powerset.specs.Heads.{HeadAnswers, HeadGivenUp, HeadGrown, HeadLeft, HeadGrowStrains, HeadValued}
+use Rattle.lra_powerset.specs.Values.{PartsBounded, WellFormedSet, SetKeeps, SetGamma, SetCapped, SetLeq, SetTop}
+use Rattle.lra_powerset.specs.Values.{SetBottom, SetTransferred, SetStrains, SetJoined, SetJoinStrains, SetIncluded}
+use Rattle.lra_powerset.specs.Values.{SetInclusionStrains}
+use Rattle.lra_powerset.specs.{Content.SetContent, Content.SetHead, Forms.HeadFits, Heads.HeadFormValueStrains}
 
 abbrev pub set_abstraction : {V H : Type 0} → Abstraction V H → Abstraction (SetContent V) (SetHead V H)
 set_abstraction m = record {

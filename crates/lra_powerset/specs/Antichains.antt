@@ -1,9 +1,8 @@
 -- Parts of which none lies in another, and lists of which only the last part may lie in another or hold one.
 use Rattle.std.specs.Prelude.{◌≡◌, List, [], ◌∷◌, ◌++◌}
 use Rattle.lra_domain.specs.Abstraction.{Abstraction}
-use Rattle.lra_powerset.specs.Lists.{EachPart}
-use Rattle.lra_powerset.specs.declared.reduction.Untried.{Untried}
 use Rattle.lra_powerset.specs.declared.reduction.Untried.TheVariants.{All, Last}
+use Rattle.lra_powerset.specs.{Lists.EachPart, declared.reduction.Untried.Untried}
 
 -- none of the parts lies in another
 abbrev pub IsAntichain : {V H : Type 0} → Abstraction V H → List V → Type 0

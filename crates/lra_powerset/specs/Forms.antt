@@ -1,12 +1,9 @@
 -- What stands behind the head of a set, and what is so of every head.
 use Rattle.std.specs.Prelude.{◌≡◌, ◌≢◌, ◌≤◌, ◌<◌, ◌^◌, ℕ, length}
-use Rattle.lra_domain.specs.Abstraction.{Abstraction}
-use Rattle.lra_domain.specs.Rank.{RankFits}
-use Rattle.lra_powerset.specs.Lists.{EachPart}
+use Rattle.lra_domain.specs.{Abstraction.Abstraction, Rank.RankFits}
 use Rattle.lra_powerset.specs.Content.{HeadForm, many, one, whole, SetHead, PartFits}
-use Rattle.lra_powerset.specs.Values.{IsTopPart}
-use Rattle.lra_powerset.specs.declared.growth.Held.{Held}
 use Rattle.lra_powerset.specs.declared.growth.Held.TheVariants.{Many, One, Whole}
+use Rattle.lra_powerset.specs.{Lists.EachPart, Values.IsTopPart, declared.growth.Held.Held}
 
 abbrev pub form_of : {V H : Type 0} → Held V H → HeadForm V H
 form_of (Many ps) = many ps.items

@@ -2,23 +2,15 @@
 use Rattle.std.specs.Prelude.{◌≡◌, ◌≢◌, ℕ, ℤ, Bool, true, false, List, [], ◌∷◌, ◌++◌, Option, Some, None, ◌⊎◌}
 use Rattle.lra_systems.specs.LinearSystems.{LinearSystem}
 use Rattle.lra_linear_spec.specs.declared.ConKind.{ConKind}
-use Rattle.lra_domain.specs.declared.Exactness.{Exactness}
-use Rattle.lra_domain.specs.declared.Included.{Included}
-use Rattle.lra_domain.specs.declared.Included.TheVariants.{No, Wide}
-use Rattle.lra_domain.specs.declared.Mode.{Mode}
-use Rattle.lra_domain.specs.declared.Mode.TheVariants.{Join}
-use Rattle.lra_domain.specs.declared.Grown.{Grown}
-use Rattle.lra_domain.specs.declared.Grown.TheVariants.{Stable, Grew as grew_by}
-use Rattle.lra_domain.specs.Rank.{RankBelow}
 use Rattle.lra_domain.specs.Abstraction.{Abstraction, Grew, GrowthStrains, Values}
-use Rattle.lra_powerset.specs.Lists.{EachPart, SomePart}
+use Rattle.lra_domain.specs.declared.Grown.TheVariants.{Stable, Grew as grew_by}
+use Rattle.lra_domain.specs.declared.Included.TheVariants.{No, Wide}
+use Rattle.lra_domain.specs.{Rank.RankBelow, declared.Exactness.Exactness, declared.Grown.Grown}
+use Rattle.lra_domain.specs.{declared.Included.Included, declared.Mode.Mode, declared.Mode.TheVariants.Join}
 use Rattle.lra_powerset.specs.Content.{HeadForm, many, one, whole, SetContent, SetHead, PartFits, nonempty_parts}
 use Rattle.lra_powerset.specs.Heads.{FormStarts, FormCovered, FormStays, FormValued, HeadAnswers, Widens, WidenStrains}
-use Rattle.lra_powerset.specs.Heads.{GrowsBy, form_rank}
-use Rattle.lra_powerset.specs.Forms.{HeadFits}
-use Rattle.lra_powerset.specs.Joins.{Merges, MergeStrains}
-use Rattle.lra_powerset.specs.Outcomes.{IsCollapsed}
-use Rattle.lra_powerset.specs.Abstraction.{set_abstraction}
+use Rattle.lra_powerset.specs.{Abstraction.set_abstraction, Forms.HeadFits, Heads.GrowsBy, Heads.form_rank}
+use Rattle.lra_powerset.specs.{Joins.Merges, Joins.MergeStrains, Lists.EachPart, Lists.SomePart, Outcomes.IsCollapsed}
 
 -- the join of the parts, which covers each of them; or a join strains
 abbrev pub MergesExactly : {V H : Type 0} → Abstraction V H → List V → Option V → Type 0

@@ -2,15 +2,13 @@
 use Rattle.std.specs.Prelude.{◌≡◌, ◌≤◌, ℕ, zero, suc, ℤ, List, [], ◌∷◌, ◌++◌, length, ◌⊎◌}
 use Rattle.lra_systems.specs.LinearSystems.{LinearSystem}
 use Rattle.lra_linear_spec.specs.declared.ConKind.{ConKind}
-use Rattle.lra_domain.specs.declared.Mode.{Mode}
-use Rattle.lra_domain.specs.declared.Mode.TheVariants.{Join, Widen, Limited, Tightest}
-use Rattle.lra_domain.specs.declared.Rank.{Rank}
-use Rattle.lra_domain.specs.declared.Included.{Included}
-use Rattle.lra_domain.specs.declared.Included.TheVariants.{Yes, No, Wide}
 use Rattle.lra_domain.specs.Abstraction.{Abstraction, GrowthStrains}
-use Rattle.lra_powerset.specs.Lists.{EachPart, SomePart}
+use Rattle.lra_domain.specs.declared.Included.TheVariants.{Yes, No, Wide}
+use Rattle.lra_domain.specs.declared.Mode.TheVariants.{Join, Widen, Limited, Tightest}
+use Rattle.lra_domain.specs.{declared.Included.Included, declared.Mode.Mode, declared.Rank.Rank}
 use Rattle.lra_powerset.specs.Content.{SetContent, HeadForm, many, one, whole, SetHead, nonempty_parts}
 use Rattle.lra_powerset.specs.Joins.{JoinsOn, JoinsOnStrains, Merges, MergeStrains, CollapsesTo, CollapseStrains}
+use Rattle.lra_powerset.specs.Lists.{EachPart, SomePart}
 use Rattle.lra_powerset.specs.Values.{AreUndecided, PartsIncluded, IsTopPart}
 
 -- stores, and how many parts there may be ---------------------------------------------------------

@@ -1,29 +1,22 @@
 -- The laws of sets of parts, from those of their parts.
 use Rattle.std.proofs.Common.{◌≡◌, ◌≢◌, ℕ, ◌≤◌, ℤ, Option, None, Some, ◌⊎◌, List, [], ◌∷◌, ◌++◌, length, refl, ap, sym}
-use Rattle.std.proofs.Common.{subst}
-use Rattle.std.proofs.Common.{◌∙◌, inl, inr, arith, length-append}
-use Rattle.std.specs.Prelude.{flat_map}
+use Rattle.std.proofs.Common.{subst, ◌∙◌, inl, inr, arith, length-append}
 use Rattle.std.proofs.lemmas.Int.{ints, clamps}
+use Rattle.std.specs.Prelude.{flat_map}
 use Rattle.lra_systems.specs.LinearSystems.{LinearSystem}
 use Rattle.lra_linear_spec.specs.declared.ConKind.{ConKind}
-use Rattle.lra_domain.specs.declared.Mode.{Mode}
-use Rattle.lra_domain.specs.declared.Mode.TheVariants.{Join, Widen, Limited, Tightest}
 use Rattle.lra_domain.specs.Actions.{Action, Leads, Within, dims_after}
 use Rattle.lra_domain.specs.Bounds.{IsLowerBound, IsBetween, IsUpperBound, greater, lesser_low}
+use Rattle.lra_domain.specs.declared.Mode.TheVariants.{Join, Widen, Limited, Tightest}
+use Rattle.lra_domain.specs.{Abstraction.Abstraction, Laws.Laws, Laws.BaseLaws, declared.Mode.Mode}
 use Rattle.lra_linear_forms.specs.Form.{Form as Linear, form_value}
-use Rattle.lra_domain.specs.Abstraction.{Abstraction}
-use Rattle.lra_domain.specs.Laws.{Laws, BaseLaws}
-use Rattle.lra_powerset.specs.Lists.{EachPart, PartByPart, SomePart}
-use Rattle.lra_powerset.specs.ListLemmas.{each_map, some_map, some_with_each}
 use Rattle.lra_powerset.specs.Content.{SetContent, HeadForm, many, one, whole, SetHead, PartFits, nonempty_parts}
-use Rattle.lra_powerset.specs.Content.{with_nonempty}
-use Rattle.lra_powerset.specs.Forms.{HeadFormFits, HeadFits}
-use Rattle.lra_powerset.specs.Values.{IsKept, IsTopPart, PartsBounded, PartsIncluded, WellFormedSet, SetGamma, SetKeeps}
-use Rattle.lra_powerset.specs.Values.{SetTop}
-use Rattle.lra_powerset.specs.Values.{SetBottom}
 use Rattle.lra_powerset.specs.Heads.{HeadFormGamma, SetHeadGamma, FormStarts, FormStays, FormValued, FormGivenUp}
 use Rattle.lra_powerset.specs.Heads.{FormCovered, HeadCovered}
-use Rattle.lra_powerset.specs.Abstraction.{set_abstraction}
+use Rattle.lra_powerset.specs.ListLemmas.{each_map, some_map, some_with_each}
+use Rattle.lra_powerset.specs.Values.{IsKept, IsTopPart, PartsBounded, PartsIncluded, WellFormedSet, SetGamma, SetKeeps}
+use Rattle.lra_powerset.specs.{Abstraction.set_abstraction, Content.with_nonempty, Forms.HeadFormFits, Forms.HeadFits}
+use Rattle.lra_powerset.specs.{Lists.EachPart, Lists.PartByPart, Lists.SomePart, Values.SetTop, Values.SetBottom}
 
 -- parts, by their stores --------------------------------------------------------------------------
 

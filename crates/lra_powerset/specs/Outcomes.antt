@@ -1,19 +1,15 @@
 -- What the steps of the code answer and leave, for their contracts.
-use Rattle.lra_domain.specs.Abstraction.{worse}
-use Rattle.std.specs.Prelude.{◌≡◌, ◌≤◌, ◌<◌, ◌⊎◌, ℕ, List, [], ◌∷◌, ◌++◌, length}
-use Rattle.lra_domain.specs.declared.Exactness.{Exactness}
-use Rattle.lra_domain.specs.declared.Exactness.TheVariants.{Exact, Flagged}
-use Rattle.lra_domain.specs.declared.Included.{Included}
-use Rattle.lra_domain.specs.declared.Included.TheVariants.{Yes, No, Wide}
+use Rattle.lra_domain.specs.Abstraction.{worse, Abstraction, Joins, TransfersTo}
 use Rattle.lra_domain.specs.Actions.{Action, dims_after}
-use Rattle.lra_domain.specs.Abstraction.{Abstraction, Joins, TransfersTo}
-use Rattle.lra_powerset.specs.Lists.{EachPart, SomePart, PartByPart}
-use Rattle.lra_powerset.specs.Content.{PartFits, nonempty_parts}
-use Rattle.lra_powerset.specs.Reduction.{IsDropped, DropStrains}
+use Rattle.lra_domain.specs.declared.Exactness.TheVariants.{Exact, Flagged}
+use Rattle.lra_domain.specs.declared.Included.TheVariants.{Yes, No, Wide}
+use Rattle.lra_domain.specs.{declared.Exactness.Exactness, declared.Included.Included}
+use Rattle.std.specs.Prelude.{◌≡◌, ◌≤◌, ◌<◌, ◌⊎◌, ℕ, List, [], ◌∷◌, ◌++◌, length}
 use Rattle.lra_powerset.specs.Joins.{JoinsOn, JoinsOnStrains, CollapsesTo, CollapseStrains}
-use Rattle.lra_powerset.specs.Values.{IsKept, PartsIncluded}
-use Rattle.lra_powerset.specs.declared.joins.Collapsing.{Collapsing}
+use Rattle.lra_powerset.specs.Lists.{EachPart, SomePart, PartByPart}
 use Rattle.lra_powerset.specs.declared.joins.Collapsing.TheVariants.{Within, Strained, Further}
+use Rattle.lra_powerset.specs.{Content.PartFits, Content.nonempty_parts, Reduction.IsDropped, Reduction.DropStrains}
+use Rattle.lra_powerset.specs.{Values.IsKept, Values.PartsIncluded, declared.joins.Collapsing.Collapsing}
 
 -- an answer is right: it is so, it isn't, or something strains
 abbrev pub AnswersWhether : Type 0 → Type 0 → Included → Type 0

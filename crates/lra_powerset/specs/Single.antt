@@ -3,19 +3,15 @@ use Rattle.std.proofs.Common.{◌≡◌, ◌∙◌, ℕ, zero, suc, List, [], �
 use Rattle.std.proofs.Common.{arith}
 use Rattle.lra_systems.specs.LinearSystems.{LinearSystem}
 use Rattle.lra_linear_spec.specs.declared.ConKind.{ConKind}
-use Rattle.lra_domain.specs.declared.Mode.{Mode}
-use Rattle.lra_domain.specs.declared.Mode.TheVariants.{Join, Widen, Limited, Tightest}
-use Rattle.lra_domain.specs.Actions.{Action}
 use Rattle.lra_domain.specs.Laws.{BaseLaws, SingleLaws}
-use Rattle.lra_domain.specs.Abstraction.{Abstraction}
-use Rattle.lra_powerset.specs.Lists.{PartByPart}
+use Rattle.lra_domain.specs.declared.Mode.TheVariants.{Join, Widen, Limited, Tightest}
+use Rattle.lra_domain.specs.{Abstraction.Abstraction, Actions.Action, declared.Mode.Mode}
 use Rattle.lra_powerset.specs.Content.{HeadForm, SetHead, SetContent, nonempty_parts, many, one, whole}
-use Rattle.lra_powerset.specs.Reduction.{ReducesAfter}
-use Rattle.lra_powerset.specs.Joins.{JoinsOn, LastTwoJoin, Merges, CollapsesTo}
-use Rattle.lra_powerset.specs.Values.{SetTransferred, SetJoined, SetTop}
 use Rattle.lra_powerset.specs.Heads.{FormGrown, FormStarts, FormValued, GrowsBy, HeadGrown, HeadStarts, HeadValued}
 use Rattle.lra_powerset.specs.Heads.{JoinsWith, Widens}
-use Rattle.lra_powerset.specs.Abstraction.{set_abstraction}
+use Rattle.lra_powerset.specs.Joins.{JoinsOn, LastTwoJoin, Merges, CollapsesTo}
+use Rattle.lra_powerset.specs.Values.{SetTransferred, SetJoined, SetTop}
+use Rattle.lra_powerset.specs.{Abstraction.set_abstraction, Lists.PartByPart, Reduction.ReducesAfter}
 
 -- lists -------------------------------------------------------------------------------------------
 

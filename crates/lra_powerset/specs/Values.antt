@@ -1,12 +1,10 @@
 -- What each call on sets of parts gives, and when it may be flagged.
 use Rattle.std.specs.Prelude.{◌≡◌, ◌≤◌, ℕ, ℤ, Option, None, List, [], ◌∷◌, ◌++◌, length, ◌⊎◌}
-use Rattle.lra_domain.specs.Actions.{Action, dims_after}
 use Rattle.lra_domain.specs.Bounds.{greater, lesser_low}
-use Rattle.lra_domain.specs.Abstraction.{Abstraction}
+use Rattle.lra_domain.specs.{Abstraction.Abstraction, Actions.Action, Actions.dims_after}
 use Rattle.lra_linear_forms.specs.Form.{Form}
-use Rattle.lra_powerset.specs.Lists.{EachPart, SomePart, PartByPart}
-use Rattle.lra_powerset.specs.Content.{PartFits, SetContent, nonempty_parts}
-use Rattle.lra_powerset.specs.Joins.{CollapsesTo, CollapseStrains}
+use Rattle.lra_powerset.specs.{Content.PartFits, Content.SetContent, Content.nonempty_parts, Joins.CollapsesTo}
+use Rattle.lra_powerset.specs.{Joins.CollapseStrains, Lists.EachPart, Lists.SomePart, Lists.PartByPart}
 
 -- a set that is held: each of its parts is held with its dimensions, and there are no more than its cap
 abbrev pub WellFormedSet : {V H : Type 0} → Abstraction V H → SetContent V → Type 0

@@ -1,11 +1,9 @@
 //! The least changes of a set, part by part.
 
 ghost use Rattle.std.specs.Prelude.{◌≡◌, ◌≤◌, ◌<◌, ◌+◌, ◌++◌, ◌∷◌, ◌^◌, ℕ, List, [], length, IfOk, OnOk};
-ghost use Rattle.lra_domain.specs.Actions.{dims_after};
-ghost use Rattle.lra_domain.specs.Abstraction.{TransfersTo};
-ghost use Rattle.lra_powerset.specs.Content.{nonempty_parts};
-ghost use Rattle.lra_powerset.specs.Changes.{ChangeFits, borrowed_action};
+ghost use Rattle.lra_domain.specs.{Abstraction.TransfersTo, Actions.dims_after};
 ghost use Rattle.lra_powerset.specs.Outcomes.{AreChanged, HaveDims, IsAppended};
+ghost use Rattle.lra_powerset.specs.{Changes.ChangeFits, Changes.borrowed_action, Content.nonempty_parts};
 
 use lra_domain::{BaseDomain, Domain, Exactness, worse};
 use lra_linear_forms::{LinExpr, Test};

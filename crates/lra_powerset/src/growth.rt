@@ -2,17 +2,10 @@
 
 ghost use Rattle.std.specs.Prelude.{◌≡◌, ◌≢◌, ◌≤◌, ◌<◌, ◌⊎◌, ℕ, List, Some, true, false, length, IfOk, IfSome, OnErr};
 ghost use Rattle.lra_domain.specs.declared.Exactness.{Exactness};
-ghost use Rattle.lra_domain.specs.declared.Grown.{Grown};
-ghost use Rattle.lra_domain.specs.declared.Mode.TheVariants.{Join};
-ghost use Rattle.lra_domain.specs.Rank.{RankFits};
-ghost use Rattle.lra_powerset.specs.Lists.{EachPart};
-ghost use Rattle.lra_powerset.specs.Heads.{FormStarts};
-ghost use Rattle.lra_powerset.specs.Outcomes.{HaveDims};
-ghost use Rattle.lra_powerset.specs.Content.{PartFits};
-ghost use Rattle.lra_powerset.specs.Forms.{HeadFormFits, form_of};
+ghost use Rattle.lra_domain.specs.{Rank.RankFits, declared.Grown.Grown, declared.Mode.TheVariants.Join};
 ghost use Rattle.lra_powerset.specs.Growth.{BecomesOne, MergesExactly, OneAnswers, OneValued, StartsAndGrows};
-ghost use Rattle.lra_powerset.specs.Growth.{StartsAnew};
-ghost use Rattle.lra_powerset.specs.Growth.{StaysWithAll};
+ghost use Rattle.lra_powerset.specs.{Content.PartFits, Forms.HeadFormFits, Forms.form_of, Growth.StartsAnew};
+ghost use Rattle.lra_powerset.specs.{Growth.StaysWithAll, Heads.FormStarts, Lists.EachPart, Outcomes.HaveDims};
 
 use crate::changes::push_filled;
 use crate::joins::{collapse, merge};

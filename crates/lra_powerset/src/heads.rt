@@ -1,15 +1,10 @@
 //! The heads of sets.
 
 ghost use Rattle.std.specs.Prelude.{◌≡◌, ◌≢◌, ◌≤◌, List, length, IfOk, OnErr, OnOk};
-ghost use Rattle.lra_domain.specs.declared.Mode.TheVariants.{Join};
-ghost use Rattle.lra_domain.specs.Abstraction.{Starts, Values};
-ghost use Rattle.lra_powerset.specs.Lists.{EachPart};
-ghost use Rattle.lra_powerset.specs.Abstraction.{set_abstraction};
-ghost use Rattle.lra_powerset.specs.Values.{PartsIncluded};
-ghost use Rattle.lra_powerset.specs.Content.{PartFits};
-ghost use Rattle.lra_powerset.specs.Content.{one, many};
-ghost use Rattle.lra_powerset.specs.Forms.{HeadFits};
+ghost use Rattle.lra_domain.specs.{Abstraction.Starts, Abstraction.Values, declared.Mode.TheVariants.Join};
+ghost use Rattle.lra_powerset.specs.Content.{PartFits, one, many};
 ghost use Rattle.lra_powerset.specs.Growth.{HasAll, HasGrown, LiesIn, SingleAnswers, StartsAnew, valued_set};
+ghost use Rattle.lra_powerset.specs.{Abstraction.set_abstraction, Forms.HeadFits, Lists.EachPart, Values.PartsIncluded};
 
 use crate::growth::{Held, become_one, grow_one, start_anew, start_with, value_one};
 use crate::reduction::all_lie_in;

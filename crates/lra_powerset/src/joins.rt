@@ -1,11 +1,8 @@
 //! Parts that become one.
 
 ghost use Rattle.std.specs.Prelude.{◌≡◌, ◌≤◌, ◌<◌, ℕ, List, [], length, IfOk, OnErr, OnOk, vec_len};
-ghost use Rattle.lra_powerset.specs.Antichains.{AreTried};
-ghost use Rattle.lra_powerset.specs.Lists.{EachPart};
 ghost use Rattle.lra_powerset.specs.Outcomes.{AreMerged, BecameOne, HaveDims, IsMerged, IsCollapsed, LastTwoBecomeJoin};
-ghost use Rattle.lra_powerset.specs.Content.{PartFits};
-ghost use Rattle.lra_powerset.specs.Outcomes.{CollapsesOnce};
+ghost use Rattle.lra_powerset.specs.{Antichains.AreTried, Content.PartFits, Lists.EachPart, Outcomes.CollapsesOnce};
 
 use crate::reduction::{Untried, reduce_untried};
 use crate::set::list_alone;

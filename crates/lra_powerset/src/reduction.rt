@@ -3,9 +3,9 @@
 ghost use Rattle.std.specs.Prelude.{◌≡◌, ℕ, List, [], ◌∷◌, ◌++◌, ◌⊎◌, length, IfOk, OnErr, OnOk, vec_len};
 ghost use Rattle.lra_powerset.specs.Antichains.{IsAntichain, AreTried, PrefixIsAntichain};
 ghost use Rattle.lra_powerset.specs.Lists.{EachPart, SomePart};
+ghost use Rattle.lra_powerset.specs.Outcomes.{AnswerDropped, HaveDims, IsReduced, AnswersWhether, kept};
 ghost use Rattle.lra_powerset.specs.Reduction.{BelowStrains, IsDropped, DropStrains};
 ghost use Rattle.lra_powerset.specs.Values.{AreUndecided, IsUndecided, PartsIncluded};
-ghost use Rattle.lra_powerset.specs.Outcomes.{AnswerDropped, HaveDims, IsReduced, AnswersWhether, kept};
 
 use crate::answers::{both, either, exactness_of};
 use lra_domain::{BaseDomain, Domain, Exactness, Included};

@@ -1,18 +1,12 @@
 //! Sets of parts as a domain.
 
 ghost use Rattle.std.specs.Prelude.{◌≡◌, ◌≤◌, ◌++◌, ◌∷◌, ◌^◌, ◌↔◌, ℕ, ℤ, List, [], length, flat_map, IfOk, IsTrue};
-ghost use Rattle.std.specs.Prelude.{OnErr, OnOk};
-ghost use Rattle.std.specs.List.{All};
-ghost use Rattle.lra_domain.specs.Parts.{SomePartHolds};
-ghost use Rattle.lra_domain.specs.Actions.{dims_after};
-ghost use Rattle.lra_domain.specs.Abstraction.{TransfersTo};
-ghost use Rattle.lra_powerset.specs.Lists.{EachPart, SomePart};
-ghost use Rattle.lra_powerset.specs.Reduction.{Reduces, ReduceStrains};
-ghost use Rattle.lra_powerset.specs.Values.{PartsBounded, PartsIncluded};
+ghost use Rattle.std.specs.{List.All, Prelude.OnErr, Prelude.OnOk};
+ghost use Rattle.lra_domain.specs.{Abstraction.TransfersTo, Actions.dims_after, Parts.SomePartHolds};
 ghost use Rattle.lra_powerset.specs.Changes.{ChangeFits, borrowed_action};
-ghost use Rattle.lra_powerset.specs.Outcomes.{HaveDims};
-ghost use Rattle.lra_powerset.specs.Content.{PartFits};
-ghost use Rattle.lra_powerset.specs.Abstraction.{set_abstraction};
+ghost use Rattle.lra_powerset.specs.Values.{PartsBounded, PartsIncluded};
+ghost use Rattle.lra_powerset.specs.{Abstraction.set_abstraction, Content.PartFits, Lists.EachPart, Lists.SomePart};
+ghost use Rattle.lra_powerset.specs.{Outcomes.HaveDims, Reduction.Reduces, Reduction.ReduceStrains};
 
 use crate::changes::{BorrowedChange, append_changed, dims_behind};
 use crate::heads::PowerSetHead;
@@ -47,9 +41,7 @@ impl<D: BaseDomain> Drop for PowerSet<D> {
 
 impl<D: BaseDomain> Model for PowerSet<D> {
     ghost use Rattle.std.specs.Prelude.{◌≤◌, ◌^◌, length};
-    ghost use Rattle.lra_powerset.specs.Content.{SetContent};
-    ghost use Rattle.lra_powerset.specs.Lists.{EachPart};
-    ghost use Rattle.lra_powerset.specs.Content.{PartFits};
+    ghost use Rattle.lra_powerset.specs.{Content.SetContent, Content.PartFits, Lists.EachPart};
 
     ghost Value = { SetContent D };
 

@@ -1,18 +1,12 @@
 -- An access that is evaluated outside its array is that one of the operation's accesses, and ends the run.
 use Rattle.std.proofs.Common.{◌≡◌, ℕ, zero, suc, ◌+◌, ℤ, List, [], ◌∷◌, ◌++◌, length, Option, Some, None, true, false, inl, inr, refl, ap, sym, subst, ◌∙◌, arith}
 use Rattle.std.specs.Prelude.{pos, ◌-ℤ◌, slice_get, not, if◌then◌else◌}
-use Rattle.lra_base.specs.declared.refusals.Place.{Place}
-use Rattle.lra_base.specs.NumberTypes.{wider}
-use Rattle.lra_program.specs.declared.arrays.Array.{Array}
-use Rattle.lra_program.specs.Program.{Expr, literal, read, input, negate, binary, element, type_of, Element, read_of, Cond, compare, nonzero, opposite}
-use Rattle.lra_program.specs.Program.{both_of, either_of}
-use Rattle.lra_program.specs.Arrays.{elements_of, place_among}
-use Rattle.lra_program.specs.Receivers.{waiting_in}
+use Rattle.lra_base.specs.{NumberTypes.wider, declared.refusals.Place.Place}
+use Rattle.lra_program.specs.Accesses.{expr_accesses, cond_accesses, arguments_accesses, aim_accesses, IsNthAfter, ExprOutOfBounds, CondOutOfBounds, ArgumentsOutOfBounds, AimedOutOfBounds, IsOutside}
+use Rattle.lra_program.specs.Program.{Expr, literal, read, input, negate, binary, element, type_of, Element, read_of, Cond, compare, nonzero, opposite, both_of, either_of}
+use Rattle.lra_program.specs.Step.{State, environment_at, append, fill, store_value, store_element, havoc, push, push_for, truncate_to, test, receive, pushed, tested, aim}
 use Rattle.lra_program.specs.Value.{◌>>=◌, number, is_zero, apply, compares, Environment, value_of, Argument, values_of, truth_of}
-use Rattle.lra_program.specs.Step.{State, environment_at, append, fill, store_value, store_element, havoc, push, push_for, truncate_to, test, receive, pushed}
-use Rattle.lra_program.specs.Step.{tested, aim}
-use Rattle.lra_program.specs.Accesses.{expr_accesses, cond_accesses, arguments_accesses, aim_accesses, IsNthAfter, ExprOutOfBounds, CondOutOfBounds}
-use Rattle.lra_program.specs.Accesses.{ArgumentsOutOfBounds, AimedOutOfBounds, IsOutside, OutOfBoundsHasAccess, OutOfBoundsEndsRun}
+use Rattle.lra_program.specs.{Accesses.OutOfBoundsHasAccess, Accesses.OutOfBoundsEndsRun, Arrays.elements_of, Arrays.place_among, Receivers.waiting_in, declared.arrays.Array.Array}
 
 -- one of its accesses ------------------------------------------------------------------------------------------------
 

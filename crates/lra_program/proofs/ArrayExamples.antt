@@ -1,17 +1,12 @@
 -- Arrays: values, runs and where they end. Which slip each would catch stands beside it.
 use Rattle.std.proofs.Common.{◌≡◌, ℕ, ℤ, pos, List, [], ◌∷◌, Some, None, true, false, refl, inl, inr}
-use Rattle.lra_base.specs.declared.refusals.Place.{Place}
-use Rattle.lra_base.specs.declared.number_types.NumberType.TheVariants.{Int, Long}
 use Rattle.lra_base.specs.Operators.{plus, minus, below, above, equal}
-use Rattle.lra_program.specs.declared.arrays.Array.{Array}
-use Rattle.lra_program.specs.Program.{global, local, Variable, Expr, literal, read, input, binary, negate, element, Element, compare, nonzero, opposite}
-use Rattle.lra_program.specs.Program.{both_of, either_of, value, result, absent, block, assign, write, loop, return, assert, switch, no_cases, no_more, declaration, array, statement, Program}
-use Rattle.lra_program.specs.Value.{Environment, value_of}
-use Rattle.lra_program.specs.Receivers.{nobody}
-use Rattle.lra_program.specs.Step.{State, environment_at, Op, fill, store_value, store_element, push, push_for, test, run_op, CallContext, declare, run}
-use Rattle.lra_program.specs.Run.{Point}
-use Rattle.lra_program.specs.Overflow.{op_computes}
+use Rattle.lra_base.specs.{declared.number_types.NumberType.TheVariants.Int, declared.number_types.NumberType.TheVariants.Long, declared.refusals.Place.Place}
 use Rattle.lra_program.specs.Accesses.{expr_accesses, op_accesses, ExprOutOfBounds, CondOutOfBounds, OpOutOfBounds, IsOutOfBounds, AccessesOutOfBounds}
+use Rattle.lra_program.specs.Program.{global, local, Variable, Expr, literal, read, input, binary, negate, element, Element, compare, nonzero, opposite, both_of, either_of, value, result, absent}
+use Rattle.lra_program.specs.Program.{block, assign, write, loop, return, assert, switch, no_cases, no_more, declaration, array, statement, Program}
+use Rattle.lra_program.specs.Step.{State, environment_at, Op, fill, store_value, store_element, push, push_for, test, run_op, CallContext, declare, run}
+use Rattle.lra_program.specs.{Overflow.op_computes, Receivers.nobody, Run.Point, Value.Environment, Value.value_of, declared.arrays.Array.Array}
 use Rattle.lra_program.proofs.RunExamples.{visited, main_alone, long_variable}
 
 abbrev at : ℕ → Place

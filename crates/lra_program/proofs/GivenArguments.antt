@@ -2,12 +2,9 @@
 use Rattle.std.proofs.Common.{◌≡◌, ◌⊎◌, suc, List, [], ◌∷◌, ◌++◌, length, map, arith, refl, sym, ap, ◌∙◌, append_assoc, inl, inr}
 use Rattle.std.proofs.lemmas.List.{map-append, append-nil}
 use Rattle.lra_base.specs.declared.number_types.NumberType.{NumberType}
-use Rattle.lra_program.specs.declared.program.Argument.{Argument}
-use Rattle.lra_program.specs.declared.program.Expr.{Expr}
-use Rattle.lra_program.specs.ProgramViews.{argument_view, expr_view}
+use Rattle.lra_program.specs.{ProgramViews.argument_view, ProgramViews.expr_view, Step.arguments_for, declared.program.Argument.Argument, declared.program.Expr.Expr}
 use Rattle.lra_program.specs.Value as value
 use Rattle.lra_program.specs.Program as program
-use Rattle.lra_program.specs.Step.{arguments_for}
 
 abbrev argument_of : NumberType → program.Expr → value.Argument
 argument_of t e = record { number_type = t; value = e }

@@ -2,22 +2,14 @@
 use Rattle.std.proofs.Common.{◌≡◌, List, [], ◌∷◌, length, Option, Some, None, Bool, true, refl, inl, inr}
 use Rattle.std.specs.Prelude.{◌⊎◌, ℤ, slice_get}
 use Rattle.lra_base.specs.declared.number_types.NumberType.{NumberType}
-use Rattle.lra_program.specs.declared.receivers.Receiver.{Receiver}
-use Rattle.lra_program.specs.Receivers.{variable_at, waiting_in, nobody}
-use Rattle.lra_program.specs.Program.{Element, Call, Rvalue, value, result, Stmt, absent, nothing, block, assign, write, call, if, loop, for, break, continue}
-use Rattle.lra_program.specs.Program.{return, assert, assume, switch, Cases, no_cases, labelled, stated, no_more, declaration, array, statement, Function}
-use Rattle.lra_program.specs.Program.{Program}
+use Rattle.lra_program.specs.NextOperation.{RvalueOpIs, WriteOpIs, ReturnOpIs, DeclaratorOpIs, StmtOpIs, Ends, LacksCallee, ReturnEnds, DeclaredEnds, EndsOtherwise, EndsAreByNextOp}
+use Rattle.lra_program.specs.Program.{Element, Call, Rvalue, value, result, Stmt, absent, nothing, block, assign, write, call, if, loop, for, break, continue, return, assert, assume, switch, Cases}
+use Rattle.lra_program.specs.Program.{no_cases, labelled, stated, no_more, declaration, array, statement, Function, Program}
+use Rattle.lra_program.specs.Step.{State, environment_at, Op, append, fill, store_value, store_element, push, push_for, truncate_to, test, receive, tested, run_any, run_op, CallContext, ReturnFrame}
+use Rattle.lra_program.specs.Step.{Item, run, declare, declare_array, all, end_of, next_round, cases, end_switch, end_for, return_frame, leave_call, BreakTarget, break_target, ContinueTarget}
+use Rattle.lra_program.specs.Step.{continue_target, ReturnTarget, return_target, receiver_of, go, go_by, go_on, arguments_for, enter_by, do_rvalue, do_write, do_break, do_continue, do_leave}
 use Rattle.lra_program.specs.Value.{index_of, Drawn, value_of, Argument, truth_of}
-use Rattle.lra_program.specs.Step.{State, environment_at, Op, append, fill, store_value, store_element, push, push_for, truncate_to, test, receive, tested}
-use Rattle.lra_program.specs.Step.{run_any, run_op, CallContext}
-use Rattle.lra_program.specs.Step.{ReturnFrame, Item, run, declare, declare_array, all, end_of, next_round, cases, end_switch, end_for, return_frame}
-use Rattle.lra_program.specs.Step.{leave_call, BreakTarget, break_target}
-use Rattle.lra_program.specs.Step.{ContinueTarget, continue_target, ReturnTarget, return_target, receiver_of, go, go_by, go_on, arguments_for, enter_by}
-use Rattle.lra_program.specs.Step.{do_rvalue, do_write, do_break}
-use Rattle.lra_program.specs.Step.{do_continue, do_leave, do_return, do_switch, do_stmt, do_declare}
-use Rattle.lra_program.specs.NextOperation.{RvalueOpIs, WriteOpIs, ReturnOpIs, DeclaratorOpIs, StmtOpIs, Ends, LacksCallee, ReturnEnds, DeclaredEnds}
-use Rattle.lra_program.specs.NextOperation.{EndsOtherwise}
-use Rattle.lra_program.specs.NextOperation.{EndsAreByNextOp}
+use Rattle.lra_program.specs.{Receivers.variable_at, Receivers.waiting_in, Receivers.nobody, Step.do_return, Step.do_switch, Step.do_stmt, Step.do_declare, declared.receivers.Receiver.Receiver}
 
 -- in each of these no step follows only where what is done has no state ----------------------------------------------
 

@@ -1,17 +1,13 @@
 -- Values of the types of programs, and what they stand for.
 use Rattle.std.proofs.Common.{◌≡◌, ℕ, ◌∷◌, [], map, refl, rules, Box, Vec, Global}
-use Rattle.lra_program.specs.declared.program.Expr.{Expr, Negate, Chain, Element, the_lemmas as expr_lemmas}
-use Rattle.lra_base.specs.declared.refusals.Place.{Place}
-use Rattle.lra_program.specs.declared.arrays.Array.{Array}
-use Rattle.lra_program.specs.declared.program.Operation.{Operation}
+use Rattle.lra_program.specs.ProgramViews.{expr_view, operation_view, chained, cond_view, all_of, stmt_view, items_view, case_view, cases_of}
 use Rattle.lra_program.specs.declared.program.Cond.{Cond, All, the_lemmas as cond_lemmas}
+use Rattle.lra_program.specs.declared.program.Expr.{Expr, Negate, Chain, Element, the_lemmas as expr_lemmas}
 use Rattle.lra_program.specs.declared.program.Stmt.{Stmt, Block, Loop, Switch, the_lemmas as stmt_lemmas}
-use Rattle.lra_program.specs.declared.program.BlockItems.{BlockItems}
-use Rattle.lra_program.specs.declared.program.CaseItem.{CaseItem}
-use Rattle.lra_base.specs.declared.case_labels.CaseLabel.{CaseLabel}
+use Rattle.lra_program.specs.{declared.arrays.Array.Array, declared.program.BlockItems.BlockItems, declared.program.CaseItem.CaseItem, declared.program.Operation.Operation}
+use Rattle.lra_base.specs.{declared.case_labels.CaseLabel.CaseLabel, declared.refusals.Place.Place}
 use Rattle.lra_program.specs.Program as program
 use Rattle.lra_base.specs.Operators as operators
-use Rattle.lra_program.specs.ProgramViews.{expr_view, operation_view, chained, cond_view, all_of, stmt_view, items_view, case_view, cases_of}
 
 negate_view : (e : Box Expr Global) → expr_view (Negate e) ≡ program.negate (expr_view e.value)
 negate_view e = search (rules, expr_lemmas)

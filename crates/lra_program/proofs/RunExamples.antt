@@ -1,12 +1,11 @@
 -- Runs of small programs: the points that they pass, each with its call path, label and store.
 -- Labels number statements, declarators and ends of blocks in text order from 1, over the whole source.
 use Rattle.std.proofs.Common.{◌≡◌, ℕ, zero, suc, ℤ, pos, negsuc, List, [], ◌∷◌, Option, Some, None, refl}
-use Rattle.lra_base.specs.declared.number_types.NumberType.TheVariants.{Int, Long}
-use Rattle.lra_program.specs.Program.{Slot, global, local, Variable, Expr, literal, read, input, negate, binary, compare, nonzero, value, result, Declarator, Stmt, absent, nothing, block, assign, call, if, loop, for}
-use Rattle.lra_program.specs.Program.{break, continue, return, assert, assume, BlockItems, no_more, declaration, statement, Function, Program}
 use Rattle.lra_base.specs.Operators.{plus, minus, over, times, below, at_least, equal, differs}
-use Rattle.lra_program.specs.Step.{Config, Item, run, all, end_of, next_round, CallContext, next}
-use Rattle.lra_program.specs.Run.{start, label_on, Fails}
+use Rattle.lra_base.specs.declared.number_types.NumberType.TheVariants.{Int, Long}
+use Rattle.lra_program.specs.Program.{Slot, global, local, Variable, Expr, literal, read, input, negate, binary, compare, nonzero, value, result, Declarator, Stmt, absent, nothing, block, assign}
+use Rattle.lra_program.specs.Program.{call, if, loop, for, break, continue, return, assert, assume, BlockItems, no_more, declaration, statement, Function, Program}
+use Rattle.lra_program.specs.{Run.start, Run.label_on, Run.Fails, Step.Config, Step.Item, Step.run, Step.all, Step.end_of, Step.next_round, Step.CallContext, Step.next}
 
 -- call path, label and store of the points on the way
 abbrev Visits : Type 0

@@ -2,10 +2,7 @@
 use Rattle.std.proofs.Common.{◌≡◌, ℕ, ℤ, List, [], ◌∷◌, Some, Bool, true, false, refl, sym, ap}
 use Rattle.std.proofs.lemmas.Option.{same_Some, none-some}
 use Rattle.lra_base.specs.declared.refusals.Place.{Place}
-use Rattle.lra_program.specs.Arrays.{place_among}
-use Rattle.lra_program.specs.Program.{Element}
-use Rattle.lra_program.specs.Value.{◌>>=◌, value_of}
-use Rattle.lra_program.specs.Step.{State, environment_at, aim, kept_if, put_waiting}
+use Rattle.lra_program.specs.{Arrays.place_among, Program.Element, Step.State, Step.environment_at, Step.aim, Step.kept_if, Step.put_waiting, Value.◌>>=◌, Value.value_of}
 use Rattle.lra_program.proofs.TypeLaws.{bind_some}
 
 pub is_kept : (b d : Bool) (s t : State) → kept_if b d s ≡ Some t → t ≡ s

@@ -1,14 +1,10 @@
 -- Runs of small programs with a `switch`. Which slip an example would catch stands beside it.
 use Rattle.std.proofs.Common.{◌≡◌, ℕ, pos, negsuc, List, [], ◌∷◌, Some, None, refl, true, false}
-use Rattle.lra_base.specs.declared.number_types.NumberType.TheVariants.{Int, Long}
-use Rattle.lra_base.specs.declared.case_labels.CaseLabel.TheVariants.{Case, Default}
-use Rattle.lra_base.specs.CaseLabels.{goal_of}
-use Rattle.lra_base.specs.Operators.{plus, over, modulo, below}
-use Rattle.lra_program.specs.Program.{local, Expr, literal, read, input, binary, compare, value, Declarator, Stmt, nothing, block, assign}
-use Rattle.lra_program.specs.Program.{for, break, continue, switch}
-use Rattle.lra_program.specs.Program.{Cases, no_cases, labelled, stated, no_more, declaration, statement, Program}
-use Rattle.lra_program.specs.Step.{chosen, Item, cases, end_switch, next_round, break_target, continue_target}
-use Rattle.lra_program.specs.WellFormed.{no_jumps, in_loop, IsGoodStmt, AreInTextOrder}
+use Rattle.lra_base.specs.{CaseLabels.goal_of, Operators.plus, Operators.over, Operators.modulo, Operators.below, declared.case_labels.CaseLabel.TheVariants.Case}
+use Rattle.lra_base.specs.{declared.case_labels.CaseLabel.TheVariants.Default, declared.number_types.NumberType.TheVariants.Int, declared.number_types.NumberType.TheVariants.Long}
+use Rattle.lra_program.specs.Program.{local, Expr, literal, read, input, binary, compare, value, Declarator, Stmt, nothing, block, assign, for, break, continue, switch, Cases, no_cases, labelled}
+use Rattle.lra_program.specs.{Program.stated, Program.no_more, Program.declaration, Program.statement, Program.Program, Step.chosen, Step.Item, Step.cases, Step.end_switch, Step.next_round}
+use Rattle.lra_program.specs.{Step.break_target, Step.continue_target, WellFormed.no_jumps, WellFormed.in_loop, WellFormed.IsGoodStmt, WellFormed.AreInTextOrder}
 use Rattle.lra_program.proofs.RunExamples.{visited, main_alone, long_variable, one_variable}
 
 abbrev number : ℕ → Expr

@@ -1,8 +1,6 @@
 -- Trails of small programs.
 use Rattle.std.proofs.Common.{◌≡◌, ℕ, ℤ, pos, List, [], ◌∷◌, ◌⊎◌, inl, inr, refl}
-use Rattle.lra_program.specs.Step.{State}
-use Rattle.lra_program.specs.Run.{Point}
-use Rattle.lra_program.specs.Traces.{visit, NoChange, Arrives, ViolatesAssertion}
+use Rattle.lra_program.specs.{Run.Point, Step.State, Traces.visit, Traces.NoChange, Traces.Arrives, Traces.ViolatesAssertion}
 use Rattle.lra_program.proofs.RunExamples.{one_variable, failing}
 
 abbrev state_of : List ℤ → List ℤ → State

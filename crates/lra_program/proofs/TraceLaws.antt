@@ -1,11 +1,9 @@
 -- A walk where nothing changes the state is a run; what a walk met before it stays behind it; from a point it goes on.
 use Rattle.std.proofs.Common.{◌≡◌, ℕ, zero, suc, ℤ, List, [], ◌∷◌, ◌++◌, Option, Some, None, ◌⊎◌, inl, inr, refl, sym, ap, ◌∙◌, subst, IsTrue, append_assoc}
 use Rattle.std.specs.List.{AllByRecursion}
-use Rattle.lra_program.specs.Program.{Program}
-use Rattle.lra_program.specs.Value.{is_word}
-use Rattle.lra_program.specs.Step.{State, Config, next_at}
 use Rattle.lra_program.specs.Run.{Steps, start, label_on, Point, IsOn, Reaches, At, IsFailing, Fails}
 use Rattle.lra_program.specs.Traces.{TraceEvent, visit, Trace, NoChange, with_visit, Becomes, TracedSteps, Arrives, ViolatesAssertion, RunSegment}
+use Rattle.lra_program.specs.{Program.Program, Step.State, Step.Config, Step.next_at, Value.is_word}
 
 pub becomes_same : (o : Option ℕ) (s t : State) → Becomes NoChange o s t → t ≡ s
 becomes_same None s t e = e

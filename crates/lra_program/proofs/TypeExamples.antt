@@ -1,14 +1,11 @@
 -- Values of two types, ways, and runs that stop by a number. Which slip each would catch stands beside it.
 use Rattle.std.proofs.Common.{◌≡◌, pos, negsuc, [], ◌∷◌, Some, None, Bool, true, false, refl, inl, inr, ap}
-use Rattle.lra_base.specs.declared.number_types.NumberType.TheVariants.{Int, Long}
 use Rattle.lra_base.specs.Operators.{plus, times, over, modulo, above, below}
-use Rattle.lra_program.specs.declared.receivers.ConversionChain.TheVariants.{Short, Shortened}
-use Rattle.lra_program.specs.Program.{local, Expr, literal, read, input, negate, binary}
-use Rattle.lra_program.specs.Program.{compare, both_of, either_of}
-use Rattle.lra_program.specs.Value.{Environment, Drawn, value_of, values_of}
-use Rattle.lra_program.specs.Receivers.{converts_to, variable_at, nobody, result_receiver}
+use Rattle.lra_base.specs.declared.number_types.NumberType.TheVariants.{Int, Long}
+use Rattle.lra_program.specs.Program.{local, Expr, literal, read, input, negate, binary, compare, both_of, either_of}
 use Rattle.lra_program.specs.Step.{append, store_value, havoc, run_op, arguments_for}
-use Rattle.lra_program.specs.Overflow.{op_computes, CondOverflows}
+use Rattle.lra_program.specs.{Overflow.op_computes, Overflow.CondOverflows, Receivers.converts_to, Receivers.variable_at, Receivers.nobody, Receivers.result_receiver, Value.Environment, Value.Drawn}
+use Rattle.lra_program.specs.{Value.value_of, Value.values_of, declared.receivers.ConversionChain.TheVariants.Short, declared.receivers.ConversionChain.TheVariants.Shortened}
 
 abbrev nowhere : Environment
 nowhere = record { base = 0; store = []; arrays = [] }

@@ -1,22 +1,17 @@
 -- A value, where there is one, has its expression's type; and what stops by a number computes something.
 use Rattle.std.proofs.Common.{◌≡◌, ℤ, pos, List, [], ◌∷◌, Option, Some, None, Bool, true, false, refl, ap, subst, inl, inr}
 use Rattle.std.specs.Prelude.{◌-ℤ◌, slice_get, if◌then◌else◌, int_div, int_rem, ◌&&◌, ◌||◌, ◌⊎◌}
-use Rattle.lra_base.specs.declared.number_types.NumberType.{NumberType}
-use Rattle.lra_base.specs.declared.number_types.NumberType.TheVariants.{Int, Long}
-use Rattle.lra_base.specs.NumberTypes.{fits, wider}
+use Rattle.lra_base.specs.{NumberTypes.fits, NumberTypes.wider, Operators.Operator, Operators.plus, Operators.minus, Operators.times, Operators.over, Operators.modulo}
+use Rattle.lra_base.specs.{declared.number_types.NumberType.NumberType, declared.number_types.NumberType.TheVariants.Int, declared.number_types.NumberType.TheVariants.Long}
 use Rattle.lra_base.proofs.TypeLimits.{int_is_long}
-use Rattle.lra_base.specs.Operators.{Operator, plus, minus, times, over, modulo}
-use Rattle.lra_program.specs.Program.{Expr, literal, read, input, negate, binary, element, type_of, Cond, compare, nonzero, opposite, both_of, either_of}
 use Rattle.lra_program.specs.Arrays.{elements_of, place_among}
-use Rattle.lra_program.specs.Value.{◌>>=◌, number, is_zero, apply, index_of, Environment, first_draw, value_of, ValuesHaveTypes, Argument}
-use Rattle.lra_program.specs.declared.receivers.ConversionChain.{ConversionChain}
-use Rattle.lra_program.specs.declared.receivers.ConversionChain.TheVariants.{Wide, Short, Shortened}
-use Rattle.lra_program.specs.declared.receivers.Target.{Target}
-use Rattle.lra_program.specs.declared.receivers.Receiver.{Receiver}
+use Rattle.lra_program.specs.Overflow.{ExprOverflows, EitherOverflows, CondOverflows, GivenOverflows, ArgumentsOverflow, expr_computes, cond_computes, given_computes, arguments_compute}
+use Rattle.lra_program.specs.Program.{Expr, literal, read, input, negate, binary, element, type_of, Cond, compare, nonzero, opposite, both_of, either_of}
 use Rattle.lra_program.specs.Receivers.{waiting_in, lets_through, converts, parameter_of, is_shorter, shortens, converts_to, target_accepts, accepts}
 use Rattle.lra_program.specs.Step.{environment_at, append, fill, store_value, store_element, havoc, push, push_for, truncate_to, test}
-use Rattle.lra_program.specs.Overflow.{ExprOverflows, EitherOverflows, CondOverflows, GivenOverflows, ArgumentsOverflow}
-use Rattle.lra_program.specs.Overflow.{expr_computes, cond_computes, given_computes, arguments_compute, OverflowingCompute}
+use Rattle.lra_program.specs.Value.{◌>>=◌, number, is_zero, apply, index_of, Environment, first_draw, value_of, ValuesHaveTypes, Argument}
+use Rattle.lra_program.specs.declared.receivers.ConversionChain.TheVariants.{Wide, Short, Shortened}
+use Rattle.lra_program.specs.{Overflow.OverflowingCompute, declared.receivers.ConversionChain.ConversionChain, declared.receivers.Receiver.Receiver, declared.receivers.Target.Target}
 
 -- values have their types --------------------------------------------------------------------------------------------
 

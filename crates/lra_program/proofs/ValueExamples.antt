@@ -1,9 +1,9 @@
 -- Values of expressions and conditions, and where a run stops (ISO/IEC 9899:2011, 6.5.5, 6.5.6, 6.5.13, 6.5.14).
 -- Which slip each would catch stands beside it.
 use Rattle.std.proofs.Common.{◌≡◌, pos, negsuc, [], ◌∷◌, map, Some, None, true, false, refl}
+use Rattle.lra_base.specs.Operators.{plus, minus, times, over, modulo, below, at_most, above, at_least, equal, differs}
 use Rattle.lra_base.specs.declared.number_types.NumberType.TheVariants.{Int, Long}
 use Rattle.lra_program.specs.Program.{Slot, global, local, Variable, Expr, literal, read, input, negate, binary, compare, nonzero, opposite, both_of, either_of}
-use Rattle.lra_base.specs.Operators.{plus, minus, times, over, modulo, below, at_most, above, at_least, equal, differs}
 use Rattle.lra_program.specs.Value.{Environment, Argument, value_of, values_of, truth_of, compares}
 
 -- where no variable lives

@@ -1,17 +1,15 @@
 -- The accesses of arrays, and where a run ends by an index outside its array. Among what an item computes they are
 -- numbered from 0 in the order in which they are evaluated: operands from left to right, an element's index before the
 -- element, and an element that gets a value before what it gets.
-use Rattle.std.specs.Prelude.{◌≡◌, ◌⊎◌, ℕ, ◌+◌, ℤ, List, [], ◌∷◌, ◌++◌, length, Bool, None, Some, true, false}
-use Rattle.std.specs.Prelude.{nat_lt, slice_get}
+use Rattle.std.specs.Prelude.{◌≡◌, ◌⊎◌, ℕ, ◌+◌, ℤ, List, [], ◌∷◌, ◌++◌, length, Bool, None, Some, true, false, nat_lt}
+use Rattle.std.specs.Prelude.{slice_get}
 use Rattle.lra_program.specs.Program.{Expr, literal, read, input, negate, binary, element, Element, read_of, Cond}
 use Rattle.lra_program.specs.Program.{compare, nonzero, opposite, both_of, either_of, Program}
-use Rattle.lra_program.specs.Arrays.{place_among}
-use Rattle.lra_program.specs.Value.{number, Environment, value_of, Argument, truth_of}
-use Rattle.lra_program.specs.Step.{State, environment_at, Op, append, fill, store_value, store_element, havoc, push}
-use Rattle.lra_program.specs.Step.{push_for}
-use Rattle.lra_program.specs.Step.{truncate_to, test, aim, CallContext, Item, Config}
 use Rattle.lra_program.specs.Run.{Point, IsOn, Reaches}
-use Rattle.lra_program.specs.NextOperation.{NextOpIs, Ends}
+use Rattle.lra_program.specs.Step.{State, environment_at, Op, append, fill, store_value, store_element, havoc, push}
+use Rattle.lra_program.specs.Step.{push_for, truncate_to, test, aim, CallContext, Item, Config}
+use Rattle.lra_program.specs.Value.{number, Environment, value_of, Argument, truth_of}
+use Rattle.lra_program.specs.{Arrays.place_among, NextOperation.NextOpIs, NextOperation.Ends}
 
 -- in their order -----------------------------------------------------------------------------------------------------
 

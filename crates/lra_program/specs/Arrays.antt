@@ -1,8 +1,8 @@
 -- What arrays hold. An array is told by the place where the source declares it, and what it holds stays until its
 -- declarator fills it anew: in an accepted source calls are written out and nothing recurs, so a declarator has one
 -- array at a time.
-use Rattle.std.specs.Prelude.{ℕ, ℤ, pos, negsuc, Bool, ◌&&◌, if◌then◌else◌, nat_eq, nat_lt, List, [], ◌∷◌, Option}
-use Rattle.std.specs.Prelude.{Some, None, slice_set}
+use Rattle.std.specs.Prelude.{ℕ, ℤ, pos, negsuc, Bool, ◌&&◌, if◌then◌else◌, nat_eq, nat_lt, List, [], ◌∷◌, Option, Some}
+use Rattle.std.specs.Prelude.{None, slice_set}
 use Rattle.lra_base.specs.declared.refusals.Place.{Place}
 
 -- the elements of arrays, with the place where each array is declared; of one place the first entry counts

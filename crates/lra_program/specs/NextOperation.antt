@@ -2,19 +2,14 @@
 -- what is asked of it, and of the state before it; and that a run that ends there ends by it.
 use Rattle.std.specs.Prelude.{◌≡◌, ◌⊎◌, List, [], ◌∷◌, length, Option, None, Some, true, slice_get, ⊤}
 use Rattle.lra_base.specs.declared.number_types.NumberType.{NumberType}
-use Rattle.lra_program.specs.Program.{Element, Call, Rvalue, value, result, Stmt, absent, nothing, block, assign}
-use Rattle.lra_program.specs.Program.{write, call, if, loop, for, break, continue, return, assert, assume, switch}
-use Rattle.lra_program.specs.Program.{Function, Program}
-use Rattle.lra_program.specs.Value.{index_of, Argument}
-use Rattle.lra_program.specs.declared.receivers.Receiver.{Receiver}
+use Rattle.lra_program.specs.Program.{Element, Call, Rvalue, value, result, Stmt, absent, nothing, block, assign, write}
+use Rattle.lra_program.specs.Program.{call, if, loop, for, break, continue, return, assert, assume, switch, Function}
 use Rattle.lra_program.specs.Receivers.{variable_at, nobody}
 use Rattle.lra_program.specs.Step.{State, Op, append, fill, store_value, store_element, push, push_for, test, run_op}
-use Rattle.lra_program.specs.Step.{CallContext}
-use Rattle.lra_program.specs.Step.{Item, run, declare, declare_array, all, end_of, next_round, cases, end_switch}
-use Rattle.lra_program.specs.Step.{end_for, return_frame}
-use Rattle.lra_program.specs.Step.{leave_call, break_target, continue_target, return_target, receiver_of, run_any}
-use Rattle.lra_program.specs.Step.{arguments_for}
-use Rattle.lra_program.specs.Step.{next_at}
+use Rattle.lra_program.specs.Step.{CallContext, Item, run, declare, declare_array, all, end_of, next_round, cases}
+use Rattle.lra_program.specs.Step.{end_switch, end_for, return_frame, leave_call, break_target, continue_target}
+use Rattle.lra_program.specs.Step.{return_target, receiver_of, run_any, arguments_for, next_at}
+use Rattle.lra_program.specs.{Program.Program, Value.index_of, Value.Argument, declared.receivers.Receiver.Receiver}
 
 module _ (Q : Op → State → Type 0) (P : Program) where
   -- of what a call gives to its callee's parameters

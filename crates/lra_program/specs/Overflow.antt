@@ -1,19 +1,16 @@
 -- Where a run stops by a number: an operator has no value though its operands have, or a type on a value's way doesn't
 -- have it. A run that ends because no draw is left, because a draw isn't one of its variable's type, at an index
 -- outside its array, or at a false condition doesn't stop by a number.
-use Rattle.std.specs.Prelude.{◌≡◌, ◌⊎◌, ℕ, ℤ, pos, ◌-ℤ◌, List, [], ◌∷◌, None, Some, Bool, true, false, ◌||◌}
-use Rattle.std.specs.Prelude.{IsTrue}
+use Rattle.std.specs.Prelude.{◌≡◌, ◌⊎◌, ℕ, ℤ, pos, ◌-ℤ◌, List, [], ◌∷◌, None, Some, Bool, true, false, ◌||◌, IsTrue}
 use Rattle.lra_base.specs.NumberTypes.{wider}
 use Rattle.lra_program.specs.Program.{Expr, literal, read, input, negate, binary, element, type_of, Element, Cond}
 use Rattle.lra_program.specs.Program.{compare, nonzero, opposite, both_of, either_of, Program}
-use Rattle.lra_program.specs.Value.{number, apply, Environment, value_of, Argument, truth_of}
-use Rattle.lra_program.specs.declared.receivers.Receiver.{Receiver}
 use Rattle.lra_program.specs.Receivers.{waiting_in, parameter_of, converts_to, accepts}
-use Rattle.lra_program.specs.Step.{State, environment_at, Op, append, fill, store_value, store_element, havoc, push}
-use Rattle.lra_program.specs.Step.{push_for}
-use Rattle.lra_program.specs.Step.{truncate_to, test, aim, CallContext, Item, Config}
 use Rattle.lra_program.specs.Run.{Point, IsOn, Reaches}
-use Rattle.lra_program.specs.NextOperation.{NextOpIs}
+use Rattle.lra_program.specs.Step.{State, environment_at, Op, append, fill, store_value, store_element, havoc, push}
+use Rattle.lra_program.specs.Step.{push_for, truncate_to, test, aim, CallContext, Item, Config}
+use Rattle.lra_program.specs.Value.{number, apply, Environment, value_of, Argument, truth_of}
+use Rattle.lra_program.specs.{NextOperation.NextOpIs, declared.receivers.Receiver.Receiver}
 
 -- expressions and conditions, in the order in which they are computed -----------------------------------------------
 

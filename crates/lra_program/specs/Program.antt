@@ -2,14 +2,10 @@
 -- function a place in a list.
 -- Statements, declarators and the ends of blocks carry labels: the n-th of them in text order has the label n, from 1.
 use Rattle.std.specs.Prelude.{ℕ, List, [], ◌∷◌, Option}
-use Rattle.lra_base.specs.declared.number_types.NumberType.{NumberType}
-use Rattle.lra_base.specs.declared.number_types.NumberType.TheVariants.{Long}
-use Rattle.lra_base.specs.NumberTypes.{wider}
-use Rattle.lra_base.specs.declared.case_labels.CaseLabel.{CaseLabel}
-use Rattle.lra_base.specs.declared.refusals.Place.{Place}
-use Rattle.lra_program.specs.declared.arrays.Array.{Array}
-use Rattle.lra_program.specs.declared.program.GlobalVariable.{GlobalVariable}
-use Rattle.lra_base.specs.Operators.{Operator, Comparison}
+use Rattle.lra_base.specs.{NumberTypes.wider, Operators.Operator, Operators.Comparison}
+use Rattle.lra_base.specs.{declared.case_labels.CaseLabel.CaseLabel, declared.number_types.NumberType.NumberType}
+use Rattle.lra_base.specs.{declared.number_types.NumberType.TheVariants.Long, declared.refusals.Place.Place}
+use Rattle.lra_program.specs.{declared.arrays.Array.Array, declared.program.GlobalVariable.GlobalVariable}
 
 -- a variable of the whole program, or of the call that runs
 pub data Slot : Type 0 where

@@ -1,31 +1,22 @@
 -- The resolved program that a value of the code's types stands for: one step for each type, over what its parts stand
 -- for.
 use Rattle.std.specs.Prelude.{List, [], ◌∷◌, map, option_map, Option, Some, None, slice_get}
-use Rattle.lra_program.specs.declared.program.Slot.{Slot}
-use Rattle.lra_program.specs.declared.program.Slot.TheVariants as slot
-use Rattle.lra_program.specs.declared.program.Variable.{Variable}
-use Rattle.lra_program.specs.declared.program.Element.{Element}
-use Rattle.lra_program.specs.declared.program.Expr.{Expr}
-use Rattle.lra_program.specs.declared.program.Operation.{Operation}
-use Rattle.lra_program.specs.declared.program.Expr.TheFolds.{fold-Expr, fold-Operation}
-use Rattle.lra_program.specs.declared.program.Expr.TheOpen.{Expr-F, Operation-F}
-use Rattle.lra_program.specs.declared.program.Cond.{Cond}
-use Rattle.lra_program.specs.declared.program.Cond.TheFolds.{fold-Cond}
-use Rattle.lra_program.specs.declared.program.Cond.TheOpen.{Cond-F}
-use Rattle.lra_program.specs.declared.program.Call.{Call}
-use Rattle.lra_program.specs.declared.program.Rvalue.{Rvalue}
-use Rattle.lra_program.specs.declared.program.Rvalue.TheVariants as rvalue
-use Rattle.lra_program.specs.declared.program.Declarator.{Declarator}
 use Rattle.lra_program.specs.declared.program.BlockItem.TheFolds.{fold-BlockItem, fold-Stmt, fold-CaseItem}
 use Rattle.lra_program.specs.declared.program.BlockItem.TheFolds.{fold-BlockItems}
 use Rattle.lra_program.specs.declared.program.BlockItem.TheOpen.{BlockItem-F, Stmt-F, CaseItem-F, BlockItems-F}
-use Rattle.lra_program.specs.declared.program.BlockItem.{BlockItem}
-use Rattle.lra_program.specs.declared.program.CaseItem.{CaseItem}
-use Rattle.lra_program.specs.declared.program.BlockItems.{BlockItems}
-use Rattle.lra_program.specs.declared.program.Stmt.{Stmt}
-use Rattle.lra_program.specs.declared.program.Function.{Function}
-use Rattle.lra_program.specs.declared.program.Program.{Program}
-use Rattle.lra_program.specs.declared.program.Argument.{Argument}
+use Rattle.lra_program.specs.declared.program.Expr.TheFolds.{fold-Expr, fold-Operation}
+use Rattle.lra_program.specs.declared.program.Expr.TheOpen.{Expr-F, Operation-F}
+use Rattle.lra_program.specs.{declared.program.Argument.Argument, declared.program.BlockItem.BlockItem}
+use Rattle.lra_program.specs.{declared.program.BlockItems.BlockItems, declared.program.Call.Call}
+use Rattle.lra_program.specs.{declared.program.CaseItem.CaseItem, declared.program.Cond.Cond}
+use Rattle.lra_program.specs.{declared.program.Cond.TheFolds.fold-Cond, declared.program.Cond.TheOpen.Cond-F}
+use Rattle.lra_program.specs.{declared.program.Declarator.Declarator, declared.program.Element.Element}
+use Rattle.lra_program.specs.{declared.program.Expr.Expr, declared.program.Function.Function}
+use Rattle.lra_program.specs.{declared.program.Operation.Operation, declared.program.Program.Program}
+use Rattle.lra_program.specs.{declared.program.Rvalue.Rvalue, declared.program.Slot.Slot, declared.program.Stmt.Stmt}
+use Rattle.lra_program.specs.{declared.program.Variable.Variable}
+use Rattle.lra_program.specs.declared.program.Slot.TheVariants as slot
+use Rattle.lra_program.specs.declared.program.Rvalue.TheVariants as rvalue
 use Rattle.lra_program.specs.Program as program
 use Rattle.lra_program.specs.Value as value
 use Rattle.lra_base.specs.Operators as operators

@@ -2,15 +2,13 @@
 -- and its own. A number of 64 bits that one of them doesn't have ends the run (in C, ISO/IEC 9899:2011, 6.3.1.3, the
 -- compiler says what becomes of it).
 use Rattle.std.specs.Prelude.{ℕ, ℤ, Bool, true, false, ◌&&◌, ◌||◌, Option, None, Some}
+use Rattle.lra_base.specs.NumberTypes.{fits}
 use Rattle.lra_base.specs.declared.number_types.NumberType.{NumberType}
 use Rattle.lra_base.specs.declared.number_types.NumberType.TheVariants.{Int, Long}
-use Rattle.lra_base.specs.NumberTypes.{fits}
-use Rattle.lra_program.specs.declared.receivers.ConversionChain.{ConversionChain}
-use Rattle.lra_program.specs.declared.receivers.ConversionChain.TheVariants.{Wide, Short, Shortened}
 use Rattle.lra_program.specs.declared.receivers.Cell.TheVariants.{Variable, Waiting}
-use Rattle.lra_program.specs.declared.receivers.Target.{Target}
-use Rattle.lra_program.specs.declared.receivers.Receiver.{Receiver}
-use Rattle.lra_program.specs.declared.arrays.Array.{Array}
+use Rattle.lra_program.specs.declared.receivers.ConversionChain.TheVariants.{Wide, Short, Shortened}
+use Rattle.lra_program.specs.{declared.arrays.Array.Array, declared.receivers.ConversionChain.ConversionChain}
+use Rattle.lra_program.specs.{declared.receivers.Receiver.Receiver, declared.receivers.Target.Target}
 
 -- a further type stands before those of the way, which are told as far as they matter
 abbrev pub with_conversion : NumberType → ConversionChain → ConversionChain

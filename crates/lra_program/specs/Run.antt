@@ -1,16 +1,13 @@
 -- Runs: lists of configurations, each following the one before, from main's start with any draws of 64 bits.
 use Rattle.std.specs.Prelude.{◌≡◌, ℕ, zero, suc, ℤ, pos, List, [], ◌∷◌, length, map, replicate, Option, Some, None}
-use Rattle.std.specs.Prelude.{false, IsTrue}
-use Rattle.std.specs.List.{AllByRecursion}
-use Rattle.lra_program.specs.Program.{Stmt, absent, nothing, block, assign, write, call, if, loop, for, break}
-use Rattle.lra_program.specs.Program.{continue, return, assert, assume, switch, Program}
-use Rattle.lra_base.specs.declared.refusals.Place.{Place}
-use Rattle.lra_program.specs.declared.arrays.Array.{Array}
-use Rattle.lra_program.specs.declared.program.GlobalVariable.{GlobalVariable}
-use Rattle.lra_program.specs.Value.{is_word}
+use Rattle.std.specs.{List.AllByRecursion, Prelude.false, Prelude.IsTrue}
+use Rattle.lra_program.specs.Program.{Stmt, absent, nothing, block, assign, write, call, if, loop, for, break, continue}
+use Rattle.lra_program.specs.Program.{return, assert, assume, switch, Program}
 use Rattle.lra_program.specs.Step.{State, test, run_op, CallContext, Item, run, declare, declare_array, all, end_of}
-use Rattle.lra_program.specs.Step.{next_round}
-use Rattle.lra_program.specs.Step.{cases, end_switch, end_for, return_frame, leave_call, Config, next}
+use Rattle.lra_program.specs.Step.{next_round, cases, end_switch, end_for, return_frame, leave_call, Config, next}
+use Rattle.lra_program.specs.declared.program.GlobalVariable.{GlobalVariable}
+use Rattle.lra_program.specs.{Value.is_word, declared.arrays.Array.Array}
+use Rattle.lra_base.specs.declared.refusals.Place.{Place}
 
 -- so many steps lead from the one to the other
 abbrev pub Steps : Program → ℕ → Config → Config → Type 0

@@ -2,24 +2,19 @@
 -- and exactly one case applies to it. The step is a function, since a state holds the draws that are left.
 use Rattle.std.specs.Prelude.{ℕ, ◌+◌, ℤ, List, [], ◌∷◌, ◌++◌, length, take, Option, Some, None, Bool, true, false}
 use Rattle.std.specs.Prelude.{slice_get, slice_set, cond}
+use Rattle.lra_program.specs.Arrays.{Contents, place_among, with_element}
 use Rattle.lra_program.specs.Program.{Expr, Element, Cond, Call, Rvalue, value, result, Declarator, Stmt, absent}
 use Rattle.lra_program.specs.Program.{nothing, block, assign, write, call, if, loop, for, break, continue, return}
 use Rattle.lra_program.specs.Program.{assert, assume, switch, Cases, no_cases, labelled, stated, labels_of, BlockItems}
 use Rattle.lra_program.specs.Program.{no_more, declaration, array, statement, Function, Program}
-use Rattle.lra_base.specs.declared.case_labels.CaseLabel.{CaseLabel}
-use Rattle.lra_base.specs.CaseLabels.{is_same_case, goal_of}
-use Rattle.lra_base.specs.declared.number_types.NumberType.{NumberType}
-use Rattle.lra_base.specs.declared.refusals.Place.{Place}
-use Rattle.lra_program.specs.declared.arrays.Array.{Array}
-use Rattle.lra_program.specs.declared.receivers.Cell.{Cell}
-use Rattle.lra_program.specs.declared.receivers.Cell.TheVariants.{Variable, Waiting}
-use Rattle.lra_program.specs.declared.receivers.Target.{Target}
-use Rattle.lra_program.specs.declared.receivers.Receiver.{Receiver}
 use Rattle.lra_program.specs.Receivers.{variable_at, waiting_in, nobody, result_receiver, accepts}
-use Rattle.lra_program.specs.Arrays.{Contents, place_among, with_element}
 use Rattle.lra_program.specs.Value.{◌>>=◌, number, index_of, Environment, Drawn, first_draw, draws_of, value_of}
-use Rattle.lra_program.specs.Value.{Argument}
-use Rattle.lra_program.specs.Value.{values_of, truth_of}
+use Rattle.lra_program.specs.Value.{Argument, values_of, truth_of}
+use Rattle.lra_program.specs.declared.receivers.Cell.TheVariants.{Variable, Waiting}
+use Rattle.lra_program.specs.{declared.arrays.Array.Array, declared.receivers.Cell.Cell}
+use Rattle.lra_program.specs.{declared.receivers.Receiver.Receiver, declared.receivers.Target.Target}
+use Rattle.lra_base.specs.{CaseLabels.is_same_case, CaseLabels.goal_of, declared.case_labels.CaseLabel.CaseLabel}
+use Rattle.lra_base.specs.{declared.number_types.NumberType.NumberType, declared.refusals.Place.Place}
 
 -- the variables, oldest first; what the arrays hold; the indexes that wait for what their elements get, newest first;
 -- and the draws that are left

@@ -1,9 +1,8 @@
 -- Runs with what they meet: each point that is passed, with the state in which the run came there. Whenever a point is
 -- on top the state may change, as `may` says, before the step is taken; nothing changes it where a program runs alone.
 use Rattle.std.specs.Prelude.{◌≡◌, ℕ, zero, suc, ℤ, List, [], ◌∷◌, Option, Some, None}
-use Rattle.lra_program.specs.Program.{Program}
-use Rattle.lra_program.specs.Step.{State, Config, next_at}
 use Rattle.lra_program.specs.Run.{start, label_on, Point, IsOn, IsFailing}
+use Rattle.lra_program.specs.{Program.Program, Step.State, Step.Config, Step.next_at}
 
 -- what a run meets; A is what tells points apart
 pub data TraceEvent (A : Type 0) : Type 0 where

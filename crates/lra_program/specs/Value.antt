@@ -6,14 +6,13 @@
 use Rattle.std.specs.Prelude.{◌≡◌, ℕ, zero, suc, ℤ, pos, negsuc, ◌+ℤ◌, ◌-ℤ◌, ◌*ℤ◌, ◌+◌, List, [], ◌∷◌, Option, Some}
 use Rattle.std.specs.Prelude.{None, Bool, true, false, not, if◌then◌else◌, slice_get, int_div, int_rem, int_lt, int_le}
 use Rattle.std.specs.Prelude.{IsTrue}
-use Rattle.lra_base.specs.declared.number_types.NumberType.{NumberType}
-use Rattle.lra_base.specs.declared.number_types.NumberType.TheVariants.{Long}
-use Rattle.lra_base.specs.NumberTypes.{fits, wider}
-use Rattle.lra_program.specs.Program.{Slot, global, local, Expr, literal, read, input, negate, binary, element}
-use Rattle.lra_program.specs.Program.{type_of, Cond, compare, nonzero, opposite, both_of, either_of}
 use Rattle.lra_base.specs.Operators.{Operator, plus, minus, times, over, modulo, Comparison, below, at_most, above}
 use Rattle.lra_base.specs.Operators.{at_least, equal, differs}
+use Rattle.lra_base.specs.{NumberTypes.fits, NumberTypes.wider, declared.number_types.NumberType.NumberType}
+use Rattle.lra_base.specs.{declared.number_types.NumberType.TheVariants.Long}
 use Rattle.lra_program.specs.Arrays.{Contents, elements_of, place_among}
+use Rattle.lra_program.specs.Program.{Slot, global, local, Expr, literal, read, input, negate, binary, element, type_of}
+use Rattle.lra_program.specs.Program.{Cond, compare, nonzero, opposite, both_of, either_of}
 
 -- go on with what is there
 infixl 10 ◌>>=◌

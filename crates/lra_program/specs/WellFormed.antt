@@ -2,18 +2,16 @@
 -- number that its type doesn't have, one label twice, a variable that isn't there, or a call without a callee; its runs
 -- are told all the same, and stop or go on as they may. Whether a variable has the type that it is read with isn't
 -- asked here, nor whether an array is there: the steps ask it where they read one, and lose what is written to one.
-use Rattle.std.specs.Prelude.{◌≡◌, ℕ, suc, ◌<◌, pos, Bool, true, false, List, [], ◌∷◌, ◌++◌, length, Option, Some}
-use Rattle.std.specs.Prelude.{None, slice_get, IsTrue, ⊤}
 use Rattle.std.specs.List.{AllByRecursion, Contains, flat_map, range_with_len}
-use Rattle.lra_base.specs.TextOrder.{for_order}
+use Rattle.std.specs.Prelude.{◌≡◌, ℕ, suc, ◌<◌, pos, Bool, true, false, List, [], ◌∷◌, ◌++◌, length, Option, Some, None}
+use Rattle.std.specs.Prelude.{slice_get, IsTrue, ⊤}
+use Rattle.lra_base.specs.{NumberTypes.fits, TextOrder.for_order}
 use Rattle.lra_program.specs.Program.{Slot, global, local, Expr, literal, read, input, negate, binary, element, Cond}
-use Rattle.lra_program.specs.Program.{compare, nonzero, opposite, both_of, either_of, Call, Rvalue, value, result}
-use Rattle.lra_program.specs.Program.{Stmt, absent, nothing, block, assign, write, call, if, loop, for, break}
-use Rattle.lra_program.specs.Program.{continue, return, assert, assume, switch, Cases, no_cases, labelled, stated}
-use Rattle.lra_program.specs.Program.{BlockItems, no_more, declaration, array, statement, Function, Program}
-use Rattle.lra_program.specs.declared.program.GlobalVariable.{GlobalVariable}
-use Rattle.lra_base.specs.NumberTypes.{fits}
-use Rattle.lra_program.specs.Sites.{live_after_items}
+use Rattle.lra_program.specs.Program.{compare, nonzero, opposite, both_of, either_of, Call, Rvalue, value, result, Stmt}
+use Rattle.lra_program.specs.Program.{absent, nothing, block, assign, write, call, if, loop, for, break, continue}
+use Rattle.lra_program.specs.Program.{return, assert, assume, switch, Cases, no_cases, labelled, stated, BlockItems}
+use Rattle.lra_program.specs.Program.{no_more, declaration, array, statement, Function, Program}
+use Rattle.lra_program.specs.{Sites.live_after_items, declared.program.GlobalVariable.GlobalVariable}
 
 -- labels -----------------------------------------------------------------------------------------------------------
 

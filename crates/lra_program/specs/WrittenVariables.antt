@@ -1,10 +1,8 @@
 -- Which variable an operation gives a value.
 use Rattle.std.specs.Prelude.{ℕ, Option, None, Some}
-use Rattle.lra_program.specs.declared.receivers.Cell.{Cell}
-use Rattle.lra_program.specs.declared.receivers.Cell.TheVariants.{Variable, Waiting}
-use Rattle.lra_program.specs.declared.receivers.Target.{Target}
 use Rattle.lra_program.specs.Step.{Op, append, fill, store_value, havoc, store_element, push, push_for, truncate_to}
-use Rattle.lra_program.specs.Step.{test}
+use Rattle.lra_program.specs.declared.receivers.Cell.TheVariants.{Variable, Waiting}
+use Rattle.lra_program.specs.{Step.test, declared.receivers.Cell.Cell, declared.receivers.Target.Target}
 
 -- the place of the variable that is there
 abbrev pub cell_variable : Cell → Option ℕ

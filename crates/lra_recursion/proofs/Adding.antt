@@ -1,9 +1,7 @@
 -- A call is added to the row of its caller, and to no other.
 use Rattle.std.proofs.Common.{◌≡◌, ℕ, zero, suc, Bool, List, [], ◌∷◌, ◌++◌, map, if◌then◌else◌, get_or, set, Some, slice_get, append_assoc, inl, inr, refl, sym, ap, ◌∙◌}
-use Rattle.std.specs.Prelude.{Vec, nat_eq}
-use Rattle.std.specs.declared.alloc.Global.{Global}
-use Rattle.std.proofs.lemmas.Bool.Decides.{eqb_tells}
-use Rattle.std.proofs.lemmas.Option.{none-some, same_Some}
+use Rattle.std.proofs.{lemmas.Bool.Decides.eqb_tells, lemmas.Option.none-some, lemmas.Option.same_Some}
+use Rattle.std.specs.{Prelude.Vec, Prelude.nat_eq, declared.alloc.Global.Global}
 
 abbrev row_at : List (Vec ℕ Global) → ℕ → List ℕ
 row_at rows j = get_or (map (λ row. row.items) rows) j []

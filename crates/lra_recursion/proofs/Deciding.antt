@@ -1,14 +1,11 @@
 -- Whether a function reaches another is decided; so each source has a first recursive call, or none.
 use Rattle.std.proofs.Common.{◌≡◌, ℕ, List, [], ◌∷◌, ◌++◌, map, bytes_eq, ◌⊎◌, inl, inr, refl, sym, ap, ◌∙◌, subst}
-use Rattle.std.specs.List.{Contains, AllByRecursion}
-use Rattle.std.proofs.lemmas.Bool.{cases_Bool, both_ways}
 use Rattle.std.proofs.lemmas.List.Elements.{Contains-append_cases, Contains-append_left, Contains-append_right}
-use Rattle.std.proofs.lemmas.Slice.Eq.{bytes_eq-Decides}
+use Rattle.std.proofs.{lemmas.Bool.cases_Bool, lemmas.Bool.both_ways, lemmas.Slice.Eq.bytes_eq-Decides}
+use Rattle.std.specs.List.{Contains, AllByRecursion}
 use Rattle.lra_base.specs.declared.refusals.Place.{Place}
-use Rattle.lra_syntax.specs.declared.trees.Identifier.{Identifier}
-use Rattle.lra_syntax.specs.Trees.{FunctionTree, FileTree}
-use Rattle.lra_syntax.specs.Functions.{functions_of}
 use Rattle.lra_syntax.specs.Reach.{calls_of, IsCalling, ReachesByCalls, there, by_call, calls_in, IsRecursive, IsFirstRecursive, NotRecursive}
+use Rattle.lra_syntax.specs.{Functions.functions_of, Trees.FunctionTree, Trees.FileTree, declared.trees.Identifier.Identifier}
 use Rattle.lra_recursion.proofs.Elements.{in_cons, in_further, nothing_in, has_one, all_at}
 
 -- what holds or doesn't

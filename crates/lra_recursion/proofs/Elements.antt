@@ -1,8 +1,7 @@
 -- Elements of lists: by their places, of the first and of the others, and what holds of each.
 use Rattle.std.proofs.Common.{◌≡◌, ℕ, zero, suc, List, [], ◌∷◌, ◌++◌, Some, slice_get, map, take, drop, ◌⊎◌, inl, inr, refl, ap, arith}
+use Rattle.std.proofs.{lemmas.List.Elements.Contains-append_cases, lemmas.List.Elements.Contains-append_right, lemmas.Option.same_Some, lemmas.Option.none-some, lemmas.Option.slice_get-map}
 use Rattle.std.specs.List.{Contains, AllByRecursion}
-use Rattle.std.proofs.lemmas.List.Elements.{Contains-append_cases, Contains-append_right}
-use Rattle.std.proofs.lemmas.Option.{same_Some, none-some, slice_get-map}
 
 pub only_one : {A : Type 0} (x y : A) → Contains (x ∷ []) y → x ≡ y
 only_one x y (zero, l, s) = s

@@ -1,17 +1,11 @@
 -- Functions by their names and their places; calls by those of their callers.
-use Rattle.std.proofs.Common.{◌≡◌, ◌<◌, ℕ, suc, Bool, true, false, cond, if◌then◌else◌, List, [], ◌∷◌, ◌++◌, length, map, Option, Some, None, slice_get, inl, inr, ◌⊎◌, refl, sym, ap, ◌∙◌}
-use Rattle.std.proofs.Common.{subst, arith}
-use Rattle.std.specs.Prelude.{option_map, option_to_list, nat_eq}
-use Rattle.std.specs.List.{Contains}
-use Rattle.std.proofs.lemmas.Bool.{both_ways, eqb-true, eq-eqb}
-use Rattle.std.proofs.lemmas.Slice.Eq.{bytes_eq-Decides}
+use Rattle.std.proofs.Common.{◌≡◌, ◌<◌, ℕ, suc, Bool, true, false, cond, if◌then◌else◌, List, [], ◌∷◌, ◌++◌, length, map, Option, Some, None, slice_get, inl, inr, ◌⊎◌, refl, sym, ap, ◌∙◌, subst}
 use Rattle.std.proofs.lemmas.Option.{none-some, same_Some, slice_get_within}
-use Rattle.lra_syntax.specs.declared.trees.Identifier.{Identifier}
-use Rattle.lra_syntax.specs.Trees.{FunctionTree}
-use Rattle.lra_syntax.specs.Functions.{is_named, function_named}
+use Rattle.std.proofs.{Common.arith, lemmas.Bool.both_ways, lemmas.Bool.eqb-true, lemmas.Bool.eq-eqb, lemmas.Slice.Eq.bytes_eq-Decides}
+use Rattle.std.specs.{List.Contains, Prelude.option_map, Prelude.option_to_list, Prelude.nat_eq}
+use Rattle.lra_syntax.specs.{Functions.is_named, Functions.function_named, Trees.FunctionTree, declared.trees.Identifier.Identifier}
 use Rattle.lra_resolution_spec.specs.Resolve.{function_place}
-use Rattle.lra_recursion.specs.declared.calls.Call.{Call}
-use Rattle.lra_recursion.specs.Calls.{call_of, calls_among, first_places, callees_of}
+use Rattle.lra_recursion.specs.{Calls.call_of, Calls.calls_among, Calls.first_places, Calls.callees_of, declared.calls.Call.Call}
 use Rattle.lra_recursion.proofs.Elements.{nothing_in, in_cons, in_further}
 
 -- the first function of a name -----------------------------------------------------------------------------------------

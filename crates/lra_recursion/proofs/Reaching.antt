@@ -1,32 +1,18 @@
 -- What is come to by places is what functions reach; what the first call that comes back says of the source.
 use Rattle.std.proofs.Common.{◌≡◌, ℕ, ◌<◌, List, [], ◌∷◌, ◌++◌, length, map, Option, Some, None, slice_get, get_or, refl, sym, ap, ◌∙◌, subst, arith}
-use Rattle.std.specs.Prelude.{option_to_list, Vec, Result, Ok, Err, IfOk, MatchOption}
-use Rattle.std.specs.declared.alloc.Global.{Global}
-use Rattle.std.specs.List.{Contains, AllByRecursion}
-use Rattle.std.proofs.lemmas.List.{length-map}
-use Rattle.std.proofs.lemmas.Option.{slice_get-get_or, get_or_from_slice_get, slice_get_within}
+use Rattle.std.proofs.{lemmas.List.length-map, lemmas.Option.slice_get-get_or, lemmas.Option.get_or_from_slice_get, lemmas.Option.slice_get_within}
+use Rattle.std.specs.{List.Contains, List.AllByRecursion, Prelude.option_to_list, Prelude.Vec, Prelude.Result, Prelude.Ok, Prelude.Err, Prelude.IfOk, Prelude.MatchOption, declared.alloc.Global.Global}
 use Rattle.lra_base.specs.declared.refusals.Place.{Place}
-use Rattle.lra_syntax.specs.declared.trees.Identifier.{Identifier}
-use Rattle.lra_syntax.specs.declared.trees.ExternalDeclaration.{ExternalDeclaration}
-use Rattle.lra_syntax.specs.declared.trees.TranslationUnit.{TranslationUnit}
-use Rattle.lra_syntax.specs.Trees.{FileTree}
-use Rattle.lra_syntax.specs.Views.{tree_view}
-use Rattle.lra_syntax.specs.Labels.{Labelled, labels_of}
-use Rattle.lra_program.specs.declared.program.Function.{Function}
-use Rattle.lra_program.specs.declared.program.Program.{Program}
-use Rattle.lra_program.specs.ProgramViews.{function_view, program_view}
-use Rattle.lra_scopes.specs.Calls.{functions_at}
-use Rattle.lra_syntax.specs.Functions.{functions_of}
 use Rattle.lra_syntax.specs.Reach.{IsCalling, ReachesByCalls, there, by_call, calls_in, IsRecursive, IsFirstRecursive, NotRecursive}
+use Rattle.lra_syntax.specs.{Functions.functions_of, Labels.Labelled, Labels.labels_of, Trees.FileTree, Views.tree_view, declared.trees.ExternalDeclaration.ExternalDeclaration}
+use Rattle.lra_syntax.specs.{declared.trees.Identifier.Identifier, declared.trees.TranslationUnit.TranslationUnit}
+use Rattle.lra_program.specs.{ProgramViews.function_view, ProgramViews.program_view, declared.program.Function.Function, declared.program.Program.Program}
+use Rattle.lra_scopes.specs.Calls.{functions_at}
 use Rattle.lra_resolution_spec.specs.Resolve.{function_place, resolved_functions}
-use Rattle.lra_recursion.specs.declared.calls.Call.{Call}
 use Rattle.lra_recursion.specs.Calls.{call_of, calls_among, first_places, calls_behind, callees_of}
-use Rattle.lra_recursion.specs.Search.{IsReachableFrom, begins, goes_on}
-use Rattle.lra_recursion.specs.Recursion.{IsRecursiveCall, IsFirstRecursiveCall}
-use Rattle.lra_recursion.proofs.Elements.{in_further, all_at}
+use Rattle.lra_recursion.specs.{Recursion.IsRecursiveCall, Recursion.IsFirstRecursiveCall, Search.IsReachableFrom, Search.begins, Search.goes_on, declared.calls.Call.Call}
 use Rattle.lra_recursion.proofs.Placing.{IsKnown, known, one_name, known_within, call_is, unknown_name, call_there, from_among, in_among, from_row, in_row}
-use Rattle.lra_recursion.proofs.Reading.{calls_read, resolved_count}
-use Rattle.lra_recursion.proofs.Deciding.{IsHeld, call_held}
+use Rattle.lra_recursion.proofs.{Deciding.IsHeld, Deciding.call_held, Elements.in_further, Elements.all_at, Reading.calls_read, Reading.resolved_count}
 use Rattle.lra_recursion.proofs.Deciding as deciding
 
 abbrev HeldCall : Type 0

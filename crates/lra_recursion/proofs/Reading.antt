@@ -1,22 +1,14 @@
 -- The calls of a source are read from its labels.
-use Rattle.std.proofs.Common.{◌≡◌, ◌+◌, ◌-◌, ◌<◌, ◌≤◌, ℕ, zero, suc, List, [], ◌∷◌, ◌++◌, length, map, take, drop, Option, Some, None, slice_get, refl, sym, ap, ◌∙◌, arith}
-use Rattle.std.proofs.Common.{append_assoc, append-nil, length-append}
+use Rattle.std.proofs.Common.{◌≡◌, ◌+◌, ◌-◌, ◌<◌, ◌≤◌, ℕ, zero, suc, List, [], ◌∷◌, ◌++◌, length, map, take, drop, Option, Some, None, slice_get, refl, sym, ap, ◌∙◌, arith, append_assoc, append-nil}
+use Rattle.std.proofs.{Common.length-append, Math.Seq.take-append_seam, Math.Seq.drop-append_seam, lemmas.Option.none-some, lemmas.Option.same_Some}
 use Rattle.std.specs.Prelude.{option_to_list, flat_map}
-use Rattle.std.proofs.lemmas.Option.{none-some, same_Some}
-use Rattle.std.proofs.Math.Seq.{take-append_seam, drop-append_seam}
-use Rattle.lra_syntax.specs.declared.trees.Identifier.{Identifier}
-use Rattle.lra_syntax.specs.Trees.{FunctionTree, ExternalTree, prototype, globals, function, FileTree}
-use Rattle.lra_syntax.specs.Functions.{functions_in, functions_of}
-use Rattle.lra_syntax.specs.Labels.{Labelled, function_labels, labels_of, label_at}
-use Rattle.lra_syntax.specs.Reach.{called_names, calls_of, calls_in}
-use Rattle.lra_program.specs.declared.program.Function.{Function}
+use Rattle.lra_syntax.specs.{Functions.functions_in, Functions.functions_of, Labels.Labelled, Labels.function_labels, Labels.labels_of, Labels.label_at, Reach.called_names, Reach.calls_of}
+use Rattle.lra_syntax.specs.{Reach.calls_in, Trees.FunctionTree, Trees.ExternalTree, Trees.prototype, Trees.globals, Trees.function, Trees.FileTree, declared.trees.Identifier.Identifier}
+use Rattle.lra_program.specs.{ProgramViews.function_view, declared.program.Function.Function}
 use Rattle.lra_program.specs.Program as program
-use Rattle.lra_program.specs.ProgramViews.{function_view}
-use Rattle.lra_resolution_spec.specs.Scope.{SymbolEntry}
-use Rattle.lra_resolution_spec.specs.Resolve.{resolved_functions, resolve_parts, items_count, function_place}
+use Rattle.lra_resolution_spec.specs.{Resolve.resolved_functions, Resolve.resolve_parts, Resolve.items_count, Resolve.function_place, Scope.SymbolEntry}
 use Rattle.lra_resolution_spec.proofs.LabelCounts.{count_items}
-use Rattle.lra_recursion.specs.declared.calls.Call.{Call}
-use Rattle.lra_recursion.specs.Calls.{call_of, calls_by, calls_among, first_places, called_at, labels_between, calls_behind}
+use Rattle.lra_recursion.specs.{Calls.call_of, Calls.calls_by, Calls.calls_among, Calls.first_places, Calls.called_at, Calls.labels_between, Calls.calls_behind, declared.calls.Call.Call}
 use Rattle.lra_recursion.proofs.Placing.{known_places}
 
 calls_both : (F : List FunctionTree) (k : ℕ) (a b : List Identifier) → calls_by F k (a ++ b) ≡ calls_by F k a ++ calls_by F k b

@@ -1,10 +1,8 @@
 -- How a search goes on, and what it has found at its end.
 use Rattle.std.proofs.Common.{◌≡◌, ℕ, zero, suc, ◌+◌, ◌<◌, Bool, true, false, List, [], ◌∷◌, ◌++◌, length, replicate, Some, slice_get, get_or, set, ◌⊎◌, inl, inr, refl, sym, ap, ◌∙◌, subst, arith}
-use Rattle.std.proofs.Common.{length-append}
-use Rattle.std.specs.List.{Contains}
-use Rattle.std.proofs.lemmas.List.{length-set, get_or-set_same, length-replicate}
-use Rattle.std.proofs.lemmas.List.Sums.{sum_by-set}
 use Rattle.std.proofs.lemmas.List.Elements.{Contains-push, Contains-push_cases, Contains-append_left, Contains-append_right, Contains-append_cases}
+use Rattle.std.proofs.{Common.length-append, lemmas.List.length-set, lemmas.List.get_or-set_same, lemmas.List.length-replicate, lemmas.List.Sums.sum_by-set}
+use Rattle.std.specs.List.{Contains}
 use Rattle.lra_recursion.specs.Search.{IsReachableFrom, begins, goes_on, IsVisited, missing, MarksVisited}
 use Rattle.lra_recursion.proofs.Elements.{only_one, has_one, nothing_in, same_at}
 

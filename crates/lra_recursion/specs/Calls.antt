@@ -1,12 +1,9 @@
 -- The calls of functions, by places in the list of functions. A function stands at the place of the first of its name,
 -- and so does what is called by that name.
-use Rattle.std.specs.Prelude.{ℕ, List, [], ◌∷◌, ◌++◌, ◌-◌, take, drop, Option, Some, None, option_map}
-use Rattle.std.specs.Prelude.{option_to_list, if◌then◌else◌, nat_eq}
-use Rattle.lra_syntax.specs.declared.trees.Identifier.{Identifier}
-use Rattle.lra_syntax.specs.Trees.{FunctionTree}
-use Rattle.lra_syntax.specs.Functions.{function_named}
-use Rattle.lra_syntax.specs.Labels.{Labelled}
-use Rattle.lra_syntax.specs.Reach.{called_names}
+use Rattle.std.specs.Prelude.{ℕ, List, [], ◌∷◌, ◌++◌, ◌-◌, take, drop, Option, Some, None, option_map, option_to_list}
+use Rattle.std.specs.Prelude.{if◌then◌else◌, nat_eq}
+use Rattle.lra_syntax.specs.{Functions.function_named, Labels.Labelled, Reach.called_names, Trees.FunctionTree}
+use Rattle.lra_syntax.specs.{declared.trees.Identifier.Identifier}
 use Rattle.lra_program.specs.Program.{Function}
 use Rattle.lra_resolution_spec.specs.Resolve.{function_place}
 use Rattle.lra_recursion.specs.declared.calls.Call.{Call}

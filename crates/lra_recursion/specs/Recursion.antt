@@ -1,9 +1,7 @@
 -- Calls whose callee comes to their caller, in the places of functions.
-use Rattle.std.specs.Prelude.{◌≡◌, ℕ, List, ◌∷◌, ◌++◌}
-use Rattle.std.specs.List.{AllByRecursion}
+use Rattle.std.specs.{List.AllByRecursion, Prelude.◌≡◌, Prelude.ℕ, Prelude.List, Prelude.◌∷◌, Prelude.◌++◌}
 use Rattle.lra_base.specs.declared.refusals.Place.{Place}
-use Rattle.lra_recursion.specs.declared.calls.Call.{Call}
-use Rattle.lra_recursion.specs.Search.{IsReachableFrom}
+use Rattle.lra_recursion.specs.{Search.IsReachableFrom, declared.calls.Call.Call}
 
 -- the callee comes to the caller
 abbrev pub IsRecursiveCall : List (List ℕ) → Call → Type 0

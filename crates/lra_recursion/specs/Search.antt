@@ -1,7 +1,6 @@
 -- Which places are come to, and how a search comes to them.
 use Rattle.std.specs.Prelude.{◌≡◌, ◌<◌, ◌+◌, ◌⊎◌, ℕ, Bool, true, false, List, length, slice_index_or, slice_get, Some}
-use Rattle.std.specs.Prelude.{Contains}
-use Rattle.std.specs.List.{sum_by}
+use Rattle.std.specs.{List.sum_by, Prelude.Contains}
 
 -- that with which a search begins, and those in the row of one that is come to
 pub data IsReachableFrom (rows : List (List ℕ)) (start : ℕ) : ℕ → Type 0 where

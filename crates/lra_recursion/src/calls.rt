@@ -1,11 +1,8 @@
 //! The calls of a source in text order, from the table of its labels.
 
 ghost use Rattle.std.specs.Prelude.{◌≡◌, ◌++◌, ◌∷◌, List, map, option_to_list, IfOk};
-ghost use Rattle.lra_syntax.specs.Trees.{ExternalTree};
 ghost use Rattle.lra_syntax.specs.Views.{external_view};
-ghost use Rattle.lra_syntax.specs.Functions.{functions_in};
-ghost use Rattle.lra_syntax.specs.Labels.{label_at};
-ghost use Rattle.lra_syntax.specs.Reach.{called_names};
+ghost use Rattle.lra_syntax.specs.{Functions.functions_in, Labels.label_at, Reach.called_names, Trees.ExternalTree};
 ghost use Rattle.lra_program.specs.ProgramViews.{function_view};
 ghost use Rattle.lra_scopes.specs.Calls.{functions_at};
 ghost use Rattle.lra_recursion.specs.Calls.{first_places, called_at, calls_by, labels_between, calls_behind};

@@ -1,10 +1,8 @@
 //! The first call whose callee reaches the function that holds it.
 
-ghost use Rattle.std.specs.Prelude.{◌≡◌, ◌↔◌, map, IsTrue, IfOk, MatchOption};
 ghost use Rattle.std.specs.List.{AllByRecursion};
-ghost use Rattle.lra_syntax.specs.Views.{tree_view};
-ghost use Rattle.lra_syntax.specs.Labels.{labels_of};
-ghost use Rattle.lra_syntax.specs.Reach.{IsFirstRecursive, NotRecursive};
+ghost use Rattle.std.specs.Prelude.{◌≡◌, ◌↔◌, map, IsTrue, IfOk, MatchOption};
+ghost use Rattle.lra_syntax.specs.{Labels.labels_of, Reach.IsFirstRecursive, Reach.NotRecursive, Views.tree_view};
 ghost use Rattle.lra_program.specs.ProgramViews.{program_view};
 ghost use Rattle.lra_resolution_spec.specs.Resolve.{resolved_functions};
 ghost use Rattle.lra_recursion.specs.Recursion.{IsRecursiveCall, IsFirstRecursiveCall};

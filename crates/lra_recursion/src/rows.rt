@@ -1,8 +1,7 @@
 //! What is called from each place.
 
 ghost use Rattle.std.specs.Prelude.{◌≡◌, ◌<◌, ◌++◌, ◌∷◌, [], ℕ, List, map, length, get_or, IfOk, OnOk};
-ghost use Rattle.lra_recursion.specs.declared.calls.Call.{Call as CallView};
-ghost use Rattle.lra_recursion.specs.Calls.{callees_of};
+ghost use Rattle.lra_recursion.specs.{Calls.callees_of, declared.calls.Call.Call as CallView};
 
 use crate::calls::Call;
 use std::alloc::{AllocError, Global};

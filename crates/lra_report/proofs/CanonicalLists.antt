@@ -1,16 +1,12 @@
 -- The rows and generators of canonical lists are such as a text tells apart.
 use Rattle.std.proofs.Common.{◌≡◌, ℕ, zero, suc, ◌<◌, ℤ, pos, negsuc, nat_abs, ◌<ℤ◌, false, List, [], ◌∷◌, refl, ap, arith, inl, inr}
-use Rattle.std.specs.List.{AllByRecursion}
 use Rattle.std.proofs.lemmas.Int.{ints}
-use Rattle.lra_linear_spec.specs.Range.{InRange}
-use Rattle.lra_linear_spec.specs.Vectors.{entry}
-use Rattle.lra_linear_spec.specs.LowestTerms.{IsPrimitive}
-use Rattle.lra_linear_spec.specs.Echelon.{HasPivot}
+use Rattle.std.specs.List.{AllByRecursion}
+use Rattle.lra_linear_spec.specs.{Echelon.HasPivot, LowestTerms.IsPrimitive, Range.InRange, Vectors.entry}
 use Rattle.lra_linear_spec.specs.declared.ConKind.TheVariants as con
 use Rattle.lra_linear_spec.specs.declared.GenKind.TheVariants as gen
 use Rattle.lra_systems.specs.LinearSystems.{FitsKind}
-use Rattle.lra_row_text.specs.Shown.{report_row, report_generator}
-use Rattle.lra_row_text.specs.Texts.{is_negated}
+use Rattle.lra_row_text.specs.{Shown.report_row, Shown.report_generator, Texts.is_negated}
 use Rattle.lra_report.specs.Spelled.{IsSpelledRow, IsSpelledGenerator}
 
 -- the first coefficient other than 0 is above 0

@@ -1,25 +1,17 @@
 -- The names that a tree declares are words among the tokens of its text, and each has a token of its own there: so of the variables that
 -- live at a label.
-use Rattle.std.proofs.Common.{◌≡◌, ℕ, ◌+◌, ◌≤◌, true, List, [], ◌∷◌, ◌++◌, length, map, refl, ap, sym, ◌∙◌, subst, arith, length-append, append_assoc}
-use Rattle.std.proofs.Common.{append-nil, Option, Some, None}
+use Rattle.std.proofs.Common.{◌≡◌, ℕ, ◌+◌, ◌≤◌, true, List, [], ◌∷◌, ◌++◌, length, map, refl, ap, sym, ◌∙◌, subst, arith, length-append, append_assoc, append-nil, Option, Some, None}
 use Rattle.std.specs.List.{AllByRecursion, flat_map}
 use Rattle.lra_base.specs.declared.refusals.Place.{Place}
-use Rattle.lra_syntax.specs.declared.trees.Identifier.{Identifier}
-use Rattle.lra_syntax.specs.declared.trees.Parameter.{Parameter}
-use Rattle.lra_syntax.specs.Lexeme.{is_name_word}
+use Rattle.lra_syntax.specs.Grammar.{IsDeclarator, IsDeclaration, IsInit, opened_by, level_of, IsStmt, AreCases, AreLabelled, AreStated, AreItems, IsParameter, AreParameters, IsFunction, IsGlobal}
+use Rattle.lra_syntax.specs.Labels.{Labelled, name_in, names_of, with_names, declarator_labels, init_labels, live_in_for, step_labels, stmt_labels, cases_labels, items_labels, function_labels}
 use Rattle.lra_syntax.specs.Texts.{Piece, Pieces, Texts, name, further, separated}
-use Rattle.lra_syntax.specs.Trees.{AssignTree, DeclaratorTree, DeclarationTree, InitTree, no_init, declared, assigned, StmtTree, block, nothing, assign, call}
-use Rattle.lra_syntax.specs.Trees.{ScalarOrArrayTree, scalar, array, if_only, if_else, while, for, break}
-use Rattle.lra_syntax.specs.Trees.{continue, return, assert, assume, switch, CasesTree, no_cases, labelled, stated, ItemsTree, no_items, declaration, statement}
+use Rattle.lra_syntax.specs.Trees.{AssignTree, DeclaratorTree, DeclarationTree, InitTree, no_init, declared, assigned, StmtTree, block, nothing, assign, call, ScalarOrArrayTree, scalar, array}
+use Rattle.lra_syntax.specs.Trees.{if_only, if_else, while, for, break, continue, return, assert, assume, switch, CasesTree, no_cases, labelled, stated, ItemsTree, no_items, declaration, statement}
 use Rattle.lra_syntax.specs.Trees.{FunctionTree, GlobalsTree, ExternalTree, prototype, globals, function}
-use Rattle.lra_syntax.specs.Grammar.{IsDeclarator, IsDeclaration, IsInit, opened_by, level_of, IsStmt, AreCases, AreLabelled, AreStated, AreItems, IsParameter}
-use Rattle.lra_syntax.specs.Grammar.{AreParameters, IsFunction, IsGlobal, AreGlobals, AreExternalDeclarations}
-use Rattle.lra_syntax.specs.Functions.{functions_in}
-use Rattle.lra_syntax.specs.Labels.{Labelled, name_in, names_of, with_names, declarator_labels, init_labels, live_in_for, step_labels, stmt_labels, cases_labels, items_labels}
-use Rattle.lra_syntax.specs.Labels.{function_labels}
+use Rattle.lra_syntax.specs.{Functions.functions_in, Grammar.AreGlobals, Grammar.AreExternalDeclarations, Lexeme.is_name_word, declared.trees.Identifier.Identifier, declared.trees.Parameter.Parameter}
 use Rattle.lra_resolution_spec.specs.LiveNames.{live_name, globals_named}
-use Rattle.lra_report.proofs.Every.{every_append, every_front, every_back}
-use Rattle.lra_report.proofs.TokenWords.{HasWord}
+use Rattle.lra_report.proofs.{Every.every_append, Every.every_front, Every.every_back, TokenWords.HasWord}
 
 abbrev pub IsNamed : Piece → Type 0
 IsNamed p = HasWord p.0.kind

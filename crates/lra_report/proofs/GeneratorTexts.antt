@@ -1,30 +1,16 @@
 -- One text, one generator.
 use Rattle.std.proofs.Common.{◌≡◌, ℕ, zero, suc, ◌<◌, ◌≤◌, ◌*◌, ◌/◌, ◌%◌, ℤ, pos, negsuc, nat_abs, nat_eq, neg_ℤ, ◌*ℤ◌, int_div, Bool, true, false, List, [], ◌∷◌, ◌++◌, length, codes, if◌then◌else◌}
 use Rattle.std.proofs.Common.{refl, ap, sym, ◌∙◌, subst, arith, append_assoc}
-use Rattle.std.specs.Prelude.{⊤}
-use Rattle.std.specs.List.{AllByRecursion}
-use Rattle.std.specs.Char.{is_ascii_digit}
-use Rattle.std.specs.Int.{◌∣◌}
-use Rattle.std.specs.Fmt.{decimal, signed_decimal}
-use Rattle.std.proofs.lemmas.Bool.{both_ways, eqb-true, eqb-false}
-use Rattle.std.proofs.lemmas.Bool.Decides.{nat_tests}
-use Rattle.std.proofs.lemmas.List.{append_cancel_left}
-use Rattle.std.proofs.lemmas.Nat.Gcd.{dvd_of_mod-eq-zero}
 use Rattle.std.proofs.Math.Nat.{one-dvd, pos_of_dvd_of_pos, mul-div_cancel', div-le_self}
-use Rattle.lra_linear_spec.specs.Range.{InRange}
-use Rattle.lra_linear_spec.specs.Vectors.{entry}
-use Rattle.lra_linear_spec.specs.LowestTerms.{IsPrimitive}
-use Rattle.lra_linear_spec.proofs.LowestTerms.{same_multiple, signed_quotient_is}
-use Rattle.lra_linear_spec.proofs.Products.{row_same}
-use Rattle.lra_linear_spec.proofs.Signs.{cancel_same}
-use Rattle.lra_linear_spec.proofs.Ring.{v as atom, ◌⊗◌, ring}
-use Rattle.lra_row_text.specs.Part.{ReportGenerator}
-use Rattle.lra_linear_spec.specs.declared.GenKind.{GenKind}
+use Rattle.std.proofs.{lemmas.Bool.both_ways, lemmas.Bool.eqb-true, lemmas.Bool.eqb-false, lemmas.Bool.Decides.nat_tests, lemmas.List.append_cancel_left, lemmas.Nat.Gcd.dvd_of_mod-eq-zero}
+use Rattle.std.specs.{Char.is_ascii_digit, Fmt.decimal, Fmt.signed_decimal, Int.◌∣◌, List.AllByRecursion, Prelude.⊤}
 use Rattle.lra_linear_spec.specs.declared.GenKind.TheVariants.{Point, Ray, Line}
+use Rattle.lra_linear_spec.specs.{LowestTerms.IsPrimitive, Range.InRange, Vectors.entry, declared.GenKind.GenKind}
+use Rattle.lra_linear_spec.proofs.{LowestTerms.same_multiple, LowestTerms.signed_quotient_is, Products.row_same, Ring.v as atom, Ring.◌⊗◌, Ring.ring, Signs.cancel_same}
+use Rattle.lra_row_text.specs.Part.{ReportGenerator}
 use Rattle.lra_row_text.specs.Texts.{greatest_divisor, fraction_text, coordinate_text, value_text, values_text, generator_kind_text, generator_text}
 use Rattle.lra_report.specs.Spelled.{IsSpelledGenerator}
-use Rattle.lra_report.proofs.Fronts.{is_visible, Ends, first_same, rest_same, both_same}
-use Rattle.lra_report.proofs.Numbers.{IsShort, decimal_same, signed_same, short_in_range}
+use Rattle.lra_report.proofs.{Fronts.is_visible, Fronts.Ends, Fronts.first_same, Fronts.rest_same, Fronts.both_same, Numbers.IsShort, Numbers.decimal_same, Numbers.signed_same, Numbers.short_in_range}
 
 -- values -------------------------------------------------------------------------
 

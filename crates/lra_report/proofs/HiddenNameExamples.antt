@@ -1,8 +1,6 @@
 -- Rows over a name that hides another.
 use Rattle.std.proofs.Common.{◌≡◌, pos, negsuc, [], ◌∷◌, refl}
-use Rattle.std.specs.Prelude.{codes}
-use Rattle.std.specs.List.{flat_map}
-use Rattle.std.specs.Fmt.{digits}
+use Rattle.std.specs.{Fmt.digits, List.flat_map, Prelude.codes}
 use Rattle.lra_resolution_spec.specs.ShownNames.{shown_names}
 use Rattle.lra_row_text.specs.Texts.{text_line}
 use Rattle.lra_report.specs.ReportText.{state_text}

@@ -1,19 +1,14 @@
 -- What the report of a source lists.
 use Rattle.std.proofs.Common.{◌≡◌, ℕ, [], ◌∷◌, refl}
-use Rattle.std.specs.Prelude.{codes, nat_eq, nat_lt, cond}
-use Rattle.std.specs.Fmt.{digits}
-use Rattle.lra_report.specs.Report.{PointReport}
-use Rattle.lra_syntax.specs.Labels.{labels_of}
-use Rattle.lra_program.specs.Sites.{Site, sites_of}
-use Rattle.lra_resolution_spec.specs.Resolve.{resolve}
-use Rattle.lra_operations.specs.Agree.{IsInlinedTree}
-use Rattle.lra_operations.specs.Tree.{Node, seq, point}
-use Rattle.lra_operations.specs.Inlined.{InlineItems, main_inline_state, as_declaration, as_fresh, as_statement, as_assign, as_value, as_assert, as_none}
-use Rattle.lra_base.specs.declared.number_types.NumberType.TheVariants.{Long}
-use Rattle.lra_program.specs.Program.{Element, input}
-use Rattle.lra_report.specs.declared.verdict_kinds.VerdictKind.TheVariants.{Access}
+use Rattle.std.specs.{Fmt.digits, Prelude.codes, Prelude.nat_eq, Prelude.nat_lt, Prelude.cond}
 use Rattle.lra_report.specs.Listing.{listed_point, computing_from, Subject, subjects, accesses_from, AreListed, AreJudged}
-use Rattle.lra_resolution_spec.specs.LiveNames.{globals_named}
+use Rattle.lra_report.specs.{Report.PointReport, declared.verdict_kinds.VerdictKind.TheVariants.Access}
+use Rattle.lra_syntax.specs.Labels.{labels_of}
+use Rattle.lra_program.specs.{Program.Element, Program.input, Sites.Site, Sites.sites_of}
+use Rattle.lra_resolution_spec.specs.{LiveNames.globals_named, Resolve.resolve}
+use Rattle.lra_operations.specs.Inlined.{InlineItems, main_inline_state, as_declaration, as_fresh, as_statement, as_assign, as_value, as_assert, as_none}
+use Rattle.lra_operations.specs.{Agree.IsInlinedTree, Tree.Node, Tree.seq, Tree.point}
+use Rattle.lra_base.specs.declared.number_types.NumberType.TheVariants.{Long}
 use Rattle.lra_syntax.proofs.TreeSamples.{at, literal_text, one_variable, called_twice, call_in_step}
 use Rattle.lra_report.proofs.ReportTextExamples as report
 use Rattle.lra_resolution_spec.proofs.SiteExamples.{site}

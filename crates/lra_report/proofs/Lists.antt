@@ -1,8 +1,7 @@
 -- Lines of parts, one at a time.
 use Rattle.std.proofs.Common.{codes, ◌≡◌, ◌≤◌, ◌+◌, ℕ, List, ◌∷◌, ◌++◌, length, drop, ap, sym, ◌∙◌, append_assoc, append-nil}
 use Rattle.std.proofs.lemmas.List.{drop_all}
-use Rattle.lra_row_text.specs.Part.{Part}
-use Rattle.lra_row_text.specs.Texts.{text_line, part_text}
+use Rattle.lra_row_text.specs.{Part.Part, Texts.text_line, Texts.part_text}
 use Rattle.lra_report.specs.ReportText.{further_parts_text}
 
 pub part_step : (names : List (List ℕ)) (t0 t1 t2 all : List ℕ) (parts : List Part) (j : ℕ) (p : Part) →

@@ -1,24 +1,15 @@
 -- The variables that live together in an accepted source are named by words, and there are few of them.
 use Rattle.std.proofs.Common.{◌≡◌, ℕ, zero, suc, ◌*◌, ◌≤◌, true, List, [], ◌∷◌, ◌++◌, length, ap, sym, subst, arith, length-append, slice_get}
-use Rattle.std.specs.List.{AllByRecursion}
 use Rattle.std.proofs.lemmas.List.{length-map}
-use Rattle.lra_syntax.specs.declared.tokens.Token.{Token}
-use Rattle.lra_syntax.specs.Lexeme.{is_name_word}
-use Rattle.lra_syntax.specs.Texts.{Piece, Pieces, plain}
-use Rattle.lra_syntax.specs.Trees.{FileTree}
-use Rattle.lra_syntax.specs.Grammar.{Spells}
-use Rattle.lra_syntax.specs.Faults.{Language}
+use Rattle.std.specs.List.{AllByRecursion}
 use Rattle.lra_syntax.specs.Labels.{Labelled, labels_of, label_at}
-use Rattle.lra_resolution_spec.specs.Resolve.{resolve}
+use Rattle.lra_syntax.specs.{Faults.Language, Grammar.Spells, Lexeme.is_name_word, Texts.Piece, Texts.Pieces, Texts.plain, Trees.FileTree, declared.tokens.Token.Token}
+use Rattle.lra_resolution_spec.specs.{LiveNames.live_at, LiveNames.live_in_call_at, LiveNames.names_outside, LiveNames.live_names, LiveNames.globals_named, Refuse.Accepts, Resolve.resolve}
 use Rattle.lra_program.specs.Sites.{Site, greatest_calls, sites_of}
 use Rattle.lra_base.specs.Places.{greatest_length}
-use Rattle.lra_resolution_spec.specs.Refuse.{Accepts}
-use Rattle.lra_resolution_spec.specs.LiveNames.{live_at, live_in_call_at, names_outside, live_names, globals_named}
 use Rattle.lra_report.specs.Spelled.{AreWords, HasWords}
-use Rattle.lra_report.proofs.Every.{every_append, every_front}
-use Rattle.lra_report.proofs.TokenWords.{HasWord, lexed_words, lexed_few}
 use Rattle.lra_report.proofs.DeclaredNames.{IsNamed, AreFew, AreFewAt, HasRoom, labels_few, globals_few}
-use Rattle.lra_report.proofs.SitePaths.{sites_shallow}
+use Rattle.lra_report.proofs.{Every.every_append, Every.every_front, SitePaths.sites_shallow, TokenWords.HasWord, TokenWords.lexed_words, TokenWords.lexed_few}
 
 -- the most tokens that a source may have
 abbrev most_tokens : ℕ

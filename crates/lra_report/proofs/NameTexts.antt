@@ -1,19 +1,13 @@
 -- The names of variables that live together are told apart by what is printed.
 use Rattle.std.proofs.Common.{◌≡◌, ◌≢◌, ℕ, zero, suc, ◌+◌, ◌<◌, ◌≤◌, ◌^◌, Bool, true, false, cond, List, [], ◌∷◌, ◌++◌, length, codes, count_by, bytes_eq, refl, ap, sym, ◌∙◌, subst, arith}
 use Rattle.std.proofs.Common.{append_assoc, append-nil}
-use Rattle.std.specs.List.{AllByRecursion, list_all}
-use Rattle.std.specs.Char.{is_ascii_digit}
-use Rattle.std.specs.Fmt.{decimal}
-use Rattle.std.proofs.lemmas.Bool.{and_parts}
-use Rattle.std.proofs.lemmas.Bool.Decides.{nat_tests}
-use Rattle.std.proofs.lemmas.Slice.Eq.{bytes_eq-Decides}
-use Rattle.std.proofs.lemmas.List.Sums.{sum_by-cons, count_by-le-length}
+use Rattle.std.proofs.{lemmas.Bool.and_parts, lemmas.Bool.Decides.nat_tests, lemmas.List.Sums.sum_by-cons, lemmas.List.Sums.count_by-le-length, lemmas.Slice.Eq.bytes_eq-Decides}
+use Rattle.std.specs.{Char.is_ascii_digit, Fmt.decimal, List.AllByRecursion, List.list_all}
 use Rattle.lra_syntax.specs.Lexeme.{is_letter, is_word_byte, is_name_word}
 use Rattle.lra_resolution_spec.specs.ShownNames.{shown_name, shown_names}
 use Rattle.lra_report.specs.Spelled.{AreWords}
 use Rattle.lra_report.proofs.Fronts.{is_visible, AllVisible, IsShownName, AreShownNames, Passes, Ends, front_same, rest_same}
-use Rattle.lra_report.proofs.Numbers.{IsShort, decimal_passes, decimal_same}
-use Rattle.lra_report.proofs.RowTexts.{digit_visible}
+use Rattle.lra_report.proofs.{Numbers.IsShort, Numbers.decimal_passes, Numbers.decimal_same, RowTexts.digit_visible}
 
 -- words --------------------------------------------------------------------------
 

@@ -1,9 +1,7 @@
 -- Names as a report shows them, one at a time.
-use Rattle.std.proofs.Common.{codes, count_by, bytes_eq, ◌≡◌, ◌<◌, ◌≤◌, ◌+◌, ℕ, zero, suc, List, [], ◌∷◌, ◌++◌, length, drop, take, ◌-◌, map, get_or, refl, ap, sym, ◌∙◌, append_assoc}
-use Rattle.std.proofs.Common.{append-nil}
+use Rattle.std.proofs.Common.{codes, count_by, bytes_eq, ◌≡◌, ◌<◌, ◌≤◌, ◌+◌, ℕ, zero, suc, List, [], ◌∷◌, ◌++◌, length, drop, take, ◌-◌, map, get_or, refl, ap, sym, ◌∙◌, append_assoc, append-nil}
+use Rattle.std.proofs.{Math.Seq.take-length, lemmas.List.drop_all, lemmas.List.length-drop}
 use Rattle.std.specs.Fmt.{decimal}
-use Rattle.std.proofs.lemmas.List.{drop_all, length-drop}
-use Rattle.std.proofs.Math.Seq.{take-length}
 use Rattle.lra_resolution_spec.specs.ShownNames.{shown_name, shown_names}
 use Rattle.lra_row_text.proofs.Lists.{drop_front}
 

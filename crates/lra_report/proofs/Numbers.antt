@@ -1,11 +1,7 @@
 -- Numbers in a text are told by it.
 use Rattle.std.proofs.Common.{◌≡◌, ℕ, zero, suc, ◌<◌, ◌+◌, ◌/◌, ◌%◌, ◌^◌, ◌==◌, ℤ, pos, negsuc, nat_abs, Bool, true, false, List, [], ◌∷◌, ◌++◌, if◌then◌else◌, ap, sym, ◌∙◌, lt-ltb, arith}
-use Rattle.std.specs.Char.{is_ascii_digit}
-use Rattle.std.specs.Fmt.{decimal, digits, digit_glyph, digits_onto, signed_decimal}
-use Rattle.std.specs.Str.Parse.{digits_value}
-use Rattle.std.proofs.lemmas.Fmt.{decimal_is_IsNumeral_wide}
-use Rattle.std.proofs.lemmas.Bool.{le-leb, and_from}
-use Rattle.std.proofs.lemmas.Nat.{mod_below}
+use Rattle.std.proofs.{lemmas.Bool.le-leb, lemmas.Bool.and_from, lemmas.Fmt.decimal_is_IsNumeral_wide, lemmas.Nat.mod_below}
+use Rattle.std.specs.{Char.is_ascii_digit, Fmt.decimal, Fmt.digits, Fmt.digit_glyph, Fmt.digits_onto, Fmt.signed_decimal, Str.Parse.digits_value}
 use Rattle.lra_linear_spec.specs.Range.{InRange}
 use Rattle.lra_report.proofs.Fronts.{Passes, Ends, front_same, front_first, rest_same}
 

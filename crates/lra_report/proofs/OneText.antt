@@ -1,27 +1,18 @@
 -- One text, one report.
 use Rattle.std.proofs.Common.{◌≡◌, ℕ, suc, ◌<◌, ◌^◌, nat_eq, Bool, false, List, [], ◌∷◌, ◌++◌, length, codes, refl, ap, sym, ◌∙◌, subst, arith, append_assoc, Option, Some, None}
-use Rattle.std.specs.List.{AllByRecursion, flat_map}
-use Rattle.std.specs.Fmt.{decimal}
-use Rattle.std.proofs.lemmas.List.{append_cancel_left}
-use Rattle.std.proofs.lemmas.Bool.{eqb-false}
+use Rattle.std.proofs.{lemmas.Bool.eqb-false, lemmas.List.append_cancel_left}
+use Rattle.std.specs.{Fmt.decimal, List.AllByRecursion, List.flat_map, Prelude.get_or}
 use Rattle.lra_syntax.specs.Labels.{Labelled, labels_of, label_at, label_place}
-use Rattle.lra_resolution_spec.specs.Resolve.{resolve}
+use Rattle.lra_resolution_spec.specs.{LiveNames.live_names, LiveNames.globals_named, Resolve.resolve, ShownNames.shown_names}
 use Rattle.lra_program.specs.Sites.{Site, sites_of}
-use Rattle.lra_report.specs.Report.{PointReport, Verdict, Report}
-use Rattle.lra_row_text.specs.Texts.{text_line}
-use Rattle.std.specs.Prelude.{get_or}
-use Rattle.lra_report.specs.VerdictKinds.{row_of, outcome_text}
-use Rattle.lra_report.proofs.Outcomes.{outcome_same}
-use Rattle.lra_report.specs.ReportText.{place_text, path_text, heading_text, options_text, flag_text, state_text, point_text, verdict_text, counts_line, report_text}
-use Rattle.lra_resolution_spec.specs.ShownNames.{shown_names}
-use Rattle.lra_resolution_spec.specs.LiveNames.{live_names, globals_named}
-use Rattle.lra_options.specs.declared.options.Options.{Options}
 use Rattle.lra_report.specs.Listing.{calls_on, listed_point, Subject, subjects, listed_verdict, AreListed, AreJudged}
+use Rattle.lra_report.specs.ReportText.{place_text, path_text, heading_text, options_text, flag_text, state_text, point_text, verdict_text, counts_line, report_text}
 use Rattle.lra_report.specs.Spelled.{IsReadablePart, IsReadablePoint, IsSmallFlag, AreWords, OneText}
+use Rattle.lra_report.specs.{Report.PointReport, Report.Verdict, Report.Report, VerdictKinds.row_of, VerdictKinds.outcome_text}
+use Rattle.lra_row_text.specs.Texts.{text_line}
 use Rattle.lra_report.proofs.Fronts.{first_same, rest_same, both_same}
-use Rattle.lra_report.proofs.Numbers.{IsShort, decimal_same}
-use Rattle.lra_report.proofs.NameTexts.{are_shown}
-use Rattle.lra_report.proofs.StateTexts.{letter, line_pieces, state_same}
+use Rattle.lra_report.proofs.{NameTexts.are_shown, Numbers.IsShort, Numbers.decimal_same, Outcomes.outcome_same, StateTexts.letter, StateTexts.line_pieces, StateTexts.state_same}
+use Rattle.lra_options.specs.declared.options.Options.{Options}
 
 -- points -------------------------------------------------------------------------
 

@@ -1,14 +1,12 @@
 -- Reports that aren't those of a source. Which slip an example would catch stands beside it.
 use Rattle.std.proofs.Common.{◌≡◌, ℕ, List, [], ◌∷◌, ap, subst, sym, arith}
 use Rattle.std.specs.Prelude.{codes}
-use Rattle.lra_options.specs.declared.options.Domain.TheVariants.{Poly, Box}
-use Rattle.lra_options.specs.declared.options.Options.{Options}
+use Rattle.lra_options.specs.{declared.options.Domain.TheVariants.Poly, declared.options.Domain.TheVariants.Box, declared.options.Options.Options}
 use Rattle.lra_row_text.specs.Part.{Part}
-use Rattle.lra_report.specs.Parts.{ShowsPart}
+use Rattle.lra_report.specs.{Listing.AreParts, Listing.IsReportOf, Parts.ShowsPart}
 use Rattle.lra_syntax.specs.Grammar.{Spells}
-use Rattle.lra_report.specs.Listing.{AreParts, IsReportOf}
-use Rattle.lra_report.proofs.ReportTextExamples.{defaults, both, a_point, empty_main, one_variable}
 use Rattle.lra_report.proofs.PartExamples.{box_with_generator}
+use Rattle.lra_report.proofs.ReportTextExamples.{defaults, both, a_point, empty_main, one_variable}
 
 -- a report under other options, one with more parts than it may have, and generators over boxes
 apart : defaults Box ≡ defaults Poly → ⊥

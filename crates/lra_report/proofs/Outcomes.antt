@@ -1,10 +1,8 @@
 -- The line of a verdict tells whether it holds.
 use Rattle.std.proofs.Common.{◌≡◌, ℕ, Bool, true, false, List, [], ◌∷◌, ◌++◌, refl, ap, sym, ◌∙◌}
+use Rattle.std.proofs.{lemmas.Bool.eqb-false, lemmas.List.append_cancel_left}
 use Rattle.std.specs.Prelude.{get_or}
-use Rattle.std.proofs.lemmas.List.{append_cancel_left}
-use Rattle.std.proofs.lemmas.Bool.{eqb-false}
-use Rattle.lra_report.specs.declared.verdict_kinds.VerdictKind.{VerdictKind}
-use Rattle.lra_report.specs.VerdictKinds.{row_of, outcome_text}
+use Rattle.lra_report.specs.{VerdictKinds.row_of, VerdictKinds.outcome_text, declared.verdict_kinds.VerdictKind.VerdictKind}
 use Rattle.lra_report.proofs.Fronts.{rest_same}
 
 -- the first byte of a line's end is the word's, or the line feed

@@ -1,7 +1,6 @@
 -- Lines of refusals.
 use Rattle.std.proofs.Common.{◌≡◌, [], ◌∷◌, ◌++◌, refl}
-use Rattle.std.specs.Prelude.{codes}
-use Rattle.std.specs.Fmt.{digits}
+use Rattle.std.specs.{Fmt.digits, Prelude.codes}
 use Rattle.lra_base.specs.declared.refusals.Cause.TheVariants.{TooLong, TooManyPoints}
 use Rattle.lra_report.specs.RefusalText.{refusal_text}
 

@@ -1,21 +1,14 @@
 -- Texts of reports, whole and in parts. Which slip an example would catch stands beside it.
 use Rattle.std.proofs.Common.{◌≡◌, ℕ, ℤ, pos, negsuc, List, [], ◌∷◌, Some, None, Bool, true, false, refl}
-use Rattle.std.specs.Prelude.{codes}
-use Rattle.std.specs.List.{flat_map}
-use Rattle.std.specs.Fmt.{digits}
-use Rattle.lra_options.specs.declared.options.Domain.{Domain}
-use Rattle.lra_options.specs.declared.options.Domain.TheVariants.{Poly, Box}
-use Rattle.lra_options.specs.declared.options.Options.{Options}
+use Rattle.std.specs.{Fmt.digits, List.flat_map, Prelude.codes}
 use Rattle.lra_options.specs.OptionRows.{default_options}
-use Rattle.lra_report.specs.declared.verdict_kinds.VerdictKind.TheVariants.{Assertion, Fit, Access}
-use Rattle.lra_report.specs.Report.{Place, PointReport, Verdict, Report}
-use Rattle.lra_row_text.specs.Part.{ReportGenerator, Part}
-use Rattle.lra_linear_spec.specs.declared.GenKind.TheVariants.{Point, Ray, Line}
-use Rattle.lra_linear_spec.specs.declared.ConKind.TheVariants.{Ge, Eq}
-use Rattle.lra_row_text.specs.Rows.{ReportRow}
-use Rattle.lra_row_text.specs.Texts.{text_line, row_text, generator_text}
+use Rattle.lra_options.specs.{declared.options.Domain.Domain, declared.options.Domain.TheVariants.Poly, declared.options.Domain.TheVariants.Box, declared.options.Options.Options}
 use Rattle.lra_report.specs.ReportText.{state_text, flag_text, report_text, path_text}
-use Rattle.lra_report.specs.BackText.{back_text}
+use Rattle.lra_report.specs.declared.verdict_kinds.VerdictKind.TheVariants.{Assertion, Fit, Access}
+use Rattle.lra_report.specs.{BackText.back_text, Report.Place, Report.PointReport, Report.Verdict, Report.Report}
+use Rattle.lra_row_text.specs.{Part.ReportGenerator, Part.Part, Rows.ReportRow, Texts.text_line, Texts.row_text, Texts.generator_text}
+use Rattle.lra_linear_spec.specs.declared.ConKind.TheVariants.{Ge, Eq}
+use Rattle.lra_linear_spec.specs.declared.GenKind.TheVariants.{Point, Ray, Line}
 
 abbrev at : ℕ → ℕ → Place
 at l c = record { line = l; column = c }

@@ -1,11 +1,8 @@
 -- Rows whose numbers are in the range are shown so.
-use Rattle.std.proofs.Common.{ℤ, List, [], ◌∷◌, arith}
+use Rattle.std.proofs.{Common.ℤ, Common.List, Common.[], Common.◌∷◌, Common.arith, lemmas.List.Elements.All-head, lemmas.List.Elements.All-tail}
 use Rattle.std.specs.List.{All, AllByRecursion}
-use Rattle.std.proofs.lemmas.List.Elements.{All-head, All-tail}
-use Rattle.lra_linear_spec.specs.Range.{InRange}
-use Rattle.lra_linear_spec.specs.declared.ConKind.{ConKind}
-use Rattle.lra_row_text.specs.Shown.{report_row}
-use Rattle.lra_row_text.specs.Lists.{shown_rows}
+use Rattle.lra_linear_spec.specs.{Range.InRange, declared.ConKind.ConKind}
+use Rattle.lra_row_text.specs.{Lists.shown_rows, Shown.report_row}
 use Rattle.lra_report.specs.Rows.{IsRowInRange}
 
 each : (zs : List ℤ) → All InRange zs → AllByRecursion InRange zs

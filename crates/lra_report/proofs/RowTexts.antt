@@ -1,18 +1,9 @@
 -- One text, one row.
-use Rattle.std.specs.Prelude.{⊤}
+use Rattle.std.specs.{Char.is_ascii_digit, Fmt.decimal, Fmt.signed_decimal, List.AllByRecursion, Prelude.⊤}
 use Rattle.std.proofs.Common.{◌≡◌, ◌≢◌, ℕ, zero, suc, ◌<◌, ℤ, pos, negsuc, nat_eq, nat_lt, not, Bool, true, false, List, [], ◌∷◌, ◌++◌, length, map, codes, if◌then◌else◌, refl, ap, sym, ◌∙◌, arith}
-use Rattle.std.proofs.Common.{append_assoc, zero-add}
-use Rattle.std.specs.List.{AllByRecursion}
-use Rattle.std.specs.Char.{is_ascii_digit}
-use Rattle.std.specs.Fmt.{decimal, signed_decimal}
-use Rattle.std.proofs.lemmas.Bool.{both_ways, eqb-true}
-use Rattle.std.proofs.lemmas.Int.{ints}
-use Rattle.std.proofs.lemmas.Bool.Decides.{nat_tests}
-use Rattle.lra_linear_spec.specs.Range.{InRange}
-use Rattle.lra_linear_spec.specs.declared.ConKind.{ConKind}
-use Rattle.lra_linear_spec.specs.declared.ConKind.TheVariants.{Ge, Eq}
-use Rattle.lra_row_text.specs.Rows.{ReportRow}
-use Rattle.lra_row_text.specs.Texts.{product_text, terms_text, form_text, relation_text, row_text, is_negated, negated_if}
+use Rattle.std.proofs.{Common.append_assoc, Common.zero-add, lemmas.Bool.both_ways, lemmas.Bool.eqb-true, lemmas.Bool.Decides.nat_tests, lemmas.Int.ints}
+use Rattle.lra_linear_spec.specs.{Range.InRange, declared.ConKind.ConKind, declared.ConKind.TheVariants.Ge, declared.ConKind.TheVariants.Eq}
+use Rattle.lra_row_text.specs.{Rows.ReportRow, Texts.product_text, Texts.terms_text, Texts.form_text, Texts.relation_text, Texts.row_text, Texts.is_negated, Texts.negated_if}
 use Rattle.lra_report.specs.Spelled.{IsDirected, IsSpelledRow}
 use Rattle.lra_report.proofs.Fronts.{is_visible, IsShownName, AreShownNames, Passes, Ends, front_same, front_first, first_same, rest_same, both_same, visible_passes}
 use Rattle.lra_report.proofs.Numbers.{IsShort, decimal_first, decimal_same, signed_same, short_in_range}

@@ -1,14 +1,8 @@
 -- Reports of one accepted source are told by their texts.
 use Rattle.std.proofs.Common.{sym, ◌∙◌, subst}
-use Rattle.lra_syntax.specs.Texts.{Pieces}
-use Rattle.lra_syntax.specs.Trees.{FileTree}
-use Rattle.lra_syntax.specs.Grammar.{Spells}
-use Rattle.lra_syntax.specs.Faults.{Language}
-use Rattle.lra_report.specs.Report.{Report}
-use Rattle.lra_report.specs.Listing.{Lists}
-use Rattle.lra_report.specs.Spelled.{OneAcceptedText, OneSourceText}
-use Rattle.lra_report.proofs.OneText.{one_report}
-use Rattle.lra_report.proofs.LiveWords.{accepted_words}
+use Rattle.lra_syntax.specs.{Faults.Language, Grammar.Spells, Texts.Pieces, Trees.FileTree}
+use Rattle.lra_report.specs.{Listing.Lists, Report.Report, Spelled.OneAcceptedText, Spelled.OneSourceText}
+use Rattle.lra_report.proofs.{LiveWords.accepted_words, OneText.one_report}
 
 pub one_accepted : (r s : Report) → OneAcceptedText r s
 one_accepted r s source t a = one_report r s t (accepted_words Spells (λ u z h. h) source t a)

@@ -1,11 +1,8 @@
 -- What one text would tell of two rows, points or variables, where a premise is left out.
 use Rattle.std.proofs.Common.{◌≡◌, ℕ, ℤ, pos, negsuc, List, [], ◌∷◌, codes, refl}
 use Rattle.std.specs.Fmt.{digits}
-use Rattle.lra_linear_spec.specs.declared.ConKind.TheVariants.{Eq}
-use Rattle.lra_row_text.specs.Rows.{ReportRow}
-use Rattle.lra_row_text.specs.Part.{ReportGenerator}
-use Rattle.lra_linear_spec.specs.declared.GenKind.TheVariants.{Point}
-use Rattle.lra_row_text.specs.Texts.{row_text, generator_text}
+use Rattle.lra_linear_spec.specs.{declared.ConKind.TheVariants.Eq, declared.GenKind.TheVariants.Point}
+use Rattle.lra_row_text.specs.{Part.ReportGenerator, Rows.ReportRow, Texts.row_text, Texts.generator_text}
 use Rattle.lra_resolution_spec.specs.ShownNames.{shown_names}
 
 abbrev is_zero : ℤ → List ℤ → ReportRow

@@ -1,18 +1,11 @@
 -- One text, one state.
 use Rattle.std.proofs.Common.{◌≡◌, ◌≢◌, ℕ, nat_eq, false, List, [], ◌∷◌, ◌++◌, length, codes, if◌then◌else◌, refl, ap, sym, ◌∙◌, arith, append_assoc, append-nil}
+use Rattle.std.proofs.{lemmas.Bool.eqb-false, lemmas.List.append_cancel_left}
 use Rattle.std.specs.List.{AllByRecursion, flat_map}
-use Rattle.std.proofs.lemmas.List.{append_cancel_left}
-use Rattle.std.proofs.lemmas.Bool.{eqb-false}
-use Rattle.lra_row_text.specs.Rows.{ReportRow}
-use Rattle.lra_row_text.specs.Part.{ReportGenerator, Part}
-use Rattle.lra_report.specs.Report.{Invariant}
 use Rattle.lra_row_text.specs.Texts.{text_line, row_text, generator_text, rows_text, generators_text, part_text}
-use Rattle.lra_report.specs.ReportText.{further_parts_text, state_text}
-use Rattle.lra_report.specs.Spelled.{IsSpelledRow, IsSpelledGenerator, IsReadablePart}
-use Rattle.lra_row_text.specs.Lines.{row_line, generator_line}
-use Rattle.lra_report.proofs.Fronts.{AreShownNames, rest_same, both_same}
-use Rattle.lra_report.proofs.RowTexts.{row_same, row_not_true}
-use Rattle.lra_report.proofs.GeneratorTexts.{generator_same}
+use Rattle.lra_row_text.specs.{Lines.row_line, Lines.generator_line, Part.ReportGenerator, Part.Part, Rows.ReportRow}
+use Rattle.lra_report.specs.{Report.Invariant, ReportText.further_parts_text, ReportText.state_text, Spelled.IsSpelledRow, Spelled.IsSpelledGenerator, Spelled.IsReadablePart}
+use Rattle.lra_report.proofs.{Fronts.AreShownNames, Fronts.rest_same, Fronts.both_same, GeneratorTexts.generator_same, RowTexts.row_same, RowTexts.row_not_true}
 
 -- the first letter of a line of a state, behind its two blanks; 0 elsewhere
 abbrev pub letter : List ℕ → ℕ

@@ -1,13 +1,10 @@
 -- What is written of going back from an assertion: at each point what is left there, as a report tells it, and whether
 -- the assertion is proved.
 use Rattle.std.specs.Prelude.{ℕ, List, ◌++◌, codes, Option, Bool}
-use Rattle.std.specs.List.{flat_map}
-use Rattle.std.specs.Fmt.{decimal}
+use Rattle.std.specs.{Fmt.decimal, List.flat_map}
 use Rattle.lra_row_text.specs.Texts.{text_line}
-use Rattle.lra_report.specs.declared.verdict_kinds.VerdictKind.TheVariants.{Assertion}
-use Rattle.lra_report.specs.VerdictKinds.{row_of, outcome_text}
-use Rattle.lra_report.specs.Report.{PointReport}
-use Rattle.lra_report.specs.ReportText.{flag_text, point_text}
+use Rattle.lra_report.specs.{Report.PointReport, ReportText.flag_text, ReportText.point_text, VerdictKinds.row_of}
+use Rattle.lra_report.specs.{VerdictKinds.outcome_text, declared.verdict_kinds.VerdictKind.TheVariants.Assertion}
 
 -- from the assertion at the point of this number; `flagged` is that of the point to which the first flagged operation
 -- belongs

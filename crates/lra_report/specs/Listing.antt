@@ -2,33 +2,24 @@
 -- its path, its place, the names of its live variables, and rows and generators over these; and a verdict on each of
 -- what is judged, in order: on each assertion, where it is asked for on each point at which something is computed, and
 -- on each access of an array, at each point in the order of evaluation.
+use Rattle.std.specs.List.{AllByRecursion, list_any, flat_map}
 use Rattle.std.specs.Prelude.{◌≡◌, ℕ, suc, Bool, true, false, List, [], ◌∷◌, ◌++◌, length, map, Option, Some, None, ⊤}
 use Rattle.std.specs.Prelude.{◌<◌, ◌≤◌, cond, nat_eq, nat_lt}
-use Rattle.std.specs.List.{AllByRecursion, list_any, flat_map}
-use Rattle.lra_syntax.specs.declared.trees.Identifier.{Identifier}
+use Rattle.lra_syntax.specs.Labels.{Labelled, labels_of, label_at, label_place}
+use Rattle.lra_syntax.specs.{Faults.Language, Trees.FileTree, declared.trees.Identifier.Identifier}
 use Rattle.lra_options.specs.declared.options.Options.{Options}
 use Rattle.lra_base.specs.declared.refusals.Place.{Place}
-use Rattle.lra_report.specs.declared.verdict_kinds.VerdictKind.{VerdictKind}
-use Rattle.lra_report.specs.declared.verdict_kinds.VerdictKind.TheVariants.{Assertion, Fit, Access}
-use Rattle.lra_row_text.specs.Part.{ReportGenerator, Part}
 use Rattle.lra_report.specs.Report.{Invariant, PointReport, Verdict, Report, IsSound}
-use Rattle.lra_row_text.specs.Rows.{ReportRow}
 use Rattle.lra_report.specs.ReportText.{CallPlace, path_text}
-use Rattle.lra_resolution_spec.specs.ShownNames.{shown_names}
-use Rattle.lra_report.specs.Parts.{ShowsPart}
-use Rattle.lra_syntax.specs.Trees.{FileTree}
-use Rattle.lra_syntax.specs.Labels.{Labelled, labels_of, label_at, label_place}
-use Rattle.lra_resolution_spec.specs.Resolve.{resolve}
-use Rattle.lra_program.specs.Sites.{Site, sites_of}
-use Rattle.lra_syntax.specs.Faults.{Language}
-use Rattle.lra_resolution_spec.specs.Refuse.{Accepts}
+use Rattle.lra_report.specs.declared.verdict_kinds.VerdictKind.TheVariants.{Assertion, Fit, Access}
+use Rattle.lra_report.specs.{Parts.ShowsPart, declared.verdict_kinds.VerdictKind.VerdictKind}
+use Rattle.lra_row_text.specs.{Part.ReportGenerator, Part.Part, Rows.ReportRow}
 use Rattle.lra_resolution_spec.specs.LiveNames.{globals_named, live_names}
-use Rattle.lra_program.specs.Accesses.{op_accesses}
+use Rattle.lra_resolution_spec.specs.{Refuse.Accepts, Resolve.resolve, ShownNames.shown_names}
 use Rattle.lra_program.specs.Assertions.{assertions_from}
-use Rattle.lra_program.specs.Program.{Element}
-use Rattle.lra_operations.specs.Tree.{Node}
+use Rattle.lra_program.specs.{Accesses.op_accesses, Program.Element, Sites.Site, Sites.sites_of}
 use Rattle.lra_operations.specs.CheckedOperations.{OpAtPoint, computing_ops, accessing_ops}
-use Rattle.lra_operations.specs.Agree.{IsInlinedTree}
+use Rattle.lra_operations.specs.{Agree.IsInlinedTree, Tree.Node}
 
 abbrev pub call_at : Option Identifier → List CallPlace
 call_at None = []

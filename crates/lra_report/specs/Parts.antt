@@ -1,18 +1,12 @@
 -- What a part tells by its rows, and what by its generators: two sets of points with rational coordinates (Minkowski
 -- 1896, Weyl 1935).
 -- A report has the generators only over polyhedra, and there both tell the same points.
-use Rattle.std.specs.Prelude.{◌≡◌, ◌↔◌, ℕ, ◌<◌, ℤ, pos, ◌+ℤ◌, ◌*ℤ◌, ◌≤ℤ◌, List, [], ◌∷◌, length, map, get_or, ⊤}
-use Rattle.std.specs.Prelude.{Bool, true, false}
-use Rattle.std.specs.List.{AllByRecursion}
-use Rattle.lra_options.specs.declared.options.Domain.{Domain}
-use Rattle.lra_options.specs.Domains.{shows_generators}
-use Rattle.lra_row_text.specs.Part.{ReportGenerator, Part}
-use Rattle.lra_linear_spec.specs.declared.GenKind.{GenKind}
+use Rattle.std.specs.Prelude.{◌≡◌, ◌↔◌, ℕ, ◌<◌, ℤ, pos, ◌+ℤ◌, ◌*ℤ◌, ◌≤ℤ◌, List, [], ◌∷◌, length, map, get_or, ⊤, Bool}
+use Rattle.std.specs.{List.AllByRecursion, Prelude.true, Prelude.false}
+use Rattle.lra_options.specs.{Domains.shows_generators, declared.options.Domain.Domain}
+use Rattle.lra_row_text.specs.{Part.ReportGenerator, Part.Part, Rows.ReportRow}
 use Rattle.lra_linear_spec.specs.declared.GenKind.TheVariants.{Point, Ray, Line}
-use Rattle.lra_linear_spec.specs.Descriptions.{HoldsWith}
-use Rattle.lra_linear_spec.specs.Kinds.{is_equality}
-use Rattle.lra_linear_spec.specs.Vectors.{product}
-use Rattle.lra_row_text.specs.Rows.{ReportRow}
+use Rattle.lra_linear_spec.specs.{Descriptions.HoldsWith, Kinds.is_equality, Vectors.product, declared.GenKind.GenKind}
 
 -- its coordinates are the numerators over the divisor; a store is such a point with the divisor 1
 pub record RationalPoint : Type 0 where

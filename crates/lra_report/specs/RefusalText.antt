@@ -1,9 +1,7 @@
 -- The text of a refusal. The line ends with a line feed.
-use Rattle.std.specs.Prelude.{ℕ, List, ◌++◌, codes}
-use Rattle.std.specs.Fmt.{decimal}
-use Rattle.lra_base.specs.declared.refusals.Place.{Place}
-use Rattle.lra_base.specs.declared.refusals.Cause.{Cause}
+use Rattle.std.specs.{Fmt.decimal, Prelude.ℕ, Prelude.List, Prelude.◌++◌, Prelude.codes}
 use Rattle.lra_base.specs.Causes.{cause_number, cause_name}
+use Rattle.lra_base.specs.{declared.refusals.Cause.Cause, declared.refusals.Place.Place}
 use Rattle.lra_row_text.specs.Texts.{text_line}
 use Rattle.lra_report.specs.ReportText.{place_text}
 

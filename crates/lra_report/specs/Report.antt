@@ -1,15 +1,12 @@
 -- A report: what it has, and what it claims of a program.
 -- a line and a byte in it, both from 1
-use Rattle.std.specs.Prelude.{◌⊎◌, ℕ, ℤ, List, [], ◌∷◌, Bool, Option, IsTrue}
 use Rattle.std.specs.List.{AllByRecursion}
+use Rattle.std.specs.Prelude.{◌⊎◌, ℕ, ℤ, List, [], ◌∷◌, Bool, Option, IsTrue}
 pub use Rattle.lra_base.specs.declared.refusals.Place.{Place}
 use Rattle.lra_options.specs.declared.options.Options.{Options}
-use Rattle.lra_program.specs.Program.{Program}
-use Rattle.lra_program.specs.Run.{Point, At}
-use Rattle.lra_row_text.specs.Part.{Part}
-use Rattle.lra_row_text.specs.Rows.{RowHolds}
-use Rattle.lra_report.specs.declared.verdict_kinds.VerdictKind.{VerdictKind}
-use Rattle.lra_report.specs.VerdictKinds.{Breaks}
+use Rattle.lra_program.specs.{Program.Program, Run.Point, Run.At}
+use Rattle.lra_row_text.specs.{Part.Part, Rows.RowHolds}
+use Rattle.lra_report.specs.{VerdictKinds.Breaks, declared.verdict_kinds.VerdictKind.VerdictKind}
 
 -- what is known at a point: one of the parts holds; no part says that no run comes here
 abbrev pub Invariant : Type 0

@@ -1,18 +1,13 @@
 -- The text of a report. Every line ends with a line feed.
-use Rattle.std.specs.Prelude.{ℕ, List, [], ◌∷◌, ◌++◌, codes, if◌then◌else◌, count_by, Option, Some, None}
-use Rattle.std.specs.Prelude.{Bool, not, ◌&&◌}
-use Rattle.std.specs.List.{flat_map}
-use Rattle.std.specs.Fmt.{decimal}
-use Rattle.lra_options.specs.declared.options.Options.{Options}
-use Rattle.lra_options.specs.declared.options.NumberOption.{NumberOption}
-use Rattle.lra_options.specs.declared.options.FlagOption.{FlagOption}
-use Rattle.lra_options.specs.Domains.{domain_name}
-use Rattle.lra_options.specs.OptionRows.{number_row, number_value, number_options, is_number_reported}
-use Rattle.lra_options.specs.OptionRows.{flag_row, flag_value, flag_options, is_reported}
-use Rattle.lra_row_text.specs.Part.{Part}
-use Rattle.lra_row_text.specs.Texts.{text_line, part_text}
-use Rattle.lra_report.specs.VerdictKinds.{row_of, outcome_text}
+use Rattle.std.specs.Prelude.{ℕ, List, [], ◌∷◌, ◌++◌, codes, if◌then◌else◌, count_by, Option, Some, None, Bool, not}
+use Rattle.std.specs.{Fmt.decimal, List.flat_map, Prelude.◌&&◌}
+use Rattle.lra_options.specs.OptionRows.{number_row, number_value, number_options, is_number_reported, flag_row}
+use Rattle.lra_options.specs.OptionRows.{flag_value, flag_options, is_reported}
+use Rattle.lra_options.specs.{Domains.domain_name, declared.options.FlagOption.FlagOption}
+use Rattle.lra_options.specs.{declared.options.NumberOption.NumberOption, declared.options.Options.Options}
+use Rattle.lra_row_text.specs.{Part.Part, Texts.text_line, Texts.part_text}
 use Rattle.lra_report.specs.Report.{Place, Invariant, PointReport, Verdict, Report}
+use Rattle.lra_report.specs.VerdictKinds.{row_of, outcome_text}
 
 abbrev pub place_text : Place → List ℕ
 place_text p = decimal p.line ++ codes ":" ++ decimal p.column

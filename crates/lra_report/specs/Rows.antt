@@ -1,12 +1,8 @@
 -- Lists of constraints and of generators, as a report shows them.
-use Rattle.std.specs.Prelude.{List, [], Option, Some, None}
-use Rattle.std.specs.List.{AllByRecursion}
-use Rattle.lra_linear_spec.specs.Range.{InRange}
-use Rattle.lra_linear_spec.specs.declared.GenKind.{GenKind}
+use Rattle.std.specs.{List.AllByRecursion, Prelude.List, Prelude.[], Prelude.Option, Prelude.Some, Prelude.None}
+use Rattle.lra_linear_spec.specs.{Range.InRange, declared.GenKind.GenKind}
 use Rattle.lra_systems.specs.LinearSystems.{LinearSystem, FitKinds}
-use Rattle.lra_row_text.specs.Rows.{ReportRow}
-use Rattle.lra_row_text.specs.Lists.{shown_generators}
-use Rattle.lra_row_text.specs.Part.{ReportGenerator, Part}
+use Rattle.lra_row_text.specs.{Lists.shown_generators, Part.ReportGenerator, Part.Part, Rows.ReportRow}
 
 -- none where there is no list
 abbrev pub optional_generators : Option (LinearSystem GenKind) → List ReportGenerator

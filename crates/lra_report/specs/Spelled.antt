@@ -1,31 +1,18 @@
 -- When a text tells what it was written of: canonical lists, numbers of the range, and names of variables that can be
 -- told apart.
-use Rattle.std.specs.Prelude.{◌≡◌, ℕ, ℤ, pos, List, ◌∷◌, length, true, false, ⊤, ◌<◌, ◌^◌, Option, Some, None}
 use Rattle.std.specs.List.{AllByRecursion}
-use Rattle.lra_linear_spec.specs.Range.{InRange}
+use Rattle.std.specs.Prelude.{◌≡◌, ℕ, ℤ, pos, List, ◌∷◌, length, true, false, ⊤, ◌<◌, ◌^◌, Option, Some, None}
 use Rattle.lra_linear_spec.specs.LowestTerms.{IsPrimitive}
-use Rattle.lra_syntax.specs.Lexeme.{is_name_word}
-use Rattle.lra_syntax.specs.Trees.{FileTree}
-use Rattle.lra_syntax.specs.Labels.{labels_of}
-use Rattle.lra_resolution_spec.specs.Resolve.{resolve}
-use Rattle.lra_program.specs.Sites.{sites_of}
-use Rattle.lra_syntax.specs.Grammar.{Spells}
-use Rattle.lra_syntax.specs.Faults.{Language}
-use Rattle.lra_resolution_spec.specs.Refuse.{Accepts}
-use Rattle.lra_options.specs.declared.options.Options.{Options}
-use Rattle.lra_row_text.specs.Part.{ReportGenerator, Part}
-use Rattle.lra_report.specs.Report.{PointReport, Report}
-use Rattle.lra_linear_spec.specs.declared.ConKind.{ConKind}
-use Rattle.lra_linear_spec.specs.declared.GenKind.{GenKind}
-use Rattle.lra_linear_spec.specs.declared.GenKind.TheVariants.{Point, Ray, Line}
 use Rattle.lra_linear_spec.specs.declared.ConKind.TheVariants.{Ge, Eq}
-use Rattle.lra_row_text.specs.Rows.{ReportRow}
-use Rattle.lra_row_text.specs.Texts.{is_negated}
-use Rattle.lra_report.specs.ReportText.{report_text}
-use Rattle.lra_report.specs.Parts.{DividesAs}
-use Rattle.lra_report.specs.Listing.{Lists, HasWidth, IsReportOf}
-use Rattle.lra_resolution_spec.specs.LiveNames.{live_names, globals_named}
-use Rattle.lra_report.specs.Rows.{IsRowInRange}
+use Rattle.lra_linear_spec.specs.declared.GenKind.TheVariants.{Point, Ray, Line}
+use Rattle.lra_linear_spec.specs.{Range.InRange, declared.ConKind.ConKind, declared.GenKind.GenKind}
+use Rattle.lra_syntax.specs.{Faults.Language, Grammar.Spells, Labels.labels_of, Lexeme.is_name_word, Trees.FileTree}
+use Rattle.lra_resolution_spec.specs.{LiveNames.live_names, LiveNames.globals_named, Refuse.Accepts, Resolve.resolve}
+use Rattle.lra_program.specs.Sites.{sites_of}
+use Rattle.lra_options.specs.declared.options.Options.{Options}
+use Rattle.lra_row_text.specs.{Part.ReportGenerator, Part.Part, Rows.ReportRow, Texts.is_negated}
+use Rattle.lra_report.specs.{Listing.Lists, Listing.HasWidth, Listing.IsReportOf, Parts.DividesAs, Report.PointReport}
+use Rattle.lra_report.specs.{Report.Report, ReportText.report_text, Rows.IsRowInRange}
 
 -- the first coefficient of an equality that isn't 0 is above 0
 abbrev pub IsDirected : ConKind → List ℤ → Type 0

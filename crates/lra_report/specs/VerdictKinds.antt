@@ -1,14 +1,9 @@
 -- What is judged of a program at its points: a row for each kind. From it come a verdict's line, its place in the JSON,
 -- and whether it counts.
 use Rattle.std.specs.Prelude.{◌≡◌, refl, ℕ, nat_eq, List, [], ◌∷◌, get_or, Bool, true, false, ◌||◌, codes}
-use Rattle.std.specs.Prelude.{if◌then◌else◌}
-use Rattle.std.specs.List.{list_any}
-use Rattle.std.specs.Str.{bytes_eq}
+use Rattle.std.specs.{List.list_any, Prelude.if◌then◌else◌, Str.bytes_eq}
 use Rattle.lra_options.specs.declared.options.Options.{Options}
-use Rattle.lra_program.specs.Program.{Program}
-use Rattle.lra_program.specs.Accesses.{AccessesOutOfBounds}
-use Rattle.lra_program.specs.Overflow.{Overflows}
-use Rattle.lra_program.specs.Run.{Point, Fails}
+use Rattle.lra_program.specs.{Accesses.AccessesOutOfBounds, Overflow.Overflows, Program.Program, Run.Point, Run.Fails}
 use Rattle.lra_report.specs.declared.verdict_kinds.VerdictKind.{VerdictKind}
 use Rattle.lra_report.specs.declared.verdict_kinds.VerdictKind.TheVariants.{Assertion, Fit, Access}
 

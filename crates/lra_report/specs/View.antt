@@ -4,12 +4,9 @@ use Rattle.lra_program.specs.Run as run
 use Rattle.lra_report.specs.Report as report
 use Rattle.lra_report.specs.ReportText as written
 use Rattle.lra_report.specs.BackText as back
-use Rattle.lra_report.specs.declared.report.Point.{Point}
-use Rattle.lra_report.specs.declared.report.PointReport.{PointReport}
-use Rattle.lra_report.specs.declared.report.Verdict.{Verdict}
-use Rattle.lra_report.specs.declared.report.Report.{Report}
-use Rattle.lra_report.specs.declared.back.BackReport.{BackReport}
-use Rattle.lra_report.specs.declared.path.CallPlace.{CallPlace}
+use Rattle.lra_report.specs.{declared.back.BackReport.BackReport, declared.path.CallPlace.CallPlace}
+use Rattle.lra_report.specs.{declared.report.Point.Point, declared.report.PointReport.PointReport}
+use Rattle.lra_report.specs.{declared.report.Report.Report, declared.report.Verdict.Verdict}
 
 abbrev pub run_point_view : Point → run.Point
 run_point_view p = record { path = p.path.items; label = p.label }

@@ -1,8 +1,7 @@
 //! One text, one report.
 
 ghost use Rattle.lra_syntax.specs.Grammar.{Spells};
-ghost use Rattle.lra_report.specs.Spelled.{OneText, OneAcceptedText, OneSourceText};
-ghost use Rattle.lra_report.specs.View.{report_of};
+ghost use Rattle.lra_report.specs.{Spelled.OneText, Spelled.OneAcceptedText, Spelled.OneSourceText, View.report_of};
 
 use crate::report::Report;
 

@@ -1,7 +1,7 @@
 //! Names of variables, as they are printed.
 
-ghost use Rattle.std.specs.Prelude.{◌≡◌, ◌++◌, ◌∷◌, [], map, OnOk, IfOk, string_bytes, bytes_eq};
 ghost use Rattle.std.specs.List.{count_by};
+ghost use Rattle.std.specs.Prelude.{◌≡◌, ◌++◌, ◌∷◌, [], map, OnOk, IfOk, string_bytes, bytes_eq};
 ghost use Rattle.lra_resolution_spec.specs.ShownNames.{shown_name, shown_names};
 
 use lra_row_text::Names;

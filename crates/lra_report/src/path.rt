@@ -1,7 +1,7 @@
 //! The text of a call path.
 
-ghost use Rattle.std.specs.Prelude.{◌≡◌, ◌++◌, map, OnOk, IfOk, string_bytes, codes};
 ghost use Rattle.std.specs.List.{flat_map};
+ghost use Rattle.std.specs.Prelude.{◌≡◌, ◌++◌, map, OnOk, IfOk, string_bytes, codes};
 ghost use Rattle.lra_report.specs.ReportText as written;
 ghost use Rattle.lra_report.specs.View.{call_place_of};
 

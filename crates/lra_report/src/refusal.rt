@@ -1,9 +1,8 @@
 //! The text of a source's refusal.
-ghost use Rattle.std.specs.Prelude.{◌≡◌, ◌++◌, codes, IfOk, OnOk, string_bytes};
 ghost use Rattle.std.specs.Fmt.{decimal};
+ghost use Rattle.std.specs.Prelude.{◌≡◌, ◌++◌, codes, IfOk, OnOk, string_bytes};
 ghost use Rattle.lra_row_text.specs.Texts.{text_line};
-ghost use Rattle.lra_report.specs.ReportText.{place_text};
-ghost use Rattle.lra_report.specs.RefusalText.{refusal_text};
+ghost use Rattle.lra_report.specs.{RefusalText.refusal_text, ReportText.place_text};
 
 use lra_base::{Place, Refusal};
 use std::alloc::{AllocError, Global};

@@ -1,8 +1,7 @@
 //! What a report has.
 
 ghost use Rattle.std.specs.Prelude.{◌≡◌, count_by};
-ghost use Rattle.lra_report.specs.ReportText.{is_proved, is_unknown};
-ghost use Rattle.lra_report.specs.View.{verdict_of};
+ghost use Rattle.lra_report.specs.{ReportText.is_proved, ReportText.is_unknown, View.verdict_of};
 
 use crate::part::Part;
 use crate::verdict_kinds::VerdictKind;

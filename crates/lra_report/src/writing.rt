@@ -1,7 +1,7 @@
 //! The text of a report.
 
-ghost use Rattle.std.specs.Prelude.{◌≡◌, ◌++◌, map, OnOk, IfOk, string_bytes};
 ghost use Rattle.std.specs.List.{flat_map};
+ghost use Rattle.std.specs.Prelude.{◌≡◌, ◌++◌, map, OnOk, IfOk, string_bytes};
 ghost use Rattle.lra_row_text.specs.Texts.{part_text};
 ghost use Rattle.lra_options.specs.OptionRows.{number_options, flag_options};
 ghost use Rattle.lra_report.specs.ReportText as written;

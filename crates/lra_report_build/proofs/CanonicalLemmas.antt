@@ -3,11 +3,8 @@ use Rattle.std.proofs.Common.{◌≡◌, List, [], ◌∷◌, refl, sym, subst}
 use Rattle.lra_options.specs.declared.options.Domain.TheVariants.{Poly}
 use Rattle.lra_report.specs.Report.{Invariant}
 use Rattle.lra_row_text.specs.Part.{Part}
-use Rattle.lra_linear_spec.specs.Descriptions.{LinearRow}
-use Rattle.lra_linear_spec.specs.Representable.{IsRepresentable}
-use Rattle.lra_linear_spec.specs.Polyhedra.{Polyhedron}
-use Rattle.lra_report_build.specs.Canonical.{IsCanonicalPart, IsCanonicalState}
-use Rattle.lra_report_build.specs.Polyhedra.{part_if_any, shown_polyhedron}
+use Rattle.lra_linear_spec.specs.{Descriptions.LinearRow, Polyhedra.Polyhedron, Representable.IsRepresentable}
+use Rattle.lra_report_build.specs.{Canonical.IsCanonicalPart, Canonical.IsCanonicalState, Polyhedra.part_if_any, Polyhedra.shown_polyhedron}
 
 of_part : (p : Polyhedron) (gs : List LinearRow) (part : Part) → IsCanonicalPart p.dims part → IsCanonicalState Poly p.dims (part_if_any gs part)
 of_part p [] part h = tt

@@ -1,26 +1,16 @@
 -- Octagons are shown by their rows, which hold at each of their stores.
-use Rattle.std.proofs.Common.{◌≡◌, ℕ, zero, suc, ◌+◌, ◌*◌, ◌/◌, ◌-◌, ◌<◌, ◌⊎◌, ◌++◌, ℤ, pos, List, [], ◌∷◌, length, map, Option, Some, None, Bool, true, false}
-use Rattle.std.proofs.Common.{inl, inr, refl, ap, ◌∙◌, arith}
-use Rattle.std.specs.Prelude.{replicate, slice_set, if◌then◌else◌}
-use Rattle.std.specs.List.{AllByRecursion}
+use Rattle.std.proofs.Common.{◌≡◌, ℕ, zero, suc, ◌+◌, ◌*◌, ◌/◌, ◌-◌, ◌<◌, ◌⊎◌, ◌++◌, ℤ, pos, List, [], ◌∷◌, length, map, Option, Some, None, Bool, true, false, inl, inr, refl, ap, ◌∙◌, arith}
 use Rattle.std.proofs.lemmas.List.{length-replicate, length-set}
+use Rattle.std.specs.{List.AllByRecursion, Prelude.replicate, Prelude.slice_set, Prelude.if◌then◌else◌}
 use Rattle.lra_options.specs.declared.options.Domain.TheVariants.{Oct}
 use Rattle.lra_systems.specs.LinearSystems.{LinearSystem}
-use Rattle.lra_linear_spec.specs.declared.ConKind.{ConKind}
-use Rattle.lra_linear_spec.specs.declared.ConKind.TheVariants.{Ge, Eq}
-use Rattle.lra_dbm.specs.Tight.{Entries, with_sign}
-use Rattle.lra_dbm.specs.Cells.{Cells, entries}
-use Rattle.lra_octagon.specs.Content.{OctagonContent, OctagonGamma}
-use Rattle.lra_octagon.specs.Laws.{sized_stores}
-use Rattle.lra_octagon.specs.Abstraction.{octagon_abstraction}
-use Rattle.lra_octagon.specs.Parts.{sign_of, pair_row, printed, is_equality_pair, row_if_any, kind_row, RowsAt, rising, falling, rows_with, octagon_equalities}
-use Rattle.lra_octagon.specs.Parts.{octagon_inequalities}
-use Rattle.lra_octagon.specs.Parts.{octagon_system, octagon_parts}
+use Rattle.lra_linear_spec.specs.{declared.ConKind.ConKind, declared.ConKind.TheVariants.Ge, declared.ConKind.TheVariants.Eq}
+use Rattle.lra_dbm.specs.{Cells.Cells, Cells.entries, Tight.Entries, Tight.with_sign}
+use Rattle.lra_octagon.specs.Parts.{sign_of, pair_row, printed, is_equality_pair, row_if_any, kind_row, RowsAt, rising, falling, rows_with, octagon_equalities, octagon_inequalities, octagon_system}
+use Rattle.lra_octagon.specs.{Abstraction.octagon_abstraction, Content.OctagonContent, Content.OctagonGamma, Laws.sized_stores, Parts.octagon_parts}
 use Rattle.lra_octagon.proofs.MeanLemmas.{stores_hold}
-use Rattle.lra_report.specs.Report.{InvariantHolds}
+use Rattle.lra_report.specs.{Listing.HasWidth, Parts.ShowsPart, Report.InvariantHolds}
 use Rattle.lra_row_text.specs.Texts.{is_negated}
-use Rattle.lra_report.specs.Parts.{ShowsPart}
-use Rattle.lra_report.specs.Listing.{HasWidth}
 use Rattle.lra_report.proofs.Every.{every_append}
 use Rattle.lra_report_build.specs.Shown.{shown_part, AreDirected, ShowsRows}
 use Rattle.lra_report_build.proofs.RowsHold.{parts_hold, AreWide, shown_wide, IsStraight, rows_directed}

@@ -1,17 +1,14 @@
 -- The points of a report, one more at a time.
 use Rattle.std.proofs.Common.{◌≡◌, ◌∙◌, sym, ap, refl, subst, ◌+◌, ◌<◌, ℕ, suc, List, [], ◌∷◌, ◌++◌, length, map, take, get_or, option_map, Vec, Global, arith}
-use Rattle.std.proofs.lemmas.Option.{slice_get_read, slice_get-map}
-use Rattle.std.proofs.lemmas.List.{map_more, length-map, length-take-le, map-append}
+use Rattle.std.proofs.{lemmas.List.map_more, lemmas.List.length-map, lemmas.List.length-take-le, lemmas.List.map-append, lemmas.Option.slice_get_read, lemmas.Option.slice_get-map}
 use Rattle.std.specs.List.{AllByRecursion}
 use Rattle.lra_row_text.specs.Part.{Part}
-use Rattle.lra_report.specs.Report.{Invariant, PointReport}
+use Rattle.lra_report.specs.{Listing.listed_point, Listing.HasWidth, Listing.AreListed, Report.Invariant, Report.PointReport, View.point_report_of}
 use Rattle.lra_program.specs.Sites.{Site}
 use Rattle.lra_syntax.specs.Labels.{Labelled}
-use Rattle.lra_report.specs.Listing.{listed_point, HasWidth, AreListed}
 use Rattle.lra_operations.specs.declared.tree.Site as code_site
 use Rattle.lra_operations.specs.TreeViews.{site_view}
 use Rattle.lra_report.specs.declared.report.PointReport as code_point
-use Rattle.lra_report.specs.View.{point_report_of}
 use Rattle.lra_report_build.specs.AnalysisResults.{state_of, AreInvariants}
 
 -- the point of the next number

@@ -1,26 +1,17 @@
 -- A polyhedron has a part exactly where its state has one, so it is shown as it is.
 use Rattle.std.proofs.Common.{◌≡◌, ◌∙◌, ℕ, true, false, Bool, cond, List, [], ◌∷◌, length, inl, inr, refl, sym, ap, subst, Vec, Global}
-use Rattle.std.specs.Prelude.{Result, Ok, Err, IfOk}
-use Rattle.std.specs.List.{Contains, list_any}
+use Rattle.std.specs.{List.Contains, List.list_any, Prelude.Result, Prelude.Ok, Prelude.Err, Prelude.IfOk}
 use Rattle.lra_options.specs.declared.options.Domain.TheVariants.{Poly}
-use Rattle.lra_linear_spec.specs.Descriptions.{LinearRow, Con}
-use Rattle.lra_report_build.specs.Canonical.{IsCanonicalState}
-use Rattle.lra_linear_spec.specs.Points.{IsEmptySet}
 use Rattle.lra_linear_spec.specs.Polyhedra.{Polyhedron, IsPolyhedron, HasPoint, falsity}
-use Rattle.lra_linear_spec.specs.declared.ConKind.{ConKind}
-use Rattle.lra_linear_spec.proofs.Membership.{contains_head}
-use Rattle.lra_linear_spec.proofs.OneSpelling.{falsity_never}
-use Rattle.lra_linear_spec.specs.declared.GenKind.{GenKind}
+use Rattle.lra_linear_spec.specs.{Descriptions.LinearRow, Descriptions.Con, Points.IsEmptySet, declared.ConKind.ConKind, declared.GenKind.GenKind}
+use Rattle.lra_report_build.specs.{Canonical.IsCanonicalState, Polyhedra.shown_polyhedron, Polyhedra.ShowsPolyhedron, Polyhedra.polyhedron_of, Shown.IsShown}
+use Rattle.lra_linear_spec.proofs.{Membership.contains_head, OneSpelling.falsity_never}
 use Rattle.lra_systems.specs.LinearSystems.{LinearSystem, constraints, generators}
-use Rattle.lra_poly_domain.specs.Content.{is_absurd, listed, polyhedron_parts}
-use Rattle.lra_poly_domain.specs.Covering.{empty_parts, parts_empty}
-use Rattle.lra_poly_domain.specs.Abstraction.{polyhedron_abstraction}
+use Rattle.lra_poly_domain.specs.{Abstraction.polyhedron_abstraction, Content.is_absurd, Content.listed, Content.polyhedron_parts, Covering.empty_parts, Covering.parts_empty}
 use Rattle.lra_row_text.specs.Part.{Part}
 use Rattle.lra_report.specs.Report.{Invariant}
-use Rattle.lra_report_build.specs.Shown.{IsShown}
-use Rattle.lra_report_build.specs.Polyhedra.{shown_polyhedron, ShowsPolyhedron, polyhedron_of}
-use Rattle.lra_report_build.proofs.SamePoints.{as_row, within_con}
 use Rattle.lra_report_build.proofs.PolyhedronShown.{no_part, one_part, part_of, has_point, row_is_point}
+use Rattle.lra_report_build.proofs.SamePoints.{as_row, within_con}
 
 -- the lists of a polyhedron make it
 pub lists_are : (p : Polyhedron) (rows : LinearSystem ConKind) (gens : LinearSystem GenKind) → rows.dims ≡ p.dims → constraints rows ≡ p.rows →

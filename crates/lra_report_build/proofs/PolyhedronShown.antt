@@ -1,41 +1,24 @@
 -- A polyhedron is shown by its canonical lists: as wide as it has dimensions, with the same points by rows and by generators, and told by its text.
-use Rattle.std.proofs.Common.{◌≡◌, ◌≢◌, ◌∙◌, ◌<◌, ◌⊎◌, ℕ, zero, suc, ℤ, pos, negsuc, ◌<ℤ◌, Bool, true, false, List, [], ◌∷◌, ◌++◌, length, map, inl, inr, refl}
-use Rattle.std.proofs.Common.{sym, ap, subst, arith, append_assoc}
-use Rattle.std.specs.List.{All, AllByRecursion, Contains}
-use Rattle.std.proofs.lemmas.Int.{ints}
-use Rattle.std.proofs.lemmas.List.{map-append}
+use Rattle.std.proofs.Common.{◌≡◌, ◌≢◌, ◌∙◌, ◌<◌, ◌⊎◌, ℕ, zero, suc, ℤ, pos, negsuc, ◌<ℤ◌, Bool, true, false, List, [], ◌∷◌, ◌++◌, length, map, inl, inr, refl, sym, ap, subst, arith, append_assoc}
 use Rattle.std.proofs.lemmas.List.Elements.{All-head, All-tail, Contains-append_left, Contains-append_right}
-use Rattle.lra_linear_spec.specs.declared.ConKind.{ConKind}
-use Rattle.lra_linear_spec.specs.declared.ConKind.TheVariants.{Ge, Eq}
-use Rattle.lra_linear_spec.specs.Cones.{all_rows, both_ways}
-use Rattle.lra_linear_spec.specs.Descriptions.{LinearRow, rows_as, HoldsWith, Con}
-use Rattle.lra_linear_spec.specs.Echelon.{HasPivot, IsEchelon}
-use Rattle.lra_linear_spec.specs.Kinds.{constraint_kind, is_equality, is_line}
-use Rattle.lra_linear_spec.specs.Points.{IsPoint}
-use Rattle.lra_linear_spec.specs.Polyhedra.{Polyhedron, IsPolyhedron, HasPoint, falsity}
-use Rattle.lra_linear_spec.specs.Range.{InRange}
-use Rattle.lra_linear_spec.specs.Vectors.{entry, product}
-use Rattle.lra_linear_spec.proofs.Combinations.{generated_row}
-use Rattle.lra_linear_spec.proofs.Membership.{contains_none, contains_head, contains_tail, contains_cases}
-use Rattle.lra_linear_spec.proofs.OneSpelling.{falsity_never, given_has, some_member}
-use Rattle.lra_linear_spec.proofs.Polyhedra.{con_gen, cone_gen, generators_are_generators}
-use Rattle.lra_linear_spec.specs.declared.GenKind.{GenKind}
+use Rattle.std.proofs.{lemmas.Int.ints, lemmas.List.map-append}
+use Rattle.std.specs.List.{All, AllByRecursion, Contains}
 use Rattle.lra_linear_spec.specs.declared.GenKind.TheVariants.{Point, Ray, Line}
+use Rattle.lra_linear_spec.specs.{Cones.all_rows, Cones.both_ways, Descriptions.LinearRow, Descriptions.rows_as, Descriptions.HoldsWith, Descriptions.Con, Echelon.HasPivot, Echelon.IsEchelon}
+use Rattle.lra_linear_spec.specs.{Kinds.constraint_kind, Kinds.is_equality, Kinds.is_line, Points.IsPoint, Polyhedra.Polyhedron, Polyhedra.IsPolyhedron, Polyhedra.HasPoint, Polyhedra.falsity}
+use Rattle.lra_linear_spec.specs.{Range.InRange, Vectors.entry, Vectors.product, declared.ConKind.ConKind, declared.ConKind.TheVariants.Ge, declared.ConKind.TheVariants.Eq, declared.GenKind.GenKind}
+use Rattle.lra_linear_spec.proofs.{Combinations.generated_row, Membership.contains_none, Membership.contains_head, Membership.contains_tail, Membership.contains_cases, OneSpelling.falsity_never}
+use Rattle.lra_linear_spec.proofs.{OneSpelling.given_has, OneSpelling.some_member, Polyhedra.con_gen, Polyhedra.cone_gen, Polyhedra.generators_are_generators}
 use Rattle.lra_systems.specs.LinearSystems.{LinearSystem, rows_by_kind, constraints, generators, FitsKind, FitKinds}
 use Rattle.lra_poly_domain.proofs.PartLemmas.{kind_back}
-use Rattle.lra_row_text.specs.Rows.{ReportRow, RowHolds}
-use Rattle.lra_row_text.specs.Shown.{report_row, report_generator}
 use Rattle.lra_row_text.specs.ShownDescriptions.{generator_kind, shown_constraint, shown_generator}
-use Rattle.lra_row_text.specs.Lists.{shown_rows, shown_generators}
-use Rattle.lra_report.specs.Spelled.{IsSpelledRow, IsSpelledGenerator, IsSpelledPart}
-use Rattle.lra_report.proofs.Every.{every_append}
+use Rattle.lra_row_text.specs.{Lists.shown_rows, Lists.shown_generators, Part.ReportGenerator, Part.Part, Rows.ReportRow, Rows.RowHolds, Shown.report_row, Shown.report_generator}
+use Rattle.lra_report.specs.{Report.Invariant, Spelled.IsSpelledRow, Spelled.IsSpelledGenerator, Spelled.IsSpelledPart}
 use Rattle.lra_report.proofs.CanonicalLists.{spelled_equality, spelled_inequality, spelled_point, spelled_ray, spelled_line}
-use Rattle.lra_row_text.specs.Part.{ReportGenerator, Part}
-use Rattle.lra_report.specs.Report.{Invariant}
+use Rattle.lra_report.proofs.Every.{every_append}
 use Rattle.lra_report.specs.Parts as parts
 use Rattle.lra_report_build.specs.Polyhedra.{part_if_any, shown_polyhedron, ShowsPolyhedron, polyhedron_of}
-use Rattle.lra_report_build.proofs.RowsHold.{row_holds, row_held}
-use Rattle.lra_report_build.proofs.SamePoints.{as_row, within_con, con_within, generated_gen, gen_generated}
+use Rattle.lra_report_build.proofs.{RowsHold.row_holds, RowsHold.row_held, SamePoints.as_row, SamePoints.within_con, SamePoints.con_within, SamePoints.generated_gen, SamePoints.gen_generated}
 
 -- ---- the lists of a report are those of the polyhedron
 pub rows_again : (rows : List (List ℤ)) (kinds : List ConKind) → shown_rows rows kinds ≡ map shown_constraint (rows_by_kind is_equality rows kinds)

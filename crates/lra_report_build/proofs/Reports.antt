@@ -1,20 +1,14 @@
 -- Points and verdicts that are listed by a source's labels and sites make a report of the source.
 use Rattle.std.proofs.Common.{◌≡◌, ◌∙◌, sym, ap, subst, ◌<◌, ℕ, Bool, true, false, List, length, map, Vec, Global, arith}
+use Rattle.std.proofs.{lemmas.List.get_or-map, lemmas.List.length-map, lemmas.List.Elements.All-nil}
 use Rattle.std.specs.Prelude.{All}
-use Rattle.std.proofs.lemmas.List.{get_or-map, length-map}
-use Rattle.std.proofs.lemmas.List.Elements.{All-nil}
-use Rattle.lra_syntax.specs.Trees.{FileTree}
-use Rattle.lra_resolution_spec.specs.Resolve.{resolve}
+use Rattle.lra_syntax.specs.{Labels.Labelled, Labels.labels_of, Trees.FileTree}
+use Rattle.lra_resolution_spec.specs.{LiveNames.globals_named, Resolve.resolve}
 use Rattle.lra_base.specs.declared.refusals.Place.{Place}
 use Rattle.lra_program.specs.Sites.{Site, sites_of}
 use Rattle.lra_operations.specs.declared.tree.Site as code_site
-use Rattle.lra_operations.specs.Agree.{IsInlinedTree}
-use Rattle.lra_operations.specs.Tree.{Node}
-use Rattle.lra_operations.specs.TreeViews.{site_view}
-use Rattle.lra_syntax.specs.Labels.{Labelled, labels_of}
-use Rattle.lra_report.specs.Report.{Report, Verdict}
-use Rattle.lra_resolution_spec.specs.LiveNames.{globals_named}
-use Rattle.lra_report.specs.Listing.{AreJudged, AreListed, Lists, subjects}
+use Rattle.lra_operations.specs.{Agree.IsInlinedTree, Tree.Node, TreeViews.site_view}
+use Rattle.lra_report.specs.{Listing.AreJudged, Listing.AreListed, Listing.Lists, Listing.subjects, Report.Report, Report.Verdict}
 use Rattle.lra_report_build.specs.AnalysisResults.{IsAssertion, IsComputing, IsAccessing, AreVerdicts, AreFitting, AreAccessVerdicts}
 use Rattle.lra_report_build.specs.Views.{reported_view}
 use Rattle.lra_report_build.proofs.Verdicts.{are_there}

@@ -1,24 +1,14 @@
 -- Rows of constraints as rows of a report: where they hold, how wide they are, which way their equalities are turned.
 use Rattle.std.proofs.Common.{◌≡◌, ℕ, suc, ◌++◌, List, [], ◌∷◌, length, map, inl, inr, refl, sym, subst, arith}
-use Rattle.std.specs.Prelude.{ℤ, pos, ◌+ℤ◌, replicate}
-use Rattle.std.specs.List.{AllByRecursion}
 use Rattle.std.proofs.lemmas.Int.{ints}
-use Rattle.lra_linear_spec.specs.Vectors.{product}
+use Rattle.std.specs.{List.AllByRecursion, Prelude.ℤ, Prelude.pos, Prelude.◌+ℤ◌, Prelude.replicate}
 use Rattle.lra_linear_spec.specs.Descriptions.{LinearRow, Con, HoldsWith}
+use Rattle.lra_linear_spec.specs.{Kinds.is_equality, Vectors.product, declared.ConKind.ConKind, declared.ConKind.TheVariants.Ge, declared.ConKind.TheVariants.Eq}
 use Rattle.lra_linear_spec.proofs.Membership.{contains_none, contains_head, contains_tail, contains_cases}
 use Rattle.lra_systems.specs.LinearSystems.{LinearSystem, rows_by_kind}
-use Rattle.lra_linear_spec.specs.Kinds.{is_equality}
-use Rattle.lra_linear_spec.specs.declared.ConKind.{ConKind}
-use Rattle.lra_linear_spec.specs.declared.ConKind.TheVariants.{Ge, Eq}
-use Rattle.lra_row_text.specs.Shown.{report_row}
-use Rattle.lra_row_text.specs.Lists.{shown_rows}
-use Rattle.lra_report.specs.Spelled.{IsDirected}
-use Rattle.lra_domain.specs.Abstraction.{Abstraction}
-use Rattle.lra_domain.specs.Laws.{PartsAreExact}
-use Rattle.lra_domain.specs.Parts.{SomePartHolds}
-use Rattle.lra_row_text.specs.Part.{Part}
-use Rattle.lra_report.specs.Report.{InvariantHolds}
-use Rattle.lra_row_text.specs.Rows.{RowHolds, ReportRow}
+use Rattle.lra_row_text.specs.{Lists.shown_rows, Part.Part, Rows.RowHolds, Rows.ReportRow, Shown.report_row}
+use Rattle.lra_report.specs.{Report.InvariantHolds, Spelled.IsDirected}
+use Rattle.lra_domain.specs.{Abstraction.Abstraction, Laws.PartsAreExact, Parts.SomePartHolds}
 use Rattle.lra_report_build.specs.Shown.{shown_part, MeansValue}
 
 -- rows ---------------------------------------------------------------------------------------------------------------

@@ -1,20 +1,13 @@
 -- What is shown by rows with numbers of the range is shown as it is, and told by its text.
-use Rattle.std.proofs.Common.{◌≡◌, ◌∙◌, List, [], ◌∷◌, length, map, ap, sym, subst, Vec, Global}
-use Rattle.std.specs.Prelude.{Result, Ok, Err, IfOk}
-use Rattle.std.specs.List.{AllByRecursion}
-use Rattle.std.proofs.lemmas.List.{length-map}
+use Rattle.std.proofs.{Common.◌≡◌, Common.◌∙◌, Common.List, Common.[], Common.◌∷◌, Common.length, Common.map, Common.ap, Common.sym, Common.subst, Common.Vec, Common.Global, lemmas.List.length-map}
+use Rattle.std.specs.{List.AllByRecursion, Prelude.Result, Prelude.Ok, Prelude.Err, Prelude.IfOk}
 use Rattle.lra_options.specs.declared.options.Domain.{Domain}
 use Rattle.lra_systems.specs.LinearSystems.{LinearSystem}
 use Rattle.lra_linear_spec.specs.declared.ConKind.{ConKind}
 use Rattle.lra_domain.specs.Abstraction.{Abstraction}
-use Rattle.lra_row_text.specs.Rows.{ReportRow}
-use Rattle.lra_row_text.specs.Part.{Part}
-use Rattle.lra_report.specs.Report.{Invariant, InvariantHolds}
-use Rattle.lra_report.specs.Parts.{ShowsPart}
-use Rattle.lra_report.specs.Listing.{HasWidth}
-use Rattle.lra_row_text.specs.Lists.{shown_rows}
-use Rattle.lra_report.specs.Rows.{IsRowInRange, IsPartInRange}
+use Rattle.lra_row_text.specs.{Lists.shown_rows, Part.Part, Rows.ReportRow}
 use Rattle.lra_report.specs.Spelled.{IsDirected, IsSpelledRow, IsSpelledPart}
+use Rattle.lra_report.specs.{Listing.HasWidth, Parts.ShowsPart, Report.Invariant, Report.InvariantHolds, Rows.IsRowInRange, Rows.IsPartInRange}
 use Rattle.lra_report_build.specs.Shown.{IsShown, shown_part, shown_state, AreDirected, MeansValue, ShowsRows}
 
 rows_spelled : (rs : List ReportRow) → AllByRecursion (λ (r : ReportRow). IsDirected r.kind r.coefficients) rs → AllByRecursion IsRowInRange rs → AllByRecursion

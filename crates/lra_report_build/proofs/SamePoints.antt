@@ -1,17 +1,11 @@
 -- The rows and generators that show two lists tell the points of the lists.
-use Rattle.std.proofs.Common.{◌≡◌, ◌∙◌, ℕ, zero, suc, ℤ, pos, negsuc, ◌+ℤ◌, ◌*ℤ◌, ◌≤ℤ◌, Bool, true, false, cond, List, [], ◌∷◌, map, inl, inr, refl, sym, ap}
-use Rattle.std.proofs.Common.{subst, arith}
-use Rattle.std.specs.Prelude.{get_or}
+use Rattle.std.proofs.Common.{◌≡◌, ◌∙◌, ℕ, zero, suc, ℤ, pos, negsuc, ◌+ℤ◌, ◌*ℤ◌, ◌≤ℤ◌, Bool, true, false, cond, List, [], ◌∷◌, map, inl, inr, refl, sym, ap, subst, arith}
 use Rattle.std.proofs.lemmas.Int.{ints}
+use Rattle.std.specs.Prelude.{get_or}
 use Rattle.lra_linear_spec.specs.Descriptions.{LinearRow, IsGenerator, AreGenerators, lines_of, rays_of, HoldsWith, Holds, Con, Gen}
-use Rattle.lra_linear_spec.specs.Kinds.{constraint_kind}
-use Rattle.lra_linear_spec.specs.Vectors.{entry, product, sum_of, signed_sum}
+use Rattle.lra_linear_spec.specs.{Kinds.constraint_kind, Vectors.entry, Vectors.product, Vectors.sum_of, Vectors.signed_sum, declared.GenKind.GenKind, declared.GenKind.TheVariants.Line}
 use Rattle.lra_linear_spec.proofs.Membership.{contains_none, contains_head, contains_tail, contains_cases}
-use Rattle.lra_linear_spec.specs.declared.GenKind.{GenKind}
-use Rattle.lra_linear_spec.specs.declared.GenKind.TheVariants.{Line}
-use Rattle.lra_row_text.specs.Shown.{report_row, report_generator}
-use Rattle.lra_row_text.specs.ShownDescriptions.{generator_kind, shown_constraint, shown_generator}
-use Rattle.lra_row_text.specs.Part.{ReportGenerator}
+use Rattle.lra_row_text.specs.{Part.ReportGenerator, Shown.report_row, Shown.report_generator, ShownDescriptions.generator_kind, ShownDescriptions.shown_constraint, ShownDescriptions.shown_generator}
 use Rattle.lra_report.specs.Parts.{RationalPoint, RowHoldsAt, LiesInPart, IsFactor, AreFactors, IsGenerated}
 
 -- a point as a row of the lists

@@ -1,23 +1,15 @@
 -- A set of parts is shown by the states of its parts, one after another, if each part is shown by its own.
 use Rattle.std.proofs.Common.{◌≡◌, ◌∙◌, ◌⊎◌, ℕ, ◌+◌, ℤ, List, [], ◌∷◌, ◌++◌, length, inl, inr, refl, sym, ap, ap₂, subst, Vec, Global}
-use Rattle.std.specs.Prelude.{flat_map, Result, Ok, Err, IfOk}
-use Rattle.std.specs.List.{AllByRecursion}
 use Rattle.std.proofs.lemmas.List.{length-append}
+use Rattle.std.specs.{List.AllByRecursion, Prelude.flat_map, Prelude.Result, Prelude.Ok, Prelude.Err, Prelude.IfOk}
 use Rattle.lra_linear_spec.proofs.Membership.{contains_head, contains_tail}
 use Rattle.lra_domain.specs.Abstraction.{Abstraction}
-use Rattle.lra_powerset.specs.Content.{SetContent}
-use Rattle.lra_powerset.specs.Lists.{EachPart, SomePart}
-use Rattle.lra_powerset.specs.Content.{PartFits}
-use Rattle.lra_powerset.specs.Abstraction.{set_abstraction}
+use Rattle.lra_powerset.specs.{Abstraction.set_abstraction, Content.SetContent, Content.PartFits, Lists.EachPart, Lists.SomePart}
 use Rattle.lra_options.specs.declared.options.Domain.{Domain}
-use Rattle.lra_report.specs.Listing.{HasWidth}
+use Rattle.lra_report.specs.{Listing.HasWidth, Parts.ShowsPart, Report.Invariant, Report.InvariantHolds}
 use Rattle.lra_report.proofs.Every.{every_append}
 use Rattle.lra_row_text.specs.Part.{Part}
-use Rattle.lra_report.specs.Report.{Invariant, InvariantHolds}
-use Rattle.lra_report.specs.Parts.{ShowsPart}
-use Rattle.lra_report_build.specs.Canonical.{AreCanonicallyShown, IsCanonicalFor, IsCanonicalState}
-use Rattle.lra_report_build.specs.Shown.{IsShown, AreShown}
-use Rattle.lra_report_build.specs.Sets.{shown_set}
+use Rattle.lra_report_build.specs.{Canonical.AreCanonicallyShown, Canonical.IsCanonicalFor, Canonical.IsCanonicalState, Sets.shown_set, Shown.IsShown, Shown.AreShown}
 
 -- states one after another -----------------------------------------------------------------------------------------
 

@@ -1,14 +1,11 @@
 -- A state so far, and one part more.
-use Rattle.std.proofs.Common.{◌≡◌, List, [], ◌∷◌, ◌++◌, map, ap, sym, ◌∙◌, subst}
+use Rattle.std.proofs.{Common.◌≡◌, Common.List, Common.[], Common.◌∷◌, Common.◌++◌, Common.map, Common.ap, Common.sym, Common.◌∙◌, Common.subst, lemmas.List.map-append}
 use Rattle.std.specs.List.{AllByRecursion}
-use Rattle.std.proofs.lemmas.List.{map-append}
 use Rattle.lra_systems.specs.LinearSystems.{LinearSystem}
 use Rattle.lra_linear_spec.specs.declared.ConKind.{ConKind}
-use Rattle.lra_row_text.specs.Lists.{shown_rows}
+use Rattle.lra_row_text.specs.{Lists.shown_rows, Part.Part, Rows.ReportRow}
 use Rattle.lra_report.specs.Rows.{IsPartInRange}
 use Rattle.lra_report.proofs.Every.{every_append}
-use Rattle.lra_row_text.specs.Part.{Part}
-use Rattle.lra_row_text.specs.Rows.{ReportRow}
 use Rattle.lra_report_build.specs.Shown.{shown_part}
 
 part_is : (p : Part) (y : LinearSystem ConKind) → p.rows ≡ shown_rows y.rows y.kinds → p.generators ≡ [] → p ≡ shown_part y

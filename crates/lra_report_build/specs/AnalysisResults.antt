@@ -1,18 +1,17 @@
 -- What an analysis hands over: a state for each point, a verdict for each assertion, where it is asked what fits one
 -- for each point at which something is computed, and for each point at which arrays are accessed what is told of its
 -- accesses. Points are numbered from 0 here.
+use Rattle.std.specs.List.{AllByRecursion, flat_map}
 use Rattle.std.specs.Prelude.{◌≡◌, ◌<◌, ℕ, suc, Bool, false, List, [], length, Some, slice_get, slice_index_or, IsTrue}
 use Rattle.std.specs.Prelude.{true, map, ◌++◌, ◌∷◌, Contains}
-use Rattle.std.specs.List.{AllByRecursion, flat_map}
+use Rattle.lra_report.specs.Listing.{HasWidth, computes_at, accesses_at, accesses_any_at, subject, listed_verdict}
 use Rattle.lra_report.specs.Report.{Invariant, PointReport, Verdict}
-use Rattle.lra_base.specs.declared.refusals.Place.{Place}
-use Rattle.lra_program.specs.Program.{Element}
-use Rattle.lra_program.specs.Sites.{Site}
-use Rattle.lra_syntax.specs.Labels.{Labelled}
 use Rattle.lra_report.specs.declared.verdict_kinds.VerdictKind.{VerdictKind}
 use Rattle.lra_report.specs.declared.verdict_kinds.VerdictKind.TheVariants.{Assertion, Fit, Access}
+use Rattle.lra_base.specs.declared.refusals.Place.{Place}
+use Rattle.lra_program.specs.{Program.Element, Sites.Site}
+use Rattle.lra_syntax.specs.Labels.{Labelled}
 use Rattle.lra_operations.specs.Tree.{Node}
-use Rattle.lra_report.specs.Listing.{HasWidth, computes_at, accesses_at, accesses_any_at, subject, listed_verdict}
 
 -- the point of this number is an assertion
 abbrev pub IsAssertion : List Site → ℕ → Type 0

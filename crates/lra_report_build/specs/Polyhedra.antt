@@ -1,17 +1,12 @@
 -- How a polyhedron is shown: by its constraints and by its generators, which tell the same points.
-use Rattle.std.specs.Prelude.{◌≡◌, ℤ, pos, List, [], ◌∷◌, length, map}
 use Rattle.std.specs.List.{AllByRecursion}
-use Rattle.lra_linear_spec.specs.declared.ConKind.{ConKind}
+use Rattle.std.specs.Prelude.{◌≡◌, ℤ, pos, List, [], ◌∷◌, length, map}
 use Rattle.lra_linear_spec.specs.Descriptions.{LinearRow, Con}
-use Rattle.lra_linear_spec.specs.Polyhedra.{Polyhedron}
-use Rattle.lra_linear_spec.specs.declared.GenKind.{GenKind}
+use Rattle.lra_linear_spec.specs.{Polyhedra.Polyhedron, declared.ConKind.ConKind, declared.GenKind.GenKind}
 use Rattle.lra_systems.specs.LinearSystems.{LinearSystem, constraints, generators}
 use Rattle.lra_options.specs.declared.options.Domain.TheVariants.{Poly}
-use Rattle.lra_row_text.specs.ShownDescriptions.{shown_constraint, shown_generator}
-use Rattle.lra_row_text.specs.Part.{Part}
-use Rattle.lra_report.specs.Report.{Invariant, InvariantHolds}
-use Rattle.lra_report.specs.Parts.{ShowsPart}
-use Rattle.lra_report.specs.Listing.{HasWidth}
+use Rattle.lra_row_text.specs.{Part.Part, ShownDescriptions.shown_constraint, ShownDescriptions.shown_generator}
+use Rattle.lra_report.specs.{Listing.HasWidth, Parts.ShowsPart, Report.Invariant, Report.InvariantHolds}
 
 -- no part where there is no generator
 abbrev pub part_if_any : List LinearRow → Part → Invariant

@@ -1,17 +1,13 @@
 -- What a domain shows of its values, as the states of a report.
-use Rattle.std.specs.Prelude.{◌≡◌, ◌↔◌, ℤ, List, [], length, map}
 use Rattle.std.specs.List.{AllByRecursion, Contains}
+use Rattle.std.specs.Prelude.{◌≡◌, ◌↔◌, ℤ, List, [], length, map}
 use Rattle.lra_systems.specs.LinearSystems.{LinearSystem}
 use Rattle.lra_linear_spec.specs.declared.ConKind.{ConKind}
-use Rattle.lra_row_text.specs.Lists.{shown_rows}
+use Rattle.lra_row_text.specs.{Lists.shown_rows, Part.Part, Rows.ReportRow}
 use Rattle.lra_domain.specs.Abstraction.{Abstraction}
 use Rattle.lra_options.specs.declared.options.Domain.{Domain}
-use Rattle.lra_row_text.specs.Part.{Part}
 use Rattle.lra_report.specs.Report.{Invariant, InvariantHolds}
-use Rattle.lra_report.specs.Parts.{ShowsPart}
-use Rattle.lra_row_text.specs.Rows.{ReportRow}
-use Rattle.lra_report.specs.Listing.{HasWidth}
-use Rattle.lra_report.specs.Spelled.{IsDirected}
+use Rattle.lra_report.specs.{Listing.HasWidth, Parts.ShowsPart, Spelled.IsDirected}
 
 -- a value is shown by this state, in reports over this domain
 pub record IsShown {V H : Type 0} (m : Abstraction V H) (domain : Domain) (v : V) (state : Invariant) : Type 0 where

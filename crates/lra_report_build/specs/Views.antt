@@ -1,6 +1,5 @@
 -- What is judged, and what is told of accesses, as reports list it.
-use Rattle.std.specs.Prelude.{ℕ, List, Bool, Vec}
-use Rattle.std.specs.declared.alloc.Global.{Global}
+use Rattle.std.specs.{Prelude.ℕ, Prelude.List, Prelude.Bool, Prelude.Vec, declared.alloc.Global.Global}
 use Rattle.lra_base.specs.declared.refusals.Place.{Place}
 use Rattle.lra_operations.specs.TreeViews.{site_view}
 use Rattle.lra_report.specs.Listing as report

@@ -2,25 +2,20 @@
 
 ghost use Rattle.std.specs.Prelude.{◌≡◌, ◌++◌, ◌∷◌, ◌<◌, ◌^◌, ℕ, suc, length, map, flat_map, Some, option_map, IfOk};
 ghost use Rattle.std.specs.Prelude.{string_bytes, List, All};
-ghost use Rattle.lra_operations.specs.Agree.{IsInlinedTree};
-ghost use Rattle.lra_operations.specs.Tree.{Node};
-ghost use Rattle.lra_operations.specs.TreeViews.{site_view};
-ghost use Rattle.lra_syntax.specs.Trees.{ExternalTree};
+ghost use Rattle.lra_operations.specs.{Agree.IsInlinedTree, Tree.Node, TreeViews.site_view};
 ghost use Rattle.lra_syntax.specs.Views.{tree_view, external_view, global_view};
-ghost use Rattle.lra_syntax.specs.Labels.{label_at, labels_of};
-ghost use Rattle.lra_resolution_spec.specs.Resolve.{resolve};
-ghost use Rattle.lra_program.specs.Sites.{sites_of};
-ghost use Rattle.lra_resolution_spec.specs.ShownNames.{shown_names};
-ghost use Rattle.lra_report.specs.ReportText.{path_text};
+ghost use Rattle.lra_syntax.specs.{Labels.label_at, Labels.labels_of, Trees.ExternalTree};
 ghost use Rattle.lra_resolution_spec.specs.LiveNames.{live_name, globals_named, names_outside, live_names};
-ghost use Rattle.lra_report.specs.declared.verdict_kinds.VerdictKind.TheVariants.{Assertion, Fit};
+ghost use Rattle.lra_resolution_spec.specs.{Resolve.resolve, ShownNames.shown_names};
+ghost use Rattle.lra_program.specs.Sites.{sites_of};
 ghost use Rattle.lra_report.specs.Listing.{call_at, called_at, calls_on, listed_point, listed_verdict, AreListed};
 ghost use Rattle.lra_report.specs.Listing.{Lists};
+ghost use Rattle.lra_report.specs.ReportText.{path_text};
 ghost use Rattle.lra_report.specs.View.{call_place_of, point_report_of, verdict_of, report_of};
+ghost use Rattle.lra_report.specs.declared.verdict_kinds.VerdictKind.TheVariants.{Assertion, Fit};
 ghost use Rattle.lra_report_build.specs.AnalysisResults.{AreFitting, AreInvariants, AreVerdicts, state_of};
-ghost use Rattle.lra_report_build.specs.AnalysisResults.{reported_all, reported_of};
-ghost use Rattle.lra_report_build.specs.AnalysisResults.{access_verdicts, access_verdicts_at, verdict_at};
-ghost use Rattle.lra_report_build.specs.AnalysisResults.{AreAccessVerdicts};
+ghost use Rattle.lra_report_build.specs.AnalysisResults.{reported_all, reported_of, access_verdicts};
+ghost use Rattle.lra_report_build.specs.AnalysisResults.{access_verdicts_at, verdict_at, AreAccessVerdicts};
 ghost use Rattle.lra_report_build.specs.Views.{subject_view, reported_view};
 
 use lra_base::Place;

@@ -1,10 +1,8 @@
 //! Polyhedra, shown by their constraints and their generators.
 
-ghost use Rattle.std.specs.Prelude.{◌≡◌, IfOk};
-ghost use Rattle.std.specs.List.{AllByRecursion};
+ghost use Rattle.std.specs.{List.AllByRecursion, Prelude.◌≡◌, Prelude.IfOk};
 ghost use Rattle.lra_options.specs.declared.options.Domain.TheVariants as options;
-ghost use Rattle.lra_linear_spec.specs.Representable.{IsRepresentable};
-ghost use Rattle.lra_linear_spec.specs.Polyhedra.{IsPolyhedron};
+ghost use Rattle.lra_linear_spec.specs.{Polyhedra.IsPolyhedron, Representable.IsRepresentable};
 ghost use Rattle.lra_systems.specs.LinearSystems.{FitKinds};
 ghost use Rattle.lra_report.specs.Spelled.{IsSpelledPart};
 ghost use Rattle.lra_report_build.specs.Canonical.{IsCanonicalState};

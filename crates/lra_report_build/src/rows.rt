@@ -1,7 +1,6 @@
 //! Domains whose values are shown by their rows alone.
 
-ghost use Rattle.std.specs.Prelude.{◌≡◌, IfOk};
-ghost use Rattle.std.specs.List.{AllByRecursion};
+ghost use Rattle.std.specs.{List.AllByRecursion, Prelude.◌≡◌, Prelude.IfOk};
 ghost use Rattle.lra_options.specs.declared.options.Domain.TheVariants as options;
 ghost use Rattle.lra_box.specs.Abstraction.{box_abstraction};
 ghost use Rattle.lra_octagon.specs.Abstraction.{octagon_abstraction};

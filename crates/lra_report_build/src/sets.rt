@@ -1,10 +1,8 @@
 //! Sets of parts over any domain that is shown: the states of their parts, one after another.
 
-ghost use Rattle.std.specs.Prelude.{◌≡◌, flat_map, IfOk};
-ghost use Rattle.std.specs.List.{AllByRecursion};
+ghost use Rattle.std.specs.{List.AllByRecursion, Prelude.◌≡◌, Prelude.flat_map, Prelude.IfOk};
 ghost use Rattle.lra_report.specs.Spelled.{IsSpelledPart};
-ghost use Rattle.lra_report_build.specs.Canonical.{AreCanonicallyShown};
-ghost use Rattle.lra_report_build.specs.Shown.{AreShown};
+ghost use Rattle.lra_report_build.specs.{Canonical.AreCanonicallyShown, Shown.AreShown};
 
 use crate::show::Show;
 use lra_domain::BaseDomain;

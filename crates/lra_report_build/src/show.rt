@@ -1,12 +1,9 @@
 //! What a domain owes to a report.
 
-ghost use Rattle.std.specs.Prelude.{◌≡◌, IfOk};
-ghost use Rattle.std.specs.List.{AllByRecursion};
+ghost use Rattle.std.specs.{List.AllByRecursion, Prelude.◌≡◌, Prelude.IfOk};
 ghost use Rattle.lra_options.specs.declared.options.Domain as options;
-ghost use Rattle.lra_report.specs.Report.{Invariant};
-ghost use Rattle.lra_report.specs.Spelled.{IsSpelledPart};
-ghost use Rattle.lra_report_build.specs.Canonical.{IsCanonicalState};
-ghost use Rattle.lra_report_build.specs.Shown.{IsShown};
+ghost use Rattle.lra_report.specs.{Report.Invariant, Spelled.IsSpelledPart};
+ghost use Rattle.lra_report_build.specs.{Canonical.IsCanonicalState, Shown.IsShown};
 
 use lra_domain::Domain;
 use lra_report::Part;

@@ -1,10 +1,8 @@
 //! The values of a domain as the states of a report.
 
-ghost use Rattle.std.specs.Prelude.{◌≡◌, map, IfOk};
-ghost use Rattle.std.specs.List.{AllByRecursion};
+ghost use Rattle.std.specs.{List.AllByRecursion, Prelude.◌≡◌, Prelude.map, Prelude.IfOk};
 ghost use Rattle.lra_report.specs.Spelled.{IsSpelledPart};
-ghost use Rattle.lra_report_build.specs.Canonical.{AreCanonicallyShown};
-ghost use Rattle.lra_report_build.specs.Shown.{AreShown};
+ghost use Rattle.lra_report_build.specs.{Canonical.AreCanonicallyShown, Shown.AreShown};
 
 use crate::show::Show;
 use lra_report::Part;

@@ -1,24 +1,15 @@
 -- A report's JSON has no float.
 use Rattle.std.proofs.Common.{◌≡◌, ◌||◌, ℕ, List, [], ◌∷◌, map, fold, Bool, true, false, codes, if◌then◌else◌, nat_cmp, Ordering, Less, Equal, Greater, refl, Option, Some, None, ap, ◌∙◌}
-use Rattle.std.specs.List.{list_any}
-use Rattle.std.specs.Ordering.{match_ordering}
-use Rattle.std.specs.Cmp.Lexicographic.{slice_cmp}
+use Rattle.std.specs.{Cmp.Lexicographic.slice_cmp, List.list_any, Ordering.match_ordering}
 use Rattle.serde_json.specs.Data.{Data, Members, boolean, string, object, member, no_members, put}
-use Rattle.serde_json.specs.View.{items_of}
-use Rattle.serde_json.specs.Written.{has_float, items_have_float, members_have_float, compact_text}
-use Rattle.lra_options.specs.declared.options.Options.{Options}
-use Rattle.lra_options.specs.declared.options.NumberOption.{NumberOption}
-use Rattle.lra_options.specs.declared.options.FlagOption.{FlagOption}
+use Rattle.serde_json.specs.{View.items_of, Written.has_float, Written.items_have_float, Written.members_have_float, Written.compact_text}
 use Rattle.lra_options.specs.OptionRows.{number_row, number_value, number_options, is_number_reported, flag_row, flag_value, flag_options, is_reported}
-use Rattle.lra_report.specs.declared.verdict_kinds.VerdictKind.{VerdictKind}
-use Rattle.lra_report.specs.VerdictKinds.{row_of, kinds}
-use Rattle.lra_report.specs.ReportText.{place_text}
-use Rattle.lra_options.specs.declared.options.Domain.{Domain}
 use Rattle.lra_options.specs.declared.options.Domain.TheVariants.{Poly, Box, Oct}
+use Rattle.lra_options.specs.{declared.options.Domain.Domain, declared.options.FlagOption.FlagOption, declared.options.NumberOption.NumberOption, declared.options.Options.Options}
+use Rattle.lra_report.specs.{Report.PointReport, Report.Verdict, Report.Report, ReportText.place_text, VerdictKinds.row_of, VerdictKinds.kinds, declared.verdict_kinds.VerdictKind.VerdictKind}
 use Rattle.lra_row_text.specs.Part.{Part}
-use Rattle.lra_report.specs.Report.{PointReport, Verdict, Report}
-use Rattle.lra_report_json.specs.ReportJson.{natural, list_of, with_number, with_flag, domain_alone, options_data, outcome_members, verdict_data, is_under, under, with_verdicts}
-use Rattle.lra_report_json.specs.ReportJson.{flag_data, part_data, point_data, fixed_members, report_data}
+use Rattle.lra_report_json.specs.ReportJson.{natural, list_of, with_number, with_flag, domain_alone, options_data, outcome_members, verdict_data, is_under, under, with_verdicts, flag_data, part_data}
+use Rattle.lra_report_json.specs.ReportJson.{point_data, fixed_members, report_data}
 
 list_without_floats : {A : Type 0} (write : A → Data) → ((x : A) → has_float (write x) ≡ false) → (xs : List A) → items_have_float (items_of (map write xs)) ≡ false
 list_without_floats write none [] = refl

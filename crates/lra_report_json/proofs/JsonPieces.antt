@@ -1,14 +1,10 @@
 -- What a JSON text is written of is told by the text: strings, members of objects and items of lists.
 use Rattle.std.proofs.Common.{◌≡◌, ℕ, Bool, true, false, List, [], ◌∷◌, ◌++◌, map, Some, refl, ap, sym, ◌∙◌, append_assoc}
+use Rattle.std.proofs.{lemmas.Bool.eqb-false, lemmas.List.append_cancel_left}
 use Rattle.std.specs.List.{AllByRecursion}
-use Rattle.std.proofs.lemmas.List.{append_cancel_left}
-use Rattle.std.proofs.lemmas.Bool.{eqb-false}
-use Rattle.json.specs.Text.{content, plain}
-use Rattle.json.specs.Print.{escape, quoted}
+use Rattle.json.specs.{Print.escape, Print.quoted, Text.content, Text.plain}
 use Rattle.json.proofs.Printed.Strings.{content-escape}
-use Rattle.serde_json.specs.Data.{Data}
-use Rattle.serde_json.specs.View.{items_of}
-use Rattle.serde_json.specs.Written.{compact_text, items_text}
+use Rattle.serde_json.specs.{Data.Data, View.items_of, Written.compact_text, Written.items_text}
 use Rattle.lra_report.proofs.Fronts.{first_same, rest_same, both_same}
 use Rattle.lra_report_json.specs.ReportJson.{list_of}
 

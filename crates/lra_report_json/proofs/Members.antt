@@ -1,21 +1,11 @@
 -- Of two objects with the same keys, whose values tell themselves apart, the text tells the texts of their values, each
 -- by its key.
 use Rattle.std.proofs.Common.{◌≡◌, ◌∙◌, ℕ, Bool, true, false, List, [], ◌∷◌, ◌++◌, ◌⊎◌, inl, inr, refl, ap, sym, subst, if◌then◌else◌}
-use Rattle.std.specs.Prelude.{⊤}
-use Rattle.std.specs.Char.{is_ascii_digit}
-use Rattle.std.specs.Fmt.{decimal}
-use Rattle.std.specs.Str.{bytes_eq}
-use Rattle.std.specs.Ordering.{is_eq, nat_cmp, match_ordering}
-use Rattle.std.specs.Cmp.Lexicographic.{slice_cmp}
-use Rattle.std.specs.declared.cmp.Ordering.{Ordering}
+use Rattle.std.proofs.{lemmas.List.append_cancel_left, lemmas.Map.Text.is_eq-slice_cmp, lemmas.Slice.Eq.bytes_eq-Decides}
 use Rattle.std.specs.declared.cmp.Ordering.TheVariants.{Less, Equal, Greater}
-use Rattle.std.proofs.lemmas.List.{append_cancel_left}
-use Rattle.std.proofs.lemmas.Map.Text.{is_eq-slice_cmp}
-use Rattle.std.proofs.lemmas.Slice.Eq.{bytes_eq-Decides}
-use Rattle.serde_json.specs.Data.{Data, Members, member, no_members, number, unsigned, put}
-use Rattle.serde_json.specs.Written.{compact_text, members_text}
-use Rattle.lra_report.proofs.Fronts.{Ends, front_same, rest_same}
-use Rattle.lra_report.proofs.Numbers.{decimal_passes}
+use Rattle.std.specs.{Char.is_ascii_digit, Cmp.Lexicographic.slice_cmp, Fmt.decimal, Ordering.is_eq, Ordering.nat_cmp, Ordering.match_ordering, Prelude.⊤, Str.bytes_eq, declared.cmp.Ordering.Ordering}
+use Rattle.serde_json.specs.{Data.Data, Data.Members, Data.member, Data.no_members, Data.number, Data.unsigned, Data.put, Written.compact_text, Written.members_text}
+use Rattle.lra_report.proofs.{Fronts.Ends, Fronts.front_same, Fronts.rest_same, Numbers.decimal_passes}
 use Rattle.lra_report_json.proofs.JsonPieces.{member_same}
 
 -- a value's text is followed by a comma or by the object's end

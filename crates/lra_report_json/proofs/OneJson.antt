@@ -1,52 +1,25 @@
 -- One JSON text, one report.
 use Rattle.std.proofs.Common.{◌≡◌, ℕ, suc, ◌<◌, ◌^◌, Bool, true, false, List, [], ◌∷◌, ◌++◌, length, map, codes, if◌then◌else◌, refl, ap, sym, ◌∙◌, subst, arith, append_assoc, Option, Some, None}
-use Rattle.std.proofs.Common.{decimal, ◌||◌}
-use Rattle.std.specs.Prelude.{fold}
-use Rattle.std.specs.List.{AllByRecursion, list_any}
-use Rattle.std.specs.Str.{bytes_eq}
-use Rattle.std.proofs.lemmas.Slice.Eq.{bytes_eq-Decides}
-use Rattle.std.proofs.lemmas.List.{append_cancel_left}
-use Rattle.std.proofs.lemmas.Bool.{eqb-false}
+use Rattle.std.proofs.{Common.decimal, Common.◌||◌, lemmas.Bool.eqb-false, lemmas.List.append_cancel_left, lemmas.Slice.Eq.bytes_eq-Decides}
+use Rattle.std.specs.{List.AllByRecursion, List.list_any, Prelude.fold, Str.bytes_eq}
 use Rattle.json.specs.Print.{quoted}
-use Rattle.serde_json.specs.Data.{Members, string, object, member, no_members, put}
-use Rattle.serde_json.specs.View.{items_of}
-use Rattle.serde_json.specs.Written.{compact_text, items_text, members_text}
-use Rattle.lra_options.specs.declared.options.Domain.{Domain}
+use Rattle.serde_json.specs.{Data.Members, Data.string, Data.object, Data.member, Data.no_members, Data.put, View.items_of, Written.compact_text, Written.items_text, Written.members_text}
 use Rattle.lra_options.specs.declared.options.Domain.TheVariants.{Poly, Box, Oct}
-use Rattle.lra_options.specs.declared.options.Options.{Options}
-use Rattle.lra_syntax.specs.Texts.{Pieces}
-use Rattle.lra_syntax.specs.Trees.{FileTree}
-use Rattle.lra_syntax.specs.Grammar.{Spells}
-use Rattle.lra_syntax.specs.Faults.{Language}
-use Rattle.lra_syntax.specs.Labels.{Labelled, labels_of}
-use Rattle.lra_resolution_spec.specs.Resolve.{resolve}
-use Rattle.lra_resolution_spec.specs.LiveNames.{live_names, globals_named}
+use Rattle.lra_options.specs.{declared.options.Domain.Domain, declared.options.Options.Options}
+use Rattle.lra_syntax.specs.{Faults.Language, Grammar.Spells, Labels.Labelled, Labels.labels_of, Texts.Pieces, Trees.FileTree}
+use Rattle.lra_resolution_spec.specs.{LiveNames.live_names, LiveNames.globals_named, Resolve.resolve, ShownNames.shown_names}
 use Rattle.lra_program.specs.Sites.{Site, sites_of}
-use Rattle.lra_row_text.specs.Rows.{ReportRow}
-use Rattle.lra_row_text.specs.Part.{ReportGenerator, Part}
-use Rattle.lra_report.specs.Report.{Invariant, PointReport, Verdict, Report}
-use Rattle.lra_report.specs.ReportText.{place_text}
-use Rattle.lra_report.specs.declared.verdict_kinds.VerdictKind.{VerdictKind}
-use Rattle.lra_report.specs.VerdictKinds.{row_of, kinds, among_kinds, outcome_text}
-use Rattle.lra_report.proofs.Outcomes.{outcome_told}
-use Rattle.lra_resolution_spec.specs.ShownNames.{shown_names}
-use Rattle.lra_row_text.specs.Texts.{row_text, generator_text}
-use Rattle.lra_report.specs.Parts.{ShowsPart}
+use Rattle.lra_row_text.specs.{Part.ReportGenerator, Part.Part, Rows.ReportRow, Texts.row_text, Texts.generator_text}
 use Rattle.lra_report.specs.Listing.{listed_point, Subject, subjects, listed_verdict, Lists, AreListed, AreJudged, AreParts, IsFlag}
 use Rattle.lra_report.specs.Spelled.{IsSpelledRow, IsSpelledGenerator, IsReadablePart, IsReadablePoint, IsSmallFlag, AreWords}
-use Rattle.lra_report.proofs.Fronts.{AreShownNames, first_same, rest_same, both_same}
-use Rattle.lra_report.proofs.Numbers.{IsShort, decimal_same}
-use Rattle.lra_report.proofs.NameTexts.{are_shown}
-use Rattle.lra_report.proofs.RowTexts.{row_same}
-use Rattle.lra_report.proofs.GeneratorTexts.{generator_same}
-use Rattle.lra_report.proofs.LiveWords.{accepted_words}
-use Rattle.lra_report.proofs.OneText.{report_by}
-use Rattle.lra_report_json.specs.ReportJson.{list_of, options_data, is_under, under, with_verdicts, fixed_members}
-use Rattle.lra_report_json.specs.ReportJson.{outcome_members, verdict_data, rows_data, generators_data, part_data, point_data, flag_data, report_json}
-use Rattle.lra_report_json.specs.OneJson.{OneSourceJson}
+use Rattle.lra_report.specs.VerdictKinds.{row_of, kinds, among_kinds, outcome_text}
+use Rattle.lra_report.specs.{Parts.ShowsPart, Report.Invariant, Report.PointReport, Report.Verdict, Report.Report, ReportText.place_text, declared.verdict_kinds.VerdictKind.VerdictKind}
+use Rattle.lra_report.proofs.{Fronts.AreShownNames, Fronts.first_same, Fronts.rest_same, Fronts.both_same, GeneratorTexts.generator_same, LiveWords.accepted_words, NameTexts.are_shown}
+use Rattle.lra_report.proofs.{Numbers.IsShort, Numbers.decimal_same, OneText.report_by, Outcomes.outcome_told, RowTexts.row_same}
+use Rattle.lra_report_json.specs.ReportJson.{list_of, options_data, is_under, under, with_verdicts, fixed_members, outcome_members, verdict_data, rows_data, generators_data, part_data, point_data}
+use Rattle.lra_report_json.specs.{OneJson.OneSourceJson, ReportJson.flag_data, ReportJson.report_json}
 use Rattle.lra_report_json.proofs.Members.{Apart, Alike, same_apart, numbers_apart, text_at, put_alike, object_same, put_there, put_elsewhere}
-use Rattle.lra_report_json.proofs.Keyed.{on, judged_under, listed_alike, none_under, told_by_keys}
-use Rattle.lra_report_json.proofs.JsonPieces.{quoted_same, member_same, list_same}
+use Rattle.lra_report_json.proofs.{JsonPieces.quoted_same, JsonPieces.member_same, JsonPieces.list_same, Keyed.on, Keyed.judged_under, Keyed.listed_alike, Keyed.none_under, Keyed.told_by_keys}
 
 all_both : {A : Type 0} (P Q : A → Type 0) (xs : List A) → AllByRecursion P xs → AllByRecursion Q xs → AllByRecursion (λ x. P x × Q x) xs
 all_both P Q [] p q = tt

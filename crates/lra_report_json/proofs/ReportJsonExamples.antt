@@ -1,13 +1,10 @@
 -- The JSON of reports. Which slip an example would catch stands beside it.
 use Rattle.std.proofs.Common.{◌≡◌, pos, negsuc, List, [], ◌∷◌, ◌++◌, Some, None, true, refl}
-use Rattle.std.specs.Prelude.{codes}
-use Rattle.std.specs.Fmt.{digits}
+use Rattle.std.specs.{Fmt.digits, Prelude.codes}
 use Rattle.serde_json.proofs.OnLiterals.{serde_json_on_literals}
-use Rattle.lra_options.specs.declared.options.Domain.TheVariants.{Box}
+use Rattle.lra_options.specs.{OptionRows.default_options, declared.options.Domain.TheVariants.Box}
 use Rattle.lra_report.specs.Report.{Place, PointReport}
-use Rattle.lra_row_text.specs.Part.{Part}
-use Rattle.lra_row_text.specs.Texts.{text_line}
-use Rattle.lra_options.specs.OptionRows.{default_options}
+use Rattle.lra_row_text.specs.{Part.Part, Texts.text_line}
 use Rattle.lra_report.proofs.ReportTextExamples.{empty_main, fitting, accessing, rows_alone, is_zero}
 use Rattle.serde_json.specs.Written.{compact_text}
 use Rattle.lra_report_json.specs.ReportJson.{flag_data, point_data, report_json}

@@ -2,9 +2,7 @@
 use Rattle.std.specs.Prelude.{◌≡◌, ℕ, List}
 use Rattle.lra_options.specs.declared.options.Options.{Options}
 use Rattle.lra_syntax.specs.Faults.{Language}
-use Rattle.lra_report.specs.Report.{Report}
-use Rattle.lra_report.specs.Listing.{IsReportOf}
-use Rattle.lra_report.specs.Spelled.{IsReadable, HasOneTree}
+use Rattle.lra_report.specs.{Listing.IsReportOf, Report.Report, Spelled.IsReadable, Spelled.HasOneTree}
 use Rattle.lra_report_json.specs.ReportJson.{report_json}
 
 -- two reports of one source of the language L under one list of options that have the same JSON are the same

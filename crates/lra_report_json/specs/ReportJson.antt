@@ -1,25 +1,18 @@
 -- A report as one compact JSON object (RFC 8259), its keys in byte order, ended by a line feed.
 use Rattle.std.specs.Prelude.{ℕ, List, map, filter, fold, Bool, codes, if◌then◌else◌, Option, Some, None}
-use Rattle.std.specs.List.{list_any}
-use Rattle.std.specs.Str.{bytes_eq}
-use Rattle.serde_json.specs.Data.{Data, Members, boolean, number, unsigned, string, array, object, member}
-use Rattle.serde_json.specs.Data.{no_members, put}
-use Rattle.serde_json.specs.View.{items_of}
-use Rattle.serde_json.specs.Written.{compact_text}
-use Rattle.lra_options.specs.declared.options.Domain.{Domain}
-use Rattle.lra_options.specs.declared.options.Options.{Options}
-use Rattle.lra_options.specs.declared.options.NumberOption.{NumberOption}
-use Rattle.lra_options.specs.declared.options.FlagOption.{FlagOption}
+use Rattle.std.specs.{List.list_any, Str.bytes_eq}
+use Rattle.serde_json.specs.Data.{Data, Members, boolean, number, unsigned, string, array, object, member, no_members}
+use Rattle.serde_json.specs.{Data.put, View.items_of, Written.compact_text}
 use Rattle.lra_options.specs.Domains.{domain_name, shows_generators}
-use Rattle.lra_options.specs.OptionRows.{number_row, number_value, number_options, is_number_reported}
-use Rattle.lra_options.specs.OptionRows.{flag_row, flag_value, flag_options, is_reported}
-use Rattle.lra_report.specs.declared.verdict_kinds.VerdictKind.{VerdictKind}
-use Rattle.lra_report.specs.VerdictKinds.{row_of, kinds, outcome_text}
-use Rattle.lra_row_text.specs.Rows.{ReportRow}
-use Rattle.lra_row_text.specs.Part.{ReportGenerator, Part}
-use Rattle.lra_report.specs.Report.{PointReport, Verdict, Report}
-use Rattle.lra_row_text.specs.Texts.{text_line, row_text, generator_text}
+use Rattle.lra_options.specs.OptionRows.{number_row, number_value, number_options, is_number_reported, flag_row}
+use Rattle.lra_options.specs.OptionRows.{flag_value, flag_options, is_reported}
+use Rattle.lra_options.specs.{declared.options.Domain.Domain, declared.options.FlagOption.FlagOption}
+use Rattle.lra_options.specs.{declared.options.NumberOption.NumberOption, declared.options.Options.Options}
 use Rattle.lra_report.specs.ReportText.{place_text, proved_count, unknown_count}
+use Rattle.lra_report.specs.{Report.PointReport, Report.Verdict, Report.Report, VerdictKinds.row_of, VerdictKinds.kinds}
+use Rattle.lra_report.specs.{VerdictKinds.outcome_text, declared.verdict_kinds.VerdictKind.VerdictKind}
+use Rattle.lra_row_text.specs.Texts.{text_line, row_text, generator_text}
+use Rattle.lra_row_text.specs.{Part.ReportGenerator, Part.Part, Rows.ReportRow}
 
 abbrev pub natural : ℕ → Data
 natural n = number (unsigned n)

@@ -1,8 +1,7 @@
 //! The texts of rows and of generators, as JSON strings.
 
 ghost use Rattle.std.specs.Prelude.{◌≡◌, IfOk, length, map};
-ghost use Rattle.serde_json.specs.Data.{string};
-ghost use Rattle.serde_json.specs.View.{view};
+ghost use Rattle.serde_json.specs.{Data.string, View.view};
 ghost use Rattle.lra_systems.specs.LinearSystems.{FitKinds};
 ghost use Rattle.lra_row_text.specs.Texts as written;
 ghost use Rattle.lra_row_text.specs.Lists.{shown_rows, shown_generators};

@@ -1,8 +1,7 @@
 //! Points with their parts, and verdicts, as JSON values.
 
 ghost use Rattle.std.specs.Prelude.{◌≡◌, IfOk, map};
-ghost use Rattle.serde_json.specs.Data.{string};
-ghost use Rattle.serde_json.specs.View.{view};
+ghost use Rattle.serde_json.specs.{Data.string, View.view};
 ghost use Rattle.lra_report_json.specs.ReportJson.{generators_data, rows_data, part_data, point_data, verdict_data};
 ghost use Rattle.lra_report_json.specs.ReportJson.{under};
 ghost use Rattle.lra_report.specs.ReportText as written;

@@ -1,12 +1,11 @@
 //! A whole report.
 
-ghost use Rattle.std.specs.Prelude.{◌≡◌, IfOk, fold};
-ghost use Rattle.std.specs.List.{list_any};
+ghost use Rattle.std.specs.{List.list_any, Prelude.◌≡◌, Prelude.IfOk, Prelude.fold};
 ghost use Rattle.serde_json.specs.View.{members_view, view};
 ghost use Rattle.lra_options.specs.OptionRows.{number_options, flag_options};
 ghost use Rattle.lra_report_json.specs.ReportJson.{counts_of, fixed_members, flag_data, is_under, natural};
-ghost use Rattle.lra_report_json.specs.ReportJson.{options_data};
-ghost use Rattle.lra_report_json.specs.ReportJson.{report_data, report_json, with_flag, with_number, with_verdicts};
+ghost use Rattle.lra_report_json.specs.ReportJson.{options_data, report_data, report_json, with_flag, with_number};
+ghost use Rattle.lra_report_json.specs.ReportJson.{with_verdicts};
 ghost use Rattle.lra_report.specs.View.{report_of};
 
 use crate::object::Object;

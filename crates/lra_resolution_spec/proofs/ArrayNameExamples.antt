@@ -2,19 +2,13 @@
 -- beside it.
 use Rattle.std.proofs.Common.{◌≡◌, ℕ, pos, List, [], ◌∷◌, None, refl, map}
 use Rattle.std.specs.Prelude.{codes}
-use Rattle.lra_base.specs.declared.number_types.NumberType.TheVariants.{Int, Long}
-use Rattle.lra_base.specs.declared.refusals.Refusal.{Refusal}
-use Rattle.lra_base.specs.declared.refusals.Cause.{Cause}
 use Rattle.lra_base.specs.declared.refusals.Cause.TheVariants.{UnknownName, DuplicateName, BadLength, NotArray}
-use Rattle.lra_syntax.specs.declared.trees.Identifier.{Identifier}
+use Rattle.lra_base.specs.{declared.number_types.NumberType.TheVariants.Int, declared.number_types.NumberType.TheVariants.Long, declared.refusals.Cause.Cause, declared.refusals.Refusal.Refusal}
+use Rattle.lra_syntax.specs.Trees.{element, expression, set, set_element, scalar, array, DeclaratorTree, DeclarationTree, block, assign, ItemsTree, no_items, declaration, statement, globals, function}
+use Rattle.lra_syntax.specs.{Labels.labels_of, Trees.FileTree, declared.trees.Identifier.Identifier}
 use Rattle.lra_program.specs.declared.arrays.Array.{Array}
 use Rattle.lra_program.specs.Program as program
-use Rattle.lra_syntax.specs.Trees.{element, expression, set, set_element, scalar, array, DeclaratorTree, DeclarationTree, block, assign, ItemsTree, no_items}
-use Rattle.lra_syntax.specs.Trees.{declaration, statement, globals, function, FileTree}
-use Rattle.lra_syntax.specs.Labels.{labels_of}
-use Rattle.lra_resolution_spec.specs.NameFaults.{name_faults}
-use Rattle.lra_resolution_spec.specs.Resolve.{resolve}
-use Rattle.lra_resolution_spec.specs.LiveNames.{globals_named}
+use Rattle.lra_resolution_spec.specs.{LiveNames.globals_named, NameFaults.name_faults, Resolve.resolve}
 use Rattle.lra_program.proofs.RunExamples.{long_variable}
 use Rattle.lra_syntax.proofs.TreeSamples.{at, name_at, x_at, literal_text, use_of, alone, declared_as, main_function, main_of}
 

@@ -1,11 +1,9 @@
 -- The label of a number, where there is one.
 use Rattle.std.proofs.Common.{◌≡◌, ◌∙◌, sym, ap, refl, ◌+◌, ◌≤◌, ◌<◌, ℕ, suc, List, length, map, Option, Some, None, get_or, arith, subst, add-one, MatchOption, IfSome, option_map}
-use Rattle.std.specs.Prelude.{slice_get}
 use Rattle.std.proofs.lemmas.Option.{slice_get_read, slice_get_past, slice_get-map}
+use Rattle.std.specs.Prelude.{slice_get}
 use Rattle.lra_syntax.specs.Labels.{label_at}
-use Rattle.lra_resolution_spec.specs.declared.labels.SymbolEntry.{SymbolEntry}
-use Rattle.lra_resolution_spec.specs.declared.labels.Label.{Label}
-use Rattle.lra_resolution_spec.specs.LabelTable.{LabelLists, lists_of, label_in, HaveLists}
+use Rattle.lra_resolution_spec.specs.{LabelTable.LabelLists, LabelTable.lists_of, LabelTable.label_in, LabelTable.HaveLists, declared.labels.Label.Label, declared.labels.SymbolEntry.SymbolEntry}
 use Rattle.lra_resolution_spec.proofs.NameLists.{lists_length}
 
 -- what is told of it

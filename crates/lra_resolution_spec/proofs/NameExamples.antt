@@ -1,24 +1,16 @@
 -- Names: what they mean, and the faults of names at their places. Which slip an example would catch stands beside it.
 use Rattle.std.proofs.Common.{◌≡◌, ℕ, zero, suc, ◌<◌, ℤ, pos, negsuc, List, [], ◌∷◌, ◌++◌, length, Some, None, refl, ap, subst, sym, ◌∙◌, arith}
-use Rattle.lra_syntax.specs.Functions.{functions_of}
+use Rattle.lra_syntax.specs.Trees.{value, compare, conjunction, test, and, or, expression, result, set, after, increment, declared, block, nothing, assign, call, for, break, return, no_items, scalar}
+use Rattle.lra_syntax.specs.{Functions.functions_of, Labels.labels_of, Reach.calls_of, Reach.ReachesByCalls, Reach.there, Reach.by_call, Reach.IsRecursive, Reach.IsFirstRecursive, Reach.NotRecursive}
+use Rattle.lra_syntax.specs.{Trees.declaration, Trees.statement, Trees.globals, Trees.function, Trees.FileTree, Trees.FunctionTree, Trees.GlobalTree, declared.trees.Identifier.Identifier}
 use Rattle.std.specs.Prelude.{codes, map, Contains}
 use Rattle.lra_base.specs.declared.number_types.NumberType.{NumberType}
-use Rattle.lra_base.specs.declared.number_types.NumberType.TheVariants.{Int, Long}
-use Rattle.lra_base.specs.declared.refusals.Refusal.{Refusal}
-use Rattle.lra_syntax.specs.declared.trees.Identifier.{Identifier}
-use Rattle.lra_base.specs.declared.refusals.Cause.{Cause}
 use Rattle.lra_base.specs.declared.refusals.Cause.TheVariants.{BadLiteral, NoMain, UnknownName, DuplicateName, BadCall, Misplaced, Recursive}
+use Rattle.lra_base.specs.{declared.number_types.NumberType.TheVariants.Int, declared.number_types.NumberType.TheVariants.Long, declared.refusals.Cause.Cause, declared.refusals.Refusal.Refusal}
 use Rattle.lra_program.specs.Program as program
 use Rattle.lra_base.specs.Operators as operators
-use Rattle.lra_syntax.specs.Trees.{value, compare, conjunction, test, and, or, expression, result, set, after, increment, declared, block, nothing, assign}
-use Rattle.lra_syntax.specs.Trees.{call}
-use Rattle.lra_syntax.specs.Trees.{for, break, return, no_items, scalar, declaration, statement, globals, function, FileTree, FunctionTree, GlobalTree}
-use Rattle.lra_syntax.specs.Labels.{labels_of}
 use Rattle.lra_resolution_spec.specs.Scope as scope
-use Rattle.lra_resolution_spec.specs.NameFaults.{name_faults}
-use Rattle.lra_resolution_spec.specs.Resolve.{resolve, resolve_cond}
-use Rattle.lra_syntax.specs.Reach.{calls_of, ReachesByCalls, there, by_call, IsRecursive, IsFirstRecursive, NotRecursive}
-use Rattle.lra_resolution_spec.specs.Refuse.{RefusesTree, recursive}
+use Rattle.lra_resolution_spec.specs.{NameFaults.name_faults, Refuse.RefusesTree, Refuse.recursive, Resolve.resolve, Resolve.resolve_cond}
 use Rattle.lra_program.proofs.RunExamples as run
 use Rattle.lra_syntax.proofs.TreeSamples.{at, name_at, x_at, literal_text, use_of, tested, call_of, declared_as, long_parameter, main_function, void_of, main_of, one_variable, called_twice}
 

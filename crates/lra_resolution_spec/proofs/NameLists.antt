@@ -1,14 +1,11 @@
 -- Lists of names by their numbers: a further entry gives a further list, and the others stay.
 use Rattle.std.proofs.Common.{◌≡◌, ◌∙◌, sym, ap, refl, ◌+◌, ◌≤◌, ◌<◌, ◌⊎◌, inl, inr, ℕ, zero, suc, List, [], ◌∷◌, ◌++◌, length, map, Some, get_or, arith, length-append, append_assoc, append-nil}
-use Rattle.std.proofs.Common.{subst, take, ◌-◌}
-use Rattle.std.specs.Prelude.{slice_get, slice_set}
-use Rattle.std.proofs.lemmas.Option.{slice_get_read}
 use Rattle.std.proofs.lemmas.List.{get_or_append_left, get_or-append-add, take-append-le, get_or-set_same, get_or-map, map-set}
-use Rattle.std.proofs.Math.Seq.{take-length, set-append_seam, get_or-append_seam}
+use Rattle.std.proofs.{Common.subst, Common.take, Common.◌-◌, Math.Seq.take-length, Math.Seq.set-append_seam, Math.Seq.get_or-append_seam, lemmas.Option.slice_get_read}
+use Rattle.std.specs.Prelude.{slice_get, slice_set}
 use Rattle.lra_syntax.specs.Labels.{Labelled}
-use Rattle.lra_resolution_spec.specs.declared.labels.SymbolEntry.{SymbolEntry}
-use Rattle.lra_resolution_spec.specs.declared.labels.Label.{Label}
 use Rattle.lra_resolution_spec.specs.LabelTable.{list_at, lists_behind, lists_of, AreOrdered, label_in, HaveLists, with_live}
+use Rattle.lra_resolution_spec.specs.{declared.labels.Label.Label, declared.labels.SymbolEntry.SymbolEntry}
 
 pub behind_more : (lists : List (List (List ℕ))) (es : List SymbolEntry) (e : SymbolEntry)
     → lists_behind lists (es ++ e ∷ []) ≡ lists_behind lists es ++ (list_at (lists_behind lists es) e.outer ++ e.name ∷ []) ∷ []

@@ -1,30 +1,19 @@
 -- Refusals at their places: limits and whole sources. Which slip an example would catch stands beside it.
 use Rattle.std.proofs.Common.{◌≡◌, ℕ, zero, suc, ◌+◌, List, [], ◌∷◌, ◌++◌, Option, Some, None, refl, arith, take, replicate, ap, ◌∙◌, subst, true, length, sym, get_or}
-use Rattle.std.specs.Prelude.{codes, get_or, ◌≤◌}
-use Rattle.lra_base.specs.declared.number_types.NumberType.TheVariants.{Long}
-use Rattle.lra_base.specs.declared.refusals.Refusal.{Refusal}
-use Rattle.lra_base.specs.declared.refusals.Cause.TheVariants.{TooLong, BadByte, BadLiteral, Syntax, NoMain, TooManyVariables, TooManyPoints}
-use Rattle.lra_syntax.specs.declared.tokens.Kind.TheVariants.{Unclosed, End}
-use Rattle.lra_syntax.specs.declared.tokens.Mark.TheVariants as mark
-use Rattle.lra_syntax.specs.declared.tokens.Token.{Token}
-use Rattle.lra_syntax.specs.Lexeme.{IsOpen, unclosed, comment}
-use Rattle.lra_syntax.specs.declared.tokens.Kind.{Kind}
-use Rattle.lra_base.specs.Places.{place_after, place_from, greatest_length}
-use Rattle.lra_syntax.specs.Tokens.{is_blank, blank, line_comment, block_comment, skipped_line, NoGap, token}
-use Rattle.lra_syntax.specs.Trees.{scalar, DeclaratorTree, nothing, call, ItemsTree, no_items, declaration, statement, ExternalTree, function, FileTree, for}
-use Rattle.lra_syntax.specs.Trees.{declared, expression}
-use Rattle.lra_syntax.specs.Labels.{labels_of}
-use Rattle.lra_resolution_spec.specs.Resolve.{resolve}
-use Rattle.lra_program.specs.Sites.{events_of}
-use Rattle.lra_resolution_spec.specs.Refuse.{limit_fault, Refuse, too_long, bad_token, bad_text, bad_tree, bad_name}
-use Rattle.lra_syntax.specs.Grammar.{Spells}
 use Rattle.std.proofs.lemmas.List.{take-replicate, length-replicate, length-append}
-use Rattle.lra_syntax.proofs.LongestByTest.{no_gap, no_lexeme, is_open}
-use Rattle.lra_syntax.proofs.FirstTokens.{not_unclosed}
-use Rattle.lra_syntax.proofs.Lexemes.{ExternalDeclaration, faulty}
+use Rattle.std.specs.Prelude.{codes, get_or, ◌≤◌}
+use Rattle.lra_base.specs.declared.refusals.Cause.TheVariants.{TooLong, BadByte, BadLiteral, Syntax, NoMain, TooManyVariables, TooManyPoints}
+use Rattle.lra_base.specs.{Places.place_after, Places.place_from, Places.greatest_length, declared.number_types.NumberType.TheVariants.Long, declared.refusals.Refusal.Refusal}
+use Rattle.lra_syntax.specs.Lexeme.{IsOpen, unclosed, comment}
+use Rattle.lra_syntax.specs.Tokens.{is_blank, blank, line_comment, block_comment, skipped_line, NoGap, token}
+use Rattle.lra_syntax.specs.Trees.{scalar, DeclaratorTree, nothing, call, ItemsTree, no_items, declaration, statement, ExternalTree, function, FileTree, for, declared, expression}
+use Rattle.lra_syntax.specs.{Grammar.Spells, Labels.labels_of, declared.tokens.Kind.Kind, declared.tokens.Kind.TheVariants.Unclosed, declared.tokens.Kind.TheVariants.End, declared.tokens.Token.Token}
+use Rattle.lra_syntax.specs.declared.tokens.Mark.TheVariants as mark
+use Rattle.lra_resolution_spec.specs.{Refuse.limit_fault, Refuse.Refuse, Refuse.too_long, Refuse.bad_token, Refuse.bad_text, Refuse.bad_tree, Refuse.bad_name, Resolve.resolve}
+use Rattle.lra_program.specs.Sites.{events_of}
 use Rattle.lra_syntax.proofs.LexedByTest.{space, sign, word_of, are_read_by}
-use Rattle.lra_syntax.proofs.TokenExamples.{too_large}
 use Rattle.lra_syntax.proofs.TreeSamples.{at, name_at, call_of, long_parameter, main_function, void_of, main_of, declared_as, literal_text as number_of}
+use Rattle.lra_syntax.proofs.{FirstTokens.not_unclosed, Lexemes.ExternalDeclaration, Lexemes.faulty, LongestByTest.no_gap, LongestByTest.no_lexeme, LongestByTest.is_open, TokenExamples.too_large}
 
 abbrev limits : FileTree → Option Refusal
 limits t = limit_fault (labels_of t) 0 (events_of (resolve t))

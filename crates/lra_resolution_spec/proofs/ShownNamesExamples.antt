@@ -1,7 +1,6 @@
 -- Names of variables as they are printed. Which slip an example would catch stands beside it.
 use Rattle.std.proofs.Common.{◌≡◌, [], ◌∷◌, refl}
-use Rattle.std.specs.Prelude.{codes}
-use Rattle.std.specs.Fmt.{digits}
+use Rattle.std.specs.{Fmt.digits, Prelude.codes}
 use Rattle.lra_resolution_spec.specs.ShownNames.{shown_names}
 
 -- main's x is older than inc's: catches a mark on the newer one

@@ -1,18 +1,13 @@
 -- Threads of sources, and refusals of sources of several threads. Which slip an example would catch stands beside it.
 use Rattle.std.proofs.Common.{◌≡◌, ℕ, zero, suc, ◌<◌, List, [], ◌∷◌, length, None, refl, ap, subst, sym, ◌∙◌, arith}
 use Rattle.std.specs.Prelude.{codes, Contains, get_or}
-use Rattle.lra_base.specs.declared.refusals.Refusal.{Refusal}
-use Rattle.lra_base.specs.declared.refusals.Cause.{Cause}
 use Rattle.lra_base.specs.declared.refusals.Cause.TheVariants.{NoThreads, UnknownName, DuplicateName, Recursive}
-use Rattle.lra_syntax.specs.declared.trees.Identifier.{Identifier}
+use Rattle.lra_base.specs.{declared.refusals.Cause.Cause, declared.refusals.Refusal.Refusal}
 use Rattle.lra_syntax.specs.Trees.{expression, set, nothing, assign, call, no_items, ItemsTree, statement, function, FileTree, FunctionTree, ExternalTree}
-use Rattle.lra_syntax.specs.Labels.{labels_of}
-use Rattle.lra_syntax.specs.Functions.{functions_of}
-use Rattle.lra_syntax.specs.Reach.{calls_of, ReachesByCalls, there, by_call, IsFirstRecursive}
+use Rattle.lra_syntax.specs.{Functions.functions_of, Labels.labels_of, Reach.calls_of, Reach.ReachesByCalls, Reach.there, Reach.by_call, Reach.IsFirstRecursive, declared.trees.Identifier.Identifier}
 use Rattle.lra_program.specs.Sites.{event_sites}
-use Rattle.lra_resolution_spec.specs.Refuse.{limit_fault}
 use Rattle.lra_resolution_spec.specs.Threads.{thread_faults, thread_places, thread_events, thread_program}
-use Rattle.lra_resolution_spec.specs.RefuseThreads.{RefusesThreads, recursive}
+use Rattle.lra_resolution_spec.specs.{Refuse.limit_fault, RefuseThreads.RefusesThreads, RefuseThreads.recursive}
 use Rattle.lra_syntax.proofs.TreeSamples.{at, name_at, x_at, literal_text, call_of, long_parameter, main_function, void_of}
 
 abbrev fault : Cause → ℕ → Refusal

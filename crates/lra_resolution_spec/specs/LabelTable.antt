@@ -1,8 +1,7 @@
 -- Lists of names that share their fronts, and the labels of a source with numbers of such lists.
 use Rattle.std.specs.Prelude.{◌≡◌, ◌≤◌, ◌<◌, ℕ, List, [], ◌∷◌, ◌++◌, slice_get, slice_index_or, Some}
 use Rattle.lra_syntax.specs.Labels.{Labelled}
-use Rattle.lra_resolution_spec.specs.declared.labels.SymbolEntry.{SymbolEntry}
-use Rattle.lra_resolution_spec.specs.declared.labels.Label.{Label}
+use Rattle.lra_resolution_spec.specs.{declared.labels.Label.Label, declared.labels.SymbolEntry.SymbolEntry}
 
 -- the list of a number
 abbrev pub list_at : List (List (List ℕ)) → ℕ → List (List ℕ)

@@ -1,7 +1,7 @@
 -- The names of the variables that live at a point; arrays are none.
 use Rattle.std.specs.Prelude.{ℕ, List, [], ◌∷◌, ◌++◌, Option, Some, None, flat_map}
-use Rattle.lra_syntax.specs.Trees.{GlobalTree, ExternalTree, prototype, globals, function}
 use Rattle.lra_syntax.specs.Labels.{Labelled, label_at, name_in}
+use Rattle.lra_syntax.specs.Trees.{GlobalTree, ExternalTree, prototype, globals, function}
 use Rattle.lra_program.specs.Sites.{Site}
 
 -- the name of a scalar

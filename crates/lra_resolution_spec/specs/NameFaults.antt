@@ -1,40 +1,31 @@
 -- All faults of names in a source, in text order; at one token the lower number comes first (ISO/IEC 9899:2011, 6.2.1,
 -- 6.5.2.2, 6.7, 6.8.4.2, 6.8.6, 6.9).
-use Rattle.std.specs.Prelude.{ℕ, Bool, true, false, not, if◌then◌else◌, ◌||◌, ◌&&◌, nat_eq, List, [], ◌∷◌, ◌++◌}
-use Rattle.std.specs.Prelude.{length, Option, Some, None, bytes_eq, map, is_none, is_some}
 use Rattle.std.specs.List.{list_any, flat_map}
-use Rattle.lra_base.specs.declared.number_types.NumberType.{NumberType}
-use Rattle.lra_base.specs.declared.refusals.Place.{Place}
-use Rattle.lra_base.specs.declared.refusals.Refusal.{Refusal}
-use Rattle.lra_base.specs.declared.refusals.Cause.{Cause}
+use Rattle.std.specs.Prelude.{ℕ, Bool, true, false, not, if◌then◌else◌, ◌||◌, ◌&&◌, nat_eq, List, [], ◌∷◌, ◌++◌, length}
+use Rattle.std.specs.Prelude.{Option, Some, None, bytes_eq, map, is_none, is_some}
+use Rattle.lra_base.specs.CaseLabels.{is_same_case}
 use Rattle.lra_base.specs.declared.refusals.Cause.TheVariants.{BadLiteral, NoMain, UnknownName, DuplicateName, BadCall}
 use Rattle.lra_base.specs.declared.refusals.Cause.TheVariants.{Misplaced, DuplicateCase, BadLength, NotArray}
-use Rattle.lra_base.specs.declared.case_labels.CaseLabel.{CaseLabel}
-use Rattle.lra_base.specs.CaseLabels.{is_same_case}
-use Rattle.lra_base.specs.NumberTypes.{fits}
-use Rattle.lra_base.specs.Limits.{is_length}
-use Rattle.lra_syntax.specs.declared.trees.SignedLiteral.{SignedLiteral}
-use Rattle.lra_syntax.specs.declared.trees.ArrayLength.{ArrayLength}
-use Rattle.lra_syntax.specs.declared.trees.Identifier.{Identifier}
-use Rattle.lra_syntax.specs.declared.trees.Parameter.{Parameter}
+use Rattle.lra_base.specs.{Limits.is_length, NumberTypes.fits, declared.case_labels.CaseLabel.CaseLabel}
+use Rattle.lra_base.specs.{declared.number_types.NumberType.NumberType, declared.refusals.Cause.Cause}
+use Rattle.lra_base.specs.{declared.refusals.Place.Place, declared.refusals.Refusal.Refusal}
+use Rattle.lra_syntax.specs.Functions.{functions_of, function_named, is_main}
 use Rattle.lra_syntax.specs.Trees.{UnaryTree, negated, positive, literal, variable, input, group, element, TermTree}
 use Rattle.lra_syntax.specs.Trees.{unary, times, over, modulo, ExprTree, term, plus, minus, NegationTree}
-use Rattle.lra_syntax.specs.Trees.{opposite_again}
-use Rattle.lra_syntax.specs.Trees.{value_of_unary, group_opposed, TestTree, opposite, value, compare, group_of}
-use Rattle.lra_syntax.specs.Trees.{ConjunctionTree, test, and, CondTree, conjunction, or, CallTree, RvalueTree}
-use Rattle.lra_syntax.specs.Trees.{expression, result, AssignTree, set, set_element, update, after, before}
-use Rattle.lra_syntax.specs.Trees.{ScalarOrArrayTree}
-use Rattle.lra_syntax.specs.Trees.{scalar, array, DeclaratorTree, InitTree, no_init, declared, assigned, StmtTree}
-use Rattle.lra_syntax.specs.Trees.{block}
-use Rattle.lra_syntax.specs.Trees.{nothing, assign, call, if_only, if_else, while, for, break, continue, return, assert}
-use Rattle.lra_syntax.specs.Trees.{assume, switch, CasesTree, no_cases, labelled, stated, ItemsTree, no_items}
-use Rattle.lra_syntax.specs.Trees.{declaration, statement, FunctionTree, GlobalTree, ExternalTree, prototype, globals}
-use Rattle.lra_syntax.specs.Trees.{function, FileTree}
+use Rattle.lra_syntax.specs.Trees.{opposite_again, value_of_unary, group_opposed, TestTree, opposite, value, compare}
+use Rattle.lra_syntax.specs.Trees.{group_of, ConjunctionTree, test, and, CondTree, conjunction, or, CallTree}
+use Rattle.lra_syntax.specs.Trees.{RvalueTree, expression, result, AssignTree, set, set_element, update, after, before}
+use Rattle.lra_syntax.specs.Trees.{ScalarOrArrayTree, scalar, array, DeclaratorTree, InitTree, no_init, declared}
+use Rattle.lra_syntax.specs.Trees.{assigned, StmtTree, block, nothing, assign, call, if_only, if_else, while, for}
+use Rattle.lra_syntax.specs.Trees.{break, continue, return, assert, assume, switch, CasesTree, no_cases, labelled}
+use Rattle.lra_syntax.specs.Trees.{stated, ItemsTree, no_items, declaration, statement, FunctionTree, GlobalTree}
+use Rattle.lra_syntax.specs.Trees.{ExternalTree, prototype, globals, function, FileTree}
+use Rattle.lra_syntax.specs.{declared.trees.ArrayLength.ArrayLength, declared.trees.Identifier.Identifier}
+use Rattle.lra_syntax.specs.{declared.trees.Parameter.Parameter, declared.trees.SignedLiteral.SignedLiteral}
 use Rattle.lra_program.specs.WellFormed.{Jumps, no_jumps, in_loop, in_switch}
 use Rattle.lra_resolution_spec.specs.Scope.{SymbolEntry, Scope, Lookup, found_of, is_array, is_declared, with_local}
-use Rattle.lra_resolution_spec.specs.Scope.{declarator_entry}
-use Rattle.lra_resolution_spec.specs.Scope.{global_entries, with_declarators, inner, for_scope, function_scope}
-use Rattle.lra_syntax.specs.Functions.{functions_of, function_named, is_main}
+use Rattle.lra_resolution_spec.specs.Scope.{declarator_entry, global_entries, with_declarators, inner, for_scope}
+use Rattle.lra_resolution_spec.specs.Scope.{function_scope}
 
 abbrev pub fault_if : Bool → Cause → Place → List Refusal
 fault_if b c at = if b then record { cause = c; place = at } ∷ [] else []

@@ -3,23 +3,16 @@
 -- names; calls written out. In each phase but the last the fault first in text order is answered.
 use Rattle.std.specs.Prelude.{◌≡◌, ℕ, suc, ◌≤◌, ◌<◌, nat_lt, if◌then◌else◌, List, [], ◌∷◌, length, take, Option, Some}
 use Rattle.std.specs.Prelude.{None}
-use Rattle.lra_base.specs.declared.refusals.Place.{Place}
-use Rattle.lra_base.specs.declared.refusals.Cause.{Cause}
 use Rattle.lra_base.specs.declared.refusals.Cause.TheVariants.{TooLong, Recursive, TooManyVariables, TooManyPoints}
-use Rattle.lra_base.specs.declared.refusals.Refusal.{Refusal}
-use Rattle.lra_syntax.specs.declared.tokens.Token.{Token}
-use Rattle.lra_syntax.specs.Trees.{FileTree}
-pub use Rattle.lra_base.specs.Limits.{greatest_live}
-use Rattle.lra_base.specs.Places.{place_after, greatest_length}
-use Rattle.lra_syntax.specs.Tokens.{Lex, IsTokenFault}
-use Rattle.lra_syntax.specs.Faults.{Language, IsTree, IsTextFault}
-use Rattle.lra_resolution_spec.specs.NameFaults.{name_faults}
+use Rattle.lra_base.specs.{Places.place_after, Places.greatest_length, declared.refusals.Cause.Cause}
+use Rattle.lra_base.specs.{declared.refusals.Place.Place, declared.refusals.Refusal.Refusal}
 use Rattle.lra_syntax.specs.Labels.{Labelled, labels_of, label_at, label_place, called_place}
 use Rattle.lra_syntax.specs.Reach.{IsFirstRecursive, NotRecursive}
-use Rattle.lra_resolution_spec.specs.Resolve.{resolve}
-use Rattle.lra_program.specs.Sites.{Event, comes, one_call_more, events_of}
-use Rattle.lra_syntax.specs.Grammar.{Spells}
-use Rattle.lra_program.specs.WellFormed.{IsWellFormed}
+use Rattle.lra_syntax.specs.{Faults.Language, Faults.IsTree, Faults.IsTextFault, Grammar.Spells, Tokens.Lex}
+use Rattle.lra_syntax.specs.{Tokens.IsTokenFault, Trees.FileTree, declared.tokens.Token.Token}
+pub use Rattle.lra_base.specs.Limits.{greatest_live}
+use Rattle.lra_resolution_spec.specs.{NameFaults.name_faults, Resolve.resolve}
+use Rattle.lra_program.specs.{Sites.Event, Sites.comes, Sites.one_call_more, Sites.events_of, WellFormed.IsWellFormed}
 
 -- limits -----------------------------------------------------------------------------------------------------------
 

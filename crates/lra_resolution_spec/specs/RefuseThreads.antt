@@ -1,19 +1,13 @@
 -- Which sources are refused as programs of several threads, for which cause and at which place: as every source, but
 -- that its two first threads are asked for in place of `main`, and that the points of all threads count together.
 use Rattle.std.specs.Prelude.{◌≡◌, ℕ, ◌≤◌, ◌<◌, List, [], ◌∷◌, length, take, Some, None}
-use Rattle.lra_base.specs.declared.refusals.Place.{Place}
-use Rattle.lra_base.specs.declared.refusals.Cause.{Cause}
 use Rattle.lra_base.specs.declared.refusals.Cause.TheVariants.{TooLong, Recursive}
-use Rattle.lra_base.specs.declared.refusals.Refusal.{Refusal}
-use Rattle.lra_base.specs.Places.{place_after, greatest_length}
-use Rattle.lra_syntax.specs.declared.tokens.Token.{Token}
-use Rattle.lra_syntax.specs.Trees.{FileTree}
-use Rattle.lra_syntax.specs.Tokens.{Lex, IsTokenFault}
-use Rattle.lra_syntax.specs.Faults.{Language, IsTree, IsTextFault}
-use Rattle.lra_syntax.specs.Labels.{labels_of}
+use Rattle.lra_base.specs.{Places.place_after, Places.greatest_length, declared.refusals.Cause.Cause}
+use Rattle.lra_base.specs.{declared.refusals.Place.Place, declared.refusals.Refusal.Refusal}
 use Rattle.lra_syntax.specs.Reach.{IsFirstRecursive, NotRecursive}
-use Rattle.lra_resolution_spec.specs.Refuse.{limit_fault}
-use Rattle.lra_resolution_spec.specs.Threads.{thread_faults, thread_events}
+use Rattle.lra_syntax.specs.{Faults.Language, Faults.IsTree, Faults.IsTextFault, Labels.labels_of, Tokens.Lex}
+use Rattle.lra_syntax.specs.{Tokens.IsTokenFault, Trees.FileTree, declared.tokens.Token.Token}
+use Rattle.lra_resolution_spec.specs.{Refuse.limit_fault, Threads.thread_faults, Threads.thread_events}
 
 -- a tree's fault of names or of calls
 pub data RefusesThreads (t : FileTree) : Cause → Place → Type 0 where

@@ -2,28 +2,24 @@
 -- functions, and into arrays (ISO/IEC 9899:2011, 6.2.1), and labels are given in text order. A call has the label of
 -- its statement or declarator.
 -- All functions of the source can be called, `main` among them.
-use Rattle.std.specs.Prelude.{ℕ, suc, ◌+◌, ℤ, pos, List, [], ◌∷◌, ◌++◌, length, map, Option, Some, None, cond}
-use Rattle.std.specs.Prelude.{flat_map}
+use Rattle.std.specs.Prelude.{ℕ, suc, ◌+◌, ℤ, pos, List, [], ◌∷◌, ◌++◌, length, map, Option, Some, None, cond, flat_map}
+use Rattle.lra_base.specs.Operators.{Operator, plus, minus, times, over, modulo}
 use Rattle.lra_base.specs.declared.number_types.NumberType.{NumberType}
 use Rattle.lra_base.specs.declared.number_types.NumberType.TheVariants.{Int, Long}
-use Rattle.lra_syntax.specs.declared.trees.SignedLiteral.{SignedLiteral}
-use Rattle.lra_syntax.specs.declared.trees.Parameter.{Parameter}
-use Rattle.lra_program.specs.declared.arrays.Array.{Array}
-use Rattle.lra_program.specs.declared.program.GlobalVariable.{GlobalVariable}
-use Rattle.lra_syntax.specs.declared.trees.Identifier.{Identifier}
-use Rattle.lra_syntax.specs.Trees as tree
+use Rattle.lra_syntax.specs.{Functions.functions_of, Functions.is_named, Functions.is_main, Labels.init_labels}
+use Rattle.lra_syntax.specs.{Labels.step_labels, Labels.stmt_labels, declared.trees.Identifier.Identifier}
+use Rattle.lra_syntax.specs.{declared.trees.Parameter.Parameter, declared.trees.SignedLiteral.SignedLiteral}
 use Rattle.lra_program.specs.Program.{global, Variable, Expr, literal, read, input, negate, binary, element, Element}
-use Rattle.lra_program.specs.Program.{Cond, compare, nonzero, opposite, both_of, either_of, Call, Rvalue, value}
-use Rattle.lra_program.specs.Program.{result, Stmt, absent, nothing, block, assign, write, call, if, loop, for, break}
-use Rattle.lra_program.specs.Program.{continue, return, assert, assume, switch, Cases, no_cases, labelled, stated}
-use Rattle.lra_program.specs.Program.{BlockItems, no_more, declaration, array, statement, Function, Program}
-use Rattle.lra_base.specs.Operators.{Operator, plus, minus, times, over, modulo}
+use Rattle.lra_program.specs.Program.{Cond, compare, nonzero, opposite, both_of, either_of, Call, Rvalue, value, result}
+use Rattle.lra_program.specs.Program.{Stmt, absent, nothing, block, assign, write, call, if, loop, for, break, continue}
+use Rattle.lra_program.specs.Program.{return, assert, assume, switch, Cases, no_cases, labelled, stated, BlockItems}
+use Rattle.lra_program.specs.Program.{no_more, declaration, array, statement, Function, Program}
+use Rattle.lra_program.specs.{declared.arrays.Array.Array, declared.program.GlobalVariable.GlobalVariable}
+use Rattle.lra_syntax.specs.Trees as tree
 use Rattle.lra_resolution_spec.specs.Scope as scope
 use Rattle.lra_resolution_spec.specs.Scope.{SymbolEntry, Scope, Binding, Lookup, found_of, with_local, array_of}
-use Rattle.lra_resolution_spec.specs.Scope.{declarator_entry}
-use Rattle.lra_resolution_spec.specs.Scope.{global_entries, with_declarators, inner, for_scope, function_scope}
-use Rattle.lra_syntax.specs.Functions.{functions_of, is_named, is_main}
-use Rattle.lra_syntax.specs.Labels.{init_labels, step_labels, stmt_labels}
+use Rattle.lra_resolution_spec.specs.Scope.{declarator_entry, global_entries, with_declarators, inner, for_scope}
+use Rattle.lra_resolution_spec.specs.Scope.{function_scope}
 
 -- names: what is said of one that isn't in scope is of no use, since such a source is refused ------------------------
 

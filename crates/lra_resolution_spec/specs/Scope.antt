@@ -1,15 +1,13 @@
 -- Scopes (ISO/IEC 9899:2011, 6.2.1): which variable or array a name means.
+use Rattle.std.specs.List.{list_any}
 use Rattle.std.specs.Prelude.{ℕ, suc, ◌+◌, Bool, true, false, if◌then◌else◌, List, [], ◌∷◌, ◌++◌, length, take, drop}
 use Rattle.std.specs.Prelude.{bytes_eq, Option, Some, None, map, option_map, slice_get}
-use Rattle.std.specs.List.{list_any}
 use Rattle.lra_base.specs.declared.number_types.NumberType.{NumberType}
-use Rattle.lra_syntax.specs.declared.trees.ArrayLength.{ArrayLength}
-use Rattle.lra_syntax.specs.declared.trees.Identifier.{Identifier}
-use Rattle.lra_syntax.specs.declared.trees.Parameter.{Parameter}
-use Rattle.lra_program.specs.declared.arrays.Array.{Array}
-use Rattle.lra_program.specs.Program.{Slot, global, local}
-use Rattle.lra_syntax.specs.Trees as tree
 use Rattle.lra_syntax.specs.Trees.{DeclaratorTree, InitTree, no_init, declared, assigned, GlobalTree, GlobalsTree}
+use Rattle.lra_syntax.specs.declared.trees.ArrayLength.{ArrayLength}
+use Rattle.lra_syntax.specs.{declared.trees.Identifier.Identifier, declared.trees.Parameter.Parameter}
+use Rattle.lra_program.specs.{Program.Slot, Program.global, Program.local, declared.arrays.Array.Array}
+use Rattle.lra_syntax.specs.Trees as tree
 
 -- what a name means: a scalar of this type, or an array
 pub data Binding : Type 0 where

@@ -1,6 +1,6 @@
 -- The names of variables as they are printed.
-use Rattle.std.specs.Prelude.{ℕ, zero, suc, List, [], ◌∷◌, ◌++◌, codes, count_by, bytes_eq}
 use Rattle.std.specs.Fmt.{decimal}
+use Rattle.std.specs.Prelude.{ℕ, zero, suc, List, [], ◌∷◌, ◌++◌, codes, count_by, bytes_eq}
 
 -- a variable that k newer ones of its name hide is written NAME~k
 abbrev pub shown_name : ℕ → List ℕ → List ℕ

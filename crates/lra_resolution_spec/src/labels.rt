@@ -4,8 +4,8 @@
 ghost use Rattle.std.specs.Prelude.{◌≡◌, ◌++◌, ◌∷◌, ◌<◌, ◌≤◌, ◌-◌, [], List, length, take, suc, IfOk, OnErr};
 ghost use Rattle.std.specs.Prelude.{MatchOption};
 ghost use Rattle.lra_syntax.specs.Labels.{Labelled, label_at, label_place};
-ghost use Rattle.lra_resolution_spec.specs.LiveNames.{live_at, live_in_call_at};
 ghost use Rattle.lra_resolution_spec.specs.LabelTable.{list_at, lists_of, AreOrdered, label_in, with_live};
+ghost use Rattle.lra_resolution_spec.specs.LiveNames.{live_at, live_in_call_at};
 
 use lra_base::Place;
 use lra_syntax::{Identifier, Word};

@@ -1,38 +1,23 @@
 -- The list of a `switch`, label by label and statement by statement: what is told and found so far.
-use Rattle.std.proofs.Common.{◌≡◌, ℕ, suc, ◌+◌, Bool, false, ◌||◌, List, [], ◌∷◌, ◌++◌, length, map, refl, sym, ap, ◌∙◌}
-use Rattle.std.proofs.Common.{append_assoc, length-append, append-nil, arith, rules, subst, Ok}
-use Rattle.std.specs.List.{list_any}
+use Rattle.std.proofs.Common.{◌≡◌, ℕ, suc, ◌+◌, Bool, false, ◌||◌, List, [], ◌∷◌, ◌++◌, length, map, refl, sym, ap, ◌∙◌, append_assoc, length-append, append-nil, arith, rules, subst, Ok}
 use Rattle.std.proofs.lemmas.List.{map-append}
-use Rattle.lra_base.specs.declared.case_labels.CaseLabel.{CaseLabel}
-use Rattle.lra_base.specs.declared.error.SourceError.{SourceError}
-use Rattle.lra_base.specs.declared.refusals.Place.{Place}
-use Rattle.lra_base.specs.declared.refusals.Refusal.{Refusal}
+use Rattle.std.specs.List.{list_any}
 use Rattle.lra_base.specs.declared.refusals.Cause.TheVariants.{DuplicateCase}
-use Rattle.lra_base.specs.CaseLabels.{is_same_case}
-use Rattle.lra_syntax.specs.Trees.{ExprTree, CasesTree, no_cases, labelled, stated, switch, FunctionTree}
-use Rattle.lra_syntax.specs.declared.trees.PlacedLabel.{PlacedLabel}
-use Rattle.lra_syntax.specs.declared.trees.Cases.{Cases}
-use Rattle.lra_syntax.specs.declared.trees.CaseItem.{CaseItem, the_lemmas as tree_lemmas}
+use Rattle.lra_base.specs.{CaseLabels.is_same_case, declared.case_labels.CaseLabel.CaseLabel, declared.error.SourceError.SourceError, declared.refusals.Place.Place, declared.refusals.Refusal.Refusal}
+use Rattle.lra_syntax.specs.{Labels.Labelled, Labels.plain_label, Labels.stmt_labels, Labels.cases_labels, Trees.ExprTree, Trees.CasesTree, Trees.no_cases, Trees.labelled, Trees.stated, Trees.switch}
+use Rattle.lra_syntax.specs.{Trees.FunctionTree, Views.cases_of, Views.case_view, Views.cases_view, Views.stmt_view, declared.trees.CaseItem.CaseItem}
+use Rattle.lra_syntax.specs.{declared.trees.CaseItem.the_lemmas as tree_lemmas, declared.trees.Cases.Cases, declared.trees.PlacedLabel.PlacedLabel, declared.trees.Stmt.Stmt}
 use Rattle.lra_syntax.specs.declared.trees.CaseItem as code_case
-use Rattle.lra_syntax.specs.declared.trees.Stmt.{Stmt}
-use Rattle.lra_syntax.specs.Views.{cases_of, case_view, cases_view, stmt_view}
-use Rattle.lra_syntax.specs.Labels.{Labelled, plain_label, stmt_labels, cases_labels}
 use Rattle.lra_program.specs.Program as program
 use Rattle.lra_program.specs.ProgramViews as view
-use Rattle.lra_program.specs.declared.program.CaseItem.{CaseItem as ProgramCase, the_lemmas}
+use Rattle.lra_program.specs.{declared.program.CaseItem.CaseItem as ProgramCase, declared.program.CaseItem.the_lemmas, declared.program.Stmt.Stmt as ProgramStmt}
 use Rattle.lra_program.specs.declared.program.CaseItem as program_case
-use Rattle.lra_program.specs.declared.program.Stmt.{Stmt as ProgramStmt}
-use Rattle.lra_resolution_spec.specs.Scope.{Scope}
 use Rattle.lra_resolution_spec.specs.NameFaults.{Around, in_a_switch, fault_if, expr_faults, stmt_faults, cases_faults}
-use Rattle.lra_resolution_spec.specs.Resolve.{resolve_expr, resolve_stmt, resolve_cases, stmt_count}
+use Rattle.lra_resolution_spec.specs.{Resolve.resolve_expr, Resolve.resolve_stmt, Resolve.resolve_cases, Resolve.stmt_count, Scope.Scope}
 use Rattle.lra_scopes.specs.Outcome.{IsFirstFault}
-use Rattle.lra_scopes.proofs.FirstFaults.{tells_front, tells_behind}
-use Rattle.lra_scopes.proofs.Loops.{both_clean}
-use Rattle.lra_resolve_simple.specs.declared.cases.CaseList.{CaseList}
+use Rattle.lra_scopes.proofs.{FirstFaults.tells_front, FirstFaults.tells_behind, Loops.both_clean}
 use Rattle.lra_resolve_simple.specs.Cases.{has_seen, HasSeen, before_cases}
-use Rattle.lra_resolve_simple.specs.Labelling.{LabelsSoFar, Adds}
-use Rattle.lra_resolve_simple.specs.Resolved.{Resolves}
-use Rattle.lra_resolve_simple.specs.Statements.{switch_of}
+use Rattle.lra_resolve_simple.specs.{Labelling.LabelsSoFar, Labelling.Adds, Resolved.Resolves, Statements.switch_of, declared.cases.CaseList.CaseList}
 
 -- the code's lists -----------------------------------------------------------------------------------------------------
 

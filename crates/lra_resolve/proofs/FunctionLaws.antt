@@ -1,16 +1,12 @@
 -- Functions, globals and the whole source, part by part.
 use Rattle.std.proofs.Common.{◌≡◌, ℕ, suc, List, [], ◌∷◌, ◌++◌, map, refl, ◌∙◌, append_assoc, Bool, true, false, slice_get, cond}
-use Rattle.std.specs.Prelude.{◌||◌}
-use Rattle.std.specs.List.{list_any}
 use Rattle.std.proofs.lemmas.List.{map-append}
-use Rattle.lra_base.specs.declared.number_types.NumberType.{NumberType}
-use Rattle.lra_base.specs.declared.error.SourceError.{SourceError}
-use Rattle.lra_syntax.specs.Trees.{FunctionTree, GlobalTree}
+use Rattle.std.specs.{List.list_any, Prelude.◌||◌}
+use Rattle.lra_base.specs.{declared.error.SourceError.SourceError, declared.number_types.NumberType.NumberType}
+use Rattle.lra_syntax.specs.{Functions.is_main, Trees.FunctionTree, Trees.GlobalTree}
 use Rattle.lra_program.specs.Program as program
 use Rattle.lra_program.specs.ProgramViews.{function_or}
-use Rattle.lra_syntax.specs.Functions.{is_main}
-use Rattle.lra_resolution_spec.specs.NameFaults.{is_taken, first_value_faults, shape_faults, globals_faults}
-use Rattle.lra_resolution_spec.specs.Resolve.{main_of}
+use Rattle.lra_resolution_spec.specs.{NameFaults.is_taken, NameFaults.first_value_faults, NameFaults.shape_faults, NameFaults.globals_faults, Resolve.main_of}
 use Rattle.lra_resolve.specs.Mains.{main_place}
 use Rattle.lra_scopes.specs.Outcome.{IsFirstFault}
 use Rattle.lra_scopes.proofs.FirstFaults.{tells_front, tells_behind}

@@ -2,26 +2,17 @@
 use Rattle.std.proofs.Common.{◌≡◌, ℕ, ◌+◌, suc, List, [], ◌∷◌, ◌++◌, length, map, refl, arith, rules}
 use Rattle.std.proofs.lemmas.List.{length-map}
 use Rattle.lra_base.specs.declared.error.SourceError.{SourceError}
-use Rattle.lra_syntax.specs.Trees.{DeclaratorTree, FunctionTree, ItemsTree, declaration, statement}
-use Rattle.lra_syntax.specs.Views.{declaration_view, declarator_view, item_view, stmt_view}
+use Rattle.lra_syntax.specs.{Labels.stmt_labels, Trees.DeclaratorTree, Trees.FunctionTree, Trees.ItemsTree, Trees.declaration, Trees.statement, Views.declaration_view, Views.declarator_view}
+use Rattle.lra_syntax.specs.{Views.item_view, Views.stmt_view, declared.trees.BlockItem.the_lemmas as tree_lemmas, declared.trees.Declaration.Declaration, declared.trees.Stmt.Stmt}
 use Rattle.lra_syntax.specs.declared.trees.BlockItem as code_item
-use Rattle.lra_syntax.specs.declared.trees.BlockItem.{the_lemmas as tree_lemmas}
-use Rattle.lra_syntax.specs.declared.trees.Declaration.{Declaration}
-use Rattle.lra_syntax.specs.declared.trees.Stmt.{Stmt}
-use Rattle.lra_syntax.specs.Labels.{stmt_labels}
-use Rattle.lra_program.specs.Program.{BlockItems}
+use Rattle.lra_program.specs.{Program.BlockItems, declared.program.BlockItem.BlockItem as ProgramItem, declared.program.Stmt.Stmt as ProgramStmt}
 use Rattle.lra_program.specs.ProgramViews as view
 use Rattle.lra_program.specs.declared.program.BlockItem as program_item
-use Rattle.lra_program.specs.declared.program.BlockItem.{BlockItem as ProgramItem}
-use Rattle.lra_program.specs.declared.program.Stmt.{Stmt as ProgramStmt}
-use Rattle.lra_resolution_spec.specs.NameFaults.{Around, declarators_faults, items_faults, stmt_faults}
 use Rattle.lra_resolution_spec.specs.Resolve.{resolve_declarators, resolve_stmt, resolve_items, stmt_count, items_count}
-use Rattle.lra_resolution_spec.specs.Scope.{Scope, with_declarators}
-use Rattle.lra_scopes.specs.Outcome.{IsFirstFault}
-use Rattle.lra_scopes.specs.Scopes.{Extends}
+use Rattle.lra_resolution_spec.specs.{NameFaults.Around, NameFaults.declarators_faults, NameFaults.items_faults, NameFaults.stmt_faults, Scope.Scope, Scope.with_declarators}
+use Rattle.lra_scopes.specs.{Outcome.IsFirstFault, Scopes.Extends}
 use Rattle.lra_scopes.proofs.FirstFaults.{tells_front}
-use Rattle.lra_resolve_simple.specs.Labelling.{LabelsSoFar, Adds, Declares, Follows}
-use Rattle.lra_resolve_simple.specs.Statements.{followed}
+use Rattle.lra_resolve_simple.specs.{Labelling.LabelsSoFar, Labelling.Adds, Labelling.Declares, Labelling.Follows, Statements.followed}
 use Rattle.lra_resolve_simple.proofs.LabellingLaws.{declaration_follows, statement_follows}
 use Rattle.lra_resolve_simple.proofs.StatementLaws.{extends_self, extends_declared, declaration_counted, statement_found}
 

@@ -1,32 +1,20 @@
 -- What a loop is by its head and its body, a choice with a second branch or without one, and a block; a refused statement.
-use Rattle.std.proofs.Common.{◌≡◌, ℕ, suc, ◌+◌, List, [], ◌∷◌, ◌++◌, length, take, refl, sym, ap, ◌∙◌, append_assoc, arith, rules, Option, Some, None, subst}
-use Rattle.std.proofs.Common.{Result, Ok, Err}
-use Rattle.std.specs.Result.{IsErrAnd}
+use Rattle.std.proofs.Common.{◌≡◌, ℕ, suc, ◌+◌, List, [], ◌∷◌, ◌++◌, length, take, refl, sym, ap, ◌∙◌, append_assoc, arith, rules, Option, Some, None, subst, Result, Ok, Err}
 use Rattle.std.proofs.Math.Seq.{take-length}
-use Rattle.lra_base.specs.declared.refusals.Place.{Place}
-use Rattle.lra_base.specs.declared.error.SourceError.{SourceError}
-use Rattle.lra_syntax.specs.Trees.{CondTree, StmtTree, block, if_only, if_else, ItemsTree, FunctionTree}
-use Rattle.lra_syntax.specs.Labels.{Labelled, plain_label, stmt_labels}
-use Rattle.lra_program.specs.declared.program.BlockItems.{BlockItems}
-use Rattle.lra_program.specs.declared.program.BlockItem.{the_lemmas}
-use Rattle.lra_program.specs.declared.program.Stmt.{Stmt}
+use Rattle.std.specs.Result.{IsErrAnd}
+use Rattle.lra_base.specs.{declared.error.SourceError.SourceError, declared.refusals.Place.Place}
+use Rattle.lra_syntax.specs.{Labels.Labelled, Labels.plain_label, Labels.stmt_labels, Trees.CondTree, Trees.StmtTree, Trees.block, Trees.if_only, Trees.if_else, Trees.ItemsTree, Trees.FunctionTree}
+use Rattle.lra_program.specs.{ProgramViews.stmt_view, ProgramViews.items_view, declared.program.BlockItem.the_lemmas, declared.program.BlockItems.BlockItems, declared.program.Stmt.Stmt}
 use Rattle.lra_program.specs.declared.program.Stmt as program_stmt
 use Rattle.lra_program.specs.Program as program
-use Rattle.lra_program.specs.ProgramViews.{stmt_view, items_view}
-use Rattle.lra_resolution_spec.specs.Scope.{SymbolEntry, Scope, inner}
-use Rattle.lra_resolution_spec.specs.NameFaults.{Around, in_a_loop, cond_faults, stmt_faults}
 use Rattle.lra_resolution_spec.specs.Resolve.{resolve_stmt, resolve_items, stmt_count, items_count}
-use Rattle.lra_scopes.specs.Scopes.{Extends, left_to}
-use Rattle.lra_scopes.specs.Outcome.{IsFirstFault, StopsAtFirstFault}
-use Rattle.lra_resolve_simple.specs.Labelling.{LabelsSoFar, Adds}
-use Rattle.lra_resolve_simple.specs.Statements.{choice_tree}
-use Rattle.lra_resolve_simple.specs.LoopHeads.{HeadTree, while_head, for_head, with_body, head_faults, body_scope, body_label, head_labels, body_live}
-use Rattle.lra_resolve_simple.specs.LoopHeads.{loop_around}
-use Rattle.lra_resolve_simple.specs.Resolved.{Resolves}
-use Rattle.lra_scopes.proofs.FirstFaults.{tells_front, tells_behind}
-use Rattle.lra_scopes.proofs.Loops.{both_clean}
-use Rattle.lra_resolve_simple.proofs.StatementLaws.{left_for, left_inner, count_block, count_for, count_if_else}
+use Rattle.lra_resolution_spec.specs.{NameFaults.Around, NameFaults.in_a_loop, NameFaults.cond_faults, NameFaults.stmt_faults, Scope.SymbolEntry, Scope.Scope, Scope.inner}
+use Rattle.lra_scopes.specs.{Outcome.IsFirstFault, Outcome.StopsAtFirstFault, Scopes.Extends, Scopes.left_to}
+use Rattle.lra_resolve_simple.specs.LoopHeads.{HeadTree, while_head, for_head, with_body, head_faults, body_scope, body_label, head_labels, body_live, loop_around}
+use Rattle.lra_resolve_simple.specs.{Labelling.LabelsSoFar, Labelling.Adds, Resolved.Resolves, Statements.choice_tree}
+use Rattle.lra_scopes.proofs.{FirstFaults.tells_front, FirstFaults.tells_behind, Loops.both_clean}
 use Rattle.lra_resolve_simple.proofs.LabellingLaws.{left_of_for, adds_then}
+use Rattle.lra_resolve_simple.proofs.StatementLaws.{left_for, left_inner, count_block, count_for, count_if_else}
 
 -- loops ----------------------------------------------------------------------------------------------------------------
 

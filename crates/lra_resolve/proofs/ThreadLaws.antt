@@ -1,13 +1,10 @@
 -- The threads of a source: where they stand, and whether there are two.
-use Rattle.std.proofs.Common.{◌≡◌, ℕ, zero, suc, ◌+◌, ◌-◌, ◌<◌, ◌≤◌, List, [], ◌∷◌, ◌++◌, length, Some, Bool, true, false, refl, sym, ap, ◌∙◌, subst, arith}
-use Rattle.std.proofs.Common.{length-append, append_assoc, append-nil}
+use Rattle.std.proofs.Common.{◌≡◌, ℕ, zero, suc, ◌+◌, ◌-◌, ◌<◌, ◌≤◌, List, [], ◌∷◌, ◌++◌, length, Some, Bool, true, false, refl, sym, ap, ◌∙◌, subst, arith, length-append, append_assoc, append-nil}
 use Rattle.std.specs.Prelude.{if◌then◌else◌, ◌&&◌}
 use Rattle.lra_base.specs.declared.refusals.Cause.TheVariants.{NoThreads}
-use Rattle.lra_syntax.specs.Trees.{FunctionTree, FileTree}
-use Rattle.lra_syntax.specs.Functions.{functions_of, function_named}
-use Rattle.lra_resolution_spec.specs.NameFaults.{parts_faults}
-use Rattle.lra_resolution_spec.specs.Resolve.{function_place}
+use Rattle.lra_syntax.specs.{Functions.functions_of, Functions.function_named, Trees.FunctionTree, Trees.FileTree}
 use Rattle.lra_resolution_spec.specs.Threads.{greatest_threads, thread_name, has_no_parameters, has_thread, thread_places_from, thread_faults}
+use Rattle.lra_resolution_spec.specs.{NameFaults.parts_faults, Resolve.function_place}
 use Rattle.lra_scopes.specs.Outcome.{first_fault}
 
 -- one thread more, and the last one

@@ -1,7 +1,6 @@
 -- Where `main` stands.
 use Rattle.std.specs.Prelude.{ℕ, suc, List, [], ◌∷◌, cond}
-use Rattle.lra_syntax.specs.Trees.{FunctionTree}
-use Rattle.lra_syntax.specs.Functions.{is_main}
+use Rattle.lra_syntax.specs.{Functions.is_main, Trees.FunctionTree}
 
 -- the place of the first `main` among functions, or how many there are
 abbrev pub main_place : List FunctionTree → ℕ

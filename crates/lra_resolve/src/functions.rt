@@ -1,26 +1,23 @@
 //! Functions, global variables and arrays, and the whole source.
 
 ghost use Rattle.std.specs.Prelude.{◌≡◌, ◌+◌, ◌++◌, ◌∷◌, [], ℕ, List, suc, true, false, map, length, IfOk, OnOk, IfErr};
-ghost use Rattle.std.specs.Prelude.{MatchOption};
-ghost use Rattle.std.specs.List.{flat_map, list_any};
+ghost use Rattle.std.specs.{List.flat_map, List.list_any, Prelude.MatchOption};
+ghost use Rattle.lra_syntax.specs.Functions.{is_main, functions_in, functions_of};
 ghost use Rattle.lra_syntax.specs.Trees.{GlobalTree, ExternalTree, function as part_function};
 ghost use Rattle.lra_syntax.specs.Views.{global_view, globals_view, function_view as tree_function_view, external_view};
-ghost use Rattle.lra_syntax.specs.Views.{tree_view};
+ghost use Rattle.lra_syntax.specs.{Labels.function_labels, Labels.labels_of, Views.tree_view};
 ghost use Rattle.lra_program.specs.ProgramViews.{function_view, program_view};
-ghost use Rattle.lra_resolution_spec.specs.Scope.{function_scope, binding_of, global_entry, global_entries};
-ghost use Rattle.lra_syntax.specs.Functions.{is_main, functions_in, functions_of};
 ghost use Rattle.lra_resolution_spec.specs.NameFaults.{parameters_faults, function_faults, first_value_faults};
-ghost use Rattle.lra_resolution_spec.specs.NameFaults.{shape_faults};
-ghost use Rattle.lra_resolution_spec.specs.NameFaults.{globals_faults, global_names, parts_faults, name_faults};
+ghost use Rattle.lra_resolution_spec.specs.NameFaults.{shape_faults, globals_faults, global_names, parts_faults};
+ghost use Rattle.lra_resolution_spec.specs.NameFaults.{name_faults};
 ghost use Rattle.lra_resolution_spec.specs.Resolve.{resolve_function, value_or_zero, variables_by, arrays_by};
-ghost use Rattle.lra_resolution_spec.specs.Resolve.{globals_in};
-ghost use Rattle.lra_resolution_spec.specs.Resolve.{arrays_in, resolve_parts, resolved_functions, items_count, resolve};
-ghost use Rattle.lra_scopes.specs.Calls.{functions_at};
-ghost use Rattle.lra_scopes.specs.Bindings.{binding_view};
-ghost use Rattle.lra_syntax.specs.Labels.{function_labels, labels_of};
+ghost use Rattle.lra_resolution_spec.specs.Resolve.{globals_in, arrays_in, resolve_parts, resolved_functions};
+ghost use Rattle.lra_resolution_spec.specs.Resolve.{items_count, resolve};
+ghost use Rattle.lra_resolution_spec.specs.Scope.{function_scope, binding_of, global_entry, global_entries};
+ghost use Rattle.lra_scopes.specs.Outcome.{IsFirstFault, StopsAtFirstFault};
+ghost use Rattle.lra_scopes.specs.{Bindings.binding_view, Calls.functions_at};
 ghost use Rattle.lra_resolve_simple.specs.Labelling.{labels_of_functions};
 ghost use Rattle.lra_resolve.specs.Mains.{main_place};
-ghost use Rattle.lra_scopes.specs.Outcome.{IsFirstFault, StopsAtFirstFault};
 
 use crate::statements::resolve_items;
 use lra_base::{Cause, NumberType, SourceError};

@@ -4,15 +4,10 @@ ghost use Rattle.std.specs.Prelude.{◌≡◌, ◌+◌, option_copied, IfOk, OnO
 ghost use Rattle.lra_syntax.specs.Trees.{block as tree_block, switch as tree_switch};
 ghost use Rattle.lra_syntax.specs.Views.{stmt_view, block_view, expr_view, cases_view};
 ghost use Rattle.lra_program.specs.ProgramViews.{items_view};
-ghost use Rattle.lra_resolution_spec.specs.NameFaults.{items_faults};
-ghost use Rattle.lra_resolution_spec.specs.Resolve.{resolve_items, items_count};
-ghost use Rattle.lra_scopes.specs.Calls.{functions_at};
-ghost use Rattle.lra_scopes.specs.Scopes.{Extends};
-ghost use Rattle.lra_resolve_simple.specs.Labelling.{Fills};
-ghost use Rattle.lra_resolve_simple.specs.Statements.{around_of};
+ghost use Rattle.lra_resolution_spec.specs.{NameFaults.items_faults, Resolve.resolve_items, Resolve.items_count};
+ghost use Rattle.lra_scopes.specs.{Calls.functions_at, Outcome.StopsAtFirstFault, Scopes.Extends};
 ghost use Rattle.lra_resolve_simple.specs.LoopHeads.{choice_of, loop_tree};
-ghost use Rattle.lra_scopes.specs.Outcome.{StopsAtFirstFault};
-ghost use Rattle.lra_resolve_simple.specs.Resolved.{Resolves};
+ghost use Rattle.lra_resolve_simple.specs.{Labelling.Fills, Resolved.Resolves, Statements.around_of};
 
 use lra_base::{Place, SourceError};
 use lra_resolve_simple::{

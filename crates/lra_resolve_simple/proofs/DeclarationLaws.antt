@@ -1,14 +1,10 @@
 -- Declarators one by one.
-use Rattle.std.proofs.Common.{◌≡◌, ℕ, suc, List, [], ◌∷◌, ◌++◌, map, refl, sym, ap, ◌∙◌}
-use Rattle.std.proofs.lemmas.List.{map-append}
+use Rattle.std.proofs.{Common.◌≡◌, Common.ℕ, Common.suc, Common.List, Common.[], Common.◌∷◌, Common.◌++◌, Common.map, Common.refl, Common.sym, Common.ap, Common.◌∙◌, lemmas.List.map-append}
 use Rattle.lra_base.specs.declared.number_types.NumberType.{NumberType}
-use Rattle.lra_program.specs.declared.program.BlockItem.{BlockItem}
-use Rattle.lra_program.specs.ProgramViews.{item_view}
+use Rattle.lra_program.specs.{ProgramViews.item_view, declared.program.BlockItem.BlockItem}
 use Rattle.lra_syntax.specs.Trees.{FunctionTree, DeclaratorTree}
 use Rattle.lra_program.specs.Program as program
-use Rattle.lra_resolution_spec.specs.Scope.{Scope, with_local, declarator_entry}
-use Rattle.lra_resolution_spec.specs.NameFaults.{declarators_faults}
-use Rattle.lra_resolution_spec.specs.Resolve.{resolve_declared, resolve_declarators}
+use Rattle.lra_resolution_spec.specs.{NameFaults.declarators_faults, Resolve.resolve_declared, Resolve.resolve_declarators, Scope.Scope, Scope.with_local, Scope.declarator_entry}
 use Rattle.lra_resolve_simple.specs.Statements.{declarator_faults, followed}
 use Rattle.lra_scopes.proofs.FirstFaults.{tells_front, tells_behind}
 

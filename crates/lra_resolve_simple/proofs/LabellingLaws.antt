@@ -1,17 +1,13 @@
 -- What parts of a source add to its labels, one behind the other.
 use Rattle.std.proofs.Common.{◌≡◌, ℕ, suc, ◌+◌, ◌<◌, List, [], ◌∷◌, ◌++◌, length, map, take, get_or, refl, sym, ap, ◌∙◌, append_assoc, append-nil, subst, arith, Option, rules}
+use Rattle.std.proofs.{Math.Seq.take-length, lemmas.Grind.flat_map-append, lemmas.List.map_more, lemmas.List.take-append-le}
 use Rattle.std.specs.List.{flat_map}
-use Rattle.std.proofs.lemmas.Grind.{flat_map-append}
-use Rattle.std.proofs.lemmas.List.{map_more, take-append-le}
-use Rattle.std.proofs.Math.Seq.{take-length}
 use Rattle.lra_base.specs.declared.refusals.Place.{Place}
-use Rattle.lra_syntax.specs.declared.trees.BlockItem.{BlockItem, the_lemmas}
-use Rattle.lra_syntax.specs.declared.trees.BlockItem as code_item
-use Rattle.lra_syntax.specs.declared.trees.Declaration.{Declaration}
-use Rattle.lra_syntax.specs.declared.trees.Stmt.{Stmt}
-use Rattle.lra_syntax.specs.Views.{item_view, declaration_view, stmt_view}
-use Rattle.lra_syntax.specs.Trees.{AssignTree, DeclaratorTree, InitTree, no_init, declared, assigned, ItemsTree, no_items, declaration, statement, FunctionTree}
 use Rattle.lra_syntax.specs.Labels.{Labelled, plain_label, names_of, with_names, called_for, declarator_labels, init_labels, step_labels, stmt_labels, items_labels, live_in_for}
+use Rattle.lra_syntax.specs.Trees.{AssignTree, DeclaratorTree, InitTree, no_init, declared, assigned, ItemsTree, no_items, declaration, statement, FunctionTree}
+use Rattle.lra_syntax.specs.Views.{item_view, declaration_view, stmt_view}
+use Rattle.lra_syntax.specs.{declared.trees.BlockItem.BlockItem, declared.trees.BlockItem.the_lemmas, declared.trees.Declaration.Declaration, declared.trees.Stmt.Stmt}
+use Rattle.lra_syntax.specs.declared.trees.BlockItem as code_item
 use Rattle.lra_resolution_spec.specs.LabelTable.{with_live}
 use Rattle.lra_resolve_simple.specs.Labelling.{LabelsSoFar, Adds, Declares, ExtendsNames, Follows, Fills, for_front}
 

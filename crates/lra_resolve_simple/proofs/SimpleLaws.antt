@@ -1,32 +1,16 @@
 -- A statement is simple where it is none with statements in it; it is resolved by one label.
 use Rattle.std.proofs.Common.{◌≡◌, suc, refl, sym, subst, arith, Option, Box, Global, Result, Ok, Err}
 use Rattle.std.specs.Result.{IfOk, OnOk}
-use Rattle.lra_base.specs.declared.error.SourceError.{SourceError}
-use Rattle.lra_base.specs.declared.refusals.Place.{Place}
-use Rattle.lra_syntax.specs.declared.trees.Stmt.{Stmt, Stmt-F, out-Stmt, roll-Stmt, roll-out-Stmt}
-use Rattle.lra_syntax.specs.declared.trees.BlockItem.{BlockItem}
-use Rattle.lra_syntax.specs.declared.trees.Stmt as code
-use Rattle.lra_syntax.specs.declared.trees.Block.{Block}
-use Rattle.lra_syntax.specs.declared.trees.Init.{Init}
-use Rattle.lra_syntax.specs.declared.trees.Cond.{Cond}
-use Rattle.lra_syntax.specs.declared.trees.Expr.{Expr}
-use Rattle.lra_syntax.specs.declared.trees.CaseItem.{CaseItem}
-use Rattle.lra_syntax.specs.declared.trees.Cases.{Cases}
-use Rattle.lra_syntax.specs.declared.trees.Assign.{Assign}
-use Rattle.lra_syntax.specs.declared.trees.Call.{Call}
-use Rattle.lra_syntax.specs.declared.trees.Rvalue.{Rvalue}
-use Rattle.lra_syntax.specs.Trees.{StmtTree}
-use Rattle.lra_syntax.specs.Views.{stmt_view}
+use Rattle.lra_base.specs.{declared.error.SourceError.SourceError, declared.refusals.Place.Place}
 use Rattle.lra_syntax.specs.Labels.{stmt_labels}
-use Rattle.lra_program.specs.declared.program.Stmt.{Stmt as ProgramStmt}
-use Rattle.lra_program.specs.ProgramViews.{stmt_view as program_stmt_view}
-use Rattle.lra_resolution_spec.specs.Scope.{Scope}
-use Rattle.lra_resolution_spec.specs.NameFaults.{Around, stmt_faults}
-use Rattle.lra_resolution_spec.specs.Resolve.{resolve_stmt, stmt_count}
+use Rattle.lra_syntax.specs.declared.trees.Stmt.{Stmt, Stmt-F, out-Stmt, roll-Stmt, roll-out-Stmt}
+use Rattle.lra_syntax.specs.{Trees.StmtTree, Views.stmt_view, declared.trees.Assign.Assign, declared.trees.Block.Block, declared.trees.BlockItem.BlockItem, declared.trees.Call.Call}
+use Rattle.lra_syntax.specs.{declared.trees.CaseItem.CaseItem, declared.trees.Cases.Cases, declared.trees.Cond.Cond, declared.trees.Expr.Expr, declared.trees.Init.Init, declared.trees.Rvalue.Rvalue}
+use Rattle.lra_syntax.specs.declared.trees.Stmt as code
+use Rattle.lra_program.specs.{ProgramViews.stmt_view as program_stmt_view, declared.program.Stmt.Stmt as ProgramStmt}
+use Rattle.lra_resolution_spec.specs.{NameFaults.Around, NameFaults.stmt_faults, Resolve.resolve_stmt, Resolve.stmt_count, Scope.Scope}
 use Rattle.lra_scopes.specs.Outcome.{StopsAtFirstFault}
-use Rattle.lra_resolve_simple.specs.Labelling.{LabelsSoFar, Adds}
-use Rattle.lra_resolve_simple.specs.Resolved.{Resolves}
-use Rattle.lra_resolve_simple.specs.Statements.{IsSimple}
+use Rattle.lra_resolve_simple.specs.{Labelling.LabelsSoFar, Labelling.Adds, Resolved.Resolves, Statements.IsSimple}
 use Rattle.lra_resolve_simple.proofs.StatementLaws.{block_is, nothing_is, assign_is, call_is, break_is, continue_is, return_is, assert_is, assume_is, if_is, if_else_is, while_is, for_is, switch_is}
 
 simple_as : (t u : StmtTree) → t ≡ u → IsSimple u → IsSimple t

@@ -1,39 +1,25 @@
 -- How many labels the parts of statements have; how scopes are left; lists of items.
-use Rattle.std.proofs.Common.{◌≡◌, ℕ, suc, ◌+◌, List, [], ◌∷◌, ◌++◌, length, map, refl, sym, ap, ◌∙◌, append_assoc, append-nil, length-append, arith, Option, option_map, rules, Vec, Box}
-use Rattle.std.proofs.Common.{Global, Result, Ok, Err}
+use Rattle.std.proofs.Common.{◌≡◌, ℕ, suc, ◌+◌, List, [], ◌∷◌, ◌++◌, length, map, refl, sym, ap, ◌∙◌, append_assoc, append-nil, length-append, arith, Option, option_map, rules, Vec, Box, Global}
+use Rattle.std.proofs.Common.{Result, Ok, Err}
+use Rattle.std.proofs.{Math.Nat.le-max_left, Math.Nat.le-max_right, Math.Seq.take-length, lemmas.List.length-map, lemmas.List.map-append, lemmas.List.take-append-le}
 use Rattle.std.specs.Result.{IfOk, OnOk}
-use Rattle.lra_base.specs.declared.error.SourceError.{SourceError}
-use Rattle.lra_base.specs.declared.number_types.NumberType.{NumberType}
-use Rattle.std.proofs.lemmas.List.{length-map, map-append, take-append-le}
-use Rattle.std.proofs.Math.Seq.{take-length}
-use Rattle.std.proofs.Math.Nat.{le-max_left, le-max_right}
-use Rattle.lra_base.specs.declared.refusals.Place.{Place}
-use Rattle.lra_syntax.specs.Trees.{CondTree, AssignTree, DeclaratorTree, DeclarationTree, InitTree, no_init, declared, assigned, StmtTree, block, if_only, while, if_else, for, ItemsTree}
-use Rattle.lra_syntax.specs.Trees.{declaration, statement, FunctionTree, nothing, assign, call, break, continue, return, assert, assume, switch}
-use Rattle.lra_program.specs.declared.program.BlockItem.{BlockItem, the_lemmas}
-use Rattle.lra_program.specs.declared.program.BlockItem as program_item
-use Rattle.lra_program.specs.declared.program.Stmt.{Stmt as ProgramStmt}
-use Rattle.lra_program.specs.declared.program.Stmt as program_stmt
-use Rattle.lra_syntax.specs.declared.trees.BlockItem.{the_lemmas as tree_lemmas}
-use Rattle.lra_syntax.specs.declared.trees.BlockItem as code_item
-use Rattle.lra_syntax.specs.declared.trees.Block.{Block}
-use Rattle.lra_syntax.specs.declared.trees.Declaration.{Declaration}
-use Rattle.lra_syntax.specs.declared.trees.Init.{Init}
-use Rattle.lra_syntax.specs.declared.trees.Init.TheVariants as code_init
-use Rattle.lra_syntax.specs.declared.trees.Stmt.{Stmt, the_lemmas as stmt_lemmas}
-use Rattle.lra_syntax.specs.declared.trees.Stmt as code_stmt
-use Rattle.lra_syntax.specs.declared.trees.Cond.{Cond}
-use Rattle.lra_syntax.specs.declared.trees.Expr.{Expr}
-use Rattle.lra_syntax.specs.declared.trees.Cases.{Cases}
-use Rattle.lra_syntax.specs.declared.trees.Assign.{Assign}
-use Rattle.lra_syntax.specs.declared.trees.Call.{Call}
-use Rattle.lra_syntax.specs.declared.trees.Rvalue.{Rvalue}
+use Rattle.lra_base.specs.{declared.error.SourceError.SourceError, declared.number_types.NumberType.NumberType, declared.refusals.Place.Place}
+use Rattle.lra_syntax.specs.Trees.{CondTree, AssignTree, DeclaratorTree, DeclarationTree, InitTree, no_init, declared, assigned, StmtTree, block, if_only, while, if_else, for, ItemsTree, declaration}
+use Rattle.lra_syntax.specs.Trees.{statement, FunctionTree, nothing, assign, call, break, continue, return, assert, assume, switch}
 use Rattle.lra_syntax.specs.Views.{items_of, item_view, block_view, init_view, declaration_view, declarator_view, stmt_view, cases_view, expr_view, cond_view, assign_view, call_view, rvalue_view}
+use Rattle.lra_syntax.specs.{Labels.init_labels, Labels.step_labels, Labels.stmt_labels, Labels.live_in_for, declared.trees.Assign.Assign, declared.trees.Block.Block}
+use Rattle.lra_syntax.specs.{declared.trees.BlockItem.the_lemmas as tree_lemmas, declared.trees.Call.Call, declared.trees.Cases.Cases, declared.trees.Cond.Cond, declared.trees.Declaration.Declaration}
+use Rattle.lra_syntax.specs.{declared.trees.Expr.Expr, declared.trees.Init.Init, declared.trees.Rvalue.Rvalue, declared.trees.Stmt.Stmt, declared.trees.Stmt.the_lemmas as stmt_lemmas}
+use Rattle.lra_program.specs.{declared.program.BlockItem.BlockItem, declared.program.BlockItem.the_lemmas, declared.program.Stmt.Stmt as ProgramStmt}
+use Rattle.lra_program.specs.declared.program.BlockItem as program_item
+use Rattle.lra_program.specs.declared.program.Stmt as program_stmt
+use Rattle.lra_syntax.specs.declared.trees.BlockItem as code_item
+use Rattle.lra_syntax.specs.declared.trees.Init.TheVariants as code_init
+use Rattle.lra_syntax.specs.declared.trees.Stmt as code_stmt
 use Rattle.lra_program.specs.Program as program
 use Rattle.lra_program.specs.ProgramViews as view
-use Rattle.lra_resolution_spec.specs.Scope.{SymbolEntry, Scope, with_local, declarator_entry, with_declarators, inner, for_scope}
-use Rattle.lra_syntax.specs.Labels.{init_labels, step_labels, stmt_labels, live_in_for}
 use Rattle.lra_resolution_spec.specs.Resolve.{resolve_stmt, resolve_items, stmt_count, items_count, init_count, step_count}
+use Rattle.lra_resolution_spec.specs.Scope.{SymbolEntry, Scope, with_local, declarator_entry, with_declarators, inner, for_scope}
 use Rattle.lra_resolution_spec.proofs.LabelCounts.{count_stmt, count_declarators, count_items, count_step}
 use Rattle.lra_scopes.specs.Scopes.{with_more, Extends, left_to}
 use Rattle.lra_resolve_simple.specs.Statements.{followed, choice}

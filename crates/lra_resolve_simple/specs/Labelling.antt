@@ -1,10 +1,9 @@
 -- The labels of a source while it is resolved: what each part adds.
 use Rattle.std.specs.Prelude.{◌≡◌, ℕ, List, [], ◌∷◌, ◌++◌, Option, flat_map}
-use Rattle.lra_base.specs.declared.refusals.Place.{Place}
-use Rattle.lra_base.specs.TextOrder.{before_body}
-use Rattle.lra_syntax.specs.Trees.{AssignTree, DeclaratorTree, InitTree, ItemsTree, FunctionTree}
+use Rattle.lra_base.specs.{TextOrder.before_body, declared.refusals.Place.Place}
 use Rattle.lra_syntax.specs.Labels.{Labelled, plain_label, with_names, declarator_labels, init_labels, step_labels}
 use Rattle.lra_syntax.specs.Labels.{items_labels, live_in_for, function_labels}
+use Rattle.lra_syntax.specs.Trees.{AssignTree, DeclaratorTree, InitTree, ItemsTree, FunctionTree}
 
 pub record LabelsSoFar : Type 0 where
   -- the function's scalars that live now, oldest first

@@ -1,25 +1,20 @@
 -- A loop without its body, and what it says of the body: `while` and `for` alike. Here alone is told what stands before
 -- a body, in which order.
 use Rattle.std.specs.Prelude.{ℕ, suc, ◌+◌, List, [], ◌∷◌, ◌++◌, Option, option_map}
-use Rattle.lra_base.specs.declared.refusals.Place.{Place}
-use Rattle.lra_base.specs.declared.refusals.Refusal.{Refusal}
-use Rattle.lra_syntax.specs.declared.trees.Stmt.{Stmt}
+use Rattle.lra_base.specs.{declared.refusals.Place.Place, declared.refusals.Refusal.Refusal}
 use Rattle.lra_syntax.specs.Trees.{CondTree, AssignTree, InitTree, StmtTree, while, for, FunctionTree}
 use Rattle.lra_syntax.specs.Views.{stmt_view, cond_view, init_view, assign_view}
-use Rattle.lra_syntax.specs.Labels.{Labelled, plain_label, live_in_for}
-use Rattle.lra_resolution_spec.specs.Scope.{Scope, for_scope}
+use Rattle.lra_syntax.specs.{Labels.Labelled, Labels.plain_label, Labels.live_in_for, declared.trees.Stmt.Stmt}
 use Rattle.lra_resolution_spec.specs.NameFaults.{cond_faults, init_faults, test_of_for_faults, step_faults}
 use Rattle.lra_resolution_spec.specs.Resolve.{resolve_cond, resolve_init, resolve_for_test, resolve_step, init_count}
-use Rattle.lra_resolution_spec.specs.Resolve.{step_count}
+use Rattle.lra_resolution_spec.specs.{Resolve.step_count, Scope.Scope, Scope.for_scope}
 use Rattle.lra_program.specs.Program as program
 use Rattle.lra_program.specs.ProgramViews as view
-use Rattle.lra_resolve_simple.specs.declared.heads.Asked.{Asked}
-use Rattle.lra_resolve_simple.specs.declared.heads.Rounds.{Rounds}
-use Rattle.lra_resolve_simple.specs.declared.heads.Rounds.TheVariants as rounds
-use Rattle.lra_resolve_simple.specs.declared.heads.LoopHead.{LoopHead}
-use Rattle.lra_resolve_simple.specs.declared.heads.LoopHead.TheVariants as head
-use Rattle.lra_resolve_simple.specs.Labelling.{for_front}
 use Rattle.lra_resolve_simple.specs.Statements.{choice_tree, loop_of, for_of}
+use Rattle.lra_resolve_simple.specs.{Labelling.for_front, declared.heads.Asked.Asked, declared.heads.LoopHead.LoopHead}
+use Rattle.lra_resolve_simple.specs.{declared.heads.Rounds.Rounds}
+use Rattle.lra_resolve_simple.specs.declared.heads.Rounds.TheVariants as rounds
+use Rattle.lra_resolve_simple.specs.declared.heads.LoopHead.TheVariants as head
 
 pub data HeadTree : Type 0 where
   while_head : Place → CondTree → HeadTree

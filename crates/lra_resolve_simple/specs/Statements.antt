@@ -1,12 +1,11 @@
 -- Where statements stand, the faults of one declarator, and lists of items that are built from the front.
 use Rattle.std.specs.Prelude.{ℕ, List, [], ◌∷◌, ◌++◌, Option, Some, None, ⊤}
 use Rattle.lra_base.specs.declared.number_types.NumberType.{NumberType}
-use Rattle.lra_base.specs.declared.refusals.Place.{Place}
-use Rattle.lra_base.specs.declared.refusals.Refusal.{Refusal}
 use Rattle.lra_base.specs.declared.refusals.Cause.TheVariants.{DuplicateName}
-use Rattle.lra_syntax.specs.declared.trees.ArrayLength.{ArrayLength}
-use Rattle.lra_syntax.specs.declared.trees.Identifier.{Identifier}
-use Rattle.lra_syntax.specs.Trees.{FunctionTree, DeclaratorTree, CondTree, StmtTree, block, if_only, if_else, while, for, switch}
+use Rattle.lra_base.specs.{declared.refusals.Place.Place, declared.refusals.Refusal.Refusal}
+use Rattle.lra_syntax.specs.Trees.{FunctionTree, DeclaratorTree, CondTree, StmtTree, block, if_only, if_else, while}
+use Rattle.lra_syntax.specs.Trees.{for, switch}
+use Rattle.lra_syntax.specs.{declared.trees.ArrayLength.ArrayLength, declared.trees.Identifier.Identifier}
 use Rattle.lra_resolve_simple.specs.declared.around.Around.{Around}
 use Rattle.lra_scopes.specs.Calls.{functions_at}
 use Rattle.lra_resolution_spec.specs.Scope.{Scope, scalar, array, is_declared, with_local, array_of, declarator_entry}

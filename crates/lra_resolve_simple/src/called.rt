@@ -1,8 +1,8 @@
 //! Where a statement stands, and what it calls.
 
 ghost use Rattle.std.specs.Prelude.{◌≡◌, option_map, IfOk};
-ghost use Rattle.lra_syntax.specs.Views.{rvalue_view, assign_view};
 ghost use Rattle.lra_syntax.specs.Labels.{assign_place, called_in, called_of, called_by};
+ghost use Rattle.lra_syntax.specs.Views.{rvalue_view, assign_view};
 
 use lra_base::Place;
 use lra_syntax::{Assign, Identifier, Rvalue};

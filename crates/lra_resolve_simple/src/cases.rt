@@ -1,9 +1,8 @@
 //! The list of a `switch`, as far as it is resolved, and the labels so far.
 
 ghost use Rattle.std.specs.Prelude.{◌≡◌, ◌++◌, ◌∷◌, [], ◌||◌, false, not, IfOk, OnOk};
-ghost use Rattle.lra_base.specs.declared.case_labels.CaseLabel.{CaseLabel};
 ghost use Rattle.lra_base.specs.declared.refusals.Cause.TheVariants.{DuplicateCase};
-ghost use Rattle.lra_base.specs.CaseLabels.{is_same_case};
+ghost use Rattle.lra_base.specs.{CaseLabels.is_same_case, declared.case_labels.CaseLabel.CaseLabel};
 ghost use Rattle.lra_program.specs.declared.program.CaseItem as program_case;
 ghost use Rattle.lra_resolution_spec.specs.NameFaults.{fault_if};
 ghost use Rattle.lra_scopes.specs.Outcome.{StopsAtFirstFault};

@@ -2,21 +2,18 @@
 
 ghost use Rattle.std.specs.Prelude.{◌≡◌, ◌+◌, ◌++◌, ◌∷◌, [], suc, map, option_map, IfOk, OnOk, IfErr};
 ghost use Rattle.lra_program.specs.Program.{Stmt, no_more, assert as assert_stmt, assume as assume_stmt};
-ghost use Rattle.lra_syntax.specs.Views.{init_view, assign_view, cond_view as tree_cond_view};
 ghost use Rattle.lra_program.specs.ProgramViews.{stmt_view, items_view, item_view, cond_view};
-ghost use Rattle.lra_resolution_spec.specs.Scope.{for_scope};
+ghost use Rattle.lra_syntax.specs.Labels.{plain_label, init_labels, step_labels, live_in_for};
+ghost use Rattle.lra_syntax.specs.Views.{init_view, assign_view, cond_view as tree_cond_view};
 ghost use Rattle.lra_resolution_spec.specs.NameFaults.{cond_faults, init_faults, test_of_for_faults, step_faults};
 ghost use Rattle.lra_resolution_spec.specs.Resolve.{resolve_cond, resolve_init, resolve_for_test, resolve_step};
-ghost use Rattle.lra_resolution_spec.specs.Resolve.{init_count};
-ghost use Rattle.lra_resolution_spec.specs.Resolve.{step_count};
-ghost use Rattle.lra_scopes.specs.Calls.{functions_at};
-ghost use Rattle.lra_syntax.specs.Labels.{plain_label, init_labels, step_labels, live_in_for};
+ghost use Rattle.lra_resolution_spec.specs.Resolve.{init_count, step_count};
+ghost use Rattle.lra_resolution_spec.specs.Scope.{for_scope};
+ghost use Rattle.lra_scopes.specs.{Calls.functions_at, Outcome.StopsAtFirstFault};
 ghost use Rattle.lra_resolve_simple.specs.Labelling.{Adds, for_front};
-ghost use Rattle.lra_resolve_simple.specs.Statements.{followed, choice, loop_of, for_of};
 ghost use Rattle.lra_resolve_simple.specs.LoopHeads.{for_head, head_faults, body_scope, body_label, head_labels};
-ghost use Rattle.lra_resolve_simple.specs.LoopHeads.{body_live};
-ghost use Rattle.lra_resolve_simple.specs.LoopHeads.{loop_around, rounds_view, loop_with};
-ghost use Rattle.lra_scopes.specs.Outcome.{StopsAtFirstFault};
+ghost use Rattle.lra_resolve_simple.specs.LoopHeads.{body_live, loop_around, rounds_view, loop_with};
+ghost use Rattle.lra_resolve_simple.specs.Statements.{followed, choice, loop_of, for_of};
 
 use crate::around::Around;
 use crate::declarations::add_declaration;

@@ -1,8 +1,7 @@
 //! Statements without statements in them, by their kinds.
 
 ghost use Rattle.lra_syntax.specs.Views.{stmt_view};
-ghost use Rattle.lra_resolve_simple.specs.Statements.{around_of, IsSimple};
-ghost use Rattle.lra_resolve_simple.specs.Resolved.{Resolves};
+ghost use Rattle.lra_resolve_simple.specs.{Resolved.Resolves, Statements.around_of, Statements.IsSimple};
 
 use crate::around::Around;
 use crate::heads::{resolve_assert, resolve_assume};

@@ -1,17 +1,15 @@
 //! Statements without parts that are statements, each under its label.
 
 ghost use Rattle.std.specs.Prelude.{◌≡◌, ◌∷◌, [], suc, not, false, Some, option_map, IfOk, OnOk};
-ghost use Rattle.lra_program.specs.Program.{nothing, call as call_stmt};
+ghost use Rattle.lra_program.specs.{Program.nothing, Program.call as call_stmt, ProgramViews.stmt_view};
+ghost use Rattle.lra_syntax.specs.Labels.{plain_label, label_with, assign_label, called_of};
 ghost use Rattle.lra_syntax.specs.Views.{rvalue_view, call_view, assign_view};
-ghost use Rattle.lra_program.specs.ProgramViews.{stmt_view};
 ghost use Rattle.lra_resolution_spec.specs.NameFaults.{fault_if, call_faults, assign_faults, return_faults};
 ghost use Rattle.lra_resolution_spec.specs.Resolve.{resolve_call, resolve_assign, resolve_given};
 ghost use Rattle.lra_base.specs.declared.refusals.Cause.TheVariants.{Misplaced};
-ghost use Rattle.lra_scopes.specs.Calls.{functions_at};
-ghost use Rattle.lra_syntax.specs.Labels.{plain_label, label_with, assign_label, called_of};
+ghost use Rattle.lra_scopes.specs.{Calls.functions_at, Outcome.StopsAtFirstFault};
 ghost use Rattle.lra_resolve_simple.specs.Labelling.{Adds};
 ghost use Rattle.lra_resolve_simple.specs.Statements.{around_of, break_of, continue_of, return_of};
-ghost use Rattle.lra_scopes.specs.Outcome.{StopsAtFirstFault};
 
 use crate::around::Around;
 use crate::called::{copy_assigned_callee, copy_given_callee, place_of_assign};

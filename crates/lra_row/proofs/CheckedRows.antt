@@ -1,12 +1,8 @@
 -- Products of rows and sums of two multiples, one column at a time.
 use Rattle.std.proofs.Common.{◌≡◌, ◌+◌, ◌-◌, List, [], ◌∷◌, ◌++◌, length, get_or, take, drop, ap, sym, ◌∙◌, refl, subst, arith, pos, ℤ, ◌+ℤ◌, ◌*ℤ◌, Result, Ok, Err, MatchResult, ◌⊎◌, inl, inr}
-use Rattle.std.proofs.Common.{append_assoc, append-nil}
-use Rattle.std.proofs.Math.IntN.{+ℤ_idl}
-use Rattle.std.proofs.lemmas.List.{take_all}
-use Rattle.lra_linear_spec.specs.declared.Excess.{Excess}
-use Rattle.lra_linear_spec.specs.declared.Operation.TheVariants.{Product, Sum}
-use Rattle.lra_linear_spec.specs.Range.{InRange}
+use Rattle.std.proofs.{Common.append_assoc, Common.append-nil, Math.IntN.+ℤ_idl, lemmas.List.take_all}
 use Rattle.lra_linear_spec.specs.CheckedArithmetic.{checked_product_from, checked_product, checked_entry, checked_blend, then_rest}
+use Rattle.lra_linear_spec.specs.{Range.InRange, declared.Excess.Excess, declared.Operation.TheVariants.Product, declared.Operation.TheVariants.Sum}
 use Rattle.lra_linear_spec.proofs.CheckedArithmetic.{in_range_yes, in_range_no}
 
 -- ---- products

@@ -1,18 +1,12 @@
 -- The combination of two rows on either side of a third has product 0 with it, and substitution replaces a coordinate.
 use Rattle.std.proofs.Common.{arith, ◌≡◌, ℕ, ◌<◌, List, [], ◌∷◌, length, ap, sym, ◌∙◌, refl, pos, ℤ, ◌+ℤ◌, ◌*ℤ◌, neg_ℤ, ◌<ℤ◌, Result, Ok, Err, cond}
+use Rattle.std.proofs.{lemmas.Int.ints, lemmas.List.Elements.All-head, lemmas.List.Elements.All-tail}
 use Rattle.std.specs.List.{All}
-use Rattle.std.proofs.lemmas.Int.{ints}
-use Rattle.std.proofs.lemmas.List.Elements.{All-head, All-tail}
-use Rattle.lra_linear_spec.specs.declared.Excess.{Excess}
-use Rattle.lra_linear_spec.specs.declared.Operation.TheVariants.{Product, Sum}
-use Rattle.lra_linear_spec.specs.Range.{InRange, in_range}
-use Rattle.lra_linear_spec.specs.Vectors.{entry, product, blend, combined, cleared, substituted}
-use Rattle.lra_linear_spec.specs.LowestTerms.{IsLowest}
 use Rattle.lra_linear_spec.specs.CheckedArithmetic.{checked_product, checked_entry, checked_blend, then_rest, checked_combination, checked_added, checked_added_entry, checked_substitution}
-use Rattle.lra_linear_spec.proofs.Ring.{v, ◌⊕◌, ◌⊗◌, ⊖, ring}
+use Rattle.lra_linear_spec.specs.Vectors.{entry, product, blend, combined, cleared, substituted}
+use Rattle.lra_linear_spec.specs.{LowestTerms.IsLowest, Range.InRange, Range.in_range, declared.Excess.Excess, declared.Operation.TheVariants.Product, declared.Operation.TheVariants.Sum}
 use Rattle.lra_linear_spec.proofs.Signs.{as_nat, positive_nat, neg_nat, no_product, positive_is_nonnegative}
-use Rattle.lra_linear_spec.proofs.Products.{entry_blend, dot_same, dot_linear, dot_scale}
-use Rattle.lra_linear_spec.proofs.CheckedArithmetic.{in_range_yes}
+use Rattle.lra_linear_spec.proofs.{CheckedArithmetic.in_range_yes, Products.entry_blend, Products.dot_same, Products.dot_linear, Products.dot_scale, Ring.v, Ring.◌⊕◌, Ring.◌⊗◌, Ring.⊖, Ring.ring}
 use Rattle.lra_row.specs.Rows.{IsPositiveSum}
 use Rattle.lra_row.proofs.FirstPassing.{combination_is}
 

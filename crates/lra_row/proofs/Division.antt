@@ -1,9 +1,8 @@
 -- Division that rounds down, from division whose remainder is not negative.
 use Rattle.std.proofs.Common.{ℕ, zero, suc, ◌≡◌, ◌<◌, ◌^◌, arith, ap, subst, sym, ◌∙◌, refl, pos, negsuc, ℤ, ◌+◌, ◌-◌, ◌*◌, ◌/◌, ◌%◌, ◌-ℤ◌, neg_ℤ, ◌<ℤ◌, to_z, FitsSigned, ◌≤◌}
+use Rattle.std.proofs.{lemmas.Int.ints, lemmas.Nat.div-mul-add}
 use lib.Signed.{mag}
 use Rattle.std.specs.Int.{int_div_euclid, int_rem_euclid, w128}
-use Rattle.std.proofs.lemmas.Int.{ints}
-use Rattle.std.proofs.lemmas.Nat.{div-mul-add}
 use Rattle.lra_linear_spec.proofs.Ring.{v, ◌⊕◌, ◌⊗◌, ⊖, ring}
 use Rattle.lra_linear_spec.specs.Range.{InRange}
 use Rattle.lra_row.specs.Division.{floor_quotient, IsFloor}

@@ -1,19 +1,13 @@
 -- Checked arithmetic answers an excess exactly where one of its operations passes the range: the first that does.
 use Rattle.std.proofs.Common.{arith, ◌≡◌, List, [], ◌∷◌, ◌++◌, ap, sym, ◌∙◌, refl, subst, pos, ℤ, ◌+ℤ◌, ◌*ℤ◌, neg_ℤ, Bool, true, false, cond, Result, Ok, Err, IfOk, IfErr, append_assoc}
+use Rattle.std.proofs.{lemmas.Bool.Decides.nat_tests, lemmas.List.Elements.All-nil, lemmas.List.Elements.All-cons, lemmas.List.Elements.All-append}
 use Rattle.std.specs.List.{All}
-use Rattle.std.proofs.lemmas.List.Elements.{All-nil, All-cons, All-append}
-use Rattle.std.proofs.lemmas.Bool.Decides.{nat_tests}
-use Rattle.lra_linear_spec.specs.declared.Excess.{Excess}
-use Rattle.lra_linear_spec.specs.declared.Operation.TheVariants.{Product, Sum}
-use Rattle.lra_linear_spec.specs.Range.{in_range}
-use Rattle.lra_linear_spec.specs.CheckedArithmetic.{checked_product_from, checked_product, then_rest, checked_blend, and_then, checked_added}
-use Rattle.lra_linear_spec.specs.CheckedArithmetic.{checked_combination}
-use Rattle.lra_linear_spec.specs.Vectors.{product}
+use Rattle.lra_linear_spec.specs.CheckedArithmetic.{checked_product_from, checked_product, then_rest, checked_blend, and_then, checked_added, checked_combination}
+use Rattle.lra_linear_spec.specs.{Range.in_range, Vectors.product, declared.Excess.Excess, declared.Operation.TheVariants.Product, declared.Operation.TheVariants.Sum}
 use Rattle.lra_linear_spec.proofs.CheckedArithmetic.{checked_product_value, checked_product_in_range, checked_blend_is, checked_blend_in_range}
-use Rattle.lra_row.specs.declared.error.RowError.{RowError}
-use Rattle.lra_row.specs.declared.error.RowError.TheVariants as of_row
 use Rattle.lra_row.specs.Operations.{result_of, Fits, NamesFirst, IsFirstNamed, NamesFirstOrMemory, product_operations_from, product_operations, blend_operations, added_operations}
-use Rattle.lra_row.specs.Rows.{IsExcessOf, combination_operations}
+use Rattle.lra_row.specs.{Rows.IsExcessOf, Rows.combination_operations, declared.error.RowError.RowError}
+use Rattle.lra_row.specs.declared.error.RowError.TheVariants as of_row
 
 -- ---- one operation more
 later_by : {A : Type 0} (o : Excess) (operations : List Excess) (r : Result A Excess) → Fits o → NamesFirst operations r → NamesFirst (o ∷ operations) r

@@ -1,13 +1,9 @@
 -- Narrow numbers, below 2^31 in size: sums of so many products of two of them as memory holds stay in the range.
 use Rattle.std.proofs.Common.{◌≡◌, ℕ, ◌+◌, ◌^◌, ◌-◌, ◌<◌, List, [], ◌∷◌, neg_ℤ, ℤ, ◌+ℤ◌, ◌*ℤ◌, unsigned_abs, arith, refl, subst, sym, FitsSigned}
-use Rattle.std.specs.Int.{w128}
-use Rattle.std.specs.List.{All}
 use Rattle.std.proofs.lemmas.Int.{ints, unsigned_abs-mul, fits_signed_from_abs}
-use Rattle.std.proofs.lemmas.List.Elements.{All-nil, All-cons, All-head, All-tail}
-use Rattle.std.proofs.lemmas.Nat.{mul-le}
-use Rattle.lra_linear_spec.specs.Range.{InRange}
-use Rattle.lra_linear_spec.specs.Vectors.{negated}
-use Rattle.lra_linear_spec.specs.CheckedArithmetic.{checked_product_from}
+use Rattle.std.proofs.{lemmas.List.Elements.All-nil, lemmas.List.Elements.All-cons, lemmas.List.Elements.All-head, lemmas.List.Elements.All-tail, lemmas.Nat.mul-le}
+use Rattle.std.specs.{Int.w128, List.All}
+use Rattle.lra_linear_spec.specs.{CheckedArithmetic.checked_product_from, Range.InRange, Vectors.negated}
 use Rattle.lra_row.specs.Words.{IsWord, IsNarrow, IsNarrowSum}
 use Rattle.lra_row.proofs.CheckedRows.{column_taken}
 

@@ -1,13 +1,8 @@
 -- The order of rows is found place by place.
 use Rattle.std.proofs.Common.{◌≡◌, ℕ, List, [], ◌∷◌, ◌++◌, length, drop, ap, sym, ◌∙◌, refl, ℤ, pos, get_or, arith, min, ◌-◌, ◌+◌, ◌<◌, ◌≢◌, ◌<ℤ◌}
-use Rattle.std.specs.Ordering.{int_cmp, nat_cmp, ordering_then, MatchOrdering}
-use Rattle.std.specs.declared.cmp.Ordering.{Ordering}
+use Rattle.std.proofs.{lemmas.Bool.Decides.nat_tests, lemmas.Cmp.int_ranked, lemmas.Int.ints, lemmas.List.length-drop, lemmas.List.drop_more, lemmas.List.drop_all}
 use Rattle.std.specs.declared.cmp.Ordering.TheVariants.{Less, Equal, Greater}
-use Rattle.std.proofs.lemmas.Cmp.{int_ranked}
-use Rattle.std.proofs.lemmas.Int.{ints}
-use Rattle.std.proofs.lemmas.Bool.Decides.{nat_tests}
-use Rattle.std.specs.Cmp.Lexicographic.{slice_cmp}
-use Rattle.std.proofs.lemmas.List.{length-drop, drop_more, drop_all}
+use Rattle.std.specs.{Cmp.Lexicographic.slice_cmp, Ordering.int_cmp, Ordering.nat_cmp, Ordering.ordering_then, Ordering.MatchOrdering, declared.cmp.Ordering.Ordering}
 use Rattle.lra_linear_spec.specs.RowOrder.{constant_last, row_cmp}
 pub use Rattle.lra_row.specs.RowTies.{constant_last_length, row_cmp_ties}
 

@@ -1,9 +1,7 @@
 -- The first column other than 0, one column at a time.
 use Rattle.std.proofs.Common.{◌≡◌, ℕ, ◌<◌, ◌+◌, List, length, get_or, drop, sym, ◌∙◌, pos, ℤ, arith, true, add-one, ap, FitsSigned, to_z, of_z}
-use Rattle.std.specs.Int.{w128}
-use Rattle.std.proofs.lemmas.Int.{to_z-of_z, ints}
-use Rattle.std.proofs.Math.Seq.{drop-cons}
-use Rattle.std.specs.Ordering.{int_eq}
+use Rattle.std.proofs.{Math.Seq.drop-cons, lemmas.Int.to_z-of_z, lemmas.Int.ints}
+use Rattle.std.specs.{Int.w128, Ordering.int_eq}
 use Rattle.lra_linear_spec.specs.Echelon.{lead_from}
 
 pub lead_later : (xs : List ℤ) (j : ℕ) → j < length xs → int_eq (get_or xs j (pos 0)) (pos 0) ≡ true → lead_from (j + 1) (drop (j + 1) xs) ≡ lead_from j (drop j xs)

@@ -1,14 +1,9 @@
 -- the comparison of two fractions, by one step of division
 use Rattle.std.proofs.Common.{zero, suc, ◌≡◌, arith, ap, subst, sym, ◌∙◌, pos, negsuc, ℤ, ◌+ℤ◌, ◌*ℤ◌, neg_ℤ, ◌≤ℤ◌, ◌<ℤ◌, inl, inr, ◌⊎◌}
-use Rattle.std.specs.Int.{int_div_euclid, int_rem_euclid}
-use Rattle.std.specs.Ordering.{int_cmp, MatchOrdering}
-use Rattle.std.specs.declared.cmp.Ordering.{Ordering}
-use Rattle.std.specs.declared.cmp.Ordering.TheVariants.{Less, Equal, Greater}
-use Rattle.std.specs.Cmp.{int_ranks, int_cmp_is}
 use Rattle.std.proofs.lemmas.Int.{ints}
-use Rattle.lra_linear_spec.proofs.Ring.{v, ◌⊕◌, ◌⊗◌, ⊖}
-use Rattle.lra_linear_spec.proofs.Ring.{ring, mul_nonnegative}
-use Rattle.lra_linear_spec.proofs.Signs.{times_positive}
+use Rattle.std.specs.declared.cmp.Ordering.TheVariants.{Less, Equal, Greater}
+use Rattle.std.specs.{Cmp.int_ranks, Cmp.int_cmp_is, Int.int_div_euclid, Int.int_rem_euclid, Ordering.int_cmp, Ordering.MatchOrdering, declared.cmp.Ordering.Ordering}
+use Rattle.lra_linear_spec.proofs.{Ring.v, Ring.◌⊕◌, Ring.◌⊗◌, Ring.⊖, Ring.ring, Ring.mul_nonnegative, Signs.times_positive}
 
 pub euclid : (n d : ℤ) → pos 0 <ℤ d → (int_div_euclid n d *ℤ d) +ℤ int_rem_euclid n d ≡ n
 euclid (pos a) (pos zero) h = absurd (omega (arith, ints, h))

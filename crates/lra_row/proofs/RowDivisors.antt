@@ -1,10 +1,7 @@
 -- The greatest number that divides each entry of a row, one entry at a time.
 use Rattle.std.proofs.Common.{ℕ, zero, suc, ◌<◌, ◌≤◌, ◌+◌, List, [], ◌∷◌, length, drop, get_or, add-one, subst, sym, pos, ℤ, unsigned_abs}
+use Rattle.std.proofs.{Math.Nat.one-dvd, Math.Seq.drop-cons, lemmas.List.drop_all, lemmas.Nat.Gcd.dvd_refl, lemmas.Nat.Gcd.dvd-zero, lemmas.Nat.Gcd.dvd_trans}
 use Rattle.std.specs.Int.{◌∣◌, IsGcd}
-use Rattle.std.proofs.Math.Nat.{one-dvd}
-use Rattle.std.proofs.lemmas.Nat.Gcd.{dvd_refl, dvd-zero, dvd_trans}
-use Rattle.std.proofs.lemmas.List.{drop_all}
-use Rattle.std.proofs.Math.Seq.{drop-cons}
 use Rattle.lra_linear_spec.specs.Vectors.{entry}
 use Rattle.lra_row.specs.Rows.{IsRowGcd}
 

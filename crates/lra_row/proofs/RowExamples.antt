@@ -1,11 +1,7 @@
 -- Worked examples of the definitions.
 use Rattle.std.proofs.Common.{◌≡◌, [], ◌∷◌, pos, negsuc, refl, Err, ℤ}
 use Rattle.std.specs.declared.cmp.Ordering.TheVariants.{Less, Greater}
-use Rattle.lra_linear_spec.specs.declared.Excess.{Excess}
-use Rattle.lra_linear_spec.specs.declared.Operation.TheVariants.{Sum}
-use Rattle.lra_linear_spec.specs.Vectors.{combined, substituted}
-use Rattle.lra_linear_spec.specs.CheckedArithmetic.{checked_product}
-use Rattle.lra_linear_spec.specs.RowOrder.{row_cmp}
+use Rattle.lra_linear_spec.specs.{CheckedArithmetic.checked_product, RowOrder.row_cmp, Vectors.combined, Vectors.substituted, declared.Excess.Excess, declared.Operation.TheVariants.Sum}
 use Rattle.lra_row.specs.Division.{floor_quotient}
 
 -- ---- 7 / 2, -7 / 2 and 7 / -2 rounded down

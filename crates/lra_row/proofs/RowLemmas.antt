@@ -1,18 +1,11 @@
 -- Entries, opposite rows, and rows divided by the greatest number that divides each entry.
 use Rattle.std.proofs.Common.{arith, ◌≡◌, ℕ, zero, suc, ◌<◌, ◌≤◌, ◌*◌, ◌/◌, List, [], ◌∷◌, length, map, get_or, take, drop, ◌++◌, append-nil, ap, sym, ◌∙◌, refl, subst, pos, negsuc, ℤ, ◌*ℤ◌, neg_ℤ}
 use Rattle.std.proofs.Common.{◌≤ℤ◌, ◌<ℤ◌, unsigned_abs, int_div, inl, inr}
-use Rattle.std.specs.Int.{◌∣◌}
-use Rattle.std.specs.List.{All, refill}
-use Rattle.std.proofs.lemmas.List.{drop_all, take_all}
-use Rattle.std.proofs.lemmas.Int.{ints, unsigned_abs-mul}
-use Rattle.std.proofs.lemmas.List.Elements.{All-nil, All-cons, All-head, All-tail}
-use Rattle.std.proofs.lemmas.Nat.Gcd.{dvd_antisymm}
-use Rattle.std.proofs.Math.Nat.{mul-div_cancel', dvd_of_mul-dvd-mul_right, mul-dvd-mul_right, one-dvd}
-use Rattle.lra_linear_spec.specs.Range.{InRange}
-use Rattle.lra_linear_spec.specs.Vectors.{entry, negated}
-use Rattle.lra_linear_spec.specs.LowestTerms.{IsPrimitive, IsLowest}
-use Rattle.lra_linear_spec.proofs.LowestTerms.{signed_quotient, signed_quotient_is}
-use Rattle.lra_linear_spec.proofs.Ring.{v, ◌⊗◌, ring}
+use Rattle.std.proofs.{Math.Nat.mul-div_cancel', Math.Nat.dvd_of_mul-dvd-mul_right, Math.Nat.mul-dvd-mul_right, Math.Nat.one-dvd, lemmas.Int.ints, lemmas.Int.unsigned_abs-mul, lemmas.List.drop_all}
+use Rattle.std.proofs.{lemmas.List.take_all, lemmas.List.Elements.All-nil, lemmas.List.Elements.All-cons, lemmas.List.Elements.All-head, lemmas.List.Elements.All-tail, lemmas.Nat.Gcd.dvd_antisymm}
+use Rattle.std.specs.{Int.◌∣◌, List.All, List.refill}
+use Rattle.lra_linear_spec.specs.{LowestTerms.IsPrimitive, LowestTerms.IsLowest, Range.InRange, Vectors.entry, Vectors.negated}
+use Rattle.lra_linear_spec.proofs.{LowestTerms.signed_quotient, LowestTerms.signed_quotient_is, Ring.v, Ring.◌⊗◌, Ring.ring}
 use Rattle.lra_row.specs.Rows.{IsRowGcd}
 
 pub entry_at : (xs : List ℤ) (j : ℕ) → entry xs j ≡ get_or xs j (pos 0)

@@ -1,13 +1,8 @@
 -- Words: numbers of 64 bits. What products of them and sums of these stay below.
-use Rattle.std.proofs.Common.{◌≡◌, ◌≢◌, ◌<◌, ◌^◌, ◌-◌, List, [], ◌∷◌, ap, sym, refl, subst, arith, pos, negsuc, ℤ, neg_ℤ, ◌+ℤ◌, ◌*ℤ◌, Bool, true, false, cond}
-use Rattle.std.proofs.Common.{Result, Ok, Err, unsigned_abs, FitsSigned, inl, inr}
+use Rattle.std.proofs.Common.{◌≡◌, ◌≢◌, ◌<◌, ◌^◌, ◌-◌, List, [], ◌∷◌, ap, sym, refl, subst, arith, pos, negsuc, ℤ, neg_ℤ, ◌+ℤ◌, ◌*ℤ◌, Bool, true, false, cond, Result, Ok, Err, unsigned_abs}
+use Rattle.std.proofs.{Common.FitsSigned, Common.inl, Common.inr, lemmas.Bool.cases_eq, lemmas.Int.ints, lemmas.Int.unsigned_abs-mul, lemmas.Int.fits_signed_from_abs, lemmas.Nat.mul-le}
 use Rattle.std.specs.Int.{w64, w128}
-use Rattle.std.proofs.lemmas.Bool.{cases_eq}
-use Rattle.std.proofs.lemmas.Int.{ints, unsigned_abs-mul, fits_signed_from_abs}
-use Rattle.std.proofs.lemmas.Nat.{mul-le}
-use Rattle.lra_linear_spec.specs.declared.Excess.{Excess}
-use Rattle.lra_linear_spec.specs.Range.{InRange, in_range}
-use Rattle.lra_linear_spec.specs.CheckedArithmetic.{checked_product_from, checked_entry}
+use Rattle.lra_linear_spec.specs.{CheckedArithmetic.checked_product_from, CheckedArithmetic.checked_entry, Range.InRange, Range.in_range, declared.Excess.Excess}
 use Rattle.lra_linear_spec.proofs.CheckedArithmetic.{in_range_yes}
 use Rattle.lra_row.specs.Words.{IsWord, HasRoom, IsWordProduct}
 use Rattle.lra_row.proofs.CheckedRows.{column_taken}

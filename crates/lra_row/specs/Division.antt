@@ -1,6 +1,6 @@
 -- Division that rounds down.
-use Rattle.std.specs.Prelude.{ℤ, pos, negsuc, suc, neg_ℤ, ◌+ℤ◌, ◌*ℤ◌, ◌≤ℤ◌, ◌<ℤ◌}
 use Rattle.std.specs.Int.{int_div_euclid}
+use Rattle.std.specs.Prelude.{ℤ, pos, negsuc, suc, neg_ℤ, ◌+ℤ◌, ◌*ℤ◌, ◌≤ℤ◌, ◌<ℤ◌}
 
 -- q is a / b rounded down: q is at most a / b and q + 1 is above it, both sides taken times b
 abbrev pub IsFloor : ℤ → ℤ → ℤ → Type 0

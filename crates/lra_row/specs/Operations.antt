@@ -1,10 +1,8 @@
 -- The products and sums of a calculation, in their order. An operation is written as the excess that names it where its
 -- value passes the range.
 use Rattle.std.specs.Prelude.{◌≡◌, ℤ, pos, ◌+ℤ◌, ◌*ℤ◌, List, [], ◌∷◌, ◌++◌, Result, Ok, Err, All}
-use Rattle.lra_linear_spec.specs.declared.Excess.{Excess}
-use Rattle.lra_linear_spec.specs.declared.Operation.{Operation}
 use Rattle.lra_linear_spec.specs.declared.Operation.TheVariants.{Product, Sum}
-use Rattle.lra_linear_spec.specs.Range.{InRange}
+use Rattle.lra_linear_spec.specs.{Range.InRange, declared.Excess.Excess, declared.Operation.Operation}
 use Rattle.lra_row.specs.declared.error.RowError.{RowError}
 use Rattle.lra_row.specs.declared.error.RowError.TheVariants as of_row
 

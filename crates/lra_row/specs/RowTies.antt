@@ -1,11 +1,9 @@
 -- The order of rows ties only equal rows. The laws of `Ord` cite this.
 use Rattle.std.proofs.Common.{◌≡◌, suc, List, [], ◌∷◌, ◌++◌, length, ap, sym, ◌∙◌, refl, ℤ, arith}
-use Rattle.std.specs.Ordering.{eq_by_cmp, int_eq, is_eq}
-use Rattle.std.specs.Cmp.{Equal-is, both_ways, tied_itself}
-use Rattle.std.specs.Cmp.Lexicographic.{pointwise}
-use Rattle.std.specs.Cmp.Rules.{signed_items}
-use Rattle.std.specs.FinMap.{IsAntisymmetric, slice_cmp-IsAntisymmetric, int_cmp-IsAntisymmetric}
 use Rattle.std.proofs.lemmas.List.{length-append}
+use Rattle.std.specs.FinMap.{IsAntisymmetric, slice_cmp-IsAntisymmetric, int_cmp-IsAntisymmetric}
+use Rattle.std.specs.Ordering.{eq_by_cmp, int_eq, is_eq}
+use Rattle.std.specs.{Cmp.Equal-is, Cmp.both_ways, Cmp.tied_itself, Cmp.Lexicographic.pointwise, Cmp.Rules.signed_items}
 use Rattle.lra_linear_spec.specs.RowOrder.{constant_last, row_cmp}
 use Rattle.lra_linear_spec.proofs.RowOrder.{row_cmp_total}
 

@@ -1,8 +1,7 @@
 -- What the calls on rows answer.
-use Rattle.std.specs.Prelude.{◌≡◌, ℕ, ◌<◌, ℤ, pos, neg_ℤ, ◌+ℤ◌, ◌*ℤ◌, List, ◌++◌, Result, Err, unsigned_abs}
 use Rattle.std.specs.Int.{◌∣◌}
-use Rattle.lra_linear_spec.specs.declared.Excess.{Excess}
-use Rattle.lra_linear_spec.specs.Vectors.{entry, product, cleared}
+use Rattle.std.specs.Prelude.{◌≡◌, ℕ, ◌<◌, ℤ, pos, neg_ℤ, ◌+ℤ◌, ◌*ℤ◌, List, ◌++◌, Result, Err, unsigned_abs}
+use Rattle.lra_linear_spec.specs.{Vectors.entry, Vectors.product, Vectors.cleared, declared.Excess.Excess}
 use Rattle.lra_row.specs.Operations.{product_operations, blend_operations, added_operations}
 use Rattle.lra_row.specs.declared.error.RowError as E
 use Rattle.lra_row.specs.declared.error.RowError.TheVariants as of_row

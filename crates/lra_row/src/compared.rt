@@ -1,9 +1,7 @@
 //! Equality, order and hash of rows: those of their numbers.
 
-ghost use Rattle.std.specs.Prelude.{refl};
-ghost use Rattle.std.specs.Cmp.{int_eq_equiv, partial_equiv_from_equiv, po};
-ghost use Rattle.std.specs.Cmp.Lexicographic.{lists_equiv, pointwise};
-ghost use Rattle.std.specs.Cmp.Rules.{signed_items};
+ghost use Rattle.std.specs.{Cmp.int_eq_equiv, Cmp.partial_equiv_from_equiv, Cmp.po, Cmp.Lexicographic.lists_equiv};
+ghost use Rattle.std.specs.{Cmp.Lexicographic.pointwise, Cmp.Rules.signed_items, Prelude.refl};
 ghost use Rattle.std.specs.Hash as fed;
 ghost use Rattle.std.specs.Ordering.{as_partial_cmp, int_eq};
 ghost use Rattle.lra_linear_spec.specs.RowOrder.{row_cmp};

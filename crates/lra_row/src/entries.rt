@@ -2,16 +2,11 @@
 
 ghost use Rattle.std.specs.Prelude.{◌≡◌, ◌≤◌, ◌<◌, ◌≤ℤ◌, ◌+◌, [], ◌∷◌, ℕ, pos, ◌*ℤ◌, ◌<ℤ◌, length, IfOk, IfErr};
 ghost use Rattle.std.specs.Prelude.{unsigned_abs, map, int_div, slice_index_or, IsTrue};
-ghost use Rattle.std.specs.List.{All};
-ghost use Rattle.std.specs.Int.{◌∣◌};
-ghost use Rattle.lra_linear_spec.specs.Range.{InRange};
-ghost use Rattle.lra_linear_spec.specs.Vectors.{entry, negated};
+ghost use Rattle.std.specs.{Int.◌∣◌, List.All};
 ghost use Rattle.lra_linear_spec.specs.CheckedArithmetic.{checked_product_from, checked_product, checked_entry};
-ghost use Rattle.lra_linear_spec.specs.CheckedArithmetic.{checked_blend};
-ghost use Rattle.lra_row.specs.Rows.{IsExcessOf, IsRowGcd};
-ghost use Rattle.lra_row.specs.Words.{IsNarrow};
-ghost use Rattle.lra_linear_spec.specs.Echelon.{pivot};
-ghost use Rattle.lra_linear_spec.specs.RowOrder.{constant_last, row_cmp};
+ghost use Rattle.lra_linear_spec.specs.{CheckedArithmetic.checked_blend, Echelon.pivot, Range.InRange};
+ghost use Rattle.lra_linear_spec.specs.{RowOrder.constant_last, RowOrder.row_cmp, Vectors.entry, Vectors.negated};
+ghost use Rattle.lra_row.specs.{Rows.IsExcessOf, Rows.IsRowGcd, Words.IsNarrow};
 
 use crate::error::RowError;
 use crate::number::{

@@ -1,10 +1,7 @@
 //! Sums, products and quotients of single numbers.
 
 ghost use Rattle.std.specs.Prelude.{◌≡◌, ◌≢◌, ◌<◌, ◌^◌, pos, ◌+ℤ◌, ◌*ℤ◌, ◌≤ℤ◌, ◌<ℤ◌, unsigned_abs, MatchResult, neg_ℤ};
-ghost use Rattle.std.specs.Prelude.{int_div, IsTrue};
-ghost use Rattle.std.specs.Ordering.{int_cmp};
-ghost use Rattle.std.specs.Option.{SomeIff};
-ghost use Rattle.std.specs.Int.{IsGcd};
+ghost use Rattle.std.specs.{Int.IsGcd, Option.SomeIff, Ordering.int_cmp, Prelude.int_div, Prelude.IsTrue};
 ghost use Rattle.lra_linear_spec.specs.Range.{InRange};
 ghost use Rattle.lra_linear_spec.specs.declared.Operation.TheVariants.{Product, Sum};
 ghost use Rattle.lra_row.specs.Division.{floor_quotient, IsFloor};

@@ -2,21 +2,14 @@
 
 ghost use Rattle.std.specs.Prelude.{◌≡◌, ◌≤◌, ◌<◌, ℕ, ℤ, pos, neg_ℤ, ◌+ℤ◌, ◌*ℤ◌, ◌<ℤ◌, length, List, ◌∷◌, ◌+◌, IfOk};
 ghost use Rattle.std.specs.Prelude.{◌++◌, ◌^◌, ◌↔◌, IfErr, IfSome, IsTrue, OnOk, slice_set, suc};
-ghost use Rattle.std.specs.List.{All};
-ghost use Rattle.std.specs.Cmp.{IsTotalOrder};
-ghost use Rattle.std.specs.FinMap.{IsAntisymmetric};
-ghost use Rattle.lra_linear_spec.specs.Range.{InRange};
-ghost use Rattle.lra_linear_spec.specs.Vectors.{entry, dot, product, negated, blend, combined, cleared, substituted};
-ghost use Rattle.lra_linear_spec.specs.Vectors.{zeros};
-ghost use Rattle.lra_linear_spec.specs.LowestTerms.{IsLowest};
+ghost use Rattle.std.specs.{Cmp.IsTotalOrder, FinMap.IsAntisymmetric, List.All};
 ghost use Rattle.lra_linear_spec.specs.CheckedArithmetic.{checked_product, checked_blend, checked_combination};
-ghost use Rattle.lra_linear_spec.specs.CheckedArithmetic.{checked_substitution};
-ghost use Rattle.lra_linear_spec.specs.SetOperations.{assigned};
+ghost use Rattle.lra_linear_spec.specs.Vectors.{entry, dot, product, negated, blend, combined, cleared, substituted};
+ghost use Rattle.lra_linear_spec.specs.{CheckedArithmetic.checked_substitution, Echelon.pivot, LowestTerms.IsLowest};
+ghost use Rattle.lra_linear_spec.specs.{Range.InRange, RowOrder.row_cmp, SetOperations.assigned, Vectors.zeros};
 ghost use Rattle.lra_row.specs.Operations.{NamesFirst, NamesFirstOrMemory, product_operations, blend_operations};
 ghost use Rattle.lra_row.specs.Rows.{IsExcessOf, combination_operations, IsPositiveSum, substitution_operations};
 ghost use Rattle.lra_row.specs.Words.{IsNarrow};
-ghost use Rattle.lra_linear_spec.specs.Echelon.{pivot};
-ghost use Rattle.lra_linear_spec.specs.RowOrder.{row_cmp};
 
 use crate::entries;
 use crate::entries::Entries;

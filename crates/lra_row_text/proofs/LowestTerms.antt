@@ -1,13 +1,9 @@
 -- Coordinates in lowest terms: the greatest common divisor is the greatest number that divides both.
 use Rattle.std.proofs.Common.{arith, ◌≡◌, ◌<◌, ◌≤◌, ◌/◌, ◌%◌, ℕ, zero, suc, ℤ, pos, negsuc, nat_abs, nat_eq, int_div, Bool, true, false, ◌++◌, codes, refl, ap, sym, if◌then◌else◌, ◌<ℤ◌, ◌≤ℤ◌, subst}
-use Prim.Native.Nat.{◌∣◌}
-use Rattle.std.specs.Int.{IsGcd}
-use Rattle.std.specs.Fmt.{decimal, signed_decimal}
-use Rattle.std.proofs.lemmas.Int.{ints}
-use Rattle.std.proofs.lemmas.Nat.{le-div}
 use Rattle.std.proofs.lemmas.Nat.Gcd.{mod-eq-zero_of_dvd, dvd_of_mod-eq-zero, le_from_IsGcd, le_of_dvd}
-use Rattle.std.proofs.Math.Nat.{pos_of_dvd_of_pos}
-use Rattle.std.proofs.lemmas.Bool.{eqb-true, eq-eqb, ne_eqb}
+use Rattle.std.proofs.{Math.Nat.pos_of_dvd_of_pos, lemmas.Bool.eqb-true, lemmas.Bool.eq-eqb, lemmas.Bool.ne_eqb, lemmas.Int.ints, lemmas.Nat.le-div}
+use Prim.Native.Nat.{◌∣◌}
+use Rattle.std.specs.{Fmt.decimal, Fmt.signed_decimal, Int.IsGcd}
 use Rattle.lra_row_text.specs.Texts.{greatest_divisor, coordinate_text, fraction_text}
 
 choice : (a b : Bool) (x rest g : ℕ) → (a ≡ true → b ≡ true → x ≡ g) → ((a ≡ true → b ≡ true → ⊥) → rest ≡ g) → (if a then (if b then x else rest) else rest) ≡ g

@@ -1,7 +1,6 @@
 -- Numbered names, one behind the other.
 use Rattle.std.proofs.Common.{◌≡◌, ℕ, zero, suc, ◌+◌, ◌-◌, ◌<◌, ◌≤◌, List, [], ◌∷◌, ◌++◌, length, refl, ap, ◌∙◌, sym, arith, append_assoc, append-nil}
-use Rattle.std.specs.Prelude.{codes}
-use Rattle.std.specs.Fmt.{decimal}
+use Rattle.std.specs.{Fmt.decimal, Prelude.codes}
 use Rattle.lra_row_text.specs.Whole.{numbered_from}
 
 pub numbered_count : (number n : ℕ) → length (numbered_from number n) ≡ n

@@ -1,16 +1,11 @@
 -- Terms of a row, one at a time.
 use Rattle.std.proofs.Common.{codes, int_cmp, inl, inr, ◌⊎◌, ◌-◌, min, arith, ◌≡◌, ◌<◌, ◌≤◌, ◌+◌, ℕ, zero, suc, ℤ, pos, negsuc, Bool, true, false, List, [], ◌∷◌, ◌++◌, length, drop, map, get_or}
 use Rattle.std.proofs.Common.{add-one, refl, ap, sym, ◌∙◌, append_assoc, append-nil}
-use Rattle.std.specs.declared.cmp.Ordering.TheVariants.{Less, Equal, Greater}
-use Rattle.std.proofs.lemmas.List.{drop_all}
-use Rattle.std.proofs.lemmas.Bool.{cases_lt}
-use Rattle.std.proofs.Math.Seq.{drop-cons}
-use Rattle.std.proofs.lemmas.Int.{ints}
-use Rattle.std.specs.Cmp.{int_cmp_is}
+use Rattle.std.proofs.{Math.Seq.drop-cons, lemmas.Bool.cases_lt, lemmas.Int.ints, lemmas.List.drop_all}
+use Rattle.std.specs.{Cmp.int_cmp_is, declared.cmp.Ordering.TheVariants.Less, declared.cmp.Ordering.TheVariants.Equal, declared.cmp.Ordering.TheVariants.Greater}
 use Rattle.lra_linear_spec.specs.Vectors.{entry}
 use Rattle.lra_row.proofs.RowLemmas.{entry_at}
-use Rattle.lra_row_text.specs.Texts.{is_negated, negated_if, terms_text, product_text}
-use Rattle.lra_row_text.specs.Shown.{rest_text, is_first_after}
+use Rattle.lra_row_text.specs.{Shown.rest_text, Shown.is_first_after, Texts.is_negated, Texts.negated_if, Texts.terms_text, Texts.product_text}
 
 pub drop_entry : (cs : List ℤ) (j : ℕ) → j < length cs → drop j cs ≡ entry cs j ∷ drop (j + 1) cs
 drop_entry cs j h = rw (entry_at, add-one) (drop-cons cs j (pos 0) h)

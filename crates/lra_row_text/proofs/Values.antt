@@ -3,8 +3,7 @@ use Rattle.std.proofs.Common.{codes, min, ◌≡◌, ◌<◌, ◌≤◌, ◌+◌
 use Rattle.std.proofs.lemmas.List.{drop_all}
 use Rattle.lra_linear_spec.specs.Vectors.{entry}
 use Rattle.lra_row_text.specs.Texts.{values_text}
-use Rattle.lra_row_text.proofs.Terms.{drop_entry, min_cases}
-use Rattle.lra_row_text.proofs.Lists.{drop_front}
+use Rattle.lra_row_text.proofs.{Lists.drop_front, Terms.drop_entry, Terms.min_cases}
 
 pub value_step : {A : Type 0} (f : A → List ℕ) (value : ℤ → List ℕ) (t0 t1 t2 all : List ℕ) (zs : List ℤ) (names : List A) (j : ℕ) (x : A) →
     t0 ++ values_text value (map f (drop j names)) (drop (j + 1) zs) ≡ all → x ≡ get_or names j x → j < length names → j + 1 < length zs →

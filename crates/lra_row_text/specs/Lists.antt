@@ -1,10 +1,7 @@
 -- Lists of constraints and of generators, as they are shown.
 use Rattle.std.specs.Prelude.{ℤ, List, [], ◌∷◌}
-use Rattle.lra_linear_spec.specs.declared.ConKind.{ConKind}
-use Rattle.lra_linear_spec.specs.declared.GenKind.{GenKind}
-use Rattle.lra_row_text.specs.Rows.{ReportRow}
-use Rattle.lra_row_text.specs.Part.{ReportGenerator}
-use Rattle.lra_row_text.specs.Shown.{report_row, report_generator}
+use Rattle.lra_linear_spec.specs.{declared.ConKind.ConKind, declared.GenKind.GenKind}
+use Rattle.lra_row_text.specs.{Part.ReportGenerator, Rows.ReportRow, Shown.report_row, Shown.report_generator}
 
 -- each row with its kind
 abbrev pub shown_by : {K R : Type 0} → (List ℤ → K → R) → List (List ℤ) → List K → List R

@@ -1,10 +1,7 @@
 -- Rows of constraints and of generators, as they are shown.
 use Rattle.std.specs.Prelude.{ℕ, zero, suc, ℤ, pos, negsuc, nat_abs, Bool, true, false, List, [], ◌∷◌}
-use Rattle.lra_linear_spec.specs.declared.ConKind.{ConKind}
-use Rattle.lra_linear_spec.specs.declared.GenKind.{GenKind}
-use Rattle.lra_row_text.specs.Rows.{ReportRow}
-use Rattle.lra_row_text.specs.Part.{ReportGenerator}
-use Rattle.lra_row_text.specs.Texts.{form_text, terms_text}
+use Rattle.lra_linear_spec.specs.{declared.ConKind.ConKind, declared.GenKind.GenKind}
+use Rattle.lra_row_text.specs.{Part.ReportGenerator, Rows.ReportRow, Texts.form_text, Texts.terms_text}
 
 -- the constant stands in column 0
 abbrev pub report_row : List ℤ → ConKind → ReportRow

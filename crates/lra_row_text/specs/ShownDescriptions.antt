@@ -1,13 +1,9 @@
 -- The constraints and the generators of a description, as they are shown.
 use Rattle.std.specs.Prelude.{zero, suc, ℤ, pos, negsuc, Bool, true, false}
-use Rattle.lra_linear_spec.specs.Descriptions.{LinearRow}
 use Rattle.lra_linear_spec.specs.Kinds.{constraint_kind}
-use Rattle.lra_linear_spec.specs.Vectors.{entry}
-use Rattle.lra_linear_spec.specs.declared.GenKind.{GenKind}
+use Rattle.lra_linear_spec.specs.{Descriptions.LinearRow, Vectors.entry, declared.GenKind.GenKind}
 use Rattle.lra_linear_spec.specs.declared.GenKind.TheVariants as gen
-use Rattle.lra_row_text.specs.Rows.{ReportRow}
-use Rattle.lra_row_text.specs.Part.{ReportGenerator}
-use Rattle.lra_row_text.specs.Shown.{report_row, report_generator}
+use Rattle.lra_row_text.specs.{Part.ReportGenerator, Rows.ReportRow, Shown.report_row, Shown.report_generator}
 
 -- a line, or what its column 0 tells: a point's is above 0
 abbrev pub generator_kind : Bool → ℤ → GenKind

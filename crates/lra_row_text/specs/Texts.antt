@@ -1,14 +1,11 @@
 -- The texts of rows, of generators and of parts. Every line ends with a line feed.
 use Rattle.std.specs.Prelude.{ℕ, zero, suc, ◌/◌, ◌%◌, ℤ, pos, negsuc, ◌-ℤ◌, nat_abs, List, [], ◌∷◌, ◌++◌, map, Bool}
 use Rattle.std.specs.Prelude.{true, false, not, codes, if◌then◌else◌, nat_eq, int_div}
-use Rattle.std.specs.List.{flat_map}
-use Rattle.std.specs.Fmt.{decimal, signed_decimal}
-use Rattle.lra_linear_spec.specs.declared.ConKind.{ConKind}
+use Rattle.std.specs.{Fmt.decimal, Fmt.signed_decimal, List.flat_map}
 use Rattle.lra_linear_spec.specs.declared.ConKind.TheVariants.{Ge, Eq}
-use Rattle.lra_linear_spec.specs.declared.GenKind.{GenKind}
 use Rattle.lra_linear_spec.specs.declared.GenKind.TheVariants.{Point, Ray, Line}
-use Rattle.lra_row_text.specs.Rows.{ReportRow}
-use Rattle.lra_row_text.specs.Part.{ReportGenerator, Part}
+use Rattle.lra_linear_spec.specs.{declared.ConKind.ConKind, declared.GenKind.GenKind}
+use Rattle.lra_row_text.specs.{Part.ReportGenerator, Part.Part, Rows.ReportRow}
 
 abbrev pub text_line : List ℕ → List ℕ
 text_line bytes = bytes ++ 10 ∷ []

@@ -1,14 +1,11 @@
 -- Texts of whole lists and of values, for users of the library: a line for each row or generator, without a word in
 -- front; and numbered names.
 use Rattle.std.specs.Prelude.{ℕ, zero, suc, List, [], ◌∷◌, ◌++◌, codes}
-use Rattle.std.specs.List.{flat_map}
-use Rattle.std.specs.Fmt.{decimal}
+use Rattle.std.specs.{Fmt.decimal, List.flat_map}
 use Rattle.lra_linear_spec.specs.declared.ConKind.{ConKind}
 use Rattle.lra_systems.specs.LinearSystems.{LinearSystem}
-use Rattle.lra_row_text.specs.Rows.{ReportRow}
-use Rattle.lra_row_text.specs.Part.{ReportGenerator}
 use Rattle.lra_row_text.specs.Texts.{text_line, row_text, generator_text}
-use Rattle.lra_row_text.specs.Lists.{shown_rows}
+use Rattle.lra_row_text.specs.{Lists.shown_rows, Part.ReportGenerator, Rows.ReportRow}
 
 abbrev pub plain_row : List (List ℕ) → ReportRow → List ℕ
 plain_row names r = text_line (row_text names r)

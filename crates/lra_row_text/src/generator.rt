@@ -2,8 +2,7 @@
 
 ghost use Rattle.std.specs.Prelude.{◌≡◌, ◌++◌, ◌∷◌, [], ℤ, pos, ◌<ℤ◌, ◌<◌, nat_abs, int_div, map, drop, OnOk, IfOk};
 ghost use Rattle.std.specs.Prelude.{string_bytes, length, codes};
-ghost use Rattle.lra_linear_spec.specs.Range.{InRange};
-ghost use Rattle.lra_linear_spec.specs.Vectors.{entry};
+ghost use Rattle.lra_linear_spec.specs.{Range.InRange, Vectors.entry};
 ghost use Rattle.lra_systems.specs.LinearSystems.{FitsKind};
 ghost use Rattle.lra_row_text.specs.Texts as texts;
 ghost use Rattle.lra_row_text.specs.Shown.{report_generator};

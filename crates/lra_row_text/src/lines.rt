@@ -1,12 +1,10 @@
 //! Lines of constraints and of generators.
 
-ghost use Rattle.std.specs.Prelude.{◌≡◌, ◌++◌, OnOk, string_bytes, length};
 ghost use Rattle.std.specs.List.{flat_map};
+ghost use Rattle.std.specs.Prelude.{◌≡◌, ◌++◌, OnOk, string_bytes, length};
 ghost use Rattle.lra_systems.specs.LinearSystems.{FitsKind, FitKinds};
-ghost use Rattle.lra_row_text.specs.Texts.{rows_text};
-ghost use Rattle.lra_row_text.specs.Lines.{row_line, generator_line};
-ghost use Rattle.lra_row_text.specs.Shown.{report_row, report_generator};
-ghost use Rattle.lra_row_text.specs.Lists.{shown_rows, shown_generators};
+ghost use Rattle.lra_row_text.specs.{Lines.row_line, Lines.generator_line, Lists.shown_rows, Lists.shown_generators};
+ghost use Rattle.lra_row_text.specs.{Shown.report_row, Shown.report_generator, Texts.rows_text};
 
 use crate::generator::generator_text;
 use crate::names::Names;

@@ -2,8 +2,7 @@
 
 ghost use Rattle.std.specs.Prelude.{◌≡◌, ◌≢◌, ◌++◌, ◌<◌, ◌∷◌, [], ℤ, pos, suc, map, drop, OnOk, IfOk, string_bytes};
 ghost use Rattle.std.specs.Prelude.{length, not, unsigned_abs};
-ghost use Rattle.lra_linear_spec.specs.Range.{InRange};
-ghost use Rattle.lra_linear_spec.specs.Vectors.{entry};
+ghost use Rattle.lra_linear_spec.specs.{Range.InRange, Vectors.entry};
 ghost use Rattle.lra_row_text.specs.Texts as texts;
 ghost use Rattle.lra_row_text.specs.Shown.{report_row, rest_text, is_first_after};
 

@@ -1,13 +1,12 @@
 //! Texts of whole lists and of values.
 
-ghost use Rattle.std.specs.Prelude.{◌≡◌, ◌++◌, All, IfOk, OnOk, length, string_bytes};
 ghost use Rattle.std.specs.List.{flat_map};
+ghost use Rattle.std.specs.Prelude.{◌≡◌, ◌++◌, All, IfOk, OnOk, length, string_bytes};
 ghost use Rattle.lra_systems.specs.LinearSystems.{FitsKind, FitKinds};
 ghost use Rattle.lra_row_text.specs.Lists.{shown_rows, shown_generators};
 ghost use Rattle.lra_row_text.specs.Shown.{report_row, report_generator};
 ghost use Rattle.lra_row_text.specs.Whole.{further_lines, lines_of_generators, lines_of_part, lines_of_parts};
-ghost use Rattle.lra_row_text.specs.Whole.{lines_of_rows};
-ghost use Rattle.lra_row_text.specs.Whole.{plain_generator, plain_row};
+ghost use Rattle.lra_row_text.specs.Whole.{lines_of_rows, plain_generator, plain_row};
 
 use crate::generator::generator_text;
 use crate::names::Names;

@@ -1,15 +1,10 @@
 -- One block more.
 use Rattle.std.proofs.Common.{◌≡◌, ◌+◌, ◌*◌, ℕ, zero, suc, List, [], ◌∷◌, ◌++◌, ap, sym, refl, ◌∙◌, append_assoc, arith}
-use Rattle.std.specs.Prelude.{Result, Ok, Err, OnOk, codes}
-use Rattle.std.specs.Fn.{iterate}
-use Rattle.std.specs.List.{flat_map, range_with_len}
 use Rattle.std.proofs.lemmas.List.{flat_map_more}
+use Rattle.std.specs.{Fn.iterate, List.flat_map, List.range_with_len, Prelude.Result, Prelude.Ok, Prelude.Err, Prelude.OnOk, Prelude.codes}
 use Rattle.lra_row_text.specs.Texts.{text_line}
-use Rattle.lra_sample.specs.Draws.{next_state, state_after}
 use Rattle.lra_sample.specs.Sample.{statements_text, block_from, line_as, block_line, block_lines}
-use Rattle.lra_sample.specs.declared.block.Kind.{Kind}
-use Rattle.lra_sample.specs.declared.block.Kind.TheVariants.{Choice}
-use Rattle.lra_sample.specs.declared.block.Block.{Block}
+use Rattle.lra_sample.specs.{Draws.next_state, Draws.state_after, declared.block.Block.Block, declared.block.Kind.Kind, declared.block.Kind.TheVariants.Choice}
 
 iterate_more : {A : Type 0} (h : A → A) (m n k : ℕ) (x : A) → k ≡ m + n → iterate h k x ≡ iterate h n (iterate h m x)
 iterate_more h zero n k x e = ap (λ j. iterate h j x) (let same : k ≡ n = omega (arith, e) in same)

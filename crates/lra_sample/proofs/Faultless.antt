@@ -2,19 +2,12 @@
 use Rattle.std.proofs.Common.{◌≡◌, ℕ, List, [], ◌∷◌, ◌++◌, refl, sym, ap, ◌∙◌, map, length, arith}
 use Rattle.std.proofs.lemmas.List.{length-append}
 use Rattle.lra_base.specs.declared.refusals.Place.{Place}
-use Rattle.lra_syntax.specs.declared.trees.Identifier.{Identifier}
-use Rattle.lra_syntax.specs.Trees.{ItemsTree}
-use Rattle.lra_syntax.specs.Functions.{functions_of}
-use Rattle.lra_syntax.specs.Labels.{items_labels}
-use Rattle.lra_syntax.specs.Reach.{called_names, calls_in, NotRecursive}
-use Rattle.lra_resolution_spec.specs.Scope.{function_scope}
-use Rattle.lra_resolution_spec.specs.NameFaults.{Around, items_faults, name_faults}
+use Rattle.lra_syntax.specs.{Functions.functions_of, Labels.items_labels, Reach.called_names, Reach.calls_in, Reach.NotRecursive, Trees.ItemsTree, declared.trees.Identifier.Identifier}
+use Rattle.lra_resolution_spec.specs.{NameFaults.Around, NameFaults.items_faults, NameFaults.name_faults, Scope.function_scope}
 use Rattle.lra_sample.specs.declared.block.Kind.{Kind}
 use Rattle.lra_sample.specs.declared.block.Kind.TheVariants.{Sum, Choice, Count, Input}
 use Rattle.lra_syntax.proofs.Lexemes.{behind, item_place}
-use Rattle.lra_sample.proofs.Numerals.{four}
-use Rattle.lra_sample.proofs.Lines.{Line, items_of, tree_as}
-use Rattle.lra_sample.proofs.Whole.{head_items, lines_tree, last_tree, body_tree, main_tree, file_tree}
+use Rattle.lra_sample.proofs.{Lines.Line, Lines.items_of, Lines.tree_as, Numerals.four, Whole.head_items, Whole.lines_tree, Whole.last_tree, Whole.body_tree, Whole.main_tree, Whole.file_tree}
 
 -- names --------------------------------------------------------------------------------------------------------------
 

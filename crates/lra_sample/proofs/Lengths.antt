@@ -1,15 +1,10 @@
 -- How long a sample source may become.
 use Rattle.std.proofs.Common.{◌≡◌, ◌≤◌, ◌+◌, ◌*◌, ◌%◌, ℕ, zero, suc, List, ◌++◌, length, arith, subst, sym}
-use Rattle.std.specs.Prelude.{codes}
-use Rattle.std.specs.Fmt.{decimal}
-use Rattle.std.specs.List.{flat_map, range_with_len}
-use Rattle.std.proofs.lemmas.Fmt.{length-decimal-le}
-use Rattle.std.proofs.lemmas.List.{length-append, length_push}
+use Rattle.std.proofs.{lemmas.Fmt.length-decimal-le, lemmas.List.length-append, lemmas.List.length_push}
+use Rattle.std.specs.{Fmt.decimal, List.flat_map, List.range_with_len, Prelude.codes}
 use Rattle.lra_row_text.specs.Texts.{text_line}
-use Rattle.lra_sample.specs.Draws.{draw, state_after}
-use Rattle.lra_sample.specs.Sample.{statements_text, block_from, block_line, block_lines, sample_source}
-use Rattle.lra_sample.specs.declared.block.Kind.{Kind}
 use Rattle.lra_sample.specs.declared.block.Kind.TheVariants.{Sum, Choice, Count, Input}
+use Rattle.lra_sample.specs.{Draws.draw, Draws.state_after, Sample.statements_text, Sample.block_from, Sample.block_line, Sample.block_lines, Sample.sample_source, declared.block.Kind.Kind}
 
 short_statements : (kind : Kind) (p q c : List ℕ) → length p ≤ 1 → length q ≤ 1 → length c ≤ 2 → length (statements_text kind p q c) ≤ 33
 short_statements Sum p q c hp hq hc = grind (arith, length-append)

@@ -1,22 +1,14 @@
 -- The lines of a sample source: their tokens and their trees.
 use Rattle.std.proofs.Common.{ℕ, ◌+◌, List, [], ◌∷◌, ◌++◌, refl, drop, get_or}
-use Rattle.lra_base.specs.declared.number_types.NumberType.TheVariants.{Int}
-use Rattle.lra_base.specs.declared.refusals.Place.{Place}
-use Rattle.lra_base.specs.Operators.{below, at_least, at_most}
+use Rattle.lra_base.specs.{Operators.below, Operators.at_least, Operators.at_most, declared.number_types.NumberType.TheVariants.Int, declared.refusals.Place.Place}
+use Rattle.lra_syntax.specs.Trees.{literal, input, unary, ExprTree, plus, compare, conjunction, test, and, expression, set, StmtTree, assign, if_else, while, assume, ItemsTree, statement}
 use Rattle.lra_syntax.specs.declared.tokens.Kind.TheVariants.{Name, Number, Mark as MarkOf}
-use Rattle.lra_syntax.specs.declared.tokens.Mark.{Mark}
+use Rattle.lra_syntax.specs.{Grammar.AreItems, Lexeme.mark_text, Texts.Pieces, Texts.Texts, Texts.◌⋅◌, declared.tokens.Mark.Mark, declared.trees.Identifier.Identifier}
 use Rattle.lra_syntax.specs.declared.tokens.Mark.TheVariants as mark
-use Rattle.lra_syntax.specs.declared.trees.Identifier.{Identifier}
-use Rattle.lra_syntax.specs.Lexeme.{mark_text}
-use Rattle.lra_syntax.specs.Trees.{literal, input, unary, ExprTree, plus, compare, conjunction, test, and, expression}
-use Rattle.lra_syntax.specs.Trees.{set, StmtTree, assign, if_else, while, assume}
-use Rattle.lra_syntax.specs.Trees.{ItemsTree, statement}
-use Rattle.lra_syntax.specs.Texts.{Pieces, Texts, ◌⋅◌}
-use Rattle.lra_syntax.specs.Grammar.{AreItems}
+use Rattle.lra_syntax.proofs.Lexemes.{ExternalDeclaration, skip, lexeme, pieces, item_place, IsGood}
 use Rattle.lra_syntax.proofs.TreeSamples.{alone, literal_text, use_of, tested}
 use Rattle.lra_sample.specs.declared.block.Kind.{Kind}
 use Rattle.lra_sample.specs.declared.block.Kind.TheVariants.{Sum, Choice, Count, Input}
-use Rattle.lra_syntax.proofs.Lexemes.{ExternalDeclaration, skip, lexeme, pieces, item_place, IsGood}
 use Rattle.lra_sample.proofs.Numerals.{IsFirstDigit, IsVariable}
 
 -- the digits of two variables, and a numeral with its value

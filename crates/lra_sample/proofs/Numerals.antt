@@ -1,21 +1,13 @@
 -- The numerals and the names of variables that sample sources have.
-use Rattle.std.proofs.Common.{◌≡◌, ℕ, zero, suc, ◌+◌, ◌*◌, ◌/◌, ◌%◌, ◌<◌, ◌≤◌, Bool, true, false, ◌&&◌, List, [], ◌∷◌}
-use Rattle.std.proofs.Common.{◌++◌, refl, ap, ◌∙◌, arith, inl, inr}
-use Rattle.std.proofs.lemmas.Bool.{cases_lt, or_right}
-use Rattle.std.proofs.lemmas.Fmt.{decimal_digit, decimal_step}
-use Rattle.std.specs.Fmt.{decimal}
-use Rattle.std.specs.List.{list_all}
-use Rattle.std.specs.Prelude.{codes, nat_le, Some}
-use Rattle.std.proofs.lemmas.Bool.Decides.{nat_tests}
+use Rattle.std.proofs.Common.{◌≡◌, ℕ, zero, suc, ◌+◌, ◌*◌, ◌/◌, ◌%◌, ◌<◌, ◌≤◌, Bool, true, false, ◌&&◌, List, [], ◌∷◌, ◌++◌, refl, ap, ◌∙◌, arith, inl, inr}
+use Rattle.std.proofs.{lemmas.Bool.cases_lt, lemmas.Bool.or_right, lemmas.Bool.Decides.nat_tests, lemmas.Fmt.decimal_digit, lemmas.Fmt.decimal_step}
+use Rattle.std.specs.{Fmt.decimal, List.list_all, Prelude.codes, Prelude.nat_le, Prelude.Some}
 use Rattle.lra_base.specs.declared.number_types.NumberType.TheVariants.{Int, Long}
-use Rattle.lra_syntax.specs.declared.tokens.Kind.TheVariants.{Name, Number}
-use Rattle.lra_syntax.specs.Lexeme.{is_between, is_digit, is_word_byte, is_letter, digit_value, number_after}
-use Rattle.lra_syntax.specs.Lexeme.{decimal_base, octal, greatest_literal, greatest_int_literal, literal_type, number_word, word, name, literal_text}
-use Rattle.lra_syntax.proofs.LongestByTest.{is_lexeme, begins_gap}
+use Rattle.lra_syntax.specs.Lexeme.{is_between, is_digit, is_word_byte, is_letter, digit_value, number_after, decimal_base, octal, greatest_literal, greatest_int_literal, literal_type, number_word}
+use Rattle.lra_syntax.specs.{Faults.greatest_level, Lexeme.word, Lexeme.name, Lexeme.literal_text, declared.tokens.Kind.TheVariants.Name, declared.tokens.Kind.TheVariants.Number}
+use Rattle.lra_syntax.proofs.{Lexemes.IsGood, Lexemes.IsRead, Lexemes.as_read, LongestByTest.is_lexeme, LongestByTest.begins_gap}
 use Rattle.lra_resolution_spec.specs.Scope.{SymbolEntry, Scope, found_of, scalar}
 use Rattle.lra_program.specs.Program.{Slot, local}
-use Rattle.lra_syntax.specs.Faults.{greatest_level}
-use Rattle.lra_syntax.proofs.Lexemes.{IsGood, IsRead, as_read}
 
 -- words --------------------------------------------------------------------------------------------------------------
 

@@ -1,11 +1,8 @@
 -- Sample sources that stand written out. Which slip an example would catch stands beside it.
 use Rattle.std.proofs.Common.{◌≡◌, List, [], ◌∷◌, length, refl}
-use Rattle.std.specs.Prelude.{ℕ, codes}
-use Rattle.std.specs.Fmt.{digits}
-use Rattle.std.specs.List.{flat_map}
+use Rattle.std.specs.{Fmt.digits, List.flat_map, Prelude.ℕ, Prelude.codes}
 use Rattle.lra_row_text.specs.Texts.{text_line}
-use Rattle.lra_sample.specs.Draws.{draw}
-use Rattle.lra_sample.specs.Sample.{block_lines, sample_source}
+use Rattle.lra_sample.specs.{Draws.draw, Sample.block_lines, Sample.sample_source}
 
 abbrev lines : List (List ℕ) → List ℕ
 lines = flat_map text_line

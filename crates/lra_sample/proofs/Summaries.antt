@@ -1,13 +1,9 @@
 -- The lines of a summary.
 use Rattle.std.proofs.Common.{◌≡◌, ℕ, List, [], ◌∷◌, ◌++◌, length, map, codes, decimal, ap, sym, ◌∙◌, append_assoc}
 use Rattle.std.proofs.lemmas.List.{length-map}
-use Rattle.lra_report.specs.Report.{Report}
-use Rattle.lra_report.specs.ReportText.{flag_text, counts_line}
-use Rattle.lra_report.specs.declared.report.Verdict.{Verdict}
 use Rattle.lra_report.specs.View.{point_report_of, verdict_of}
-use Rattle.lra_report.specs.declared.report.PointReport.{PointReport}
-use Rattle.lra_sample.specs.Sample.{sample_source}
-use Rattle.lra_sample.specs.Summary.{sizes_text, summary_text}
+use Rattle.lra_report.specs.{Report.Report, ReportText.flag_text, ReportText.counts_line, declared.report.PointReport.PointReport, declared.report.Verdict.Verdict}
+use Rattle.lra_sample.specs.{Sample.sample_source, Summary.sizes_text, Summary.summary_text}
 
 -- the first three, written piece by piece
 pub sizes_lines : (old new : List ℕ) (seed size bytes points : ℕ) →

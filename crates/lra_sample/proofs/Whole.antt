@@ -1,29 +1,16 @@
 -- Whole sources of such lines: their tokens and their trees.
-use Rattle.std.proofs.Common.{◌≡◌, ℕ, List, [], ◌∷◌, ◌++◌, Some, refl, sym, ap, ◌∙◌, subst, append_assoc, arith}
-use Rattle.std.proofs.Common.{inl, inr}
+use Rattle.std.proofs.Common.{◌≡◌, ℕ, List, [], ◌∷◌, ◌++◌, Some, refl, sym, ap, ◌∙◌, subst, append_assoc, arith, inl, inr}
 use Rattle.std.proofs.lemmas.List.{append-nil}
 use Rattle.std.specs.Prelude.{codes}
-use Rattle.lra_base.specs.declared.number_types.NumberType.TheVariants.{Int, Long}
-use Rattle.lra_base.specs.declared.refusals.Place.{Place}
-use Rattle.lra_base.specs.Operators.{at_most}
-use Rattle.lra_syntax.specs.declared.tokens.Kind.TheVariants.{Name}
-use Rattle.lra_syntax.specs.declared.tokens.Mark.TheVariants as mark
-use Rattle.lra_syntax.specs.declared.tokens.Token.{Token}
-use Rattle.lra_syntax.specs.Lexeme.{word, name}
-use Rattle.lra_base.specs.Places.{place_after}
-use Rattle.lra_syntax.specs.Tokens.{tokens_of, end_token, Lex}
-use Rattle.lra_syntax.specs.Trees.{compare, expression, scalar, ItemsTree, no_items, declaration, statement, assert, FunctionTree}
-use Rattle.lra_syntax.specs.Trees.{function, FileTree}
-use Rattle.lra_syntax.specs.Texts.{Pieces}
+use Rattle.lra_base.specs.{Operators.at_most, Places.place_after, declared.number_types.NumberType.TheVariants.Int, declared.number_types.NumberType.TheVariants.Long, declared.refusals.Place.Place}
 use Rattle.lra_syntax.specs.Grammar.{AreItems, IsFunction, Spells}
-use Rattle.lra_syntax.specs.Faults.{IsTree}
-use Rattle.lra_syntax.proofs.TreeSamples.{literal_text, use_of, tested}
-use Rattle.lra_syntax.proofs.Lexemes.{ExternalDeclaration, skip, lexeme, written, behind, reading, pieces, item_place, IsGood, AreRead}
-use Rattle.lra_syntax.proofs.Lexemes.{◌⨾◌, as_read, is_mark, written_append, pieces_append, lexed, plain_pieces}
-use Rattle.lra_syntax.proofs.Lexemes.{low_pieces}
-use Rattle.lra_sample.proofs.Numerals.{zero_good, IsVariable, variable, is_name}
+use Rattle.lra_syntax.specs.Trees.{compare, expression, scalar, ItemsTree, no_items, declaration, statement, assert, FunctionTree, function, FileTree}
+use Rattle.lra_syntax.specs.{Faults.IsTree, Lexeme.word, Lexeme.name, Texts.Pieces, Tokens.tokens_of, Tokens.end_token, Tokens.Lex, declared.tokens.Kind.TheVariants.Name, declared.tokens.Token.Token}
+use Rattle.lra_syntax.specs.declared.tokens.Mark.TheVariants as mark
+use Rattle.lra_syntax.proofs.Lexemes.{ExternalDeclaration, skip, lexeme, written, behind, reading, pieces, item_place, IsGood, AreRead, ◌⨾◌, as_read, is_mark, written_append, pieces_append, lexed}
+use Rattle.lra_syntax.proofs.{Lexemes.plain_pieces, Lexemes.low_pieces, TreeSamples.literal_text, TreeSamples.use_of, TreeSamples.tested}
 use Rattle.lra_sample.proofs.Lines.{Line, opening, sign, named, small, var, items_of, tree_of, both, spells_as}
-use Rattle.lra_sample.proofs.LineTokens.{line_read}
+use Rattle.lra_sample.proofs.{LineTokens.line_read, Numerals.zero_good, Numerals.IsVariable, Numerals.variable, Numerals.is_name}
 
 -- tokens -------------------------------------------------------------------------------------------------------------
 

@@ -1,24 +1,16 @@
 -- Such sources keep within the limits of points and of variables.
 use Rattle.std.proofs.Common.{◌≡◌, ℕ, suc, ◌+◌, ◌*◌, ◌≤◌, false, List, [], ◌∷◌, ◌++◌, None, length, refl, subst, arith}
-use Rattle.std.proofs.lemmas.Bool.Decides.{nat_tests}
-use Rattle.std.proofs.lemmas.List.{length-append}
+use Rattle.std.proofs.{lemmas.Bool.Decides.nat_tests, lemmas.List.length-append}
 use Rattle.std.specs.Prelude.{⊤, nat_lt}
 use Rattle.lra_base.specs.declared.refusals.Place.{Place}
-use Rattle.lra_syntax.specs.Trees.{FunctionTree, ItemsTree}
-use Rattle.lra_syntax.specs.Functions.{functions_of}
-use Rattle.lra_syntax.specs.Labels.{Labelled, labels_of}
+use Rattle.lra_syntax.specs.{Functions.functions_of, Labels.Labelled, Labels.labels_of, Trees.FunctionTree, Trees.ItemsTree}
 use Rattle.lra_program.specs.Program.{Call}
-use Rattle.lra_program.specs.Sites.{Event, comes, one_call_more, plain_site, live_after_items, items_events, greatest_calls}
-use Rattle.lra_program.specs.Sites.{call_events, events_of}
-use Rattle.lra_resolution_spec.specs.Scope.{Scope}
-use Rattle.lra_resolution_spec.specs.Resolve.{resolve_items, resolve}
-use Rattle.lra_resolution_spec.specs.Refuse.{greatest_live, greatest_points, limit_fault}
+use Rattle.lra_program.specs.Sites.{Event, comes, one_call_more, plain_site, live_after_items, items_events, greatest_calls, call_events, events_of}
+use Rattle.lra_resolution_spec.specs.{Refuse.greatest_live, Refuse.greatest_points, Refuse.limit_fault, Resolve.resolve_items, Resolve.resolve, Scope.Scope}
 use Rattle.lra_sample.specs.declared.block.Kind.{Kind}
 use Rattle.lra_sample.specs.declared.block.Kind.TheVariants.{Sum, Choice, Count, Input}
 use Rattle.lra_syntax.proofs.Lexemes.{behind, item_place}
-use Rattle.lra_sample.proofs.Lines.{Line, items_of, tree_as}
-use Rattle.lra_sample.proofs.Numerals.{four}
-use Rattle.lra_sample.proofs.Whole.{four_declared, head_items, lines_tree, last_tree, file_tree}
+use Rattle.lra_sample.proofs.{Lines.Line, Lines.items_of, Lines.tree_as, Numerals.four, Whole.four_declared, Whole.head_items, Whole.lines_tree, Whole.last_tree, Whole.file_tree}
 
 -- at each point few variables live, and no call is one too many
 abbrev AreSmall : List Event → Type 0

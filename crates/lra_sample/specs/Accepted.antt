@@ -1,7 +1,6 @@
 -- Which sample sources are accepted.
 use Rattle.std.specs.Prelude.{ℕ, ◌≤◌}
-use Rattle.lra_syntax.specs.Grammar.{Spells}
-use Rattle.lra_syntax.specs.Trees.{FileTree}
+use Rattle.lra_syntax.specs.{Grammar.Spells, Trees.FileTree}
 use Rattle.lra_resolution_spec.specs.Refuse.{Accepts}
 use Rattle.lra_sample.specs.Sample.{sample_source}
 

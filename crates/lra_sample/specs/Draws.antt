@@ -1,6 +1,5 @@
 -- What is drawn from a seed: the states of a linear congruential generator, without their 33 lowest bits.
-use Rattle.std.specs.Prelude.{ℕ, ◌+◌, ◌*◌, ◌/◌, ◌%◌, ◌^◌}
-use Rattle.std.specs.Fn.{iterate}
+use Rattle.std.specs.{Fn.iterate, Prelude.ℕ, Prelude.◌+◌, Prelude.◌*◌, Prelude.◌/◌, Prelude.◌%◌, Prelude.◌^◌}
 
 abbrev pub next_state : ℕ → ℕ
 next_state state = (6364136223846793005 * state + 1442695040888963407) % 2 ^ 64

@@ -1,8 +1,7 @@
 //! What is told of the report of a sample source.
 ghost use Rattle.std.specs.Prelude.{◌≡◌, ◌++◌, IfOk, OnOk, string_bytes};
 ghost use Rattle.lra_report.specs.View.{report_of};
-ghost use Rattle.lra_sample.specs.Sample.{sample_source};
-ghost use Rattle.lra_sample.specs.Summary.{sizes_text, summary_text};
+ghost use Rattle.lra_sample.specs.{Sample.sample_source, Summary.sizes_text, Summary.summary_text};
 
 use lra_report::{Report, push_counts, push_flag};
 use std::alloc::{AllocError, Global};

@@ -1,16 +1,8 @@
 -- The faults of a call are those of the called name, then those of its arguments in their order.
-use Rattle.std.proofs.Common.{◌≡◌, List, map, length, ◌++◌, Bool}
+use Rattle.std.proofs.{Common.◌≡◌, Common.List, Common.map, Common.length, Common.◌++◌, Common.Bool, lemmas.List.length-map, lemmas.List.Folds.flat_map-map, lemmas.Simd.map-map}
 use Rattle.std.specs.List.{flat_map}
-use Rattle.std.proofs.lemmas.List.Folds.{flat_map-map}
-use Rattle.std.proofs.lemmas.Simd.{map-map}
-use Rattle.std.proofs.lemmas.List.{length-map}
-use Rattle.lra_syntax.specs.declared.trees.Call.{Call}
-use Rattle.lra_syntax.specs.Trees.{FunctionTree}
-use Rattle.lra_syntax.specs.Views.{expr_view, call_view}
-use Rattle.lra_resolution_spec.specs.Scope.{Scope}
-use Rattle.lra_syntax.specs.Functions.{function_named}
-use Rattle.lra_resolution_spec.specs.NameFaults.{called_faults, call_faults, expr_faults}
-use Rattle.lra_resolution_spec.specs.Resolve.{resolve_expr}
+use Rattle.lra_syntax.specs.{Functions.function_named, Trees.FunctionTree, Views.expr_view, Views.call_view, declared.trees.Call.Call}
+use Rattle.lra_resolution_spec.specs.{NameFaults.called_faults, NameFaults.call_faults, NameFaults.expr_faults, Resolve.resolve_expr, Scope.Scope}
 use Rattle.lra_scopes.specs.Calls.{argument_faults, resolve_argument}
 use Rattle.lra_scopes.proofs.FirstFaults.{tells_front, tells_behind}
 

@@ -1,29 +1,19 @@
 -- The faults of a chain are those of its operands in their order, and it means the chain of what they mean.
 use Rattle.std.proofs.Common.{◌≡◌, List, [], ◌∷◌, ◌++◌, map, refl, sym, ap, ◌∙◌, append_assoc, append-nil, ℕ, ◌≤◌, take, length}
+use Rattle.std.proofs.{lemmas.List.take_all, lemmas.List.Folds.flat_map-map, lemmas.Simd.map-map}
 use Rattle.std.specs.List.{flat_map}
 use Rattle.lra_base.specs.declared.refusals.Refusal.{Refusal}
-use Rattle.lra_syntax.specs.declared.trees.FactorOperator.{FactorOperator}
-use Rattle.lra_syntax.specs.declared.trees.FactorOperator.TheVariants as factor
-use Rattle.lra_syntax.specs.declared.trees.SumOperator.{SumOperator}
-use Rattle.lra_syntax.specs.declared.trees.SumOperator.TheVariants as sum
-use Rattle.lra_syntax.specs.declared.trees.Unary.TheFolds.{fold_out-Term, fold_out-Expr}
-use Rattle.lra_syntax.specs.declared.trees.Term.{Term, out-Term}
-use Rattle.lra_syntax.specs.declared.trees.Expr.{Expr, out-Expr}
-use Rattle.std.proofs.lemmas.List.Folds.{flat_map-map}
-use Rattle.std.proofs.lemmas.Simd.{map-map}
-use Rattle.std.proofs.lemmas.List.{take_all}
-use Rattle.lra_syntax.specs.declared.trees.Factor.{Factor}
-use Rattle.lra_syntax.specs.declared.trees.Summand.{Summand}
-use Rattle.lra_scopes.proofs.FirstFaults.{tells_front, tells_behind}
-use Rattle.lra_syntax.specs.Trees.{UnaryTree, TermTree, unary, ExprTree, term}
 use Rattle.lra_syntax.specs.Views.{further_factor, product, further_term, sum_of, unary_view, factor_view, term_view, summand_view, expr_view, unary_step, expr_step, factor_step, summand_step}
-use Rattle.lra_syntax.specs.Views.{term_step}
+use Rattle.lra_syntax.specs.{Trees.UnaryTree, Trees.TermTree, Trees.unary, Trees.ExprTree, Trees.term, Views.term_step, declared.trees.Expr.Expr, declared.trees.Expr.out-Expr}
+use Rattle.lra_syntax.specs.{declared.trees.Factor.Factor, declared.trees.FactorOperator.FactorOperator, declared.trees.SumOperator.SumOperator, declared.trees.Summand.Summand}
+use Rattle.lra_syntax.specs.{declared.trees.Term.Term, declared.trees.Term.out-Term, declared.trees.Unary.TheFolds.fold_out-Term, declared.trees.Unary.TheFolds.fold_out-Expr}
+use Rattle.lra_syntax.specs.declared.trees.FactorOperator.TheVariants as factor
+use Rattle.lra_syntax.specs.declared.trees.SumOperator.TheVariants as sum
+use Rattle.lra_scopes.proofs.FirstFaults.{tells_front, tells_behind}
 use Rattle.lra_program.specs.Program as program
 use Rattle.lra_base.specs.Operators as operators
 use Rattle.lra_program.specs.ProgramViews.{chained}
-use Rattle.lra_resolution_spec.specs.Scope.{Scope}
-use Rattle.lra_resolution_spec.specs.NameFaults.{unary_faults, term_faults, expr_faults}
-use Rattle.lra_resolution_spec.specs.Resolve.{resolve_unary, resolve_term, resolve_expr}
+use Rattle.lra_resolution_spec.specs.{NameFaults.unary_faults, NameFaults.term_faults, NameFaults.expr_faults, Resolve.resolve_unary, Resolve.resolve_term, Resolve.resolve_expr, Scope.Scope}
 use Rattle.lra_scopes.specs.Chains.{factor_operator, sum_operator, factor_faults, resolve_factor, summand_faults, resolve_summand}
 
 further_factor_faults : (s : Scope) (t : TermTree) (op : FactorOperator) (u : UnaryTree) → term_faults s (further_factor t op u) ≡ term_faults s t ++ unary_faults s u

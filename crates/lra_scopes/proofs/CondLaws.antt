@@ -1,28 +1,19 @@
 -- The faults of a chain of conditions are those of its operands in their order, and it means the chain, nested to the right, of what they mean.
 use Rattle.std.proofs.Common.{◌≡◌, ℕ, ◌≤◌, length, take, List, [], ◌∷◌, ◌++◌, map, refl, sym, ap, ◌∙◌, append_assoc, append-nil, Option, Some, None, rules, Box, Global}
+use Rattle.std.proofs.{lemmas.List.take_all, lemmas.List.Folds.flat_map-map, lemmas.Simd.map-map}
 use Rattle.std.specs.List.{flat_map}
-use Rattle.std.proofs.lemmas.List.Folds.{flat_map-map}
-use Rattle.std.proofs.lemmas.Simd.{map-map}
-use Rattle.std.proofs.lemmas.List.{take_all}
-use Rattle.lra_base.specs.declared.refusals.Refusal.{Refusal}
-use Rattle.lra_syntax.specs.declared.trees.Negation.TheFolds.{fold_out-Conjunction, fold_out-Cond}
-use Rattle.lra_syntax.specs.declared.trees.Negation.{Negation, the_lemmas as cond_lemmas}
-use Rattle.lra_syntax.specs.declared.trees.Negation as code_negation
-use Rattle.lra_syntax.specs.declared.trees.Test.{Test}
-use Rattle.lra_syntax.specs.declared.trees.Test as code_test
-use Rattle.lra_syntax.specs.declared.trees.Unary.{Unary}
-use Rattle.lra_syntax.specs.declared.trees.Expr.{Expr}
-use Rattle.lra_base.specs.declared.operators.Comparison.{Comparison}
-use Rattle.lra_syntax.specs.declared.trees.Conjunction.{Conjunction, out-Conjunction}
-use Rattle.lra_syntax.specs.declared.trees.Cond.{Cond, out-Cond}
+use Rattle.lra_base.specs.{OperatorViews.comparison_view, declared.operators.Comparison.Comparison, declared.refusals.Refusal.Refusal}
 use Rattle.lra_syntax.specs.Trees.{NegationTree, opposite_again, value_of_unary, TestTree, opposite, value, compare, ConjunctionTree, test, and, CondTree, conjunction, or}
 use Rattle.lra_syntax.specs.Views.{all_tests, any_conjunction, negation_step, test_step, conjunction_step, cond_step, unary_view, expr_view, negation_view, test_view, conjunction_view, cond_view}
-use Rattle.lra_base.specs.OperatorViews.{comparison_view}
+use Rattle.lra_syntax.specs.declared.trees.Negation.TheFolds.{fold_out-Conjunction, fold_out-Cond}
+use Rattle.lra_syntax.specs.{declared.trees.Cond.Cond, declared.trees.Cond.out-Cond, declared.trees.Conjunction.Conjunction, declared.trees.Conjunction.out-Conjunction, declared.trees.Expr.Expr}
+use Rattle.lra_syntax.specs.{declared.trees.Negation.Negation, declared.trees.Negation.the_lemmas as cond_lemmas, declared.trees.Test.Test, declared.trees.Unary.Unary}
+use Rattle.lra_syntax.specs.declared.trees.Negation as code_negation
+use Rattle.lra_syntax.specs.declared.trees.Test as code_test
 use Rattle.lra_program.specs.Program as program
 use Rattle.lra_program.specs.ProgramViews as chain
-use Rattle.lra_resolution_spec.specs.Scope.{Scope}
-use Rattle.lra_resolution_spec.specs.NameFaults.{test_faults, conjunction_faults, cond_faults}
 use Rattle.lra_resolution_spec.specs.Resolve.{resolve_test, resolve_all_of, resolve_any_of, resolve_cond}
+use Rattle.lra_resolution_spec.specs.{NameFaults.test_faults, NameFaults.conjunction_faults, NameFaults.cond_faults, Scope.Scope}
 use Rattle.lra_scopes.specs.Chains.{resolve_conjunction}
 use Rattle.lra_scopes.proofs.FirstFaults.{tells_front, tells_behind}
 

@@ -1,12 +1,8 @@
 -- The first fault of a list of parts is that of its first part with a fault.
 use Rattle.std.proofs.Common.{◌≡◌, ℕ, ◌+◌, ◌<◌, List, [], ◌∷◌, ◌++◌, length, map, drop, get_or, sym, ap, subst, ◌∙◌, Result, Some}
-use Rattle.std.specs.Result.{IsErrAnd, IfErr}
-use Rattle.std.specs.List.{flat_map}
-use Rattle.std.proofs.lemmas.Result.{err_from_is_err_and}
-use Rattle.std.proofs.lemmas.List.{drop_more}
-use Rattle.lra_base.specs.declared.refusals.Refusal.{Refusal}
-use Rattle.lra_base.specs.declared.error.SourceError.{SourceError}
-use Rattle.lra_base.specs.declared.error.SourceError.TheVariants.{Refused, Memory}
+use Rattle.std.proofs.{lemmas.List.drop_more, lemmas.Result.err_from_is_err_and}
+use Rattle.std.specs.{List.flat_map, Result.IsErrAnd, Result.IfErr}
+use Rattle.lra_base.specs.{declared.error.SourceError.SourceError, declared.error.SourceError.TheVariants.Refused, declared.error.SourceError.TheVariants.Memory, declared.refusals.Refusal.Refusal}
 use Rattle.lra_scopes.specs.Outcome.{first_fault, IsFirstFault, StopsAtFirstFault}
 
 first_of_front : (a b : List Refusal) (r : Refusal) → first_fault a ≡ Some r → first_fault (a ++ b) ≡ Some r

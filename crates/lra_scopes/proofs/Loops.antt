@@ -1,11 +1,8 @@
 -- Loops over the parts of a chain: what each part's value and its faults say of the whole.
 use Rattle.std.proofs.Common.{◌≡◌, ℕ, ◌+◌, ◌<◌, ◌≤◌, List, [], ◌∷◌, ◌++◌, length, map, take, drop, get_or, sym, ap, ◌∙◌, Result, Ok, Err}
-use Rattle.std.specs.Result.{IsErrAnd, IfOk, IfErr}
-use Rattle.std.specs.List.{flat_map}
 use Rattle.std.proofs.lemmas.List.{map_push, map_more, take_all, at_drop_more, at_drop_all}
-use Rattle.lra_base.specs.declared.refusals.Refusal.{Refusal}
-use Rattle.lra_base.specs.declared.error.SourceError.{SourceError}
-use Rattle.lra_base.specs.declared.error.SourceError.TheVariants.{Memory}
+use Rattle.std.specs.{List.flat_map, Result.IsErrAnd, Result.IfOk, Result.IfErr}
+use Rattle.lra_base.specs.{declared.error.SourceError.SourceError, declared.error.SourceError.TheVariants.Memory, declared.refusals.Refusal.Refusal}
 use Rattle.lra_scopes.specs.Outcome.{IsFirstFault, StopsAtFirstFault}
 use Rattle.lra_scopes.proofs.FirstFaults.{tells_front, tells_behind, exit_tells, exit_tells_all, parts_tell}
 

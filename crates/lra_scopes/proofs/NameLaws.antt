@@ -1,16 +1,11 @@
 -- The newest of a name among one more, and whether a name is among the later ones; the index of names.
 use Rattle.std.proofs.Common.{◌≡◌, ◌≤◌, ◌<◌, ◌+◌, ℕ, zero, suc, Bool, true, false, cond, ◌||◌, List, [], ◌∷◌, ◌++◌, length, drop, refl, sym, ap, ◌∙◌, subst, bytes_eq, Option, Some, None, nat_le}
 use Rattle.std.proofs.Common.{append_assoc, append-nil, arith, String, IsSome}
-use Rattle.std.specs.List.{list_any}
-use Rattle.std.specs.declared.alloc.Global.{Global}
-use Rattle.std.proofs.Math.Bool.{or-false, or-true}
-use Rattle.std.proofs.lemmas.Bool.Decides.{nat_tests}
-use Rattle.std.proofs.lemmas.List.{length-map}
-use Rattle.std.proofs.lemmas.Slice.Eq.{bytes_eq-Decides}
+use Rattle.std.proofs.{Math.Bool.or-false, Math.Bool.or-true, lemmas.Bool.Decides.nat_tests, lemmas.List.length-map, lemmas.Slice.Eq.bytes_eq-Decides}
+use Rattle.std.specs.{List.list_any, declared.alloc.Global.Global}
 use Rattle.indexmap.specs.IndexMap.{IndexMap, get_by_text}
 use Rattle.lra_resolution_spec.specs.Scope.{newest, newest_from}
-use Rattle.lra_scopes.specs.declared.names.Declared.{Declared}
-use Rattle.lra_scopes.specs.Names.{words_of, Hide, IsIndexed}
+use Rattle.lra_scopes.specs.{Names.words_of, Names.Hide, Names.IsIndexed, declared.names.Declared.Declared}
 
 -- one more name ----------------------------------------------------------------------------------------------------
 

@@ -1,16 +1,12 @@
 -- The first function of a name, and its place.
 use Rattle.std.proofs.Common.{◌≡◌, ℕ, suc, ◌+◌, Bool, true, false, cond, List, [], ◌∷◌, refl, sym, ap, ◌∙◌, Option, Some, None, arith}
-use Rattle.std.specs.Prelude.{option_map, bytes_eq, String}
-use Rattle.std.specs.Option.{option_or}
-use Rattle.std.specs.declared.alloc.Global.{Global}
 use Rattle.std.proofs.lemmas.Slice.Eq.{bytes_eq-Decides}
+use Rattle.std.specs.{Option.option_or, Prelude.option_map, Prelude.bytes_eq, Prelude.String, declared.alloc.Global.Global}
 use Rattle.indexmap.specs.IndexMap.{IndexMap, get_by_text}
-use Rattle.lra_syntax.specs.Trees.{FunctionTree}
-use Rattle.lra_syntax.specs.Functions.{is_named, function_named}
+use Rattle.lra_syntax.specs.{Functions.is_named, Functions.function_named, Trees.FunctionTree}
 use Rattle.lra_resolution_spec.specs.Resolve.{function_place}
-use Rattle.lra_scopes.specs.declared.signatures.Signature.{Signature}
+use Rattle.lra_scopes.specs.{Signatures.signature_at, Signatures.named_signature, Signatures.first_signature, declared.signatures.Signature.Signature}
 use Rattle.lra_scopes.proofs.NameLaws.{same_words}
-use Rattle.lra_scopes.specs.Signatures.{signature_at, named_signature, first_signature}
 
 first_case : (b : Bool) (k p : ℕ) (f : FunctionTree) (o : Option FunctionTree)
     → option_or (cond b (Some (signature_at k f)) None) (option_map (signature_at (suc k + p)) o) ≡ option_map (signature_at (k + cond b 0 (suc p))) (cond b (Some f) o)

@@ -1,17 +1,11 @@
 -- Scalars and arrays, whose names and meanings stand apart.
-use Rattle.std.proofs.Common.{◌≡◌, ◌≤◌, ℕ, zero, suc, ◌+◌, ◌-◌, List, [], ◌∷◌, ◌++◌, length, take, Option, Some, None, refl, sym, ap, ◌∙◌, Bor}
-use Rattle.std.proofs.Common.{min, length-append, arith}
-use Rattle.std.proofs.lemmas.List.{length-take}
-use Rattle.std.specs.Prelude.{slice_get, option_map}
-use Rattle.std.specs.Option.{option_copied}
-use Rattle.std.specs.Slice.{IsItemAt}
-use Rattle.std.proofs.lemmas.Option.{same_Some, slice_get_past, slice_get_read}
+use Rattle.std.proofs.Common.{◌≡◌, ◌≤◌, ℕ, zero, suc, ◌+◌, ◌-◌, List, [], ◌∷◌, ◌++◌, length, take, Option, Some, None, refl, sym, ap, ◌∙◌, Bor, min, length-append, arith}
+use Rattle.std.proofs.{lemmas.List.length-take, lemmas.Option.same_Some, lemmas.Option.slice_get_past, lemmas.Option.slice_get_read}
+use Rattle.std.specs.{Option.option_copied, Prelude.slice_get, Prelude.option_map, Slice.IsItemAt}
 use Rattle.lra_program.specs.Program.{Slot}
 use Rattle.lra_resolution_spec.specs.Scope as scope
 use Rattle.lra_resolution_spec.specs.Scope.{SymbolEntry, Binding, Lookup, names_in, found_at, width_of, width_of_all}
-use Rattle.lra_scopes.specs.declared.variables.Placed.{Placed}
-use Rattle.lra_scopes.specs.Bindings.{binding_view}
-use Rattle.lra_scopes.specs.Variables.{entries_of, AreCounted, placed_view}
+use Rattle.lra_scopes.specs.{Bindings.binding_view, Variables.entries_of, Variables.AreCounted, Variables.placed_view, declared.variables.Placed.Placed}
 
 pub entries_named : (xs : List (List ℕ)) (ps : List Placed) → length ps ≡ length xs → names_in (entries_of xs ps) ≡ xs
 entries_named [] ps e = refl

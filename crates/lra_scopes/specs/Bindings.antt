@@ -1,9 +1,8 @@
 -- What stands for the code's meanings of names.
 use Rattle.lra_resolution_spec.specs.Scope as scope
 use Rattle.lra_program.specs.ProgramViews.{slot_view}
-use Rattle.lra_scopes.specs.declared.bindings.Binding.{Binding}
+use Rattle.lra_scopes.specs.{declared.bindings.Binding.Binding, declared.bindings.Lookup.Lookup}
 use Rattle.lra_scopes.specs.declared.bindings.Binding.TheVariants as meaning
-use Rattle.lra_scopes.specs.declared.bindings.Lookup.{Lookup}
 
 abbrev pub binding_view : Binding → scope.Binding
 binding_view (meaning.Scalar t) = scope.scalar t

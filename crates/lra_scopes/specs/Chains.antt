@@ -1,16 +1,14 @@
 -- The operators of chains, each with its right operand: their faults, and what they mean.
 use Rattle.std.specs.Prelude.{List, None}
 use Rattle.lra_base.specs.declared.refusals.Refusal.{Refusal}
-use Rattle.lra_syntax.specs.declared.trees.FactorOperator.{FactorOperator}
-use Rattle.lra_syntax.specs.declared.trees.FactorOperator.TheVariants as factor
-use Rattle.lra_syntax.specs.declared.trees.SumOperator.{SumOperator}
-use Rattle.lra_syntax.specs.declared.trees.SumOperator.TheVariants as sum
 use Rattle.lra_syntax.specs.Trees.{UnaryTree, TermTree, ConjunctionTree}
+use Rattle.lra_syntax.specs.{declared.trees.FactorOperator.FactorOperator, declared.trees.SumOperator.SumOperator}
+use Rattle.lra_syntax.specs.declared.trees.FactorOperator.TheVariants as factor
+use Rattle.lra_syntax.specs.declared.trees.SumOperator.TheVariants as sum
 use Rattle.lra_program.specs.Program as program
 use Rattle.lra_base.specs.Operators as operators
-use Rattle.lra_resolution_spec.specs.Scope.{Scope}
-use Rattle.lra_resolution_spec.specs.NameFaults.{unary_faults, term_faults}
 use Rattle.lra_resolution_spec.specs.Resolve.{resolve_unary, resolve_term, resolve_all_of}
+use Rattle.lra_resolution_spec.specs.{NameFaults.unary_faults, NameFaults.term_faults, Scope.Scope}
 
 abbrev pub factor_operator : FactorOperator → operators.Operator
 factor_operator factor.Times = operators.times

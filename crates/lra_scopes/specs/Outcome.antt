@@ -1,9 +1,8 @@
 -- What an answer tells of the faults of names in a part of a source: none, where there is a value; else the first
 -- one, or that memory was wanting.
 use Rattle.std.specs.Prelude.{◌≡◌, List, [], ◌∷◌, Option, Some, None, Result, Ok, Err, ⊤}
-use Rattle.lra_base.specs.declared.refusals.Refusal.{Refusal}
-use Rattle.lra_base.specs.declared.error.SourceError.{SourceError}
 use Rattle.lra_base.specs.declared.error.SourceError.TheVariants.{Refused, Memory}
+use Rattle.lra_base.specs.{declared.error.SourceError.SourceError, declared.refusals.Refusal.Refusal}
 
 abbrev pub first_fault : List Refusal → Option Refusal
 first_fault [] = None

@@ -1,13 +1,10 @@
 -- What a call has to know of a function, and an index of functions by their names.
 use Rattle.std.specs.Prelude.{◌≡◌, ℕ, suc, List, [], ◌∷◌, length, cond, String, Option, Some, None, is_some}
-use Rattle.std.specs.Option.{option_or}
-use Rattle.std.specs.declared.alloc.Global.{Global}
+use Rattle.std.specs.{Option.option_or, declared.alloc.Global.Global}
 use Rattle.indexmap.specs.IndexMap.{IndexMap, get_by_text}
 use Rattle.lra_syntax.specs.declared.trees.ExternalDeclaration.{ExternalDeclaration}
-use Rattle.lra_syntax.specs.Trees.{FunctionTree}
-use Rattle.lra_syntax.specs.Functions.{is_named}
-use Rattle.lra_scopes.specs.declared.signatures.Signature.{Signature}
-use Rattle.lra_scopes.specs.Calls.{functions_at}
+use Rattle.lra_syntax.specs.{Functions.is_named, Trees.FunctionTree}
+use Rattle.lra_scopes.specs.{Calls.functions_at, declared.signatures.Signature.Signature}
 
 -- of a function at a place in the list of functions
 abbrev pub signature_at : ℕ → FunctionTree → Signature

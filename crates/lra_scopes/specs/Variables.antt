@@ -2,8 +2,7 @@
 use Rattle.std.specs.Prelude.{◌≡◌, ◌+◌, ℕ, List, [], ◌∷◌, ⊤}
 use Rattle.lra_program.specs.Program.{Slot}
 use Rattle.lra_resolution_spec.specs.Scope.{SymbolEntry, Lookup, width_of}
-use Rattle.lra_scopes.specs.declared.variables.Placed.{Placed}
-use Rattle.lra_scopes.specs.Bindings.{binding_view}
+use Rattle.lra_scopes.specs.{Bindings.binding_view, declared.variables.Placed.Placed}
 
 -- a meaning for each name
 abbrev pub entries_of : List (List ℕ) → List Placed → List SymbolEntry

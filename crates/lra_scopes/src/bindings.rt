@@ -1,10 +1,8 @@
 //! What names mean.
 
 ghost use Rattle.std.specs.Prelude.{◌≡◌, IfOk};
-ghost use Rattle.lra_resolution_spec.specs.NameFaults.{length_faults};
-ghost use Rattle.lra_resolution_spec.specs.Scope.{array_of, width_of};
-ghost use Rattle.lra_scopes.specs.Bindings.{binding_view};
-ghost use Rattle.lra_scopes.specs.Outcome.{StopsAtFirstFault};
+ghost use Rattle.lra_resolution_spec.specs.{NameFaults.length_faults, Scope.array_of, Scope.width_of};
+ghost use Rattle.lra_scopes.specs.{Bindings.binding_view, Outcome.StopsAtFirstFault};
 
 use crate::errors::refuse;
 use lra_base::{Cause, NumberType, SourceError, is_length};

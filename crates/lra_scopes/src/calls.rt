@@ -2,19 +2,16 @@
 
 ghost use Rattle.std.specs.Prelude.{◌≡◌, ◌||◌, ◌&&◌, not, nat_eq, ◌∷◌, ◌++◌, [], map, length, flat_map, Option, Some};
 ghost use Rattle.std.specs.Prelude.{None, option_map, IfOk};
-ghost use Rattle.lra_base.specs.declared.number_types.NumberType.TheVariants.{Int};
+ghost use Rattle.lra_base.specs.{OperatorViews.operator_view, declared.number_types.NumberType.TheVariants.Int};
 ghost use Rattle.lra_program.specs.Program.{assign as assign_stmt, binary, literal, read, value};
-ghost use Rattle.lra_base.specs.OperatorViews.{operator_view};
+ghost use Rattle.lra_program.specs.ProgramViews.{variable_view, expr_view, call_view, rvalue_view, given_view};
+ghost use Rattle.lra_program.specs.ProgramViews.{stmt_view};
 ghost use Rattle.lra_syntax.specs.Views.{step_view, expr_view as tree_expr_view, call_view as tree_call_view};
-ghost use Rattle.lra_syntax.specs.Views.{rvalue_view as tree_rvalue_view, assign_view};
-ghost use Rattle.lra_program.specs.ProgramViews.{variable_view, expr_view, call_view, rvalue_view, given_view, stmt_view};
-ghost use Rattle.lra_syntax.specs.Functions.{function_named};
+ghost use Rattle.lra_syntax.specs.{Functions.function_named, Views.rvalue_view as tree_rvalue_view, Views.assign_view};
 ghost use Rattle.lra_resolution_spec.specs.NameFaults.{use_faults, expr_faults, called_faults, call_faults};
-ghost use Rattle.lra_resolution_spec.specs.NameFaults.{rvalue_faults};
-ghost use Rattle.lra_resolution_spec.specs.NameFaults.{given_faults, assign_faults};
+ghost use Rattle.lra_resolution_spec.specs.NameFaults.{rvalue_faults, given_faults, assign_faults};
 ghost use Rattle.lra_resolution_spec.specs.Resolve.{variable, function_place, resolve_expr, resolve_call};
-ghost use Rattle.lra_resolution_spec.specs.Resolve.{resolve_rvalue};
-ghost use Rattle.lra_resolution_spec.specs.Resolve.{resolve_given, resolve_assign, step_operator};
+ghost use Rattle.lra_resolution_spec.specs.Resolve.{resolve_rvalue, resolve_given, resolve_assign, step_operator};
 ghost use Rattle.lra_scopes.specs.Calls.{functions_at, argument_faults, resolve_argument};
 ghost use Rattle.lra_scopes.specs.Outcome.{StopsAtFirstFault};
 

@@ -2,14 +2,12 @@
 
 ghost use Rattle.std.specs.Prelude.{◌≡◌, map, IfOk, IfErr};
 ghost use Rattle.lra_base.specs.OperatorViews.{comparison_view};
-ghost use Rattle.lra_syntax.specs.Trees.{compare};
 ghost use Rattle.lra_syntax.specs.Views.{expr_view, negation_view, test_view, conjunction_view};
-ghost use Rattle.lra_syntax.specs.Views.{cond_view as tree_cond_view};
+ghost use Rattle.lra_syntax.specs.{Trees.compare, Views.cond_view as tree_cond_view};
 ghost use Rattle.lra_program.specs.ProgramViews.{cond_view, all_of, any_of};
 ghost use Rattle.lra_resolution_spec.specs.NameFaults.{negation_faults, test_faults, conjunction_faults, cond_faults};
 ghost use Rattle.lra_resolution_spec.specs.Resolve.{resolve_negation, resolve_test, resolve_cond};
-ghost use Rattle.lra_scopes.specs.Chains.{resolve_conjunction};
-ghost use Rattle.lra_scopes.specs.Outcome.{StopsAtFirstFault};
+ghost use Rattle.lra_scopes.specs.{Chains.resolve_conjunction, Outcome.StopsAtFirstFault};
 
 use crate::expressions::{resolve_expr, resolve_unary};
 use crate::scopes::Scope;

@@ -5,12 +5,10 @@ ghost use Rattle.lra_base.specs.OperatorViews.{operator_view};
 ghost use Rattle.lra_syntax.specs.Views.{unary_view, term_view, factor_view, summand_view, expr_view as tree_expr_view};
 ghost use Rattle.lra_program.specs.ProgramViews.{variable_view, expr_view, element_view, operation_view, chained};
 ghost use Rattle.lra_resolution_spec.specs.NameFaults.{use_faults, named_faults, unary_faults, term_faults};
-ghost use Rattle.lra_resolution_spec.specs.NameFaults.{expr_faults};
 ghost use Rattle.lra_resolution_spec.specs.Resolve.{variable, array_named, resolve_unary, resolve_term, resolve_expr};
-ghost use Rattle.lra_resolution_spec.specs.Resolve.{resolve_element};
+ghost use Rattle.lra_resolution_spec.specs.{NameFaults.expr_faults, Resolve.resolve_element};
 ghost use Rattle.lra_scopes.specs.Chains.{factor_operator, sum_operator, factor_faults, resolve_factor, summand_faults};
-ghost use Rattle.lra_scopes.specs.Chains.{resolve_summand};
-ghost use Rattle.lra_scopes.specs.Outcome.{StopsAtFirstFault};
+ghost use Rattle.lra_scopes.specs.{Chains.resolve_summand, Outcome.StopsAtFirstFault};
 
 use crate::bindings::Binding;
 use crate::errors::refuse;

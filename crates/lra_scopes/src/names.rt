@@ -1,8 +1,7 @@
 //! Names in the order of their declarations, each found by its text.
 
 ghost use Rattle.std.specs.Prelude.{◌≡◌, ◌≤◌, ◌-◌, ◌++◌, ◌∷◌, [], ℕ, List, length, take, drop, cond, bytes_eq, Option};
-ghost use Rattle.std.specs.Prelude.{IsSome, IfOk, IfErr};
-ghost use Rattle.std.specs.List.{list_any};
+ghost use Rattle.std.specs.{List.list_any, Prelude.IsSome, Prelude.IfOk, Prelude.IfErr};
 ghost use Rattle.indexmap.specs.IndexMap.{get_by_text};
 ghost use Rattle.lra_resolution_spec.specs.Scope.{newest};
 

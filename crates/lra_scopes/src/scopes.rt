@@ -2,8 +2,7 @@
 
 ghost use Rattle.std.specs.Prelude.{◌≡◌, ◌∷◌, ◌++◌, [], length, option_map, IfOk};
 ghost use Rattle.lra_resolution_spec.specs.Scope.{found_of, is_declared, with_local, inner};
-ghost use Rattle.lra_scopes.specs.Bindings.{binding_view, lookup_view};
-ghost use Rattle.lra_scopes.specs.Scopes.{left_to};
+ghost use Rattle.lra_scopes.specs.{Bindings.binding_view, Bindings.lookup_view, Scopes.left_to};
 
 use crate::bindings::{Binding, Lookup};
 use crate::variables::Variables;

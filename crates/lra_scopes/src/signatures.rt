@@ -1,13 +1,11 @@
 //! The functions of a source, found by their names.
 
-ghost use Rattle.std.specs.Prelude.{◌≡◌, ℕ, List, option_map, bytes_eq, IfOk, OnOk};
 ghost use Rattle.std.specs.Option.{option_or};
+ghost use Rattle.std.specs.Prelude.{◌≡◌, ℕ, List, option_map, bytes_eq, IfOk, OnOk};
 ghost use Rattle.indexmap.specs.IndexMap.{get_by_text};
-ghost use Rattle.lra_syntax.specs.Views.{function_view};
-ghost use Rattle.lra_syntax.specs.Functions.{function_named};
+ghost use Rattle.lra_syntax.specs.{Functions.function_named, Views.function_view};
 ghost use Rattle.lra_resolution_spec.specs.Resolve.{function_place};
-ghost use Rattle.lra_scopes.specs.Calls.{functions_at};
-ghost use Rattle.lra_scopes.specs.Signatures.{signature_at, named_signature};
+ghost use Rattle.lra_scopes.specs.{Calls.functions_at, Signatures.signature_at, Signatures.named_signature};
 
 use indexmap::IndexMap;
 use lra_syntax::{ExternalDeclaration, Function, Word};
@@ -41,8 +39,7 @@ impl<'a> Drop for Functions<'a> {
 }
 
 impl<'a> Model for Functions<'a> {
-    ghost use Rattle.std.specs.Prelude.{List};
-    ghost use Rattle.std.specs.Coded.{coded_list};
+    ghost use Rattle.std.specs.{Coded.coded_list, Prelude.List};
     ghost use Rattle.lra_syntax.specs.contracts.trees.ExternalDeclaration as item;
     ghost use Rattle.lra_syntax.specs.declared.trees.ExternalDeclaration.{ExternalDeclaration};
     ghost use Rattle.lra_scopes.specs.Signatures.{HasSignatures};

@@ -1,11 +1,10 @@
 //! Scalars and arrays in the order of their declarations, each with what its name means.
 
-ghost use Rattle.std.specs.Prelude.{◌≡◌, ◌++◌, ◌∷◌, [], ℕ, length, take, drop, bytes_eq, option_map, IfOk};
 ghost use Rattle.std.specs.List.{list_any};
+ghost use Rattle.std.specs.Prelude.{◌≡◌, ◌++◌, ◌∷◌, [], ℕ, length, take, drop, bytes_eq, option_map, IfOk};
 ghost use Rattle.lra_program.specs.Program.{Slot};
 ghost use Rattle.lra_resolution_spec.specs.Scope.{names_in, found_among, width_of_all};
-ghost use Rattle.lra_scopes.specs.Bindings.{binding_view};
-ghost use Rattle.lra_scopes.specs.Variables.{placed_view};
+ghost use Rattle.lra_scopes.specs.{Bindings.binding_view, Variables.placed_view};
 
 use crate::bindings::Binding;
 use crate::names::Names;

@@ -1,7 +1,6 @@
 -- A list of answers, one for each element, or none: what a loop that pushes them, and leaves at the first that is none, has so far.
 use Rattle.std.proofs.Common.{◌≡◌, ◌<◌, ◌≤◌, ◌+◌, ℕ, List, [], ◌∷◌, ◌++◌, length, get_or, drop, map, refl, ap, sym, ◌∙◌, add-one, append_assoc, append-nil, Option, Some, None}
-use Rattle.std.proofs.lemmas.List.{drop_all}
-use Rattle.std.proofs.Math.Seq.{drop-cons}
+use Rattle.std.proofs.{Math.Seq.drop-cons, lemmas.List.drop_all}
 use Rattle.lra_script.specs.LineForms.{all_of, with_first}
 
 -- the answers so far before those of the rest

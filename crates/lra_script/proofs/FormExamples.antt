@@ -3,9 +3,8 @@ use Rattle.std.proofs.Common.{◌≡◌, ℕ, pos, negsuc, List, [], ◌∷◌, 
 use Rattle.std.specs.Prelude.{codes}
 use Rattle.lra_linear_spec.specs.Descriptions.{inequality, equality, generator, line}
 use Rattle.lra_linear_spec.specs.declared.GenKind.TheVariants as gen
+use Rattle.lra_script.specs.LineForms.{Line, Dims, Make, Ask, Con, Gen, Combine, Widen, Limited, Map, Forget, Show, Holds, Include, Maximise, row_of_generator, line_of}
 use Rattle.lra_script.specs.ScriptText.{lines, words, is_skipped, is_name, number_of}
-use Rattle.lra_script.specs.LineForms.{Line, Dims, Make, Ask, Con, Gen, Combine, Widen, Limited, Map, Forget, Show, Holds, Include, Maximise, row_of_generator}
-use Rattle.lra_script.specs.LineForms.{line_of}
 use Rattle.lra_script.specs.declared.recipes.Combination.TheVariants.{Meet, Hull, Elapse}
 use Rattle.lra_script.specs.declared.recipes.Mapping.TheVariants.{Image, Preimage}
 

@@ -1,17 +1,10 @@
 -- Names among the words of a line: what a line makes of words that are names, and of others.
-use Rattle.std.proofs.Common.{◌≡◌, ◌<◌, ◌≤◌, ℕ, Bool, true, false, List, [], ◌∷◌, length, refl, ap, sym, ◌∙◌, arith, Option, Some, None, option_map, Bor, slice_index_or, string_bytes}
-use Rattle.std.proofs.Common.{map, take, drop, ◌-◌, Vec}
-use Rattle.std.specs.Prelude.{if◌then◌else◌, String}
-use Rattle.std.proofs.lemmas.Option.{same_Some, none-some}
-use Rattle.std.proofs.lemmas.List.{length-drop}
-use Rattle.std.proofs.Math.Seq.{take-length}
-use Rattle.std.specs.declared.alloc.Global.{Global}
-use Rattle.lra_script.specs.ScriptText.{is_name}
-use Rattle.lra_script.specs.LineForms as form
-use Rattle.lra_script.specs.LineForms.{with_name}
+use Rattle.std.proofs.Common.{◌≡◌, ◌<◌, ◌≤◌, ℕ, Bool, true, false, List, [], ◌∷◌, length, refl, ap, sym, ◌∙◌, arith, Option, Some, None, option_map, Bor, slice_index_or, string_bytes, map, take, drop}
+use Rattle.std.proofs.{Common.◌-◌, Common.Vec, Math.Seq.take-length, lemmas.List.length-drop, lemmas.Option.same_Some, lemmas.Option.none-some}
+use Rattle.std.specs.{Prelude.if◌then◌else◌, Prelude.String, declared.alloc.Global.Global}
 use Rattle.lra_script.specs.Views.{texts, constraint_of, constraints_of, recipe_said, recipe_view}
-use Rattle.lra_script.specs.declared.rows.Constraint.{Constraint}
-use Rattle.lra_script.specs.declared.recipes.Recipe.{Recipe}
+use Rattle.lra_script.specs.{LineForms.with_name, ScriptText.is_name, declared.recipes.Recipe.Recipe, declared.rows.Constraint.Constraint}
+use Rattle.lra_script.specs.LineForms as form
 
 abbrev Words : Type 0
 Words = List (Bor (List ℕ))

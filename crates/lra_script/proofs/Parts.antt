@@ -1,8 +1,6 @@
 -- A list of words that is cut at some of them.
 use Rattle.std.proofs.Common.{◌≡◌, ℕ, Bool, true, false, cond, List, [], ◌∷◌, map, refl, ap, sym, ◌∙◌, Result, Ok, Err, IfOk, Vec, Bor, bytes_eq}
-use Rattle.std.specs.Prelude.{codes}
-use Rattle.std.specs.List.{slice_split, onto_first}
-use Rattle.std.specs.declared.alloc.Global.{Global}
+use Rattle.std.specs.{List.slice_split, List.onto_first, Prelude.codes, declared.alloc.Global.Global}
 use Rattle.lra_script.specs.Views.{texts}
 
 onto_first-texts : (w : Bor (List ℕ)) (parts : List (List (Bor (List ℕ)))) → onto_first w.now (map texts parts) ≡ map texts (onto_first w parts)

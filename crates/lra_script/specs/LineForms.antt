@@ -1,18 +1,15 @@
 -- What a line says, by its words. Whether names were made and how many numbers a row must have is not asked here.
 use Rattle.std.specs.Prelude.{ℕ, zero, suc, ◌^◌, ℤ, pos, negsuc, nat_le, nat_lt, Bool, true, false, List, [], ◌∷◌}
-use Rattle.std.specs.Prelude.{codes, bytes_eq}
-use Rattle.std.specs.Prelude.{if◌then◌else◌, Option, Some, None, option_map, option_and_then}
-use Rattle.std.specs.List.{slice_split}
-use Rattle.std.specs.Option.{option_or}
+use Rattle.std.specs.Prelude.{codes, bytes_eq, if◌then◌else◌, Option, Some, None, option_map, option_and_then}
+use Rattle.std.specs.{List.slice_split, Option.option_or}
 use Rattle.lra_base.specs.Limits.{greatest_live}
 use Rattle.lra_linear_spec.specs.Descriptions.{LinearRow, generator, line}
 use Rattle.lra_linear_spec.specs.declared.GenKind.{GenKind}
 use Rattle.lra_linear_spec.specs.declared.GenKind.TheVariants as gen
 use Rattle.lra_script.specs.ScriptText.{is_name, number_of}
-use Rattle.lra_script.specs.declared.recipes.Combination.{Combination}
 use Rattle.lra_script.specs.declared.recipes.Combination.TheVariants.{Meet, Hull, Elapse}
-use Rattle.lra_script.specs.declared.recipes.Mapping.{Mapping}
 use Rattle.lra_script.specs.declared.recipes.Mapping.TheVariants.{Image, Preimage}
+use Rattle.lra_script.specs.{declared.recipes.Combination.Combination, declared.recipes.Mapping.Mapping}
 
 -- a generator as it is written: a point's divisor stands before its numerators
 pub record Generator : Type 0 where

@@ -1,9 +1,8 @@
 -- The lines of a script, their words, and the names and numbers among these.
 use Rattle.std.specs.Prelude.{ℕ, ◌-◌, ℤ, Bool, true, false, ◌&&◌, ◌||◌, not, nat_eq, List, [], ◌∷◌, length, take, drop}
 use Rattle.std.specs.Prelude.{map, filter, if◌then◌else◌, Option, Some, None}
-use Rattle.std.specs.List.{slice_split, ends_with, list_all}
-use Rattle.std.specs.Char.{is_ascii_digit, is_ascii_uppercase, is_ascii_alphanumeric}
-use Rattle.std.specs.Str.Parse.{starts_with_minus, signed_digits_value}
+use Rattle.std.specs.{Char.is_ascii_digit, Char.is_ascii_uppercase, Char.is_ascii_alphanumeric, List.slice_split}
+use Rattle.std.specs.{List.ends_with, List.list_all, Str.Parse.starts_with_minus, Str.Parse.signed_digits_value}
 use Rattle.lra_linear_spec.specs.Range.{in_range}
 
 -- lines ------------------------------------------------------------------------------------------------------------

@@ -1,20 +1,14 @@
 -- What the values of the code stand for.
 use Rattle.std.specs.Prelude.{◌≤◌, ℤ, pos, ◌<ℤ◌, List, [], ◌∷◌, map, ℕ, Option, option_map, Vec, string_bytes}
-use Rattle.std.specs.Borrow.{Bor}
-use Rattle.std.specs.List.{All}
-use Rattle.std.specs.declared.alloc.Global.{Global}
-use Rattle.lra_linear_spec.specs.Descriptions.{LinearRow}
-use Rattle.lra_linear_spec.specs.Kinds.{is_equality}
-use Rattle.lra_linear_spec.specs.declared.GenKind.{GenKind}
+use Rattle.std.specs.{Borrow.Bor, List.All, declared.alloc.Global.Global}
+use Rattle.lra_linear_spec.specs.{Descriptions.LinearRow, Kinds.is_equality, declared.GenKind.GenKind}
 use Rattle.lra_linear_spec.specs.declared.GenKind.TheVariants as gen
 use Rattle.lra_script.specs.LineForms as form
-use Rattle.lra_script.specs.declared.rows.Constraint.{Constraint}
+use Rattle.lra_script.specs.{declared.lines.Line.Line, declared.questions.Question.Question}
+use Rattle.lra_script.specs.{declared.recipes.Recipe.Recipe, declared.rows.Constraint.Constraint}
 use Rattle.lra_script.specs.declared.rows.Generator as G
-use Rattle.lra_script.specs.declared.recipes.Recipe.{Recipe}
 use Rattle.lra_script.specs.declared.recipes.Recipe.TheVariants as recipe
-use Rattle.lra_script.specs.declared.questions.Question.{Question}
 use Rattle.lra_script.specs.declared.questions.Question.TheVariants as question
-use Rattle.lra_script.specs.declared.lines.Line.{Line}
 use Rattle.lra_script.specs.declared.lines.Line.TheVariants as code
 
 abbrev pub texts : List (Bor (List ℕ)) → List (List ℕ)

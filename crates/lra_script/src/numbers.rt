@@ -1,18 +1,12 @@
 //! Names and numbers among the words.
 
 ghost use Rattle.std.specs.Prelude.{FitsSigned, true, ◌≡◌, IfOk, IfSome, string_bytes, Some, None, if◌then◌else◌};
-ghost use Rattle.std.specs.Prelude.{option_map, ◌≤◌};
-ghost use Rattle.std.specs.Option.{SomeIff};
-ghost use Rattle.std.specs.Int.{w128};
-ghost use Rattle.std.specs.List.{All, list_all};
-ghost use Rattle.std.specs.Char.{is_ascii_digit, is_ascii_alphanumeric};
-ghost use Rattle.std.specs.Str.{IsUtf8};
-ghost use Rattle.std.specs.Str.Parse.{signed_digits_value};
+ghost use Rattle.std.specs.{Char.is_ascii_digit, Char.is_ascii_alphanumeric, Int.w128, List.All, List.list_all};
+ghost use Rattle.std.specs.{Option.SomeIff, Prelude.option_map, Prelude.◌≤◌, Str.IsUtf8, Str.Parse.signed_digits_value};
 ghost use Rattle.lra_linear_spec.specs.Range.{InRange};
 ghost use Rattle.lra_script.specs.ScriptText as script;
 ghost use Rattle.lra_script.specs.LineForms as form;
-ghost use Rattle.lra_script.specs.LineForms.{all_of};
-ghost use Rattle.lra_script.specs.Views.{texts, option_items};
+ghost use Rattle.lra_script.specs.{LineForms.all_of, Views.texts, Views.option_items};
 
 use lra_base::GREATEST_LIVE;
 use std::alloc::{AllocError, Global};

@@ -1,7 +1,6 @@
 //! The lines of a script, and their words.
 
-ghost use Rattle.std.specs.Prelude.{◌≡◌, nat_eq, IfOk};
-ghost use Rattle.std.specs.List.{slice_split, list_all};
+ghost use Rattle.std.specs.{List.slice_split, List.list_all, Prelude.◌≡◌, Prelude.nat_eq, Prelude.IfOk};
 ghost use Rattle.lra_script.specs.ScriptText as script;
 ghost use Rattle.lra_script.specs.Views.{texts};
 

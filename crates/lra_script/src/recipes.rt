@@ -1,7 +1,7 @@
 //! How lines make sets.
 
-ghost use Rattle.std.specs.Prelude.{◌≡◌, ◌≤◌, IfOk, IfSome, option_map, string_bytes};
 ghost use Rattle.std.specs.Option.{option_or};
+ghost use Rattle.std.specs.Prelude.{◌≡◌, ◌≤◌, IfOk, IfSome, option_map, string_bytes};
 ghost use Rattle.lra_script.specs.LineForms as form;
 ghost use Rattle.lra_script.specs.Views.{texts, recipe_view, IsRecipe};
 

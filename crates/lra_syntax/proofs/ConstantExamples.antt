@@ -1,11 +1,8 @@
 -- Constants of short lists of tokens. Which slip an example would catch stands beside it.
 use Rattle.std.proofs.Common.{◌≡◌, ℕ, zero, suc, ℤ, pos, negsuc, List, [], ◌∷◌, length, map, refl}
 use Rattle.lra_base.specs.declared.number_types.NumberType.TheVariants.{Int, Long}
-use Rattle.lra_syntax.specs.declared.tokens.Kind.{Kind}
-use Rattle.lra_syntax.specs.declared.tokens.Kind.TheVariants.{Number, Mark, End}
-use Rattle.lra_syntax.specs.declared.tokens.Mark.TheVariants.{Minus, OpenParen, Decrement}
-use Rattle.lra_syntax.specs.declared.tokens.Token.{Token}
-use Rattle.lra_syntax.specs.Constants.{constants_of}
+use Rattle.lra_syntax.specs.{Constants.constants_of, declared.tokens.Kind.Kind, declared.tokens.Kind.TheVariants.Number, declared.tokens.Kind.TheVariants.Mark, declared.tokens.Kind.TheVariants.End}
+use Rattle.lra_syntax.specs.{declared.tokens.Mark.TheVariants.Minus, declared.tokens.Mark.TheVariants.OpenParen, declared.tokens.Mark.TheVariants.Decrement, declared.tokens.Token.Token}
 
 abbrev token_of : Kind → Token
 token_of k = record { kind = k; place = record { line = 1; column = 1 } }

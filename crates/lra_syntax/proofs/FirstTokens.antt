@@ -1,18 +1,12 @@
 -- How every text of the grammar begins: with a mark, or with the end.
 use Rattle.std.proofs.Common.{◌≡◌, ℕ, ◌⊎◌, Option, Some, None, List, [], ◌∷◌, ◌++◌, ap, ◌∙◌, inl, inr}
-use Rattle.lra_base.specs.declared.refusals.Place.{Place}
 use Rattle.lra_base.specs.declared.number_types.NumberType.{NumberType}
-use Rattle.lra_base.specs.declared.number_types.NumberType.TheVariants.{Int, Long}
-use Rattle.lra_syntax.specs.declared.tokens.Mark.{Mark}
-use Rattle.lra_syntax.specs.declared.tokens.Mark.TheVariants as mark
-use Rattle.lra_syntax.specs.declared.tokens.Kind.{Kind}
-use Rattle.lra_syntax.specs.declared.tokens.Kind.TheVariants.{Mark as MarkOf, Unclosed, End}
-use Rattle.lra_syntax.specs.declared.tokens.Token.{Token}
-use Rattle.lra_syntax.specs.declared.trees.Identifier.{Identifier}
-use Rattle.lra_syntax.specs.Trees.{ExternalTree, prototype, globals, function, FileTree}
-use Rattle.lra_syntax.specs.Texts.{Pieces, opens}
+use Rattle.lra_base.specs.{declared.number_types.NumberType.TheVariants.Int, declared.number_types.NumberType.TheVariants.Long, declared.refusals.Place.Place}
 use Rattle.lra_syntax.specs.Grammar.{IsType, IsHead, IsReservedHead, IsSomeHead, IsExternalDeclaration, AreExternalDeclarations, Spells}
-use Rattle.lra_syntax.specs.Faults.{CanBegin}
+use Rattle.lra_syntax.specs.Trees.{ExternalTree, prototype, globals, function, FileTree}
+use Rattle.lra_syntax.specs.declared.tokens.Kind.TheVariants.{Mark as MarkOf, Unclosed, End}
+use Rattle.lra_syntax.specs.{Faults.CanBegin, Texts.Pieces, Texts.opens, declared.tokens.Kind.Kind, declared.tokens.Mark.Mark, declared.tokens.Token.Token, declared.trees.Identifier.Identifier}
+use Rattle.lra_syntax.specs.declared.tokens.Mark.TheVariants as mark
 
 -- the first token is a mark
 abbrev BeginsWithMark : Pieces → Type 0

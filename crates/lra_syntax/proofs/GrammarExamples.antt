@@ -1,18 +1,12 @@
 -- Trees and their tokens, and levels. Which slip an example would catch stands beside it.
 use Rattle.std.proofs.Common.{ℕ, negsuc, [], ◌∷◌, refl, arith, inr}
 use Rattle.std.specs.Prelude.{codes, None}
-use Rattle.lra_base.specs.declared.number_types.NumberType.TheVariants.{Int, Long}
-use Rattle.lra_syntax.specs.declared.tokens.Kind.{Kind}
-use Rattle.lra_syntax.specs.declared.tokens.Kind.TheVariants.{Name, Number, Mark as MarkOf}
-use Rattle.lra_syntax.specs.declared.tokens.Mark.{Mark}
-use Rattle.lra_syntax.specs.declared.tokens.Mark.TheVariants as mark
-use Rattle.lra_syntax.specs.declared.trees.PlacedLabel.{PlacedLabel}
-use Rattle.lra_base.specs.declared.case_labels.CaseLabel.TheVariants.{Case}
-use Rattle.lra_base.specs.Operators.{below}
-use Rattle.lra_syntax.specs.Trees.{element, expression, set_element, array, group, value, compare, group_of, CondTree, no_init, StmtTree, nothing, if_only}
-use Rattle.lra_syntax.specs.Trees.{if_else, while, for, switch, no_cases, labelled, stated}
-use Rattle.lra_syntax.specs.Texts.{Piece, Pieces}
+use Rattle.lra_base.specs.{Operators.below, declared.case_labels.CaseLabel.TheVariants.Case, declared.number_types.NumberType.TheVariants.Int, declared.number_types.NumberType.TheVariants.Long}
 use Rattle.lra_syntax.specs.Grammar.{IsUnary, IsTest, IsAssign, IsDeclarator, IsStmt}
+use Rattle.lra_syntax.specs.Trees.{element, expression, set_element, array, group, value, compare, group_of, CondTree, no_init, StmtTree, nothing, if_only, if_else, while, for, switch, no_cases}
+use Rattle.lra_syntax.specs.declared.tokens.Kind.TheVariants.{Name, Number, Mark as MarkOf}
+use Rattle.lra_syntax.specs.{Texts.Piece, Texts.Pieces, Trees.labelled, Trees.stated, declared.tokens.Kind.Kind, declared.tokens.Mark.Mark, declared.trees.PlacedLabel.PlacedLabel}
+use Rattle.lra_syntax.specs.declared.tokens.Mark.TheVariants as mark
 use Rattle.lra_syntax.proofs.TreeSamples.{at, name_at, x_at, alone, literal_text, use_of, tested}
 
 abbrev piece : Kind → ℕ → ℕ → Piece

@@ -1,18 +1,12 @@
 -- Computed tests: a source that is written out has these tokens. Its numbers are 1.
 use Rattle.std.proofs.Common.{◌≡◌, ℕ, Bool, true, false, not, ◌&&◌, nat_eq, List, [], ◌∷◌, ◌++◌, refl, sym, subst, arith}
+use Rattle.std.proofs.{lemmas.Bool.Decides.nat_tests, lemmas.Slice.Eq.bytes_eq-Decides}
 use Rattle.std.specs.Prelude.{codes, bytes_eq, nat_le}
-use Rattle.std.proofs.lemmas.Bool.Decides.{nat_tests}
-use Rattle.std.proofs.lemmas.Slice.Eq.{bytes_eq-Decides}
 use Rattle.lra_base.specs.declared.number_types.NumberType.TheVariants.{Int, Long}
-use Rattle.lra_syntax.specs.declared.tokens.Kind.{Kind}
+use Rattle.lra_syntax.specs.Lexeme.{is_name_word, is_among, named_words, further_words, mark_text, IsLiteral, decimal_base, Lexeme, word, number_word, mark_word, SpellsToken, name, literal_text}
 use Rattle.lra_syntax.specs.declared.tokens.Kind.TheVariants.{Name, Number, Reserved, Mark as MarkOf, Unclosed, End}
-use Rattle.lra_syntax.specs.declared.tokens.Mark.{Mark}
-use Rattle.lra_syntax.specs.Lexeme.{is_name_word, is_among, named_words, further_words, mark_text, IsLiteral, decimal_base}
-use Rattle.lra_syntax.specs.Lexeme.{Lexeme, word, number_word, mark_word, SpellsToken, name, literal_text, mark_of}
-use Rattle.lra_syntax.specs.Tokens.{is_blank}
-use Rattle.lra_syntax.specs.Faults.{greatest_level}
-use Rattle.lra_syntax.proofs.LongestByTest.{begins_gap, ends_there}
-use Rattle.lra_syntax.proofs.Lexemes.{ExternalDeclaration, skip, lexeme, written, AreReadBefore}
+use Rattle.lra_syntax.specs.{Faults.greatest_level, Lexeme.mark_of, Tokens.is_blank, declared.tokens.Kind.Kind, declared.tokens.Mark.Mark}
+use Rattle.lra_syntax.proofs.{Lexemes.ExternalDeclaration, Lexemes.skip, Lexemes.lexeme, Lexemes.written, Lexemes.AreReadBefore, LongestByTest.begins_gap, LongestByTest.ends_there}
 
 -- how a source is written out --------------------------------------------------------------------------------------
 

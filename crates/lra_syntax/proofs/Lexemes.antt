@@ -1,21 +1,11 @@
 -- Sources that are written lexeme by lexeme: their tokens, and the pieces of their grammar.
-use Rattle.std.proofs.Common.{◌≡◌, ℕ, zero, suc, ◌≤◌, Bool, true, false, ◌||◌, List, [], ◌∷◌, ◌++◌, refl, sym, ap, ◌∙◌}
-use Rattle.std.proofs.Common.{subst, append_assoc}
-use Rattle.std.proofs.lemmas.List.{append-nil}
-use Rattle.std.proofs.lemmas.Bool.{leb-true}
+use Rattle.std.proofs.Common.{◌≡◌, ℕ, zero, suc, ◌≤◌, Bool, true, false, ◌||◌, List, [], ◌∷◌, ◌++◌, refl, sym, ap, ◌∙◌, subst, append_assoc}
+use Rattle.std.proofs.{lemmas.Bool.leb-true, lemmas.List.append-nil}
 use Rattle.std.specs.Prelude.{⊤, nat_le, nat_eq}
-use Rattle.lra_base.specs.declared.refusals.Place.{Place}
-use Rattle.lra_base.specs.declared.refusals.Cause.{Cause}
-use Rattle.lra_syntax.specs.declared.tokens.Kind.{Kind}
-use Rattle.lra_syntax.specs.declared.tokens.Kind.TheVariants.{Mark as MarkOf}
-use Rattle.lra_syntax.specs.declared.tokens.Mark.{Mark}
-use Rattle.lra_syntax.specs.declared.tokens.Token.{Token}
-use Rattle.lra_syntax.specs.Lexeme.{mark_text, Lexeme, SpellsToken, mark_word, mark_of}
-use Rattle.lra_syntax.specs.Tokens.{is_blank, blank, Fragment, gap, token, bytes_of, tokens_of, IsToken, IsReading, Lex}
-use Rattle.lra_base.specs.Places.{place_after}
-use Rattle.lra_syntax.specs.Tokens.{end_token, IsFaulty, IsTokenFault}
-use Rattle.lra_syntax.specs.Texts.{Pieces, plain}
-use Rattle.lra_syntax.specs.Faults.{IsLow, greatest_level}
+use Rattle.lra_base.specs.{Places.place_after, declared.refusals.Cause.Cause, declared.refusals.Place.Place}
+use Rattle.lra_syntax.specs.Tokens.{is_blank, blank, Fragment, gap, token, bytes_of, tokens_of, IsToken, IsReading, Lex, end_token, IsFaulty, IsTokenFault}
+use Rattle.lra_syntax.specs.{Faults.IsLow, Faults.greatest_level, Lexeme.mark_text, Lexeme.Lexeme, Lexeme.SpellsToken, Lexeme.mark_word, Lexeme.mark_of, Texts.Pieces, Texts.plain}
+use Rattle.lra_syntax.specs.{declared.tokens.Kind.Kind, declared.tokens.Kind.TheVariants.Mark as MarkOf, declared.tokens.Mark.Mark, declared.tokens.Token.Token}
 use Rattle.lra_syntax.proofs.LongestByTest.{is_lexeme, begins_gap, opens_comment, ends_there, as_token}
 
 -- a blank, or a token: its first byte and the others, its kind, the level that it opens

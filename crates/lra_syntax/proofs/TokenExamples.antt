@@ -1,24 +1,17 @@
 -- Sources and their tokens. Which slip an example would catch stands beside it.
 use Rattle.std.proofs.Common.{◌≡◌, ℕ, true, List, [], ◌∷◌, ◌++◌, refl, arith, inl, inr, subst, ap, get_or, Bool, bytes_eq, ◌∙◌, sym}
-use Rattle.std.specs.Prelude.{codes, bytes_eq, Bool, false, true, ◌||◌, ◌&&◌, ◌⊎◌, ◌≤◌}
-use Rattle.std.specs.List.{list_all}
-use Rattle.std.proofs.lemmas.Slice.Eq.{bytes_eq-Decides}
-use Rattle.std.proofs.lemmas.List.Folds.{list_all-append}
-use Rattle.std.proofs.lemmas.List.{append-nil}
-use Rattle.lra_base.specs.declared.refusals.Place.{Place}
+use Rattle.std.proofs.{lemmas.List.append-nil, lemmas.List.Folds.list_all-append, lemmas.Slice.Eq.bytes_eq-Decides}
+use Rattle.std.specs.{List.list_all, Prelude.codes, Prelude.bytes_eq, Prelude.Bool, Prelude.false, Prelude.true, Prelude.◌||◌, Prelude.◌&&◌, Prelude.◌⊎◌, Prelude.◌≤◌}
 use Rattle.lra_base.specs.declared.refusals.Cause.TheVariants.{BadByte, BadLiteral}
-use Rattle.lra_base.specs.declared.number_types.NumberType.TheVariants.{Int, Long}
-use Rattle.lra_syntax.specs.declared.tokens.Kind.{Kind}
-use Rattle.lra_syntax.specs.declared.tokens.Kind.TheVariants.{Name, Number, Mark, Reserved, End}
-use Rattle.lra_syntax.specs.declared.tokens.Mark.TheVariants as mark
-use Rattle.lra_syntax.specs.declared.tokens.Token.{Token}
-use Rattle.lra_syntax.specs.Lexeme.{octal, decimal_base, hexadecimal, IsLiteral, Base, IsBasePrefix, is_digit, is_digit_of, number_after, greatest_literal, is_between, is_among, suffixes, word, number_word, literal_type}
-use Rattle.lra_syntax.specs.Lexeme.{mark_word, name, literal_text, mark_of, reserved}
-use Rattle.lra_base.specs.Places.{place_after}
+use Rattle.lra_base.specs.{Places.place_after, declared.number_types.NumberType.TheVariants.Int, declared.number_types.NumberType.TheVariants.Long, declared.refusals.Place.Place}
+use Rattle.lra_syntax.specs.Lexeme.{octal, decimal_base, hexadecimal, IsLiteral, Base, IsBasePrefix, is_digit, is_digit_of, number_after, greatest_literal, is_between, is_among, suffixes, word}
+use Rattle.lra_syntax.specs.Lexeme.{number_word, literal_type, mark_word, name, literal_text, mark_of, reserved}
 use Rattle.lra_syntax.specs.Tokens.{blank, line_comment, block_comment, skipped_line, gap, token, Lex, IsTokenFault}
-use Rattle.lra_syntax.proofs.LongestByTest.{no_gap, longest_by, as_token, is_open, no_lexeme}
-use Rattle.lra_syntax.proofs.Lexemes.{ExternalDeclaration, ◌⨾◌, all_lexed, faulty}
-use Rattle.lra_syntax.proofs.LexedByTest.{space, sign, word_of, are_read_by, and_first, and_second}
+use Rattle.lra_syntax.specs.declared.tokens.Kind.TheVariants.{Name, Number, Mark, Reserved, End}
+use Rattle.lra_syntax.specs.{declared.tokens.Kind.Kind, declared.tokens.Token.Token}
+use Rattle.lra_syntax.specs.declared.tokens.Mark.TheVariants as mark
+use Rattle.lra_syntax.proofs.{LexedByTest.space, LexedByTest.sign, LexedByTest.word_of, LexedByTest.are_read_by, LexedByTest.and_first, LexedByTest.and_second, Lexemes.ExternalDeclaration}
+use Rattle.lra_syntax.proofs.{Lexemes.◌⨾◌, Lexemes.all_lexed, Lexemes.faulty, LongestByTest.no_gap, LongestByTest.longest_by, LongestByTest.as_token, LongestByTest.is_open, LongestByTest.no_lexeme}
 
 abbrev at : ℕ → ℕ → Place
 at l c = record { line = l; column = c }

@@ -1,14 +1,10 @@
 -- Trees of some sources, each standing on one line.
 use Rattle.std.specs.Prelude.{ℕ, List, [], ◌∷◌, codes, Option, Some, None, suc}
-use Rattle.lra_base.specs.declared.refusals.Place.{Place}
-use Rattle.lra_base.specs.declared.number_types.NumberType.TheVariants.{Int, Long}
-use Rattle.lra_syntax.specs.declared.trees.Identifier.{Identifier}
-use Rattle.lra_syntax.specs.declared.trees.Parameter.{Parameter}
 use Rattle.lra_base.specs.Operators.{below, at_least, equal}
-use Rattle.lra_syntax.specs.Trees.{UnaryTree, literal, variable, unary, ExprTree, term, plus, TestTree, compare, conjunction, test, CondTree, CallTree}
-use Rattle.lra_syntax.specs.Trees.{RvalueTree, expression, result, set, scalar, DeclarationTree, declared, block, nothing, assign, if_only, for, break}
-use Rattle.lra_syntax.specs.Trees.{continue}
-use Rattle.lra_syntax.specs.Trees.{return, assert, ItemsTree, no_items, declaration, statement, FunctionTree, function, FileTree}
+use Rattle.lra_base.specs.{declared.number_types.NumberType.TheVariants.Int, declared.number_types.NumberType.TheVariants.Long, declared.refusals.Place.Place}
+use Rattle.lra_syntax.specs.Trees.{UnaryTree, literal, variable, unary, ExprTree, term, plus, TestTree, compare, conjunction, test, CondTree, CallTree, RvalueTree, expression, result, set, scalar}
+use Rattle.lra_syntax.specs.Trees.{DeclarationTree, declared, block, nothing, assign, if_only, for, break, continue, return, assert, ItemsTree, no_items, declaration, statement, FunctionTree}
+use Rattle.lra_syntax.specs.{Trees.function, Trees.FileTree, declared.trees.Identifier.Identifier, declared.trees.Parameter.Parameter}
 
 -- of the first line
 abbrev pub at : ℕ → Place

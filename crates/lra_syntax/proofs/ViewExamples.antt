@@ -1,23 +1,13 @@
 -- Values of the front end's types, and the trees that they stand for.
 use Rattle.std.proofs.Common.{◌≡◌, ℕ, map, rules, Box, Global}
-use Rattle.lra_base.specs.declared.number_types.NumberType.{NumberType}
-use Rattle.lra_syntax.specs.declared.trees.Unary.{Unary, Literal, Negated, Element, the_lemmas}
-use Rattle.lra_syntax.specs.declared.trees.Factor.{Factor}
-use Rattle.lra_syntax.specs.declared.trees.Term.{Term}
-use Rattle.lra_syntax.specs.declared.trees.Summand.{Summand}
-use Rattle.lra_syntax.specs.declared.trees.Expr.{Expr}
-use Rattle.lra_syntax.specs.declared.trees.Unary.TheOpen.{Term-F}
-use Rattle.lra_syntax.specs.declared.trees.Unary.TheViews.{roll-Term}
-use Rattle.lra_syntax.specs.declared.trees.Unary.TheFolds.{fold-roll-Term}
-use Rattle.lra_syntax.specs.declared.trees.Identifier.{Identifier}
-use Rattle.lra_syntax.specs.declared.trees.FactorOperator.{FactorOperator}
-use Rattle.lra_syntax.specs.declared.trees.SumOperator.{SumOperator}
+use Rattle.lra_base.specs.{declared.number_types.NumberType.NumberType, declared.refusals.Place.Place}
+use Rattle.lra_syntax.specs.Views.{unary_view, unary_step, factor_view, factor_step, term_view, term_step, summand_step, expr_step, product, expr_view, cond_view, stmt_view}
 use Rattle.lra_syntax.specs.declared.trees.Stmt.{Stmt, Break, While, the_lemmas as stmt_lemmas}
-use Rattle.lra_syntax.specs.declared.trees.Cond.{Cond}
-use Rattle.lra_base.specs.declared.refusals.Place.{Place}
+use Rattle.lra_syntax.specs.declared.trees.Unary.{Unary, Literal, Negated, Element, the_lemmas}
+use Rattle.lra_syntax.specs.{declared.trees.Cond.Cond, declared.trees.Expr.Expr, declared.trees.Factor.Factor, declared.trees.FactorOperator.FactorOperator, declared.trees.Identifier.Identifier}
+use Rattle.lra_syntax.specs.{declared.trees.SumOperator.SumOperator, declared.trees.Summand.Summand, declared.trees.Term.Term, declared.trees.Unary.TheFolds.fold-roll-Term}
+use Rattle.lra_syntax.specs.{declared.trees.Unary.TheOpen.Term-F, declared.trees.Unary.TheViews.roll-Term}
 use Rattle.lra_syntax.specs.Trees as tree
-use Rattle.lra_syntax.specs.Views.{unary_view, unary_step, factor_view, factor_step, term_view, term_step, summand_step, expr_step, product, expr_view}
-use Rattle.lra_syntax.specs.Views.{cond_view, stmt_view}
 
 literal_view : (t : NumberType) (n : ℕ) → unary_view (Literal t n) ≡ tree.literal t n
 literal_view t n = search (rules, the_lemmas)

@@ -1,9 +1,7 @@
 -- How deep the statements are that a statement leaves when it is dropped.
 use Rattle.std.specs.Prelude.{ℕ, ◌+◌, max}
-use Rattle.lra_syntax.specs.declared.trees.Branches.{Branches}
-use Rattle.lra_syntax.specs.declared.trees.Stmt.{size-Stmt}
-use Rattle.lra_syntax.specs.declared.trees.Block.{size-Block}
-use Rattle.lra_syntax.specs.declared.trees.Cases.{size-Cases}
+use Rattle.lra_syntax.specs.{declared.trees.Block.size-Block, declared.trees.Branches.Branches}
+use Rattle.lra_syntax.specs.{declared.trees.Cases.size-Cases, declared.trees.Stmt.size-Stmt}
 
 abbrev pub size_left : Branches → ℕ
 size_left Branches.Nothing = 0

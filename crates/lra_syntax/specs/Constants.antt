@@ -1,12 +1,10 @@
 -- The constants of a source: the values of its literals, as its tokens have them.
 use Rattle.std.specs.Prelude.{ℕ, ℤ, pos, neg_ℤ, ◌^◌, ◌&&◌, Bool, true, false, not, List, [], ◌∷◌, ◌++◌, fold, length}
 use Rattle.std.specs.Prelude.{nat_le, nat_lt, unsigned_abs, if◌then◌else◌}
-use Rattle.std.specs.List.{list_any}
-use Rattle.std.specs.Ordering.{int_eq}
-use Rattle.lra_syntax.specs.declared.tokens.Token.{Token}
-use Rattle.lra_syntax.specs.declared.tokens.Kind.{Kind}
+use Rattle.std.specs.{List.list_any, Ordering.int_eq}
 use Rattle.lra_syntax.specs.declared.tokens.Kind.TheVariants.{Number, Mark}
-use Rattle.lra_syntax.specs.declared.tokens.Mark.TheVariants.{Minus}
+use Rattle.lra_syntax.specs.declared.tokens.Token.{Token}
+use Rattle.lra_syntax.specs.{declared.tokens.Kind.Kind, declared.tokens.Mark.TheVariants.Minus}
 
 -- a literal's value, with the sign that stands directly before it
 abbrev pub signed : Bool → ℕ → ℤ

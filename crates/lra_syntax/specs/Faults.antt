@@ -1,13 +1,11 @@
 -- The tree of a list of tokens, and the first token at fault where there is none; of the whole grammar, or of a part of
 -- it.
-use Rattle.std.specs.Prelude.{◌≡◌, ℕ, ◌≤◌, ◌<◌, List, [], ◌∷◌, ◌++◌}
 use Rattle.std.specs.List.{AllByRecursion}
-use Rattle.lra_base.specs.declared.refusals.Place.{Place}
-use Rattle.lra_base.specs.declared.refusals.Cause.{Cause}
+use Rattle.std.specs.Prelude.{◌≡◌, ℕ, ◌≤◌, ◌<◌, List, [], ◌∷◌, ◌++◌}
 use Rattle.lra_base.specs.declared.refusals.Cause.TheVariants.{Syntax, TooDeep}
-use Rattle.lra_syntax.specs.declared.tokens.Token.{Token}
+use Rattle.lra_base.specs.{declared.refusals.Cause.Cause, declared.refusals.Place.Place}
 use Rattle.lra_syntax.specs.Texts.{Piece, Pieces, plain, Texts}
-use Rattle.lra_syntax.specs.Trees.{FileTree}
+use Rattle.lra_syntax.specs.{Trees.FileTree, declared.tokens.Token.Token}
 
 -- which texts each tree has: the grammar's, or those of a part of the grammar
 abbrev pub Language : Type 1

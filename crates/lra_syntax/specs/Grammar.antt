@@ -2,37 +2,28 @@
 -- l is the level of nesting at which a part stands, o the level that its first token opens. A function's body is level
 -- 1; a block, the braces of a `switch`, a branch of an `if`, a loop's body, a grouping parenthesis, the bracket of an
 -- index and a unary operator open one more, from their first to their last token. The bracket of a length opens none.
-use Rattle.std.specs.Prelude.{◌≡◌, ℕ, ◌+◌, ◌≤◌, ◌⊎◌, pos, neg_ℤ, List, [], ◌∷◌, Option, Some}
-use Rattle.std.specs.Prelude.{None, ⊤}
+use Rattle.std.specs.Prelude.{◌≡◌, ℕ, ◌+◌, ◌≤◌, ◌⊎◌, pos, neg_ℤ, List, [], ◌∷◌, Option, Some, None, ⊤}
+use Rattle.lra_base.specs.declared.case_labels.CaseLabel.TheVariants.{Case, Default}
 use Rattle.lra_base.specs.declared.number_types.NumberType.{NumberType}
 use Rattle.lra_base.specs.declared.number_types.NumberType.TheVariants.{Int, Long}
-use Rattle.lra_base.specs.declared.refusals.Place.{Place}
-use Rattle.lra_base.specs.declared.case_labels.CaseLabel.{CaseLabel}
-use Rattle.lra_base.specs.declared.case_labels.CaseLabel.TheVariants.{Case, Default}
-use Rattle.lra_syntax.specs.declared.tokens.Mark.{Mark}
-use Rattle.lra_syntax.specs.declared.tokens.Mark.TheVariants as mark
-use Rattle.lra_syntax.specs.declared.trees.Identifier.{Identifier}
-use Rattle.lra_syntax.specs.declared.trees.Parameter.{Parameter}
-use Rattle.lra_syntax.specs.declared.trees.SignedLiteral.{SignedLiteral}
-use Rattle.lra_syntax.specs.declared.trees.PlacedLabel.{PlacedLabel}
-use Rattle.lra_syntax.specs.declared.trees.ArrayLength.{ArrayLength}
-use Rattle.lra_base.specs.Operators as operators
-use Rattle.lra_syntax.specs.Lexeme.{greatest_literal}
+use Rattle.lra_base.specs.{declared.case_labels.CaseLabel.CaseLabel, declared.refusals.Place.Place}
+use Rattle.lra_syntax.specs.Texts.{Texts, ◌⋅◌, ◌∣◌, empty, opens, mark, opens_at, name, literal_text, number_at, end_at}
 use Rattle.lra_syntax.specs.Trees.{UnaryTree, negated, positive, literal, variable, input, group, element, TermTree}
 use Rattle.lra_syntax.specs.Trees.{unary, times, over, modulo, ExprTree, term, plus, minus, NegationTree}
-use Rattle.lra_syntax.specs.Trees.{opposite_again}
-use Rattle.lra_syntax.specs.Trees.{value_of_unary, group_opposed, TestTree, opposite, value, compare, group_of}
-use Rattle.lra_syntax.specs.Trees.{ConjunctionTree, test, and, CondTree, conjunction, or, CallTree, RvalueTree}
-use Rattle.lra_syntax.specs.Trees.{expression, result, StepTree, increment, decrement, AssignTree, set, set_element}
-use Rattle.lra_syntax.specs.Trees.{update, after, before, ScalarOrArrayTree, scalar, array, DeclaratorTree}
-use Rattle.lra_syntax.specs.Trees.{DeclarationTree}
-use Rattle.lra_syntax.specs.Trees.{InitTree, no_init, declared, assigned, StmtTree, block, nothing, assign, call}
-use Rattle.lra_syntax.specs.Trees.{if_only, if_else, while, for, break, continue, return, assert, assume, switch}
-use Rattle.lra_syntax.specs.Trees.{CasesTree, no_cases, labelled, stated, ItemsTree, no_items, declaration, statement}
-use Rattle.lra_syntax.specs.Trees.{FunctionTree, GlobalTree, GlobalsTree, ExternalTree, prototype, globals, function}
-use Rattle.lra_syntax.specs.Trees.{FileTree}
-use Rattle.lra_syntax.specs.Texts.{Texts, ◌⋅◌, ◌∣◌, empty, opens, mark, opens_at, name, literal_text, number_at}
-use Rattle.lra_syntax.specs.Texts.{end_at, separated}
+use Rattle.lra_syntax.specs.Trees.{opposite_again, value_of_unary, group_opposed, TestTree, opposite, value, compare}
+use Rattle.lra_syntax.specs.Trees.{group_of, ConjunctionTree, test, and, CondTree, conjunction, or, CallTree}
+use Rattle.lra_syntax.specs.Trees.{RvalueTree, expression, result, StepTree, increment, decrement, AssignTree, set}
+use Rattle.lra_syntax.specs.Trees.{set_element, update, after, before, ScalarOrArrayTree, scalar, array, DeclaratorTree}
+use Rattle.lra_syntax.specs.Trees.{DeclarationTree, InitTree, no_init, declared, assigned, StmtTree, block, nothing}
+use Rattle.lra_syntax.specs.Trees.{assign, call, if_only, if_else, while, for, break, continue, return, assert, assume}
+use Rattle.lra_syntax.specs.Trees.{switch, CasesTree, no_cases, labelled, stated, ItemsTree, no_items, declaration}
+use Rattle.lra_syntax.specs.Trees.{statement, FunctionTree, GlobalTree, GlobalsTree, ExternalTree, prototype, globals}
+use Rattle.lra_syntax.specs.{Lexeme.greatest_literal, Texts.separated, Trees.function, Trees.FileTree}
+use Rattle.lra_syntax.specs.{declared.tokens.Mark.Mark, declared.trees.ArrayLength.ArrayLength}
+use Rattle.lra_syntax.specs.{declared.trees.Identifier.Identifier, declared.trees.Parameter.Parameter}
+use Rattle.lra_syntax.specs.{declared.trees.PlacedLabel.PlacedLabel, declared.trees.SignedLiteral.SignedLiteral}
+use Rattle.lra_syntax.specs.declared.tokens.Mark.TheVariants as mark
+use Rattle.lra_base.specs.Operators as operators
 
 -- expressions ------------------------------------------------------------------------------------------------------
 -- In the productions of unaries, whose first token may open a level, o is not needed: a name or a literal opens none.

@@ -2,18 +2,14 @@
 -- label n, from 1.
 -- A block has no label but at its `}`.
 use Rattle.std.specs.Prelude.{ℕ, zero, suc, List, [], ◌∷◌, ◌++◌, map, Option, Some, None, slice_get, flat_map}
-use Rattle.lra_base.specs.declared.refusals.Place.{Place}
-use Rattle.lra_base.specs.TextOrder.{for_order}
-use Rattle.lra_syntax.specs.declared.trees.Identifier.{Identifier}
-use Rattle.lra_syntax.specs.declared.trees.Parameter.{Parameter}
+use Rattle.lra_base.specs.{TextOrder.for_order, declared.refusals.Place.Place}
+use Rattle.lra_syntax.specs.Functions.{functions_of}
 use Rattle.lra_syntax.specs.Trees.{RvalueTree, expression, result, AssignTree, set, set_element, update, after, before}
 use Rattle.lra_syntax.specs.Trees.{ScalarOrArrayTree, scalar, array, DeclaratorTree, InitTree, no_init, declared}
-use Rattle.lra_syntax.specs.Trees.{assigned}
-use Rattle.lra_syntax.specs.Trees.{StmtTree, block, nothing, assign, call, if_only, if_else, while, for, break}
-use Rattle.lra_syntax.specs.Trees.{continue}
-use Rattle.lra_syntax.specs.Trees.{return, assert, assume, switch, CasesTree, no_cases, labelled, stated, ItemsTree}
-use Rattle.lra_syntax.specs.Trees.{no_items, declaration, statement, FunctionTree, FileTree}
-use Rattle.lra_syntax.specs.Functions.{functions_of}
+use Rattle.lra_syntax.specs.Trees.{assigned, StmtTree, block, nothing, assign, call, if_only, if_else, while, for}
+use Rattle.lra_syntax.specs.Trees.{break, continue, return, assert, assume, switch, CasesTree, no_cases, labelled}
+use Rattle.lra_syntax.specs.Trees.{stated, ItemsTree, no_items, declaration, statement, FunctionTree, FileTree}
+use Rattle.lra_syntax.specs.{declared.trees.Identifier.Identifier, declared.trees.Parameter.Parameter}
 
 -- a statement, declarator or end of a block, which a label stands for
 pub record Labelled : Type 0 where

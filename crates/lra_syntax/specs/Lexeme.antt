@@ -1,13 +1,12 @@
 -- The spellings of tokens (ISO/IEC 9899:2011, 6.4: lexical elements), each as a property of its own bytes.
+use Rattle.std.specs.List.{list_all, list_any}
 use Rattle.std.specs.Prelude.{◌≡◌, ℕ, ◌≤◌, Bool, true, false, ◌||◌, ◌&&◌, nat_eq, nat_le, List, [], ◌∷◌, ◌++◌, codes}
 use Rattle.std.specs.Prelude.{bytes_eq, ◌*◌, ◌⊎◌, if◌then◌else◌, ◌≢◌, ◌+◌, ◌-◌}
-use Rattle.std.specs.List.{list_all, list_any}
 use Rattle.lra_base.specs.declared.number_types.NumberType.{NumberType}
 use Rattle.lra_base.specs.declared.number_types.NumberType.TheVariants.{Int, Long}
-use Rattle.lra_syntax.specs.declared.tokens.Mark.{Mark}
-use Rattle.lra_syntax.specs.declared.tokens.Mark.TheVariants as mark
-use Rattle.lra_syntax.specs.declared.tokens.Kind.{Kind}
 use Rattle.lra_syntax.specs.declared.tokens.Kind.TheVariants.{Name, Number, Mark as MarkOf, Reserved, Unclosed}
+use Rattle.lra_syntax.specs.{declared.tokens.Kind.Kind, declared.tokens.Mark.Mark}
+use Rattle.lra_syntax.specs.declared.tokens.Mark.TheVariants as mark
 
 -- bytes ------------------------------------------------------------------------------------------------------------
 

@@ -1,11 +1,9 @@
 -- Which function reaches which by calls, and the first call by which a function reaches itself.
-use Rattle.std.specs.Prelude.{◌≡◌, ℕ, List, [], ◌∷◌, ◌++◌, Contains, option_to_list, map}
 use Rattle.std.specs.List.{AllByRecursion}
+use Rattle.std.specs.Prelude.{◌≡◌, ℕ, List, [], ◌∷◌, ◌++◌, Contains, option_to_list, map}
 use Rattle.lra_base.specs.declared.refusals.Place.{Place}
-use Rattle.lra_syntax.specs.declared.trees.Identifier.{Identifier}
-use Rattle.lra_syntax.specs.Trees.{FunctionTree, FileTree}
-use Rattle.lra_syntax.specs.Labels.{Labelled, function_labels}
-use Rattle.lra_syntax.specs.Functions.{functions_of}
+use Rattle.lra_syntax.specs.{Functions.functions_of, Labels.Labelled, Labels.function_labels, Trees.FunctionTree}
+use Rattle.lra_syntax.specs.{Trees.FileTree, declared.trees.Identifier.Identifier}
 
 -- the called names in text order
 abbrev pub called_names : List Labelled → List Identifier

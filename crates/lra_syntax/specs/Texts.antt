@@ -1,12 +1,9 @@
 -- Languages of tokens. A piece is a token with the level of nesting that it opens, or 0.
 use Rattle.std.specs.Prelude.{◌≡◌, ℕ, ◌⊎◌, List, [], ◌∷◌, ◌++◌, map}
-use Rattle.lra_base.specs.declared.refusals.Place.{Place}
-use Rattle.lra_base.specs.declared.number_types.NumberType.{NumberType}
-use Rattle.lra_syntax.specs.declared.tokens.Mark.{Mark}
-use Rattle.lra_syntax.specs.declared.tokens.Mark.TheVariants.{Comma}
+use Rattle.lra_base.specs.{declared.number_types.NumberType.NumberType, declared.refusals.Place.Place}
 use Rattle.lra_syntax.specs.declared.tokens.Kind.TheVariants.{Name, Number, Mark as MarkOf, End}
-use Rattle.lra_syntax.specs.declared.tokens.Token.{Token}
-use Rattle.lra_syntax.specs.declared.trees.Identifier.{Identifier}
+use Rattle.lra_syntax.specs.{declared.tokens.Mark.Mark, declared.tokens.Mark.TheVariants.Comma}
+use Rattle.lra_syntax.specs.{declared.tokens.Token.Token, declared.trees.Identifier.Identifier}
 
 abbrev pub Piece : Type 0
 Piece = Token × ℕ

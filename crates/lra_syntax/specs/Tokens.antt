@@ -1,16 +1,11 @@
 -- The tokens of a source (ISO/IEC 9899:2011, 5.1.1.2 and 6.4): its bytes are a sequence of gaps, which stand for
 -- nothing, and of spellings of tokens, each the longest one at its place.
 use Rattle.std.specs.Prelude.{◌≡◌, ◌≢◌, ℕ, ◌≤◌, ◌⊎◌, Bool, true, false, ◌||◌, nat_eq, List, [], ◌∷◌, ◌++◌, length}
-use Rattle.std.specs.Prelude.{codes, ⊤, not}
-use Rattle.std.specs.List.{list_all}
-use Rattle.lra_base.specs.declared.refusals.Place.{Place}
-use Rattle.lra_base.specs.Places.{place_after}
-use Rattle.lra_base.specs.declared.refusals.Cause.{Cause}
+use Rattle.std.specs.{List.list_all, Prelude.codes, Prelude.⊤, Prelude.not}
 use Rattle.lra_base.specs.declared.refusals.Cause.TheVariants.{BadByte, BadLiteral}
-use Rattle.lra_syntax.specs.declared.tokens.Token.{Token}
-use Rattle.lra_syntax.specs.declared.tokens.Kind.TheVariants.{End}
+use Rattle.lra_base.specs.{Places.place_after, declared.refusals.Cause.Cause, declared.refusals.Place.Place}
 use Rattle.lra_syntax.specs.Lexeme.{is_word_byte, is_number_word, IsLiteral, greatest_literal, IsOpen, Lexeme}
-use Rattle.lra_syntax.specs.Lexeme.{SpellsToken}
+use Rattle.lra_syntax.specs.{Lexeme.SpellsToken, declared.tokens.Kind.TheVariants.End, declared.tokens.Token.Token}
 
 -- gaps -------------------------------------------------------------------------------------------------------------
 

@@ -1,14 +1,11 @@
 -- Trees of sources, apart from where they lie in memory. A chain of operators nests to the left; a list is in text
 -- order.
 use Rattle.std.specs.Prelude.{ℕ, List, Option}
-use Rattle.lra_base.specs.declared.refusals.Place.{Place}
-use Rattle.lra_base.specs.declared.number_types.NumberType.{NumberType}
-use Rattle.lra_syntax.specs.declared.trees.Identifier.{Identifier}
-use Rattle.lra_syntax.specs.declared.trees.Parameter.{Parameter}
-use Rattle.lra_syntax.specs.declared.trees.SignedLiteral.{SignedLiteral}
-use Rattle.lra_syntax.specs.declared.trees.PlacedLabel.{PlacedLabel}
-use Rattle.lra_syntax.specs.declared.trees.ArrayLength.{ArrayLength}
 use Rattle.lra_base.specs.Operators.{Operator, Comparison}
+use Rattle.lra_base.specs.{declared.number_types.NumberType.NumberType, declared.refusals.Place.Place}
+use Rattle.lra_syntax.specs.declared.trees.SignedLiteral.{SignedLiteral}
+use Rattle.lra_syntax.specs.{declared.trees.ArrayLength.ArrayLength, declared.trees.Identifier.Identifier}
+use Rattle.lra_syntax.specs.{declared.trees.Parameter.Parameter, declared.trees.PlacedLabel.PlacedLabel}
 
 -- expressions (ISO/IEC 9899:2011, 6.5.1, 6.5.2.1, 6.5.3, 6.5.5, 6.5.6)
 mutual

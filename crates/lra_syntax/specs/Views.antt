@@ -1,52 +1,35 @@
 -- The tree that a value of the front end's types stands for: one step for each type, over trees of its parts.
 use Rattle.std.specs.Prelude.{List, [], ◌∷◌, map, option_map}
-use Rattle.lra_base.specs.declared.refusals.Place.{Place}
-use Rattle.lra_syntax.specs.declared.trees.Unary.{Unary}
-use Rattle.lra_syntax.specs.declared.trees.Unary.TheFolds.{fold-Unary, fold-Expr, fold-Term, fold-Factor, fold-Summand}
-use Rattle.lra_syntax.specs.declared.trees.Unary.TheOpen.{Unary-F, Factor-F, Term-F, Summand-F, Expr-F}
-use Rattle.lra_syntax.specs.declared.trees.Term.{Term}
-use Rattle.lra_syntax.specs.declared.trees.Factor.{Factor}
-use Rattle.lra_syntax.specs.declared.trees.Summand.{Summand}
-use Rattle.lra_syntax.specs.declared.trees.Expr.{Expr}
-use Rattle.lra_syntax.specs.declared.trees.FactorOperator.{FactorOperator}
-use Rattle.lra_syntax.specs.declared.trees.FactorOperator.TheVariants as factor
-use Rattle.lra_syntax.specs.declared.trees.SumOperator.{SumOperator}
-use Rattle.lra_syntax.specs.declared.trees.SumOperator.TheVariants as sum
-use Rattle.lra_syntax.specs.declared.trees.Negation.TheFolds.{fold-Negation, fold-Test, fold-Conjunction, fold-Cond}
-use Rattle.lra_syntax.specs.declared.trees.Negation.TheOpen.{Negation-F, Test-F, Conjunction-F, Cond-F}
-use Rattle.lra_syntax.specs.declared.trees.Negation.{Negation}
-use Rattle.lra_syntax.specs.declared.trees.Test.{Test}
-use Rattle.lra_syntax.specs.declared.trees.Conjunction.{Conjunction}
-use Rattle.lra_syntax.specs.declared.trees.Cond.{Cond}
-use Rattle.lra_syntax.specs.declared.trees.Call.{Call}
-use Rattle.lra_syntax.specs.declared.trees.Rvalue.{Rvalue}
-use Rattle.lra_syntax.specs.declared.trees.Rvalue.TheVariants as rvalue
-use Rattle.lra_syntax.specs.declared.trees.Step.{Step}
-use Rattle.lra_syntax.specs.declared.trees.Step.TheVariants as step
-use Rattle.lra_syntax.specs.declared.trees.Assign.{Assign}
-use Rattle.lra_syntax.specs.declared.trees.Assign.TheVariants as assign
-use Rattle.lra_syntax.specs.declared.trees.ScalarOrArray.{ScalarOrArray}
-use Rattle.lra_syntax.specs.declared.trees.ScalarOrArray.TheVariants as shape
-use Rattle.lra_syntax.specs.declared.trees.Declarator.{Declarator}
-use Rattle.lra_syntax.specs.declared.trees.Declaration.{Declaration}
-use Rattle.lra_syntax.specs.declared.trees.Init.{Init}
-use Rattle.lra_syntax.specs.declared.trees.Init.TheVariants as init
+use Rattle.lra_base.specs.{OperatorViews.comparison_view, OperatorViews.operator_view, declared.refusals.Place.Place}
 use Rattle.lra_syntax.specs.declared.trees.BlockItem.TheFolds.{fold-BlockItem, fold-CaseItem, fold-Stmt, fold-Block}
 use Rattle.lra_syntax.specs.declared.trees.BlockItem.TheFolds.{fold-Cases}
 use Rattle.lra_syntax.specs.declared.trees.BlockItem.TheOpen.{BlockItem-F, CaseItem-F, Stmt-F, Block-F, Cases-F}
-use Rattle.lra_syntax.specs.declared.trees.BlockItem.{BlockItem}
-use Rattle.lra_syntax.specs.declared.trees.CaseItem.{CaseItem}
-use Rattle.lra_syntax.specs.declared.trees.Cases.{Cases}
-use Rattle.lra_syntax.specs.declared.trees.Stmt.{Stmt}
-use Rattle.lra_syntax.specs.declared.trees.Block.{Block}
-use Rattle.lra_syntax.specs.declared.trees.Function.{Function}
-use Rattle.lra_syntax.specs.declared.trees.Global.{Global}
-use Rattle.lra_syntax.specs.declared.trees.Globals.{Globals}
 use Rattle.lra_syntax.specs.declared.trees.ExternalDeclaration.{ExternalDeclaration}
+use Rattle.lra_syntax.specs.declared.trees.Negation.TheFolds.{fold-Negation, fold-Test, fold-Conjunction, fold-Cond}
+use Rattle.lra_syntax.specs.declared.trees.Negation.TheOpen.{Negation-F, Test-F, Conjunction-F, Cond-F}
+use Rattle.lra_syntax.specs.declared.trees.Unary.TheFolds.{fold-Unary, fold-Expr, fold-Term, fold-Factor, fold-Summand}
+use Rattle.lra_syntax.specs.declared.trees.Unary.TheOpen.{Unary-F, Factor-F, Term-F, Summand-F, Expr-F}
+use Rattle.lra_syntax.specs.{declared.trees.Assign.Assign, declared.trees.Block.Block}
+use Rattle.lra_syntax.specs.{declared.trees.BlockItem.BlockItem, declared.trees.Call.Call}
+use Rattle.lra_syntax.specs.{declared.trees.CaseItem.CaseItem, declared.trees.Cases.Cases, declared.trees.Cond.Cond}
+use Rattle.lra_syntax.specs.{declared.trees.Conjunction.Conjunction, declared.trees.Declaration.Declaration}
+use Rattle.lra_syntax.specs.{declared.trees.Declarator.Declarator, declared.trees.Expr.Expr}
+use Rattle.lra_syntax.specs.{declared.trees.Factor.Factor, declared.trees.FactorOperator.FactorOperator}
+use Rattle.lra_syntax.specs.{declared.trees.Function.Function, declared.trees.Global.Global}
+use Rattle.lra_syntax.specs.{declared.trees.Globals.Globals, declared.trees.Init.Init, declared.trees.Negation.Negation}
+use Rattle.lra_syntax.specs.{declared.trees.Rvalue.Rvalue, declared.trees.ScalarOrArray.ScalarOrArray}
+use Rattle.lra_syntax.specs.{declared.trees.Step.Step, declared.trees.Stmt.Stmt, declared.trees.SumOperator.SumOperator}
+use Rattle.lra_syntax.specs.{declared.trees.Summand.Summand, declared.trees.Term.Term, declared.trees.Test.Test}
+use Rattle.lra_syntax.specs.{declared.trees.TranslationUnit.TranslationUnit, declared.trees.Unary.Unary}
+use Rattle.lra_syntax.specs.declared.trees.FactorOperator.TheVariants as factor
+use Rattle.lra_syntax.specs.declared.trees.SumOperator.TheVariants as sum
+use Rattle.lra_syntax.specs.declared.trees.Rvalue.TheVariants as rvalue
+use Rattle.lra_syntax.specs.declared.trees.Step.TheVariants as step
+use Rattle.lra_syntax.specs.declared.trees.Assign.TheVariants as assign
+use Rattle.lra_syntax.specs.declared.trees.ScalarOrArray.TheVariants as shape
+use Rattle.lra_syntax.specs.declared.trees.Init.TheVariants as init
 use Rattle.lra_syntax.specs.declared.trees.ExternalDeclaration.TheVariants as item
-use Rattle.lra_syntax.specs.declared.trees.TranslationUnit.{TranslationUnit}
 use Rattle.lra_syntax.specs.Trees as tree
-use Rattle.lra_base.specs.OperatorViews.{comparison_view, operator_view}
 
 -- expressions ------------------------------------------------------------------------------------------------------
 

@@ -4,11 +4,9 @@
 
 ghost use Rattle.std.specs.Prelude.{◌≡◌, ◌≢◌, ◌≤◌, ◌<◌, map, IfOk, MatchResult};
 ghost use Rattle.lra_syntax.specs.Trees.{ExprTree, value, test, conjunction};
-ghost use Rattle.lra_syntax.specs.Branches.{size_left};
-ghost use Rattle.lra_syntax.specs.declared.trees.Stmt.{size-Stmt};
-ghost use Rattle.lra_syntax.specs.declared.trees.BlockItem.{size-BlockItem};
-ghost use Rattle.lra_syntax.specs.declared.trees.CaseItem.{size-CaseItem};
 ghost use Rattle.lra_syntax.specs.Views.{all_tests, any_conjunction, expr_view, test_view, conjunction_view, cond_view};
+ghost use Rattle.lra_syntax.specs.{Branches.size_left, declared.trees.BlockItem.size-BlockItem};
+ghost use Rattle.lra_syntax.specs.{declared.trees.CaseItem.size-CaseItem, declared.trees.Stmt.size-Stmt};
 
 use crate::tokens::Word;
 use lra_base::{CaseLabel, Comparison, NumberType, Operator, Place};

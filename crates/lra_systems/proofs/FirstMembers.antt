@@ -1,13 +1,10 @@
 -- A list of rows with their kinds, gone through place by place.
-use Rattle.std.proofs.Common.{◌≡◌, ℕ, zero, suc, ◌<◌, ◌≤◌, ◌+◌, add-one, Bool, List, [], ◌∷◌, ◌++◌, length, take, drop}
-use Rattle.std.proofs.Common.{get_or, arith, ap, refl, sym, subst, ℤ, Result, Ok, Err, IsErr, IsOk}
+use Rattle.std.proofs.Common.{◌≡◌, ℕ, zero, suc, ◌<◌, ◌≤◌, ◌+◌, add-one, Bool, List, [], ◌∷◌, ◌++◌, length, take, drop, get_or, arith, ap, refl, sym, subst, ℤ, Result, Ok, Err, IsErr, IsOk}
+use Rattle.std.proofs.{lemmas.List.take_all, lemmas.List.Elements.All-nil, lemmas.List.Elements.All-push, lemmas.List.Elements.All-contains, lemmas.List.Elements.Contains-append_right}
 use Rattle.std.specs.List.{All, Contains}
-use Rattle.std.proofs.lemmas.List.{take_all}
-use Rattle.std.proofs.lemmas.List.Elements.{All-nil, All-push, All-contains, Contains-append_right}
 use Rattle.lra_linear_spec.specs.Descriptions.{LinearRow}
 use Rattle.lra_linear_spec.proofs.Membership.{contains_head}
-use Rattle.lra_systems.specs.LinearSystems.{rows_by_kind}
-use Rattle.lra_systems.specs.FirstPlaces.{FirstAt}
+use Rattle.lra_systems.specs.{FirstPlaces.FirstAt, LinearSystems.rows_by_kind}
 
 -- the member at a place, and those before it
 abbrev pub front : {K : Type 0} → (K → Bool) → List (List ℤ) → List K → ℕ → List LinearRow

@@ -1,11 +1,9 @@
 -- Lists of generators whose columns 0 are as their kinds ask.
 use Rattle.std.proofs.Common.{◌≡◌, ℕ, zero, suc, List, [], ◌∷◌, Some, inl, inr, refl, subst, ℤ}
 use Rattle.std.specs.Prelude.{slice_get}
-use Rattle.lra_linear_spec.specs.Descriptions.{LinearRow, IsGenerator, AreGenerators}
+use Rattle.lra_linear_spec.specs.{Descriptions.LinearRow, Descriptions.IsGenerator, Descriptions.AreGenerators, Kinds.is_line, declared.GenKind.GenKind}
 use Rattle.lra_linear_spec.proofs.Membership.{contains_none, contains_cases}
-use Rattle.lra_linear_spec.specs.declared.GenKind.{GenKind}
 use Rattle.lra_linear_spec.specs.declared.GenKind.TheVariants as gen
-use Rattle.lra_linear_spec.specs.Kinds.{is_line}
 use Rattle.lra_systems.specs.LinearSystems.{LinearSystem, rows_by_kind, generators, FitsKind, FitKinds}
 
 is_generator : (kind : GenKind) (r : List ℤ) → FitsKind kind r → IsGenerator (record { row = r; equal = is_line kind })

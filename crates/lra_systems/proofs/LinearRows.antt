@@ -1,9 +1,7 @@
 -- Rows with their kinds, and one more of them.
 use Rattle.std.proofs.Common.{◌≡◌, ℕ, ◌<◌, ◌+◌, Bool, List, [], ◌∷◌, ◌++◌, length, get_or, take, refl, ap, sym, ◌∙◌, arith, ℤ}
 use Rattle.std.proofs.lemmas.List.{take_more, length-take-le, take_all, get_or_default}
-use Rattle.lra_linear_spec.specs.Descriptions.{LinearRow}
-use Rattle.lra_linear_spec.specs.Kinds.{is_equality}
-use Rattle.lra_linear_spec.specs.declared.ConKind.{ConKind}
+use Rattle.lra_linear_spec.specs.{Descriptions.LinearRow, Kinds.is_equality, declared.ConKind.ConKind}
 use Rattle.lra_systems.specs.LinearSystems.{LinearSystem, constraints, rows_by_kind}
 
 pub constraints_push : {K : Type 0} (equal : K → Bool) (rows : List (List ℤ)) (kinds : List K) (r : List ℤ) (x : K) → length rows ≡ length kinds →

@@ -1,10 +1,8 @@
 -- Worked examples of membership: x1 is at least 0, and x1 + x2 is at most 4.
-use Rattle.std.proofs.Common.{List, [], ◌∷◌, pos, negsuc, refl, arith, ℤ}
-use Rattle.std.proofs.lemmas.Int.{ints}
-use Rattle.std.proofs.lemmas.List.Elements.{All-nil, All-cons}
+use Rattle.std.proofs.{Common.List, Common.[], Common.◌∷◌, Common.pos, Common.negsuc, Common.refl, Common.arith, Common.ℤ, lemmas.Int.ints, lemmas.List.Elements.All-nil, lemmas.List.Elements.All-cons}
 use Rattle.lra_linear_spec.specs.Descriptions.{LinearRow, inequality}
-use Rattle.lra_systems.specs.declared.membership.MembershipAnswer.TheVariants.{Yes, No, Wide}
 use Rattle.lra_systems.specs.Membership.{HoldsInRange, DecidesMembership}
+use Rattle.lra_systems.specs.declared.membership.MembershipAnswer.TheVariants.{Yes, No, Wide}
 
 abbrev first : LinearRow
 first = inequality (pos 0 ∷ pos 1 ∷ pos 0 ∷ [])

@@ -1,14 +1,11 @@
 -- What the answer to a constraint tells of a point, and what that of all tells of their set of points.
-use Rattle.std.proofs.Common.{◌≡◌, List, ◌∷◌, subst, sym, ℤ, Ok}
+use Rattle.std.proofs.{Common.◌≡◌, Common.List, Common.◌∷◌, Common.subst, Common.sym, Common.ℤ, Common.Ok, lemmas.List.Elements.All-contains, lemmas.List.Elements.Contains-append_right}
 use Rattle.std.specs.List.{Contains}
-use Rattle.std.proofs.lemmas.List.Elements.{All-contains, Contains-append_right}
-use Rattle.lra_linear_spec.specs.Vectors.{product}
-use Rattle.lra_linear_spec.specs.CheckedArithmetic.{checked_product}
-use Rattle.lra_linear_spec.specs.Descriptions.{LinearRow, HoldsWith}
+use Rattle.lra_linear_spec.specs.{CheckedArithmetic.checked_product, Descriptions.LinearRow, Descriptions.HoldsWith, Vectors.product}
 use Rattle.lra_linear_spec.proofs.Membership.{contains_head}
 use Rattle.lra_systems.specs.declared.membership.MembershipAnswer as H
-use Rattle.lra_systems.specs.declared.membership.MembershipAnswer.TheVariants.{Yes, No, Wide}
 use Rattle.lra_systems.specs.Membership.{HoldsInRange, FailsInRange, DecidesMembership, TellsMembership}
+use Rattle.lra_systems.specs.declared.membership.MembershipAnswer.TheVariants.{Yes, No, Wide}
 use Rattle.lra_systems.proofs.FirstMembers.{ok_of}
 
 -- ---- one constraint, with its product p

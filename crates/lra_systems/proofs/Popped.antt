@@ -1,8 +1,7 @@
 -- Lists whose last element is taken out.
 use Rattle.std.proofs.Common.{◌≡◌, ◌∙◌, ◌++◌, ◌∷◌, ◌<◌, ◌-◌, ℕ, List, [], Option, Some, None, ap, arith, length, sym, take}
+use Rattle.std.proofs.{Math.Seq.take-append_seam, lemmas.List.append-nil, lemmas.List.length-append, lemmas.List.length-take-le}
 use Rattle.std.specs.Prelude.{IsSome, option_to_list}
-use Rattle.std.proofs.lemmas.List.{append-nil, length-append, length-take-le}
-use Rattle.std.proofs.Math.Seq.{take-append_seam}
 
 none_popped : {A : Type 0} (xs ys : List A) → xs ≡ ys ++ [] → (0 < length xs → ⊥) → ys ≡ take (length xs - 1) xs
 none_popped [] ys e h = sym (append-nil ys) ∙ sym e

@@ -1,12 +1,10 @@
 -- Equality and order of lists: the dimensions, then the rows, then the kinds, whose own equality or order is given.
-use Rattle.std.specs.Prelude.{◌≡◌, Bool, nat_eq}
 use Rattle.std.specs.Cmp.{IsEquivalence, IsPartialEquivalence, IsTotalOrder, and_equiv, and_per, int_eq_equiv}
-use Rattle.std.specs.Cmp.{nat_cmp_total, nat_eq_equiv, on_equiv, on_per, on_total, partial_equiv_from_equiv}
-use Rattle.std.specs.Cmp.{then_total, unsigned_ties}
+use Rattle.std.specs.Cmp.{nat_cmp_total, nat_eq_equiv, on_equiv, on_per, on_total, partial_equiv_from_equiv, then_total}
 use Rattle.std.specs.Cmp.Derive.{on_tied, then_tied, tie}
 use Rattle.std.specs.Cmp.Lexicographic.{lists_equiv, lists_per, lists_ties, lists_total, pointwise, slice_cmp}
 use Rattle.std.specs.Ordering.{eq_by_cmp, eq_of_both, int_eq, nat_cmp, on, then_cmp}
-use Rattle.std.specs.declared.cmp.Ordering.{Ordering}
+use Rattle.std.specs.{Cmp.unsigned_ties, Prelude.◌≡◌, Prelude.Bool, Prelude.nat_eq, declared.cmp.Ordering.Ordering}
 use Rattle.lra_linear_spec.specs.RowOrder.{row_cmp}
 use Rattle.lra_linear_spec.proofs.RowOrder.{row_cmp_total}
 use Rattle.lra_row.specs.RowTies.{row_eq_by_cmp}

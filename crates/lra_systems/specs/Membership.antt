@@ -4,8 +4,8 @@ use Rattle.std.specs.Prelude.{ℤ, List, IsOk, IsErr, All}
 use Rattle.lra_linear_spec.specs.CheckedArithmetic.{checked_product}
 use Rattle.lra_linear_spec.specs.Descriptions.{LinearRow, Holds, Con}
 use Rattle.lra_systems.specs.FirstPlaces.{FirstAt}
-use Rattle.lra_systems.specs.declared.membership.MembershipAnswer as H
 use Rattle.lra_systems.specs.declared.membership.MembershipAnswer.TheVariants.{Yes, No, Wide}
+use Rattle.lra_systems.specs.declared.membership.MembershipAnswer as H
 
 -- the product stays in the range, and the constraint holds
 abbrev pub HoldsInRange : List ℤ → LinearRow → Type 0

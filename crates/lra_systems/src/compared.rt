@@ -1,12 +1,10 @@
 //! Equality, order and hash of lists: by the dimensions, then row by row, then kind by kind.
 
-ghost use Rattle.std.specs.Prelude.{◌++◌, refl};
-ghost use Rattle.std.specs.Cmp.{po, unsigned_Decides};
-ghost use Rattle.std.specs.Cmp.Rules.{signed_items};
+ghost use Rattle.std.specs.{Cmp.po, Cmp.unsigned_Decides, Cmp.Rules.signed_items, Prelude.◌++◌, Prelude.refl};
 ghost use Rattle.std.specs.Hash as fed;
 ghost use Rattle.std.specs.Ordering.{as_partial_cmp};
-ghost use Rattle.lra_systems.specs.Comparisons.{list_cmp, list_cmp_total, list_eq, list_eq_by_cmp};
-ghost use Rattle.lra_systems.specs.Comparisons.{list_eq_equiv, list_eq_per};
+ghost use Rattle.lra_systems.specs.Comparisons.{list_cmp, list_cmp_total, list_eq, list_eq_by_cmp, list_eq_equiv};
+ghost use Rattle.lra_systems.specs.Comparisons.{list_eq_per};
 
 use crate::system::System;
 use std::cmp::Ordering;

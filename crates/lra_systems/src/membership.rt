@@ -1,10 +1,10 @@
 //! Membership of a point in the solutions of constraints.
 
-ghost use Rattle.std.specs.Prelude.{◌≡◌, ◌↔◌, IsTrue, suc, pos, ◌<ℤ◌, ◌∷◌, length};
 ghost use Rattle.std.specs.List.{All};
+ghost use Rattle.std.specs.Prelude.{◌≡◌, ◌↔◌, IsTrue, suc, pos, ◌<ℤ◌, ◌∷◌, length};
 ghost use Rattle.lra_systems.specs.LinearSystems.{rows_by_kind, constraints};
-ghost use Rattle.lra_linear_spec.specs.Kinds.{is_equality};
 ghost use Rattle.lra_systems.specs.Membership.{DecidesMembership, TellsMembership};
+ghost use Rattle.lra_linear_spec.specs.Kinds.{is_equality};
 
 use crate::system::ConSys;
 use lra_linear_spec::ConKind;

@@ -1,11 +1,9 @@
 //! Rows of one width, each with a kind.
 
-ghost use Rattle.std.specs.Prelude.{◌≡◌, ◌++◌, ◌∷◌, [], suc, ◌<◌, ◌-◌, length, take, IfOk, OnOk, OnErr};
-ghost use Rattle.std.specs.Prelude.{Some, slice_get};
-ghost use Rattle.std.specs.List.{All};
+ghost use Rattle.std.specs.Prelude.{◌≡◌, ◌++◌, ◌∷◌, [], suc, ◌<◌, ◌-◌, length, take, IfOk, OnOk, OnErr, Some};
+ghost use Rattle.std.specs.{List.All, Prelude.slice_get};
 ghost use Rattle.lra_linear_spec.specs.Range.{InRange};
-ghost use Rattle.lra_systems.specs.Dimensions.{too_many_dimensions};
-ghost use Rattle.lra_systems.specs.LinearSystems.{FitsKind, FitKinds};
+ghost use Rattle.lra_systems.specs.{Dimensions.too_many_dimensions, LinearSystems.FitsKind, LinearSystems.FitKinds};
 
 use lra_linear_spec::{ConKind, GenKind};
 use lra_row::Row;
@@ -39,8 +37,7 @@ impl<K: Copy> Drop for System<K> {
 }
 
 impl<K: Copy> Model for System<K> {
-    ghost use Rattle.std.specs.Prelude.{◌≡◌, suc, length};
-    ghost use Rattle.std.specs.List.{All};
+    ghost use Rattle.std.specs.{List.All, Prelude.◌≡◌, Prelude.suc, Prelude.length};
     ghost use Rattle.lra_linear_spec.specs.Range.{InRange};
     ghost use Rattle.lra_systems.specs.LinearSystems.{LinearSystem};
 

@@ -1,16 +1,11 @@
 -- The tree of the worked example has each of its points once.
 use Rattle.std.proofs.Common.{◌≡◌, ℕ, zero, suc, ◌<◌, ◌≤◌, List, [], ◌∷◌, length, map, Option, Some, None, Bool, cond, inl, inr, refl, sym, ap, ◌∙◌, subst, arith}
+use Rattle.std.proofs.{lemmas.List.length-map, lemmas.Option.none-some, lemmas.Option.slice_get-map, lemmas.Option.slice_get_cases, lemmas.Option.slice_get_within}
 use Rattle.std.specs.Prelude.{slice_get, option_map}
-use Rattle.std.proofs.lemmas.List.{length-map}
-use Rattle.std.proofs.lemmas.Option.{none-some, slice_get-map, slice_get_cases, slice_get_within}
 use Rattle.lra_base.specs.declared.number_types.NumberType.{NumberType}
-use Rattle.lra_program.specs.Receivers.{variable_at}
-use Rattle.lra_program.specs.Program.{Expr, Cond}
-use Rattle.lra_program.specs.Step.{append, store_value}
-use Rattle.lra_operations.specs.Tree.{Node, point, act, check, seq, choose}
-use Rattle.lra_program.specs.Sites.{Site}
+use Rattle.lra_program.specs.{Program.Expr, Program.Cond, Receivers.variable_at, Sites.Site, Step.append, Step.store_value}
+use Rattle.lra_operations.specs.{Tree.Node, Tree.point, Tree.act, Tree.check, Tree.seq, Tree.choose, TreeViews.site_view}
 use Rattle.lra_operations.specs.declared.tree.Site as coded
-use Rattle.lra_operations.specs.TreeViews.{site_view}
 use Rattle.lra_fixpoint.specs.Numbers.{one_if, values_in, checks_in, asserts_of, IsNumbered}
 use Rattle.lra_tests_analyses.specs.Sample.{sample_asserts}
 use Rattle.lra_fixpoint.proofs.Counting.{one_other}

@@ -1,21 +1,16 @@
 -- The trees whose steps are judged fit the iteration, and have each of their points once; their values have few dimensions.
 use Rattle.std.proofs.Common.{◌≡◌, ◌∙◌, ℕ, zero, suc, ◌<◌, ◌≤◌, List, [], ◌∷◌, length, map, Some, None, refl, sym, ap, subst, arith, inl, inr}
+use Rattle.std.proofs.{lemmas.List.length-map, lemmas.Option.none-some, lemmas.Option.same_Some, lemmas.Option.slice_get-get_or}
 use Rattle.std.specs.Prelude.{slice_get, All, get_or}
-use Rattle.std.proofs.lemmas.List.{length-map}
-use Rattle.std.proofs.lemmas.Option.{none-some, same_Some, slice_get-get_or}
 use Rattle.lra_linear_spec.proofs.Membership.{contains_none, contains_cases}
 use Rattle.lra_domain.specs.Abstraction.{Abstraction}
 use Rattle.lra_operations.specs.declared.tree.Site as coded
-use Rattle.lra_operations.specs.TreeViews.{site_view}
-use Rattle.lra_operations.specs.CheckedOperations.{OpAtPoint, accessing_ops, computing_ops}
-use Rattle.lra_program.specs.Sites.{Site}
-use Rattle.lra_program.specs.Step.{Op}
+use Rattle.lra_operations.specs.{CheckedOperations.OpAtPoint, CheckedOperations.accessing_ops, CheckedOperations.computing_ops, TreeViews.site_view}
+use Rattle.lra_program.specs.{Sites.Site, Step.Op}
 use Rattle.lra_transfer.specs.Changes.{OpFitsDims}
-use Rattle.lra_analysis_spec.specs.Live.{live_after_op}
-use Rattle.lra_analysis_spec.specs.LiveLimit.{most_live}
+use Rattle.lra_analysis_spec.specs.{Live.live_after_op, LiveLimit.most_live}
 use Rattle.lra_pass_results.specs.Dimensions.{TreeFits}
-use Rattle.lra_fixpoint.specs.Lives.{PointsHave, AreWide}
-use Rattle.lra_fixpoint.specs.Numbers.{one_if, values_in, checks_in, asserts_of, IsNumbered}
+use Rattle.lra_fixpoint.specs.{Lives.PointsHave, Lives.AreWide, Numbers.one_if, Numbers.values_in, Numbers.checks_in, Numbers.asserts_of, Numbers.IsNumbered}
 use Rattle.lra_fixpoint.proofs.Counting.{one_other}
 use Rattle.lra_overflow_checks.specs.Judged.{AreBelow}
 use Rattle.lra_tests_analyses.specs.Steps.{accesses_tree, steps_tree, steps_sites, tree_of}

@@ -2,8 +2,7 @@
 //! end, with an array `a` of 3, by the values of its analyses.
 
 ghost use Rattle.std.specs.Prelude.{◌≡◌, map, true, IfOk};
-ghost use Rattle.lra_program.specs.ProgramViews.{cond_view, expr_view};
-ghost use Rattle.lra_program.specs.Step.{test};
+ghost use Rattle.lra_program.specs.{ProgramViews.cond_view, ProgramViews.expr_view, Step.test};
 ghost use Rattle.lra_operations.specs.TreeViews.{node_view, op_view, site_view};
 ghost use Rattle.lra_tests_analyses.specs.Steps.{a, a_at, accesses_tree, is_inside, place, steps_sites, written};
 

@@ -1,10 +1,9 @@
 //! Worked rows.
 
-ghost use Rattle.std.specs.Prelude.{◌≡◌, ◌+◌, ◌∷◌, [], length, IfOk, OnOk};
 ghost use Rattle.std.specs.List.{All};
+ghost use Rattle.std.specs.Prelude.{◌≡◌, ◌+◌, ◌∷◌, [], length, IfOk, OnOk};
 ghost use Rattle.lra_linear_spec.specs.Range.{InRange};
-ghost use Rattle.lra_canonical.specs.Reduced.{IsEchelonForm};
-ghost use Rattle.lra_canonical.specs.Echelons.{HaveOneWidth};
+ghost use Rattle.lra_canonical.specs.{Echelons.HaveOneWidth, Reduced.IsEchelonForm};
 
 use lra_bits::{BitRow, SatMatrix};
 use lra_canonical::{Order, canonical_order, drop_redundant, echelon, reduce};

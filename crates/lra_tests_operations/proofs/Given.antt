@@ -1,23 +1,17 @@
 -- States and verdicts of points, one point more at a time.
-use Rattle.std.proofs.Common.{◌≡◌, ◌∙◌, sym, ap, refl, subst, ◌+◌, ◌<◌, ℕ, zero, suc, Bool, true, false, List, [], ◌∷◌, ◌++◌, length, map, take, get_or, Some, inl, inr, ◌⊎◌, length-append}
-use Rattle.std.proofs.Common.{Vec, Global, arith}
-use Rattle.std.specs.Prelude.{slice_get, IsTrue}
-use Rattle.std.specs.List.{AllByRecursion, Contains}
-use Rattle.std.proofs.lemmas.List.{map_more, length-map, length-take-le, map-append}
+use Rattle.std.proofs.Common.{◌≡◌, ◌∙◌, sym, ap, refl, subst, ◌+◌, ◌<◌, ℕ, zero, suc, Bool, true, false, List, [], ◌∷◌, ◌++◌, length, map, take, get_or, Some, inl, inr, ◌⊎◌, length-append, Vec}
 use Rattle.std.proofs.lemmas.List.Elements.{Contains-append_left, Contains-append_right, Contains-push_cases, Contains-get_or}
 use Rattle.std.proofs.lemmas.Option.{same_Some, none-some, slice_get_within, get_or_from_slice_get}
+use Rattle.std.proofs.{Common.Global, Common.arith, lemmas.List.map_more, lemmas.List.length-map, lemmas.List.length-take-le, lemmas.List.map-append}
+use Rattle.std.specs.{List.AllByRecursion, List.Contains, Prelude.slice_get, Prelude.IsTrue}
 use Rattle.lra_linear_spec.proofs.Membership.{contains_head, contains_none}
 use Rattle.lra_syntax.specs.Trees.{FileTree}
 use Rattle.lra_resolution_spec.specs.Resolve.{resolve}
-use Rattle.lra_program.specs.Program.{Program}
-use Rattle.lra_program.specs.Sites.{Site, sites_of}
+use Rattle.lra_program.specs.{Program.Program, Sites.Site, Sites.sites_of}
 use Rattle.lra_row_text.specs.Part.{Part}
-use Rattle.lra_report.specs.Report.{Invariant}
-use Rattle.lra_operations.specs.Agree.{IsInlinedTree}
-use Rattle.lra_operations.specs.Tree.{Node}
+use Rattle.lra_report.specs.{Listing.HasWidth, Report.Invariant}
+use Rattle.lra_operations.specs.{Agree.IsInlinedTree, Tree.Node, TreeViews.site_view}
 use Rattle.lra_operations.specs.declared.tree.Site as code_site
-use Rattle.lra_operations.specs.TreeViews.{site_view}
-use Rattle.lra_report.specs.Listing.{HasWidth}
 use Rattle.lra_report_build.specs.AnalysisResults.{IsAssertion, AreInvariants, AreVerdicts}
 
 -- a place of a list with one element more is a place of the list, or the last

@@ -1,17 +1,10 @@
 -- The programs of sources that are read are well-formed.
 use Rattle.std.proofs.Common.{◌≡◌, ℕ, List, [], sym, subst}
-use Rattle.lra_syntax.specs.declared.tokens.Token.{Token}
-use Rattle.lra_syntax.specs.Trees.{FileTree}
-use Rattle.lra_syntax.specs.Tokens.{Lex}
-use Rattle.lra_syntax.specs.Faults.{IsTree}
-use Rattle.lra_syntax.specs.Grammar.{Spells}
-use Rattle.lra_resolution_spec.specs.NameFaults.{name_faults}
-use Rattle.lra_resolution_spec.specs.Resolve.{resolve}
-use Rattle.lra_program.specs.Program.{Program}
-use Rattle.lra_program.specs.WellFormed.{IsWellFormed}
+use Rattle.lra_syntax.specs.{Faults.IsTree, Grammar.Spells, Tokens.Lex, Trees.FileTree, declared.tokens.Token.Token}
+use Rattle.lra_resolution_spec.specs.{NameFaults.name_faults, Resolve.resolve}
+use Rattle.lra_program.specs.{Program.Program, WellFormed.IsWellFormed}
 use Rattle.lra_front_end.specs.Literals.{HasSmallLiterals}
-use Rattle.lra_front_end.proofs.Spelled.{spelled_are_small}
-use Rattle.lra_front_end.proofs.Whole.{well_formed}
+use Rattle.lra_front_end.proofs.{Spelled.spelled_are_small, Whole.well_formed}
 
 pub read_small : (source : List ℕ) (tokens given : List Token) (t : FileTree) → Lex source tokens → given ≡ tokens → IsTree Spells given t → HasSmallLiterals t
 read_small source tokens given t lexed same parsed =

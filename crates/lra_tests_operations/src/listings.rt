@@ -1,9 +1,8 @@
 //! A worked report.
 
-ghost use Rattle.std.specs.Prelude.{◌≡◌, ℕ, [], true, length, map, IfOk};
 ghost use Rattle.std.specs.List.{AllByRecursion};
-ghost use Rattle.lra_syntax.specs.Views.{tree_view};
-ghost use Rattle.lra_syntax.specs.Labels.{labels_of};
+ghost use Rattle.std.specs.Prelude.{◌≡◌, ℕ, [], true, length, map, IfOk};
+ghost use Rattle.lra_syntax.specs.{Labels.labels_of, Views.tree_view};
 ghost use Rattle.lra_resolution_spec.specs.Resolve.{resolve};
 ghost use Rattle.lra_program.specs.Sites.{sites_of};
 ghost use Rattle.lra_operations.specs.Agree.{IsInlinedTree};

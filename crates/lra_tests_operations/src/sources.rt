@@ -1,11 +1,9 @@
 //! From the text of a source to its tree and its program.
 
 ghost use Rattle.std.specs.Prelude.{◌≡◌, IfOk};
-ghost use Rattle.lra_syntax.specs.Views.{tree_view};
-ghost use Rattle.lra_syntax.specs.Labels.{labels_of};
+ghost use Rattle.lra_syntax.specs.{Labels.labels_of, Views.tree_view};
 ghost use Rattle.lra_resolution_spec.specs.Resolve.{resolve};
-ghost use Rattle.lra_program.specs.ProgramViews.{program_view};
-ghost use Rattle.lra_program.specs.WellFormed.{IsWellFormed};
+ghost use Rattle.lra_program.specs.{ProgramViews.program_view, WellFormed.IsWellFormed};
 ghost use Rattle.lra_front_end.specs.Literals.{HasSmallLiterals};
 
 use lra_base::{Cause, GREATEST_LENGTH, Place, Refusal, SourceError};

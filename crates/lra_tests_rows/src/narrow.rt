@@ -1,8 +1,7 @@
 //! Rows with numbers round 2^31, which are told to be narrow or not, against products of which each step is checked;
 //! rows of 8 columns, the most that stay inline, and of 9; and the order of rows.
 
-ghost use Rattle.std.specs.Prelude.{◌≡◌, length};
-ghost use Rattle.std.specs.List.{All};
+ghost use Rattle.std.specs.{List.All, Prelude.◌≡◌, Prelude.length};
 ghost use Rattle.lra_linear_spec.specs.Range.{InRange};
 
 use crate::words::{make_rows, product_by_steps};

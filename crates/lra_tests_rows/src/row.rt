@@ -1,9 +1,7 @@
 //! Worked rows.
 
-ghost use Rattle.std.specs.Prelude.{◌≡◌, ◌<ℤ◌, pos, length};
-ghost use Rattle.std.specs.List.{All};
-ghost use Rattle.lra_linear_spec.specs.Range.{InRange};
-ghost use Rattle.lra_linear_spec.specs.Vectors.{product};
+ghost use Rattle.std.specs.{List.All, Prelude.◌≡◌, Prelude.◌<ℤ◌, Prelude.pos, Prelude.length};
+ghost use Rattle.lra_linear_spec.specs.{Range.InRange, Vectors.product};
 
 use lra_row::{Excess, Operation, Row, RowError, add, floor_div, gcd, mul, ratio_cmp};
 use std::alloc::{AllocError, Global};

@@ -1,11 +1,9 @@
 -- What threads may do to each other by their intervals is what each is told of the others, and brings no variable.
 use Rattle.std.proofs.Common.{◌≡◌, ◌∙◌, ◌<◌, ℕ, ℤ, List, length, refl}
 use Rattle.lra_domain.specs.Interference as others
-use Rattle.lra_program.specs.Program.{Function, Program}
-use Rattle.lra_program.specs.Step.{State}
+use Rattle.lra_program.specs.{Program.Function, Program.Program, Step.State}
 use Rattle.lra_operations.specs.TracesAgree.{KeepsWidth}
-use Rattle.lra_threads_fixpoint.specs.Intervals.{IntervalRow, IntervalTable}
-use Rattle.lra_threads_fixpoint.specs.Interference.{MayWrite, interference_on, threads_interference, as_long}
+use Rattle.lra_threads_fixpoint.specs.{Interference.MayWrite, Interference.interference_on, Interference.threads_interference, Interference.as_long, Intervals.IntervalRow, Intervals.IntervalTable}
 use Rattle.lra_interference_sound.specs.CoversUnder.{MayBecome}
 use Rattle.lra_interleavings.specs.ThreadModular.{RepeatedWrites, none, more, OthersWrite, AreAllowed}
 use Rattle.lra_threads_analysis.specs.Written.{HasNumber, HasWritten}

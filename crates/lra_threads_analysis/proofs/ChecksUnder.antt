@@ -1,29 +1,17 @@
 -- What is asked at a point of a run among others, of the state that these left there, the thread's tree asks there.
 use Rattle.std.proofs.Common.{◌≡◌, ◌∙◌, ℕ, ℤ, List, [], ◌∷◌, ◌++◌, Option, Some, None, length, drop, refl, ap, ap₂, sym, subst}
+use Rattle.std.proofs.{Math.Seq.drop-length, Math.Seq.drop-append_seam, lemmas.List.append-nil, lemmas.Option.same_Some}
 use Rattle.std.specs.Prelude.{slice_get}
-use Rattle.std.proofs.Math.Seq.{drop-length, drop-append_seam}
-use Rattle.std.proofs.lemmas.List.{append-nil}
-use Rattle.std.proofs.lemmas.Option.{same_Some}
 use Rattle.lra_base.specs.declared.number_types.NumberType.{NumberType}
-use Rattle.lra_program.specs.declared.receivers.Receiver.{Receiver}
-use Rattle.lra_program.specs.Receivers.{variable_at}
-use Rattle.lra_program.specs.Program.{Element, Call, Rvalue, value, result, Stmt, absent, nothing, block, assign, write, call, if, loop}
-use Rattle.lra_program.specs.Program.{for, break, continue, return, assert, assume, switch, Program}
-use Rattle.lra_program.specs.Value.{◌>>=◌, number, index_of, first_draw, Argument}
-use Rattle.lra_program.specs.Step.{State, Op, append, push, push_for, run_op, arguments_for, CallContext, Item, run, declare, declare_array, all, end_of}
-use Rattle.lra_program.specs.Step.{next_round}
-use Rattle.lra_program.specs.Step.{cases, end_switch, end_for, return_frame, leave_call, receiver_of, return_target}
-use Rattle.lra_program.specs.Run.{Point}
-use Rattle.lra_program.specs.Traces.{Trace}
 use Rattle.lra_program.specs.NextOperation.{CallOpIs, RvalueOpIs, WriteOpIs, DeclaratorOpIs, StmtOpIs, NextOpIs}
-use Rattle.lra_program.specs.Sites.{Site, sites_of}
+use Rattle.lra_program.specs.Program.{Element, Call, Rvalue, value, result, Stmt, absent, nothing, block, assign, write, call, if, loop, for, break, continue, return, assert, assume, switch, Program}
+use Rattle.lra_program.specs.Step.{State, Op, append, push, push_for, run_op, arguments_for, CallContext, Item, run, declare, declare_array, all, end_of, next_round, cases, end_switch, end_for}
+use Rattle.lra_program.specs.Step.{return_frame, leave_call, receiver_of, return_target}
+use Rattle.lra_program.specs.Value.{◌>>=◌, number, index_of, first_draw, Argument}
+use Rattle.lra_program.specs.{Receivers.variable_at, Run.Point, Sites.Site, Sites.sites_of, Traces.Trace, declared.receivers.Receiver.Receiver}
 use Rattle.lra_program.proofs.TypeLaws.{bind_some}
-use Rattle.lra_operations.specs.Tree.{Node}
-use Rattle.lra_operations.specs.Agree.{IsInlinedTree, point_of, AreDistinct}
-use Rattle.lra_operations.specs.CheckedOperations.{HoldsWithFresh}
-use Rattle.lra_operations.specs.TracesAgree.{KeepsWidth}
-use Rattle.lra_inline_sound.proofs.NextOperations.{Question, Asks, all_in}
-use Rattle.lra_inline_sound.proofs.Reached.{reached}
+use Rattle.lra_operations.specs.{Agree.IsInlinedTree, Agree.point_of, Agree.AreDistinct, CheckedOperations.HoldsWithFresh, TracesAgree.KeepsWidth, Tree.Node}
+use Rattle.lra_inline_sound.proofs.{NextOperations.Question, NextOperations.Asks, NextOperations.all_in, Reached.reached}
 use Rattle.lra_interleavings.specs.ThreadModular.{NextOpIsThere}
 
 -- others change the first of these states to the second, which is as long and has the same draws

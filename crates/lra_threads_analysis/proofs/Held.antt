@@ -1,24 +1,13 @@
 -- The value at a point of a tree that is iterated over among others is formed, and has the stores of their runs.
 use Rattle.std.proofs.Common.{◌≡◌, ℕ, ℤ, List, length, Option, Some, None, Bool, subst}
 use Rattle.std.specs.Prelude.{slice_get}
-use Rattle.lra_domain.specs.Abstraction.{Abstraction}
-use Rattle.lra_domain.specs.Laws.{Laws}
-use Rattle.lra_domain.specs.Interference.{Interference}
-use Rattle.lra_program.specs.Program.{Program}
-use Rattle.lra_program.specs.WellFormed.{AreGoodGlobals}
-use Rattle.lra_program.specs.Step.{State}
-use Rattle.lra_program.specs.Traces.{Trace}
-use Rattle.lra_operations.specs.Tree.{Node}
-use Rattle.lra_operations.specs.Traces.{to_point}
-use Rattle.lra_analysis_spec.specs.Plan.{Plan}
-use Rattle.lra_analysis_spec.specs.Operations.{lossy_operations}
-use Rattle.lra_analysis_spec.specs.Pass.{noted, PassUnder}
-use Rattle.lra_analysis_spec.specs.UnderInterference.{absorbed}
-use Rattle.lra_analysis_spec.specs.Instrumented.{instrumented}
+use Rattle.lra_domain.specs.{Abstraction.Abstraction, Interference.Interference, Laws.Laws}
+use Rattle.lra_program.specs.{Program.Program, Step.State, Traces.Trace, WellFormed.AreGoodGlobals}
+use Rattle.lra_operations.specs.{Traces.to_point, Tree.Node}
+use Rattle.lra_analysis_spec.specs.{Instrumented.instrumented, Operations.lossy_operations, Pass.noted, Pass.PassUnder, Plan.Plan, UnderInterference.absorbed}
 use Rattle.lra_analysis_spec.proofs.Covers.{Has}
 use Rattle.lra_interference_sound.specs.CoversUnder.{MayBecome, stop}
-use Rattle.lra_fixpoint.specs.UnderInterference.{RunsUnder}
-use Rattle.lra_fixpoint.specs.Solved.{IsSolvedUnder}
+use Rattle.lra_fixpoint.specs.{Solved.IsSolvedUnder, UnderInterference.RunsUnder}
 use Rattle.lra_fixpoint.proofs.CoveringUnder.{begun_covers_among}
 
 module _ {V H : Type 0} (o : Interference V) (m : Abstraction V H) (laws : Laws m) (plan : Plan) (P : Program) (good : AreGoodGlobals P.globals) (g tree : Node)

@@ -1,50 +1,28 @@
 -- What the rounds of threads end with holds of all that the threads do beside each other.
 use Rattle.std.proofs.Common.{◌≡◌, ◌∙◌, ◌<◌, ℕ, ℤ, List, length, Some, Bool, true, refl, sym, ap, subst}
-use Rattle.std.specs.Prelude.{slice_get}
-use Rattle.std.specs.List.{Contains}
 use Rattle.std.proofs.lemmas.Option.{same_Some}
+use Rattle.std.specs.{List.Contains, Prelude.slice_get}
 use Rattle.lra_linear_spec.proofs.Membership.{map_from, map_has}
 use Rattle.lra_base.specs.declared.refusals.Place.{Place}
 use Rattle.lra_domain.specs.Interference.{Interference}
-use Rattle.lra_box.specs.Content.{BoxContent}
-use Rattle.lra_box.specs.Laws.{box_laws}
-use Rattle.lra_box.specs.Abstraction.{box_abstraction}
-use Rattle.lra_program.specs.Program.{Function, Program}
-use Rattle.lra_program.specs.Step.{State}
-use Rattle.lra_program.specs.Run.{Point}
-use Rattle.lra_program.specs.Traces.{Trace, Arrives, ViolatesAssertion}
-use Rattle.lra_program.specs.Accesses.{OpOutOfBounds}
-use Rattle.lra_program.specs.Sites.{Site, sites_of}
-use Rattle.lra_operations.specs.TreeViews.{node_view}
-use Rattle.lra_operations.specs.declared.tree.InlinedProgram.{InlinedProgram}
-use Rattle.lra_operations.specs.Agree.{point_of}
-use Rattle.lra_operations.specs.Traces.{Stop, to_point, to_failure, stopped}
+use Rattle.lra_box.specs.{Abstraction.box_abstraction, Content.BoxContent, Laws.box_laws}
+use Rattle.lra_program.specs.{Accesses.OpOutOfBounds, Program.Function, Program.Program, Run.Point, Sites.Site, Sites.sites_of, Step.State, Traces.Trace, Traces.Arrives, Traces.ViolatesAssertion}
 use Rattle.lra_operations.specs.TracesAgree.{KeepsWidth, point_at, TreeRunsUpTo, TracesAgree}
+use Rattle.lra_operations.specs.{Agree.point_of, Traces.Stop, Traces.to_point, Traces.to_failure, Traces.stopped, TreeViews.node_view, declared.tree.InlinedProgram.InlinedProgram}
 use Rattle.lra_operations.proofs.TraceUses.{renamed, goes_named}
-use Rattle.lra_inline_sound.proofs.Agreement.{traces_agree}
-use Rattle.lra_inline_sound.proofs.CheckedOperations.{trees_agree_on_accesses}
-use Rattle.lra_inline_sound.proofs.NextOperations.{strays}
-use Rattle.lra_inline_sound.proofs.DistinctSites.{distinct_sites}
+use Rattle.lra_inline_sound.proofs.{Agreement.traces_agree, CheckedOperations.trees_agree_on_accesses, DistinctSites.distinct_sites, NextOperations.strays}
 use Rattle.lra_analysis_spec.specs.Analysis.{IsUnreachable}
-use Rattle.lra_threads_fixpoint.specs.Interference.{threads_interference}
-use Rattle.lra_threads_fixpoint.specs.Rounds.{ThreadsFixpoint}
-use Rattle.lra_fixpoint.specs.UnderInterference.{begins, RunsUnder}
-use Rattle.lra_fixpoint.specs.Tables.{note_view}
+use Rattle.lra_threads_fixpoint.specs.{Interference.threads_interference, Rounds.ThreadsFixpoint}
+use Rattle.lra_fixpoint.specs.{Tables.note_view, UnderInterference.begins, UnderInterference.RunsUnder}
 use Rattle.lra_interleavings.specs.Interleavings.{thread_program, AtThread, FailsThread, OutOfBoundsThread}
 use Rattle.lra_interleavings.specs.ThreadModular.{NextOpIsThere, IsThreadModular}
 use Rattle.lra_interference_sound.specs.WritesAgree.{TreeWrites, TreesWriteWithin}
 use Rattle.lra_interference_sound.proofs.ByTrees.{woven_by_trees}
-use Rattle.lra_threads_analysis.specs.declared.found.ThreadResult.{ThreadResult}
 use Rattle.lra_threads_analysis.specs.Found.{thread_values, verdicts_of, notes_of, access_verdicts_of, write_in, writes_in, thread_finding}
-use Rattle.lra_threads_analysis.specs.Holding.{HoldsInRound, AllHold}
-use Rattle.lra_threads_analysis.specs.Written.{HasWritten}
 use Rattle.lra_threads_analysis.specs.Interleaved.{IsThread, AreThreads, HoldsInterleaved, ThreadsHold}
+use Rattle.lra_threads_analysis.specs.{Holding.HoldsInRound, Holding.AllHold, Written.HasWritten, declared.found.ThreadResult.ThreadResult}
 use Rattle.lra_threads_analysis.proofs.Allowed.{BecomesAmong, all_allowed, keeps_width}
-use Rattle.lra_threads_analysis.proofs.NotesWritten.{notes_written}
-use Rattle.lra_threads_analysis.proofs.NamedWrites.{gives_named}
-use Rattle.lra_threads_analysis.proofs.ChecksUnder.{asks_among}
-use Rattle.lra_threads_analysis.proofs.InsideHolds.{inside_holds}
-use Rattle.lra_threads_analysis.proofs.Held.{held_among}
+use Rattle.lra_threads_analysis.proofs.{ChecksUnder.asks_among, Held.held_among, InsideHolds.inside_holds, NamedWrites.gives_named, NotesWritten.notes_written}
 
 -- what is noted is a gift
 gift_listed : (found : ThreadResult) (q x : ℕ) (v : BoxContent) → Contains (notes_of found) (q, x, v) → Contains (writes_in found) (x, v)

@@ -1,21 +1,14 @@
 -- Where an access is told to be inside its array, the tree doesn't ask there of one that is outside.
 use Rattle.std.proofs.Common.{◌≡◌, ◌∙◌, ℕ, List, length, Option, Some, None, Bool, true, refl, sym, ap, subst}
-use Rattle.std.specs.Prelude.{slice_get}
-use Rattle.std.specs.List.{Contains}
 use Rattle.std.proofs.lemmas.Option.{same_Some, slice_get_read}
+use Rattle.std.specs.{List.Contains, Prelude.slice_get}
 use Rattle.lra_linear_spec.proofs.Membership.{map_from}
 use Rattle.lra_base.specs.declared.refusals.Place.{Place}
-use Rattle.lra_domain.specs.Abstraction.{Abstraction}
-use Rattle.lra_domain.specs.Laws.{Laws}
-use Rattle.lra_program.specs.Step.{State}
-use Rattle.lra_program.specs.Accesses.{op_accesses_any, OpOutOfBounds}
-use Rattle.lra_operations.specs.Tree.{Node}
-use Rattle.lra_operations.specs.CheckedOperations.{OpAtPoint, accessing_ops, HoldsAtPoint, AreOncePerPoint}
-use Rattle.lra_analysis_spec.specs.Operations.{lossy_operations}
-use Rattle.lra_analysis_spec.specs.Accesses.{InsideAtPoint, JudgesAccesses}
-use Rattle.lra_analysis_spec.specs.Judging.{answer_of}
-use Rattle.lra_analysis_spec.proofs.AccessesSound.{inside_never_stray}
-use Rattle.lra_analysis_spec.proofs.Covers.{Has}
+use Rattle.lra_domain.specs.{Abstraction.Abstraction, Laws.Laws}
+use Rattle.lra_program.specs.{Accesses.op_accesses_any, Accesses.OpOutOfBounds, Step.State}
+use Rattle.lra_operations.specs.{CheckedOperations.OpAtPoint, CheckedOperations.accessing_ops, CheckedOperations.HoldsAtPoint, CheckedOperations.AreOncePerPoint, Tree.Node}
+use Rattle.lra_analysis_spec.specs.{Accesses.InsideAtPoint, Accesses.JudgesAccesses, Judging.answer_of, Operations.lossy_operations}
+use Rattle.lra_analysis_spec.proofs.{AccessesSound.inside_never_stray, Covers.Has}
 
 -- what is told of accesses
 abbrev Told : Type 0

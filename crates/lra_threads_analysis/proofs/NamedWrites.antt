@@ -1,12 +1,9 @@
 -- What a tree's run gives on a trail with other names of its points, it gives on one with the points' own names.
 use Rattle.std.proofs.Common.{◌≡◌, ℕ, zero, suc, Bool, true, false, ◌||◌, inl, inr, refl, ap, subst}
-use Rattle.lra_base.specs.declared.case_labels.CaseLabel.{CaseLabel}
-use Rattle.lra_base.specs.CaseLabels.{is_same_case}
-use Rattle.lra_program.specs.Program.{Cond}
-use Rattle.lra_program.specs.Step.{State, test}
-use Rattle.lra_program.specs.Traces.{Trace}
-use Rattle.lra_operations.specs.Tree.{Node, empty, probe, point, act, check, seq, choose, iterate, catch, leave, select, Arms, no_arms, entry, arm}
+use Rattle.lra_base.specs.{CaseLabels.is_same_case, declared.case_labels.CaseLabel.CaseLabel}
+use Rattle.lra_program.specs.{Program.Cond, Step.State, Step.test, Traces.Trace}
 use Rattle.lra_operations.specs.Traces.{to_end, RunsUpTo, TrailRounds}
+use Rattle.lra_operations.specs.Tree.{Node, empty, probe, point, act, check, seq, choose, iterate, catch, leave, select, Arms, no_arms, entry, arm}
 use Rattle.lra_operations.proofs.TraceUses.{renamed, goes_named}
 use Rattle.lra_analysis_spec.specs.Instrumented as opened
 

@@ -1,22 +1,13 @@
 -- What is noted of a thread is in its intervals: a number of a store that a note's value has.
-use Rattle.std.proofs.Common.{◌≡◌, ◌∙◌, ◌+◌, ◌<◌, ℕ, zero, suc, ℤ, Bool, true, false, nat_eq, List, [], ◌∷◌, Option, None, Some, map}
-use Rattle.std.proofs.Common.{refl, ap, sym, subst, arith, inl, inr}
-use Rattle.std.specs.Prelude.{if◌then◌else◌, slice_get}
-use Rattle.std.specs.Option.{option_map}
-use Rattle.std.specs.List.{Contains}
-use Rattle.std.proofs.lemmas.Bool.Decides.{nat_tests}
-use Rattle.std.proofs.lemmas.Option.{same_Some, none-some, slice_get-map}
+use Rattle.std.proofs.Common.{◌≡◌, ◌∙◌, ◌+◌, ◌<◌, ℕ, zero, suc, ℤ, Bool, true, false, nat_eq, List, [], ◌∷◌, Option, None, Some, map, refl, ap, sym, subst, arith, inl, inr}
+use Rattle.std.proofs.{lemmas.Bool.Decides.nat_tests, lemmas.Option.same_Some, lemmas.Option.none-some, lemmas.Option.slice_get-map}
+use Rattle.std.specs.{List.Contains, Option.option_map, Prelude.if◌then◌else◌, Prelude.slice_get}
 use Rattle.lra_linear_spec.proofs.Membership.{contains_cases, contains_none}
-use Rattle.lra_box.specs.declared.interval.Interval.{Interval}
-use Rattle.lra_box.specs.Bounds.{InInterval}
-use Rattle.lra_box.specs.Content.{BoxContent}
-use Rattle.lra_box.specs.Covering.{has_wider}
-use Rattle.lra_box.specs.Abstraction.{BoxGamma}
 use Rattle.lra_box.specs.Tables.{has_bounds, bound_at, IntervalWithin}
+use Rattle.lra_box.specs.{Abstraction.BoxGamma, Bounds.InInterval, Content.BoxContent, Covering.has_wider, declared.interval.Interval.Interval}
 use Rattle.lra_box.proofs.AdmitLemmas.{bound_has}
 use Rattle.lra_threads_fixpoint.specs.Intervals.{IntervalRow, IntervalTable, joined_option, OptionWithin, EachHas, RowWithin, TableWithin}
-use Rattle.lra_threads_fixpoint.specs.Interference.{written_to, written_from, written_by}
-use Rattle.lra_threads_fixpoint.specs.Rounds.{ResultReadings, written_in}
+use Rattle.lra_threads_fixpoint.specs.{Interference.written_to, Interference.written_from, Interference.written_by, Rounds.ResultReadings, Rounds.written_in}
 use Rattle.lra_threads_analysis.specs.Written.{HasNumber, HasWritten}
 use Rattle.lra_threads_analysis.proofs.TellsAll.{IsIn, in_first, in_second}
 

@@ -1,17 +1,12 @@
 -- The accesses of a thread's own tree are those of the opened one; flags of accesses stand behind those of the iteration.
 use Rattle.std.proofs.Common.{◌≡◌, ◌∙◌, ◌⊎◌, ℕ, List, [], ◌∷◌, Bool, Option, None, Some, refl, ap, sym, subst, inl, inr}
 use Rattle.std.proofs.lemmas.Option.{none-some}
-use Rattle.lra_box.specs.Content.{BoxContent}
-use Rattle.lra_box.specs.Laws.{box_laws}
-use Rattle.lra_box.specs.Abstraction.{box_abstraction}
+use Rattle.lra_box.specs.{Abstraction.box_abstraction, Content.BoxContent, Laws.box_laws}
 use Rattle.lra_base.specs.declared.refusals.Place.{Place}
 use Rattle.lra_program.specs.Accesses.{op_accesses_any}
-use Rattle.lra_operations.specs.CheckedOperations.{OpAtPoint, accessing_ops}
-use Rattle.lra_operations.specs.Tree.{Node}
-use Rattle.lra_analysis_spec.specs.Accesses.{JudgesAccesses, OpInside}
-use Rattle.lra_analysis_spec.specs.Judging.{Finding, Finds, first_flagged}
-use Rattle.lra_analysis_spec.specs.Instrumented.{instrumented}
+use Rattle.lra_operations.specs.{CheckedOperations.OpAtPoint, CheckedOperations.accessing_ops, Tree.Node}
 use Rattle.lra_analysis_spec.specs.Operations.{exact_operations, lossy_operations, straining_operations}
+use Rattle.lra_analysis_spec.specs.{Accesses.JudgesAccesses, Accesses.OpInside, Instrumented.instrumented, Judging.Finding, Judging.Finds, Judging.first_flagged}
 use Rattle.lra_analysis_spec.proofs.OneAccess.{accesses_written, accesses_strained}
 use Rattle.lra_threads_instrument.proofs.InstrumentedTrees.{asks_opened}
 

@@ -1,14 +1,10 @@
 -- What judging accesses asks of the values that an iteration leaves.
 use Rattle.std.proofs.Common.{◌≡◌, ◌∙◌, ◌<◌, ℕ, zero, suc, List, [], ◌∷◌, length, get_or, Some, refl, sym, subst, arith}
+use Rattle.std.proofs.{lemmas.List.length-map, lemmas.Option.slice_get-get_or, lemmas.Option.slice_get_within, lemmas.Option.get_or_from_slice_get}
 use Rattle.std.specs.Prelude.{All, slice_get}
-use Rattle.std.proofs.lemmas.List.{length-map}
-use Rattle.std.proofs.lemmas.Option.{slice_get-get_or, slice_get_within, get_or_from_slice_get}
-use Rattle.lra_box.specs.Content.{BoxContent}
-use Rattle.lra_box.specs.Abstraction.{box_abstraction}
+use Rattle.lra_box.specs.{Abstraction.box_abstraction, Content.BoxContent}
 use Rattle.lra_program.specs.Sites.{Site}
-use Rattle.lra_operations.specs.CheckedOperations.{OpAtPoint}
-use Rattle.lra_operations.specs.TreeViews.{site_view}
-use Rattle.lra_operations.specs.declared.tree.InlinedProgram.{InlinedProgram}
+use Rattle.lra_operations.specs.{CheckedOperations.OpAtPoint, TreeViews.site_view, declared.tree.InlinedProgram.InlinedProgram}
 use Rattle.lra_analysis_spec.specs.LiveLimit.{most_live}
 use Rattle.lra_fixpoint.specs.Lives.{AreWide}
 use Rattle.lra_overflow_checks.specs.Judged.{AreBelow}

@@ -1,31 +1,20 @@
 -- What the rounds of threads end with.
 use Rattle.std.proofs.Common.{◌≡◌, ◌∙◌, ℕ, List, length, Option, None, Some, refl, ap, sym, subst, inl, inr}
+use Rattle.std.proofs.{lemmas.List.length-map, lemmas.Option.none-some, lemmas.Option.same_Some, lemmas.Option.slice_get-map}
 use Rattle.std.specs.Prelude.{slice_get, option_map}
-use Rattle.std.proofs.lemmas.List.{length-map}
-use Rattle.std.proofs.lemmas.Option.{none-some, same_Some, slice_get-map}
 use Rattle.lra_domain.specs.Interference.{Interference}
-use Rattle.lra_box.specs.Content.{BoxContent}
-use Rattle.lra_box.specs.Abstraction.{box_abstraction}
-use Rattle.lra_program.specs.Program.{Program}
-use Rattle.lra_program.specs.declared.program.GlobalVariable.{GlobalVariable}
-use Rattle.lra_operations.specs.Tree.{Node}
-use Rattle.lra_operations.specs.TreeViews.{node_view}
-use Rattle.lra_operations.specs.declared.tree.InlinedProgram.{InlinedProgram}
-use Rattle.lra_analysis_spec.specs.Analysis.{IsSolution}
-use Rattle.lra_analysis_spec.specs.Instrumented.{instrumented}
-use Rattle.lra_analysis_spec.specs.Plan.{Plan}
+use Rattle.lra_box.specs.{Abstraction.box_abstraction, Content.BoxContent}
+use Rattle.lra_program.specs.{Program.Program, declared.program.GlobalVariable.GlobalVariable}
+use Rattle.lra_operations.specs.{Tree.Node, TreeViews.node_view, declared.tree.InlinedProgram.InlinedProgram}
+use Rattle.lra_analysis_spec.specs.{Analysis.IsSolution, Instrumented.instrumented, Plan.Plan}
 use Rattle.lra_fixpoint.specs.Solved.{IsSolvedUnder}
-use Rattle.lra_threads_fixpoint.specs.Interference.{threads_interference}
-use Rattle.lra_threads_fixpoint.specs.Rounds.{AreThreadResults, AllRounds, ThreadsFixpoint}
+use Rattle.lra_threads_fixpoint.specs.{Interference.threads_interference, Rounds.AreThreadResults, Rounds.AllRounds, Rounds.ThreadsFixpoint}
 use Rattle.lra_threads_fixpoint.proofs.FlagLemmas.{unflagged, strained, settles}
-use Rattle.lra_threads_analysis.specs.declared.found.ThreadResult.{ThreadResult}
-use Rattle.lra_threads_analysis.specs.Analysed.{IsAnalysed, IsAnalysedOf}
-use Rattle.lra_threads_analysis.specs.Found.{AreInstrumented, HoldsOf, IsThreadResultOf, IsExactResultOf, StrainsAt, thread_finding}
-use Rattle.lra_threads_analysis.specs.Found.{thread_values, verdicts_of, notes_of, access_verdicts_of, flag_of_thread}
-use Rattle.lra_threads_analysis.specs.Holding.{AllHold, AreFlagged, HoldsInRound}
+use Rattle.lra_threads_analysis.specs.Found.{AreInstrumented, HoldsOf, IsThreadResultOf, IsExactResultOf, StrainsAt, thread_finding, thread_values, verdicts_of, notes_of, access_verdicts_of}
+use Rattle.lra_threads_analysis.specs.Found.{flag_of_thread}
+use Rattle.lra_threads_analysis.specs.{Analysed.IsAnalysed, Analysed.IsAnalysedOf, Holding.AllHold, Holding.AreFlagged, Holding.HoldsInRound, declared.found.ThreadResult.ThreadResult}
 use Rattle.lra_threads_analysis.proofs.OwnAccesses.{judged_own, none_before, accessed_written, by_flag}
-use Rattle.lra_threads_analysis.proofs.ReadyValues.{as_many_sites, same_place}
-use Rattle.lra_threads_analysis.proofs.RoundsOf.{all_told, all_fit}
+use Rattle.lra_threads_analysis.proofs.{ReadyValues.as_many_sites, ReadyValues.same_place, RoundsOf.all_told, RoundsOf.all_fit}
 
 -- an element there has its own in the list of which this is the image
 own_there : {A B : Type 0} (f : A → B) (o : Option A) (y : B) → option_map f o ≡ Some y → (x : A) × (o ≡ Some x) × (y ≡ f x)

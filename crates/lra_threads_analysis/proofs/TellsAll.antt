@@ -1,15 +1,11 @@
 -- A number in the interval of one thread's row is in that of the row that another thread is told.
 use Rattle.std.proofs.Common.{◌≡◌, ◌≢◌, ◌<◌, ℕ, zero, suc, ℤ, [], ◌∷◌, Option, None, Some, length, refl, ap, sym, subst, arith}
+use Rattle.std.proofs.{lemmas.List.length-replicate, lemmas.Option.same_Some, lemmas.Option.none-some}
 use Rattle.std.specs.Prelude.{slice_get}
-use Rattle.std.proofs.lemmas.List.{length-replicate}
-use Rattle.std.proofs.lemmas.Option.{same_Some, none-some}
-use Rattle.lra_box.specs.declared.interval.Interval.{Interval}
-use Rattle.lra_box.specs.Bounds.{InInterval}
-use Rattle.lra_box.specs.Tables.{joined_interval}
+use Rattle.lra_box.specs.{Bounds.InInterval, Tables.joined_interval, declared.interval.Interval.Interval}
 use Rattle.lra_box.proofs.AdmitLemmas.{joined_first, joined_second}
-use Rattle.lra_threads_fixpoint.specs.declared.growth.Growth.TheVariants.{Join}
 use Rattle.lra_threads_fixpoint.specs.Intervals.{IntervalRow, IntervalTable, no_values, joined_option, grown_option, grown_row}
-use Rattle.lra_threads_fixpoint.specs.Interference.{others_than, joined_rows, interference_on}
+use Rattle.lra_threads_fixpoint.specs.{Interference.others_than, Interference.joined_rows, Interference.interference_on, declared.growth.Growth.TheVariants.Join}
 use Rattle.lra_threads_fixpoint.proofs.ListLemmas.{ones_length}
 use Rattle.lra_threads_analysis.specs.Written.{HasNumber}
 

@@ -1,14 +1,10 @@
 -- Note by note, what a thread writes is taken in.
-use Rattle.std.proofs.Common.{◌≡◌, ◌∙◌, ◌+◌, ◌≤◌, ◌<◌, ℕ, suc, List, ◌∷◌, length, map, get_or, drop, drop-cons}
-use Rattle.std.proofs.Common.{ap, sym, subst, arith}
-use Rattle.lra_box.specs.Content.{BoxContent}
-use Rattle.lra_box.specs.Tables.{bound_at}
+use Rattle.std.proofs.Common.{◌≡◌, ◌∙◌, ◌+◌, ◌≤◌, ◌<◌, ℕ, suc, List, ◌∷◌, length, map, get_or, drop, drop-cons, ap, sym, subst, arith}
+use Rattle.lra_box.specs.{Content.BoxContent, Tables.bound_at}
 use Rattle.lra_fixpoint.specs.declared.tables.Note.{Note}
-use Rattle.lra_threads_fixpoint.specs.declared.growth.Growth.TheVariants.{Join}
 use Rattle.lra_threads_fixpoint.specs.Intervals.{IntervalRow, grown_option, no_values, updated}
-use Rattle.lra_threads_fixpoint.specs.Interference.{taken_all, written_by}
-use Rattle.lra_threads_fixpoint.proofs.ListLemmas.{drop_all}
-use Rattle.lra_threads_fixpoint.proofs.TakenLemmas.{taken_is_written}
+use Rattle.lra_threads_fixpoint.specs.{Interference.taken_all, Interference.written_by, declared.growth.Growth.TheVariants.Join}
+use Rattle.lra_threads_fixpoint.proofs.{ListLemmas.drop_all, TakenLemmas.taken_is_written}
 use Rattle.lra_threads_analysis.specs.Found.{write_in}
 
 pub none_taken : (globals count : ℕ) (notes : List (Note BoxContent)) (row : IntervalRow) → row ≡ no_values count → count ≡ globals

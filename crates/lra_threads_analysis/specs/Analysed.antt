@@ -1,23 +1,15 @@
 -- What the code finds of a thread by its graph, whose tree is opened already.
 use Rattle.std.specs.Prelude.{◌≡◌, ℕ, List, length, map, Some, slice_get}
 use Rattle.lra_domain.specs.Interference.{Interference}
-use Rattle.lra_box.specs.Content.{BoxContent}
-use Rattle.lra_box.specs.Abstraction.{box_abstraction}
+use Rattle.lra_box.specs.{Abstraction.box_abstraction, Content.BoxContent}
 use Rattle.lra_program.specs.Assertions.{assertions_from}
-use Rattle.lra_program.specs.Program.{Program}
-use Rattle.lra_program.specs.declared.program.GlobalVariable.{GlobalVariable}
-use Rattle.lra_operations.specs.Tree.{Node}
-use Rattle.lra_operations.specs.TreeViews.{node_view}
-use Rattle.lra_operations.specs.declared.tree.InlinedProgram.{InlinedProgram}
-use Rattle.lra_analysis_spec.specs.Accesses.{JudgesAccesses}
-use Rattle.lra_analysis_spec.specs.Instrumented.{instrumented}
+use Rattle.lra_program.specs.{Program.Program, declared.program.GlobalVariable.GlobalVariable}
+use Rattle.lra_operations.specs.{Tree.Node, TreeViews.node_view, declared.tree.InlinedProgram.InlinedProgram}
 use Rattle.lra_analysis_spec.specs.Operations.{lossy_operations}
-use Rattle.lra_analysis_spec.specs.Plan.{Plan}
-use Rattle.lra_fixpoint.specs.Lives.{AreWide, NotesHave}
-use Rattle.lra_fixpoint.specs.Solved.{IsSolvedUnder}
-use Rattle.lra_threads_analysis.specs.declared.found.ThreadResult.{ThreadResult}
+use Rattle.lra_analysis_spec.specs.{Accesses.JudgesAccesses, Instrumented.instrumented, Plan.Plan}
+use Rattle.lra_fixpoint.specs.{Lives.AreWide, Lives.NotesHave, Solved.IsSolvedUnder}
 use Rattle.lra_threads_analysis.specs.Found.{sites_in, thread_values, verdicts_of, notes_of, access_verdicts_of}
-use Rattle.lra_threads_analysis.specs.Found.{flag_of_thread, HoldsOf}
+use Rattle.lra_threads_analysis.specs.{Found.flag_of_thread, Found.HoldsOf, declared.found.ThreadResult.ThreadResult}
 
 -- the iteration over the graph among these others; what holds of the runs of the thread's own tree; as many values as
 -- points, and verdicts of all assertions; each value has a dimension for each variable that lives at its point, and

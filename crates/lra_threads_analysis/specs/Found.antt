@@ -1,33 +1,20 @@
 -- What is found of threads, each by its tree, among what the others give.
-use Rattle.std.specs.Prelude.{◌≡◌, ◌↔◌, ◌≤◌, ◌<◌, ◌⊎◌, ℕ, List, length, map, Bool, Option, None, Some, All, slice_get}
 use Rattle.std.specs.List.{Contains}
+use Rattle.std.specs.Prelude.{◌≡◌, ◌↔◌, ◌≤◌, ◌<◌, ◌⊎◌, ℕ, List, length, map, Bool, Option, None, Some, All, slice_get}
 use Rattle.lra_domain.specs.Interference.{Interference}
-use Rattle.lra_box.specs.Content.{BoxContent}
-use Rattle.lra_box.specs.Abstraction.{box_abstraction}
+use Rattle.lra_box.specs.{Abstraction.box_abstraction, Content.BoxContent}
 use Rattle.lra_base.specs.declared.refusals.Place.{Place}
-use Rattle.lra_program.specs.Program.{Program}
-use Rattle.lra_program.specs.Sites.{Site}
 use Rattle.lra_program.specs.declared.program.GlobalVariable.{GlobalVariable}
-use Rattle.lra_program.specs.WellFormed.{AreGoodGlobals}
-use Rattle.lra_operations.specs.CheckedOperations.{accessing_ops}
-use Rattle.lra_operations.specs.Tree.{Node}
-use Rattle.lra_operations.specs.TreeViews.{node_view, site_view}
-use Rattle.lra_operations.specs.declared.tree.InlinedProgram.{InlinedProgram}
-use Rattle.lra_analysis_spec.specs.Accesses.{JudgesAccesses}
-use Rattle.lra_analysis_spec.specs.Analysis.{IsSolution}
-use Rattle.lra_analysis_spec.specs.UnderInterference.{ExactIterationUnder, StrainsUnder}
-use Rattle.lra_analysis_spec.specs.Instrumented.{instrumented}
+use Rattle.lra_program.specs.{Program.Program, Sites.Site, WellFormed.AreGoodGlobals}
+use Rattle.lra_operations.specs.{CheckedOperations.accessing_ops, Tree.Node, TreeViews.node_view, TreeViews.site_view}
+use Rattle.lra_operations.specs.{declared.tree.InlinedProgram.InlinedProgram}
 use Rattle.lra_analysis_spec.specs.Operations.{exact_operations, lossy_operations, straining_operations}
-use Rattle.lra_analysis_spec.specs.Pass.{recorded, PassResult}
-use Rattle.lra_analysis_spec.specs.Plan.{Plan}
-use Rattle.lra_analysis_spec.specs.LiveLimit.{most_live}
+use Rattle.lra_analysis_spec.specs.UnderInterference.{ExactIterationUnder, StrainsUnder}
+use Rattle.lra_analysis_spec.specs.{Accesses.JudgesAccesses, Analysis.IsSolution, Instrumented.instrumented}
+use Rattle.lra_analysis_spec.specs.{LiveLimit.most_live, Pass.recorded, Pass.PassResult, Plan.Plan}
 use Rattle.lra_pass_results.specs.Dimensions.{TreeFits}
-use Rattle.lra_fixpoint.specs.Numbers.{IsNumbered}
-use Rattle.lra_fixpoint.specs.Lives.{PointsHave}
-use Rattle.lra_fixpoint.specs.Solved.{IsSolvedUnder}
-use Rattle.lra_fixpoint.specs.UnderInterference.{HoldsUnder}
-use Rattle.lra_fixpoint.specs.Tables.{note_view}
-use Rattle.lra_fixpoint.specs.declared.tables.Note.{Note}
+use Rattle.lra_fixpoint.specs.{Lives.PointsHave, Numbers.IsNumbered, Solved.IsSolvedUnder, Tables.note_view}
+use Rattle.lra_fixpoint.specs.{UnderInterference.HoldsUnder, declared.tables.Note.Note}
 use Rattle.lra_overflow_checks.specs.Judged.{AreBelow}
 use Rattle.lra_bounds_checks.specs.BoundsChecks.{reported_view}
 use Rattle.lra_threads_fixpoint.specs.Rounds.{ResultReadings}

@@ -1,27 +1,19 @@
 -- What the rounds of threads end with: of each thread it holds among what the others write.
 use Rattle.std.specs.Prelude.{◌≡◌, ℕ, List, length, map, Option, None, Some, slice_get}
 use Rattle.lra_program.specs.Assertions.{assertions_from}
-use Rattle.lra_program.specs.Program.{Program}
-use Rattle.lra_program.specs.declared.program.GlobalVariable.{GlobalVariable}
-use Rattle.lra_operations.specs.Tree.{Node}
-use Rattle.lra_operations.specs.TreeViews.{node_view}
-use Rattle.lra_operations.specs.declared.tree.InlinedProgram.{InlinedProgram}
-use Rattle.lra_analysis_spec.specs.Accesses.{JudgesAccesses}
-use Rattle.lra_analysis_spec.specs.Instrumented.{instrumented}
+use Rattle.lra_program.specs.{Program.Program, declared.program.GlobalVariable.GlobalVariable}
+use Rattle.lra_operations.specs.{Tree.Node, TreeViews.node_view, declared.tree.InlinedProgram.InlinedProgram}
 use Rattle.lra_analysis_spec.specs.Operations.{lossy_operations}
-use Rattle.lra_analysis_spec.specs.Plan.{Plan}
+use Rattle.lra_analysis_spec.specs.{Accesses.JudgesAccesses, Instrumented.instrumented, Plan.Plan}
 use Rattle.lra_box.specs.Abstraction.{box_abstraction}
-use Rattle.lra_fixpoint.specs.Lives.{AreWide, NotesHave}
-use Rattle.lra_fixpoint.specs.Solved.{IsSolvedUnder}
+use Rattle.lra_fixpoint.specs.{Lives.AreWide, Lives.NotesHave, Solved.IsSolvedUnder}
 use Rattle.lra_threads_fixpoint.specs.Intervals as intervals
 use Rattle.lra_threads_fixpoint.specs.Intervals.{TableWithin, empty_table}
-use Rattle.lra_threads_fixpoint.specs.Interference.{threads_interference}
 use Rattle.lra_threads_fixpoint.specs.Rounds.{AllRounds, ThreadsFixpoint, joining_rounds, written_in}
-use Rattle.lra_threads_fixpoint.specs.Flags.{ComesToStrain}
-use Rattle.lra_threads_analysis.specs.declared.found.ThreadResult.{ThreadResult}
+use Rattle.lra_threads_fixpoint.specs.{Flags.ComesToStrain, Interference.threads_interference}
 use Rattle.lra_threads_analysis.specs.Found.{sites_in, thread_values, verdicts_of, notes_of, access_verdicts_of}
-use Rattle.lra_threads_analysis.specs.Found.{flag_of_thread}
-use Rattle.lra_threads_analysis.specs.Found.{HoldsOf, IsExactResultOf, StrainsAt, thread_finding}
+use Rattle.lra_threads_analysis.specs.Found.{flag_of_thread, HoldsOf, IsExactResultOf, StrainsAt, thread_finding}
+use Rattle.lra_threads_analysis.specs.declared.found.ThreadResult.{ThreadResult}
 
 -- what was found of the k-th thread, whose own tree this is, is of an iteration among the others, as the table tells
 -- them, and holds in all runs of that tree among them; a value for each point, with a dimension for each variable that

@@ -1,26 +1,18 @@
 -- What the rounds of threads end with holds in every interleaving of the threads. Each thread's points have the numbers
 -- of its own program's points, from 0.
-use Rattle.std.specs.Prelude.{◌≡◌, ℕ, ℤ, List, length, Bool, true, Some, slice_get}
 use Rattle.std.specs.List.{Contains}
+use Rattle.std.specs.Prelude.{◌≡◌, ℕ, ℤ, List, length, Bool, true, Some, slice_get}
 use Rattle.lra_base.specs.declared.refusals.Place.{Place}
-use Rattle.lra_program.specs.Program.{Function, Program}
-use Rattle.lra_program.specs.Sites.{Site, sites_of}
-use Rattle.lra_program.specs.WellFormed.{IsWellFormed}
-use Rattle.lra_operations.specs.Tree.{Node}
-use Rattle.lra_operations.specs.TreeViews.{node_view}
-use Rattle.lra_operations.specs.declared.tree.InlinedProgram.{InlinedProgram}
+use Rattle.lra_program.specs.{Program.Function, Program.Program, Sites.Site, Sites.sites_of, WellFormed.IsWellFormed}
 use Rattle.lra_operations.specs.Agree.{IsInlinedTree, point_of}
-use Rattle.lra_analysis_spec.specs.Analysis.{IsUnreachable}
-use Rattle.lra_analysis_spec.specs.Instrumented.{instrumented}
-use Rattle.lra_box.specs.Content.{BoxContent}
-use Rattle.lra_box.specs.Abstraction.{box_abstraction}
+use Rattle.lra_operations.specs.{Tree.Node, TreeViews.node_view, declared.tree.InlinedProgram.InlinedProgram}
+use Rattle.lra_analysis_spec.specs.{Analysis.IsUnreachable, Instrumented.instrumented}
+use Rattle.lra_box.specs.{Abstraction.box_abstraction, Content.BoxContent}
 use Rattle.lra_threads_fixpoint.specs.Rounds.{ThreadsFixpoint}
 use Rattle.lra_interleavings.specs.Interleavings.{thread_program, AtThread, FailsThread, OutOfBoundsThread}
 use Rattle.lra_interleavings.specs.Interleavings.{ThreadWritesValue}
-use Rattle.lra_threads_analysis.specs.declared.found.ThreadResult.{ThreadResult}
 use Rattle.lra_threads_analysis.specs.Found.{thread_values, verdicts_of, access_verdicts_of}
-use Rattle.lra_threads_analysis.specs.Holding.{AllHold}
-use Rattle.lra_threads_analysis.specs.Written.{HasWritten}
+use Rattle.lra_threads_analysis.specs.{Holding.AllHold, Written.HasWritten, declared.found.ThreadResult.ThreadResult}
 
 module _ (P : Program) (fs : List Function) (end : ThreadsFixpoint ThreadResult) where
   pub record HoldsInterleaved : Type 0 where

@@ -1,9 +1,7 @@
 -- What threads write: the numbers in the intervals of a table.
 use Rattle.std.specs.Prelude.{◌≡◌, ℕ, ℤ, Some, slice_get}
-use Rattle.lra_box.specs.declared.interval.Interval.{Interval}
-use Rattle.lra_box.specs.Bounds.{InInterval}
-use Rattle.lra_threads_fixpoint.specs.Intervals.{IntervalRow, IntervalTable}
-use Rattle.lra_threads_fixpoint.specs.Interference.{interval_at}
+use Rattle.lra_box.specs.{Bounds.InInterval, declared.interval.Interval.Interval}
+use Rattle.lra_threads_fixpoint.specs.{Interference.interval_at, Intervals.IntervalRow, Intervals.IntervalTable}
 
 -- the row has an interval for the global x, and the number is in it
 abbrev pub HasNumber : IntervalRow → ℕ → ℤ → Type 0

@@ -1,13 +1,11 @@
 //! Threads as the graphs of their operations: each is iterated over among what the others give.
 
 ghost use Rattle.std.specs.Prelude.{◌≡◌, List, length, IfOk};
-ghost use Rattle.lra_threads_fixpoint.specs.Rounds.{AllRounds};
-ghost use Rattle.lra_threads_fixpoint.specs.Found.{fixpoint_view};
+ghost use Rattle.lra_threads_fixpoint.specs.{Found.fixpoint_view, Rounds.AllRounds};
 ghost use Rattle.lra_program.specs.Program.{Program};
 ghost use Rattle.lra_operations.specs.Tree.{Node};
 ghost use Rattle.lra_threads_analysis.specs.Found.{thread_finding, AreInstrumented, AreReady, IsThreadResultOf};
-ghost use Rattle.lra_threads_analysis.specs.Analysed.{IsAnalysedOf};
-ghost use Rattle.lra_threads_analysis.specs.Holding.{AllHold, AreFlagged};
+ghost use Rattle.lra_threads_analysis.specs.{Analysed.IsAnalysedOf, Holding.AllHold, Holding.AreFlagged};
 
 use crate::found::ThreadResult;
 use lra_bounds_checks::judge_accesses;

@@ -1,21 +1,14 @@
 -- What a box becomes for a row of intervals: it is formed, keeps its stores, and has what any number of gifts makes of them.
-use Rattle.std.proofs.Common.{◌≡◌, ◌∙◌, ◌+◌, ◌≤◌, ◌<◌, ℕ, zero, suc, ℤ, List, [], ◌∷◌}
-use Rattle.std.proofs.Common.{length, get_or, drop, drop-cons, Option, None, Some, refl, ap, sym, subst, arith}
+use Rattle.std.proofs.Common.{◌≡◌, ◌∙◌, ◌+◌, ◌≤◌, ◌<◌, ℕ, zero, suc, ℤ, List, [], ◌∷◌, length, get_or, drop, drop-cons, Option, None, Some, refl, ap, sym, subst, arith}
+use Rattle.std.proofs.{Math.ListN.length-set, lemmas.Option.same_Some}
 use Rattle.std.specs.Prelude.{slice_set}
-use Rattle.std.proofs.Math.ListN.{length-set}
-use Rattle.std.proofs.lemmas.Option.{same_Some}
-use Rattle.lra_domain.specs.declared.Exactness.TheVariants.{Exact}
-use Rattle.lra_domain.specs.Interference.{RelyClosure, none, more, Absorbs}
-use Rattle.lra_box.specs.declared.interval.Interval.{Interval}
-use Rattle.lra_box.specs.Bounds.{InInterval, InBounds}
-use Rattle.lra_box.specs.Content.{BoxContent, WellFormedBox, BoundsFit}
-use Rattle.lra_box.specs.Tables.{has_bounds, on_bounds, admitting, admitted}
-use Rattle.lra_box.specs.Abstraction.{BoxGamma, box_abstraction}
-use Rattle.lra_box.specs.Laws.{same_within}
+use Rattle.lra_domain.specs.{Interference.RelyClosure, Interference.none, Interference.more, Interference.Absorbs, declared.Exactness.TheVariants.Exact}
+use Rattle.lra_box.specs.{Abstraction.BoxGamma, Abstraction.box_abstraction, Bounds.InInterval, Bounds.InBounds, Content.BoxContent, Content.WellFormedBox, Content.BoundsFit, Laws.same_within}
+use Rattle.lra_box.specs.{Tables.has_bounds, Tables.on_bounds, Tables.admitting, Tables.admitted, declared.interval.Interval.Interval}
 use Rattle.lra_box.proofs.AdmitLemmas.{joined_first, joined_second, admitted_formed, admitted_stays}
 use Rattle.lra_threads_fixpoint.proofs.ListLemmas.{drop_all}
-use Rattle.lra_threads_fixpoint.specs.Intervals.{IntervalRow, OptionFits, RowFits}
 use Rattle.lra_threads_fixpoint.specs.Interference.{admitting_option, admitting_row, interval_at, MayWrite, row_interference}
+use Rattle.lra_threads_fixpoint.specs.Intervals.{IntervalRow, OptionFits, RowFits}
 
 -- formed, and with all stores --------------------------------------------------------------------------------------
 

@@ -1,18 +1,12 @@
 -- Why rounds end: the measure of the intervals, with the rounds of joining that are left, falls in each unsettled round.
-use Rattle.std.proofs.Common.{◌≡◌, ◌+◌, ◌-◌, ◌<◌, ◌≤◌, ◌⊎◌, inl, inr, ℕ, zero, suc, true, false, cond, ℤ, [], ◌∷◌, length, replicate}
-use Rattle.std.proofs.Common.{Option, None, Some, refl, ap, ap₂, sym, subst, ◌∙◌, arith}
-use Rattle.std.proofs.lemmas.List.{length-replicate}
-use Rattle.std.specs.Prelude.{◌≤ℤ◌, int_lt}
-use Rattle.std.proofs.lemmas.Int.{ints, clamps}
-use Rattle.std.specs.Int.{int_min, int_max}
+use Rattle.std.proofs.Common.{◌≡◌, ◌+◌, ◌-◌, ◌<◌, ◌≤◌, ◌⊎◌, inl, inr, ℕ, zero, suc, true, false, cond, ℤ, [], ◌∷◌, length, replicate, Option, None, Some, refl, ap, ap₂, sym, subst, ◌∙◌, arith}
+use Rattle.std.proofs.{lemmas.Int.ints, lemmas.Int.clamps, lemmas.List.length-replicate}
+use Rattle.std.specs.{Int.int_min, Int.int_max, Prelude.◌≤ℤ◌, Prelude.int_lt}
 use Rattle.lra_domain.specs.Bounds.{AtMost, finite, greater, stable, lesser_low}
-use Rattle.lra_box.specs.declared.interval.Interval.{Interval}
-use Rattle.lra_box.specs.Tables.{widened_low, LowWithin}
-use Rattle.lra_threads_fixpoint.specs.declared.growth.Growth.{Growth}
-use Rattle.lra_threads_fixpoint.specs.declared.growth.Growth.TheVariants.{Join, Widen}
-use Rattle.lra_threads_fixpoint.specs.Intervals.{IntervalRow, IntervalTable, OptionWithin, RowWithin, TableWithin, grown_option, grown_row, grown_table}
-use Rattle.lra_threads_fixpoint.specs.Intervals.{growth_of}
-use Rattle.lra_threads_fixpoint.specs.Intervals.{option_measure, row_measure, table_measure, AreRowsWide, empty_table}
+use Rattle.lra_box.specs.{Tables.widened_low, Tables.LowWithin, declared.interval.Interval.Interval}
+use Rattle.lra_threads_fixpoint.specs.Intervals.{IntervalRow, IntervalTable, OptionWithin, RowWithin, TableWithin, grown_option, grown_row, grown_table, growth_of, option_measure, row_measure}
+use Rattle.lra_threads_fixpoint.specs.Intervals.{table_measure, AreRowsWide, empty_table}
+use Rattle.lra_threads_fixpoint.specs.{declared.growth.Growth.Growth, declared.growth.Growth.TheVariants.Join, declared.growth.Growth.TheVariants.Widen}
 use Rattle.lra_threads_fixpoint.proofs.ListLemmas.{ones_length}
 
 finite_few : (o : Option ℤ) → finite o ≤ 1

@@ -1,15 +1,11 @@
 -- Bounds stay in range, and what a box tells of a place is in range.
 use Rattle.std.proofs.Common.{◌≡◌, ◌≤◌, ℕ, zero, suc, List, [], ◌∷◌, length, Option, None, Some, refl, ap, arith}
 use Rattle.std.specs.Prelude.{slice_index_or}
-use Rattle.lra_box.specs.declared.interval.Interval.{Interval}
-use Rattle.lra_box.specs.Bounds.{full_interval}
 use Rattle.lra_box.specs.Content.{BoxContent, WellFormedBox, BoundsFit, BoundsAreValid}
-use Rattle.lra_box.specs.Parts.{box_parts}
-use Rattle.lra_box.specs.Tables.{bound_at}
+use Rattle.lra_box.specs.{Bounds.full_interval, Parts.box_parts, Tables.bound_at, declared.interval.Interval.Interval}
 use Rattle.lra_box.proofs.SoundLemmas.{at_sound, low_range, high_range, widen_low_range, widen_high_range}
-use Rattle.lra_threads_fixpoint.specs.declared.growth.Growth.{Growth}
-use Rattle.lra_threads_fixpoint.specs.declared.growth.Growth.TheVariants.{Join, Widen}
 use Rattle.lra_threads_fixpoint.specs.Intervals.{IntervalRow, OptionFits, RowFits, grown_option, grown_row, updated, no_values}
+use Rattle.lra_threads_fixpoint.specs.{declared.growth.Growth.Growth, declared.growth.Growth.TheVariants.Join, declared.growth.Growth.TheVariants.Widen}
 
 option_fits : (growth : Growth) (i j : Option Interval) → OptionFits i → OptionFits j → OptionFits (grown_option growth i j)
 option_fits Join None j p q = q

@@ -1,15 +1,12 @@
 -- Without a flag all rounds are as they are without flags; a first flag stands where an analysis strains.
 use Rattle.std.proofs.Common.{◌≡◌, ◌∙◌, ◌+◌, ◌-◌, ℕ, zero, suc, List, [], ◌∷◌, length, Option, None, Some, refl, ap, sym, subst, arith}
-use Rattle.std.specs.Prelude.{slice_get}
 use Rattle.std.proofs.lemmas.Option.{same_Some, slice_get_within}
+use Rattle.std.specs.Prelude.{slice_get}
 use Rattle.lra_domain.specs.Interference.{Interference}
 use Rattle.lra_box.specs.Content.{BoxContent}
 use Rattle.lra_threads_fixpoint.specs.Intervals.{IntervalTable, TableWithin, empty_table, next_table}
-use Rattle.lra_threads_fixpoint.specs.Interference.{threads_interference}
-use Rattle.lra_threads_fixpoint.specs.Rounds.{ResultReadings, ThreadsFixpoint, flag_of, first_flag, flag_so_far, written_in, AreThreadResults, IsRound}
-use Rattle.lra_threads_fixpoint.specs.Rounds.{RoundsEndIn}
-use Rattle.lra_threads_fixpoint.specs.Rounds.{settled, unsettled, AllRounds, joining_rounds}
-use Rattle.lra_threads_fixpoint.specs.Flags.{ComesToStrain, here, later}
+use Rattle.lra_threads_fixpoint.specs.Rounds.{ResultReadings, ThreadsFixpoint, flag_of, first_flag, flag_so_far, written_in, AreThreadResults, IsRound, RoundsEndIn, settled, unsettled, AllRounds}
+use Rattle.lra_threads_fixpoint.specs.{Flags.ComesToStrain, Flags.here, Flags.later, Interference.threads_interference, Rounds.joining_rounds}
 
 so_far_none : (flag more : Option (ℕ × ℕ)) → flag_so_far flag more ≡ None → (flag ≡ None) × (more ≡ None)
 so_far_none None more e = (refl, e)

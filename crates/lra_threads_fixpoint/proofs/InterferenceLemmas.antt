@@ -1,19 +1,12 @@
 -- One by one, or at once: what is told of each global is the join of the others' intervals.
-use Rattle.std.proofs.Common.{◌≡◌, ◌∙◌, ◌+◌, ◌<◌, ℕ, zero, suc, ℤ, List, [], ◌∷◌, ◌++◌}
-use Rattle.std.proofs.Common.{take, drop, ap₂, length, replicate, Option, None, Some, refl, ap, sym, subst, arith}
-use Rattle.std.proofs.Math.Path.{fun_ext}
-use Rattle.std.proofs.lemmas.Int.{ints, clamps}
-use Rattle.std.proofs.lemmas.List.{length-replicate}
-use Rattle.lra_domain.specs.Bounds.{lesser_low, greater}
-use Rattle.lra_domain.specs.Interference.{Interference}
-use Rattle.lra_box.specs.declared.interval.Interval.{Interval}
-use Rattle.lra_box.specs.Content.{BoxContent}
-use Rattle.lra_box.specs.Tables.{on_bounds, joined_interval, admitting}
-use Rattle.lra_threads_fixpoint.specs.Intervals.{IntervalRow, IntervalTable, joined_option, grown_option, grown_row}
-use Rattle.lra_threads_fixpoint.specs.declared.growth.Growth.TheVariants.{Join}
+use Rattle.std.proofs.Common.{◌≡◌, ◌∙◌, ◌+◌, ◌<◌, ℕ, zero, suc, ℤ, List, [], ◌∷◌, ◌++◌, take, drop, ap₂, length, replicate, Option, None, Some, refl, ap, sym, subst, arith}
+use Rattle.std.proofs.{Math.Path.fun_ext, lemmas.Int.ints, lemmas.Int.clamps, lemmas.List.length-replicate}
+use Rattle.lra_domain.specs.{Bounds.lesser_low, Bounds.greater, Interference.Interference}
+use Rattle.lra_box.specs.{Content.BoxContent, Tables.on_bounds, Tables.joined_interval, Tables.admitting, declared.interval.Interval.Interval}
+use Rattle.lra_threads_fixpoint.specs.Interference.{admitting_option, admitting_all, admitting_row, interval_at, column, interfered_from, interfered, joined_rows, interference_on, row_interference}
+use Rattle.lra_threads_fixpoint.specs.Interference.{threads_interference, others_than}
+use Rattle.lra_threads_fixpoint.specs.{Intervals.IntervalRow, Intervals.IntervalTable, Intervals.joined_option, Intervals.grown_option, Intervals.grown_row, declared.growth.Growth.TheVariants.Join}
 use Rattle.lra_threads_fixpoint.proofs.ListLemmas.{ones_length}
-use Rattle.lra_threads_fixpoint.specs.Interference.{admitting_option, admitting_all, admitting_row, interval_at, column, interfered_from, interfered}
-use Rattle.lra_threads_fixpoint.specs.Interference.{joined_rows, interference_on, row_interference, threads_interference, others_than}
 
 -- joins ------------------------------------------------------------------------------------------------------------
 

@@ -1,6 +1,5 @@
 -- Lists whose elements take in those of another list, place by place.
-use Rattle.std.proofs.Common.{◌≡◌, ◌∙◌, ◌+◌, ◌≤◌, ◌<◌, ℕ, zero, suc, List, [], ◌∷◌}
-use Rattle.std.proofs.Common.{◌++◌, length, get_or, drop, drop-cons, replicate, refl, ap, sym, subst, arith}
+use Rattle.std.proofs.Common.{◌≡◌, ◌∙◌, ◌+◌, ◌≤◌, ◌<◌, ℕ, zero, suc, List, [], ◌∷◌, ◌++◌, length, get_or, drop, drop-cons, replicate, refl, ap, sym, subst, arith}
 use Rattle.std.specs.Prelude.{slice_set}
 use Rattle.lra_threads_fixpoint.specs.Intervals.{by_ones, updated}
 

@@ -1,9 +1,7 @@
 -- Worked examples: the intervals of two threads over one global, round by round.
-use Rattle.std.proofs.Common.{◌≡◌, ℤ, pos, [], ◌∷◌, None, Some, refl, arith}
-use Rattle.std.proofs.lemmas.Int.{ints}
+use Rattle.std.proofs.{Common.◌≡◌, Common.ℤ, Common.pos, Common.[], Common.◌∷◌, Common.None, Common.Some, Common.refl, Common.arith, lemmas.Int.ints}
 use Rattle.lra_box.specs.declared.interval.Interval.{Interval}
-use Rattle.lra_threads_fixpoint.specs.Intervals.{IntervalTable, empty_table, next_table, TableWithin, table_measure}
-use Rattle.lra_threads_fixpoint.specs.Interference.{interference_on}
+use Rattle.lra_threads_fixpoint.specs.{Interference.interference_on, Intervals.IntervalTable, Intervals.empty_table, Intervals.next_table, Intervals.TableWithin, Intervals.table_measure}
 
 abbrev from_to : ℤ → ℤ → Interval
 from_to low high = record { low = Some low; high = Some high }

@@ -1,14 +1,12 @@
 -- Thread by thread through a round, and round by round.
-use Rattle.std.proofs.Common.{◌≡◌, ◌∙◌, ◌+◌, ◌-◌, ℕ, zero, suc, List, [], ◌∷◌, ◌++◌, Bool}
-use Rattle.std.proofs.Common.{true, false, ◌↔◌, length, map, Option, None, Some, refl, ap, sym, subst, arith}
-use Rattle.std.specs.Prelude.{slice_get, IsTrue}
+use Rattle.std.proofs.Common.{◌≡◌, ◌∙◌, ◌+◌, ◌-◌, ℕ, zero, suc, List, [], ◌∷◌, ◌++◌, Bool, true, false, ◌↔◌, length, map, Option, None, Some, refl, ap, sym, subst, arith}
 use Rattle.std.proofs.lemmas.List.{length-map}
+use Rattle.std.specs.Prelude.{slice_get, IsTrue}
 use Rattle.lra_domain.specs.Interference.{Interference}
 use Rattle.lra_box.specs.Content.{BoxContent}
-use Rattle.lra_threads_fixpoint.specs.Intervals.{IntervalRow, IntervalTable, TableWithin, AreRowsWide, empty_table, grown_table, growth_of}
 use Rattle.lra_threads_fixpoint.specs.Interference.{threads_interference, row_interference, interference_on, written_by, written_from}
-use Rattle.lra_threads_fixpoint.specs.Rounds.{ResultReadings, ThreadsFixpoint, flag_of, first_flag, flag_so_far, written_in}
-use Rattle.lra_threads_fixpoint.specs.Rounds.{IsRound, RoundsEndIn, settled, unsettled, AllRounds, joining_rounds}
+use Rattle.lra_threads_fixpoint.specs.Intervals.{IntervalRow, IntervalTable, TableWithin, AreRowsWide, empty_table, grown_table, growth_of}
+use Rattle.lra_threads_fixpoint.specs.Rounds.{ResultReadings, ThreadsFixpoint, flag_of, first_flag, flag_so_far, written_in, IsRound, RoundsEndIn, settled, unsettled, AllRounds, joining_rounds}
 use Rattle.lra_threads_fixpoint.proofs.InterferenceLemmas.{telling_others}
 
 -- flags ------------------------------------------------------------------------------------------------------------

@@ -1,15 +1,10 @@
 -- Note by note, what a row takes in is of each global the join of the bounds that its notes tell.
-use Rattle.std.proofs.Common.{◌≡◌, ◌≢◌, ◌∙◌, ◌+◌, ◌<◌, ℕ, zero, suc, Bool, true, false}
-use Rattle.std.proofs.Common.{nat_eq, List, [], ◌∷◌, length, Option, None, refl, ap, sym, subst, arith}
+use Rattle.std.proofs.Common.{◌≡◌, ◌≢◌, ◌∙◌, ◌+◌, ◌<◌, ℕ, zero, suc, Bool, true, false, nat_eq, List, [], ◌∷◌, length, Option, None, refl, ap, sym, subst, arith}
+use Rattle.std.proofs.{lemmas.Bool.Decides.nat_tests, lemmas.List.length-replicate}
 use Rattle.std.specs.Prelude.{if◌then◌else◌}
-use Rattle.std.proofs.lemmas.List.{length-replicate}
-use Rattle.std.proofs.lemmas.Bool.Decides.{nat_tests}
-use Rattle.lra_box.specs.declared.interval.Interval.{Interval}
-use Rattle.lra_box.specs.Content.{BoxContent}
-use Rattle.lra_box.specs.Tables.{bound_at}
-use Rattle.lra_threads_fixpoint.specs.declared.growth.Growth.TheVariants.{Join}
-use Rattle.lra_threads_fixpoint.specs.Intervals.{IntervalRow, joined_option, grown_option, updated, no_values}
+use Rattle.lra_box.specs.{Content.BoxContent, Tables.bound_at, declared.interval.Interval.Interval}
 use Rattle.lra_threads_fixpoint.specs.Interference.{interval_at, written_to, written_from, written_by, taken_all}
+use Rattle.lra_threads_fixpoint.specs.{Intervals.IntervalRow, Intervals.joined_option, Intervals.grown_option, Intervals.updated, Intervals.no_values, declared.growth.Growth.TheVariants.Join}
 use Rattle.lra_threads_fixpoint.proofs.InterferenceLemmas.{option_again, joined_none, none_at}
 
 updated_length : (row : IntervalRow) (x : ℕ) (f : Option Interval → Option Interval) → length (updated x f row) ≡ length row

@@ -3,8 +3,7 @@ use Rattle.std.specs.Prelude.{◌≡◌, ◌<◌, ◌-◌, ℕ, List, length, No
 use Rattle.lra_domain.specs.Interference.{Interference}
 use Rattle.lra_box.specs.Content.{BoxContent}
 use Rattle.lra_threads_fixpoint.specs.Intervals.{IntervalTable, TableWithin, next_table}
-use Rattle.lra_threads_fixpoint.specs.Interference.{threads_interference}
-use Rattle.lra_threads_fixpoint.specs.Rounds.{ResultReadings, IsRound}
+use Rattle.lra_threads_fixpoint.specs.{Interference.threads_interference, Rounds.ResultReadings, Rounds.IsRound}
 
 -- The rounds go, each thread as IsFound says and without a flag, up to an analysis that strains: of this thread, at
 -- this point. Strains k others q: an analysis of the k-th thread among these others strains at q.

@@ -2,16 +2,12 @@
 -- writes.
 use Rattle.std.specs.Prelude.{◌≡◌, ◌++◌, ℕ, zero, suc, ℤ, List, [], ◌∷◌, take, drop, length, Option, None, Some}
 use Rattle.std.specs.Prelude.{slice_set, nat_eq, if◌then◌else◌}
-use Rattle.std.proofs.Common.{subst, sym}
-use Rattle.std.proofs.Math.ListN.{length-set}
+use Rattle.std.proofs.{Common.subst, Common.sym, Math.ListN.length-set}
 use Rattle.lra_domain.specs.Interference.{Interference}
-use Rattle.lra_box.specs.declared.interval.Interval.{Interval}
-use Rattle.lra_box.specs.Bounds.{InInterval}
-use Rattle.lra_box.specs.Content.{BoxContent}
 use Rattle.lra_box.specs.Tables.{bound_at, admitted}
+use Rattle.lra_box.specs.{Bounds.InInterval, Content.BoxContent, declared.interval.Interval.Interval}
 use Rattle.lra_threads_fixpoint.specs.Intervals.{IntervalRow, IntervalTable, no_values, joined_option, grown_option}
-use Rattle.lra_threads_fixpoint.specs.Intervals.{grown_row, updated}
-use Rattle.lra_threads_fixpoint.specs.declared.growth.Growth.TheVariants.{Join}
+use Rattle.lra_threads_fixpoint.specs.{Intervals.grown_row, Intervals.updated, declared.growth.Growth.TheVariants.Join}
 
 -- all but the k-th
 abbrev pub others_than : {A : Type 0} → ℕ → List A → List A

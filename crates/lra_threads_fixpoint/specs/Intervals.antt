@@ -1,9 +1,8 @@
 -- For each thread and scalar global an interval, or none while no value of the thread's was found for that global.
 use Rattle.std.specs.Prelude.{◌≡◌, ◌+◌, ℕ, zero, suc, List, [], ◌∷◌, length, Option, None, Some, ⊤, replicate}
 use Rattle.lra_domain.specs.Bounds.{finite, stable}
-use Rattle.lra_box.specs.declared.interval.Interval.{Interval}
-use Rattle.lra_box.specs.Bounds.{EndsInRange}
 use Rattle.lra_box.specs.Tables.{joined_interval, IntervalWithin, widened_low}
+use Rattle.lra_box.specs.{Bounds.EndsInRange, declared.interval.Interval.Interval}
 use Rattle.lra_threads_fixpoint.specs.declared.growth.Growth.{Growth}
 use Rattle.lra_threads_fixpoint.specs.declared.growth.Growth.TheVariants.{Join, Widen}
 

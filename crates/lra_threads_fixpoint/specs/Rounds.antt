@@ -3,8 +3,8 @@
 use Rattle.std.specs.Prelude.{◌≡◌, ◌-◌, ℕ, suc, List, [], ◌∷◌, length, map, Option, None, Some, slice_get}
 use Rattle.lra_domain.specs.Interference.{Interference}
 use Rattle.lra_box.specs.Content.{BoxContent}
-use Rattle.lra_threads_fixpoint.specs.Intervals.{IntervalTable, empty_table, TableWithin, next_table}
 use Rattle.lra_threads_fixpoint.specs.Interference.{threads_interference, written_by}
+use Rattle.lra_threads_fixpoint.specs.Intervals.{IntervalTable, empty_table, TableWithin, next_table}
 
 -- the rounds that join
 abbrev pub joining_rounds : ℕ

@@ -1,12 +1,10 @@
 //! For each global an interval, or none.
 
 ghost use Rattle.std.specs.Prelude.{◌≡◌, ◌↔◌, IfOk, IsTrue};
-ghost use Rattle.lra_box.specs.Content.{WellFormedBox};
-ghost use Rattle.lra_box.specs.Tables.{bound_at};
-ghost use Rattle.lra_threads_fixpoint.specs.Intervals.{grown_option, grown_row, no_values, updated, OptionFits};
-ghost use Rattle.lra_threads_fixpoint.specs.Intervals.{RowWithin};
-ghost use Rattle.lra_threads_fixpoint.specs.declared.growth.Growth.TheVariants.{Join};
+ghost use Rattle.lra_box.specs.{Content.WellFormedBox, Tables.bound_at};
 ghost use Rattle.lra_threads_fixpoint.specs.Interference.{admitting_option, row_interference};
+ghost use Rattle.lra_threads_fixpoint.specs.Intervals.{grown_option, grown_row, no_values, updated, OptionFits};
+ghost use Rattle.lra_threads_fixpoint.specs.{Intervals.RowWithin, declared.growth.Growth.TheVariants.Join};
 
 use crate::growth::Growth;
 use crate::rows::{all_within, grow_all, grow_at, nothing};

@@ -3,9 +3,9 @@
 ghost use Rattle.std.specs.Prelude.{◌≡◌, ◌<◌, ℕ, [], ◌∷◌, ◌++◌, None, length, IfOk};
 ghost use Rattle.lra_domain.specs.Interference.{Interference};
 ghost use Rattle.lra_box.specs.Content.{BoxContent};
+ghost use Rattle.lra_threads_fixpoint.specs.Found.{fixpoint_view};
 ghost use Rattle.lra_threads_fixpoint.specs.Interference.{row_interference, interference_on, written_by};
 ghost use Rattle.lra_threads_fixpoint.specs.Rounds.{flag_of, flag_so_far, ResultReadings, IsRound, AllRounds};
-ghost use Rattle.lra_threads_fixpoint.specs.Found.{fixpoint_view};
 
 use crate::intervals::Intervals;
 use crate::tables::{

@@ -1,9 +1,9 @@
 //! The intervals of all threads.
 
 ghost use Rattle.std.specs.Prelude.{◌≡◌, ◌↔◌, ◌<◌, length, IfOk, IsTrue};
+ghost use Rattle.lra_threads_fixpoint.specs.Interference.{joined_rows, interference_on};
 ghost use Rattle.lra_threads_fixpoint.specs.Intervals.{empty_table, grown_row, grown_table, growth_of, updated};
 ghost use Rattle.lra_threads_fixpoint.specs.Intervals.{TableWithin};
-ghost use Rattle.lra_threads_fixpoint.specs.Interference.{joined_rows, interference_on};
 
 use crate::growth::Growth;
 use crate::intervals::Intervals;

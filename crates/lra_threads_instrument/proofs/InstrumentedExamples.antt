@@ -1,12 +1,9 @@
 -- What others do, written into a small tree.
 use Rattle.std.proofs.Common.{◌≡◌, refl}
-use Rattle.lra_base.specs.declared.case_labels.CaseLabel.TheVariants.{Default}
-use Rattle.lra_base.specs.declared.number_types.NumberType.{NumberType}
-use Rattle.lra_program.specs.Program.{Cond, Expr}
-use Rattle.lra_program.specs.Receivers.{variable_at}
-use Rattle.lra_program.specs.Step.{store_value, havoc, truncate_to}
-use Rattle.lra_operations.specs.declared.probes.Probe.TheVariants.{InterferencePoint, RecordWrite}
+use Rattle.lra_base.specs.{declared.case_labels.CaseLabel.TheVariants.Default, declared.number_types.NumberType.NumberType}
+use Rattle.lra_program.specs.{Program.Cond, Program.Expr, Receivers.variable_at, Step.store_value, Step.havoc, Step.truncate_to}
 use Rattle.lra_operations.specs.Tree.{probe, point, act, seq, iterate, select, no_arms, entry, arm}
+use Rattle.lra_operations.specs.declared.probes.Probe.TheVariants.{InterferencePoint, RecordWrite}
 use Rattle.lra_analysis_spec.specs.Instrumented.{instrumented}
 
 -- a loop whose body gives the first variable a value: they act before its point, before the loop and at the end of a

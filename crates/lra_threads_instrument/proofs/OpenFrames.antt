@@ -1,34 +1,26 @@
 -- A tree that is opened along a list of open places: each step leaves what the whole becomes, and fewer steps.
-use Rattle.std.proofs.Common.{◌≡◌, ◌∙◌, ℕ, ◌+◌, ◌*◌, ◌<◌, ◌≤◌, List, [], ◌∷◌, ◌++◌, length, map, reverse, Box, Vec, Global}
-use Rattle.std.proofs.Common.{ap, refl, sym, arith}
+use Rattle.std.proofs.Common.{◌≡◌, ◌∙◌, ℕ, ◌+◌, ◌*◌, ◌<◌, ◌≤◌, List, [], ◌∷◌, ◌++◌, length, map, reverse, Box, Vec, Global, ap, refl, sym, arith}
+use Rattle.std.proofs.{lemmas.List.nil_from_length, lemmas.List.reverse-append, lemmas.List.reverse-reverse, lemmas.List.Sums.sum_by_push}
 use Rattle.std.specs.Prelude as outcome
-use Rattle.std.specs.Prelude.{IfOk}
-use Rattle.std.specs.List.{sum_by}
-use Rattle.std.proofs.lemmas.List.{nil_from_length, reverse-append, reverse-reverse}
-use Rattle.std.proofs.lemmas.List.Sums.{sum_by_push}
+use Rattle.std.specs.{List.sum_by, Prelude.IfOk}
 use Rattle.lra_base.specs.declared.case_labels.CaseLabel.{CaseLabel}
-use Rattle.lra_program.specs.declared.program.Expr.{Expr}
-use Rattle.lra_program.specs.ProgramViews.{expr_view}
-use Rattle.lra_operations.specs.declared.tree.Arm.{Arm}
+use Rattle.lra_program.specs.{ProgramViews.expr_view, declared.program.Expr.Expr}
+use Rattle.lra_operations.specs.TreeViews.{arm_view, arms_before, arms_of, node_view, row}
+use Rattle.lra_operations.specs.{Parts.whole_of, Sizes.arm_sizes, Sizes.arms_tree_sizes, Sizes.whole_size, declared.tree.Arm.Arm, declared.tree.Node.Node, declared.tree.Parts.Parts}
 use Rattle.lra_operations.specs.declared.tree.Arm.TheVariants as armed
-use Rattle.lra_operations.specs.declared.tree.Node.{Node}
 use Rattle.lra_operations.specs.declared.tree.Node.TheVariants as at
-use Rattle.lra_operations.specs.declared.tree.Parts.{Parts}
 use Rattle.lra_operations.specs.declared.tree.Parts.TheVariants as parts
 use Rattle.lra_operations.specs.Tree as graph
-use Rattle.lra_operations.specs.TreeViews.{arm_view, arms_before, arms_of, node_view, row}
-use Rattle.lra_operations.specs.Parts.{whole_of}
-use Rattle.lra_operations.specs.Sizes.{arm_sizes, arms_tree_sizes, whole_size}
 use Rattle.lra_operations.proofs.ArmViews.{entry_seen, tree_seen}
 use Rattle.lra_analysis_spec.specs.Instrumented.{instrumented, instrumented_arms}
 use Rattle.lra_threads_instrument.specs.declared.stack.Row as of_row
 use Rattle.lra_threads_instrument.specs.declared.stack.Selection as of_select
 use Rattle.lra_threads_instrument.specs.declared.stack.Next as next
-use Rattle.lra_threads_instrument.specs.declared.stack.Next.TheVariants.{Opens, Gives, Selects}
-use Rattle.lra_threads_instrument.specs.declared.stack.InstrumentFrame as place
-use Rattle.lra_threads_instrument.specs.declared.stack.InstrumentFrame.TheVariants.{Row, Last, Arm as arm_place}
 use Rattle.lra_threads_instrument.specs.Instrumented.{all_around, arms_of_left, around, row_of_left, row_whole, selection_whole, standing}
 use Rattle.lra_threads_instrument.specs.StepsLeft.{all_left, next_left, place_left, row_left, selection_left, tree_left, InstrumentStepLeads}
+use Rattle.lra_threads_instrument.specs.declared.stack.InstrumentFrame.TheVariants.{Row, Last, Arm as arm_place}
+use Rattle.lra_threads_instrument.specs.declared.stack.Next.TheVariants.{Opens, Gives, Selects}
+use Rattle.lra_threads_instrument.specs.declared.stack.InstrumentFrame as place
 use Rattle.lra_threads_instrument.proofs.PartViews.{arm_size_of, left_of, parts_size, parts_view, seen_as, some_left, view_of}
 use Rattle.lra_threads_instrument.proofs.Sums.{arms_pushed, arms_reversed, wholes_reversed}
 

@@ -3,13 +3,10 @@ use Rattle.std.proofs.Common.{rules, Box, Vec, Global, ◌≡◌, ◌∙◌, ℕ
 use Rattle.std.specs.List.{sum_by}
 use Rattle.lra_program.specs.ProgramViews.{cond_view, expr_view}
 use Rattle.lra_operations.specs.Tree as graph
-use Rattle.lra_operations.specs.TreeViews.{arm_view, arms_of, exit_view, node_view, op_view, row}
-use Rattle.lra_operations.specs.Parts.{whole_of}
-use Rattle.lra_operations.specs.Sizes.{arm_sizes, arms_tree_sizes, sizes, whole_size}
+use Rattle.lra_operations.specs.{Parts.whole_of, Sizes.arm_sizes, Sizes.arms_tree_sizes, Sizes.sizes, Sizes.whole_size, TreeViews.arm_view, TreeViews.arms_of, TreeViews.exit_view, TreeViews.node_view}
+use Rattle.lra_operations.specs.{TreeViews.op_view, TreeViews.row, declared.tree.Node.Node, declared.tree.Node.the_lemmas as node_lemmas, declared.tree.Parts.Parts}
 use Rattle.lra_operations.specs.declared.tree.Arm.TheVariants as armed
-use Rattle.lra_operations.specs.declared.tree.Node.{Node, the_lemmas as node_lemmas}
 use Rattle.lra_operations.specs.declared.tree.Node.TheVariants as at
-use Rattle.lra_operations.specs.declared.tree.Parts.{Parts}
 use Rattle.lra_operations.specs.declared.tree.Parts.TheVariants as parts
 use Rattle.lra_threads_instrument.specs.StepsLeft.{tree_left}
 use Rattle.lra_threads_instrument.proofs.Sums.{same_wholes}

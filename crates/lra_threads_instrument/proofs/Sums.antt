@@ -1,11 +1,8 @@
 -- How large the trees of a row are together, and the arms of a `switch`, also in the other order.
 use Rattle.std.proofs.Common.{◌≡◌, ◌∙◌, ℕ, ◌+◌, List, [], ◌∷◌, ◌++◌, map, reverse, ap, refl, sym, arith}
+use Rattle.std.proofs.{lemmas.List.reverse-append, lemmas.List.Sums.sum_by-cons, lemmas.List.Sums.sum_by_push}
 use Rattle.std.specs.List.{sum_by}
-use Rattle.std.proofs.lemmas.List.{reverse-append}
-use Rattle.std.proofs.lemmas.List.Sums.{sum_by-cons, sum_by_push}
-use Rattle.lra_operations.specs.declared.tree.Arm.{Arm}
-use Rattle.lra_operations.specs.declared.tree.Node.{Node}
-use Rattle.lra_operations.specs.Sizes.{arm_sizes, arms_tree_sizes, sizes, whole_size}
+use Rattle.lra_operations.specs.{Sizes.arm_sizes, Sizes.arms_tree_sizes, Sizes.sizes, Sizes.whole_size, declared.tree.Arm.Arm, declared.tree.Node.Node}
 
 pub same_wholes : (gs : List Node) → sum_by (λ (g : ℕ × ℕ). g.0) (map sizes gs) ≡ sum_by whole_size gs
 same_wholes [] = refl

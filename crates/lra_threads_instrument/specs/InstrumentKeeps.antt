@@ -2,16 +2,11 @@
 -- passed holds of the other.
 use Rattle.std.specs.Prelude.{◌≡◌, ℕ, ◌≤◌, ◌↔◌, List, Option, Bool}
 use Rattle.lra_base.specs.declared.number_types.NumberType.{NumberType}
-use Rattle.lra_program.specs.Sites.{Site}
-use Rattle.lra_program.specs.Step.{Op}
-use Rattle.lra_operations.specs.Tree.{Exit, Node}
-use Rattle.lra_operations.specs.CheckedOperations.{ops_where}
-use Rattle.lra_analysis_spec.specs.Live.{live_after}
-use Rattle.lra_analysis_spec.specs.Instrumented.{instrumented}
-use Rattle.lra_analysis_spec.specs.LiveLimit.{most_live}
+use Rattle.lra_program.specs.{Sites.Site, Step.Op}
+use Rattle.lra_operations.specs.{CheckedOperations.ops_where, Tree.Exit, Tree.Node}
+use Rattle.lra_analysis_spec.specs.{Instrumented.instrumented, Live.live_after, LiveLimit.most_live}
 use Rattle.lra_pass_results.specs.Dimensions.{JumpsWith, TreeFits}
-use Rattle.lra_fixpoint.specs.Lives.{PointsHave}
-use Rattle.lra_fixpoint.specs.Numbers.{IsNumbered}
+use Rattle.lra_fixpoint.specs.{Lives.PointsHave, Numbers.IsNumbered}
 
 abbrev pub InstrumentKeepsLive : Type 0
 InstrumentKeepsLive = (n : ℕ) (g : Node) (k : ℕ) → live_after (instrumented n g) k ≡ live_after g k

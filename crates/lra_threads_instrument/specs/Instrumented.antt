@@ -1,19 +1,18 @@
 -- What a tree becomes that is being opened, by the places that are open in it.
 use Rattle.std.specs.Prelude.{ℕ, List, [], ◌∷◌, map, reverse}
 use Rattle.lra_program.specs.ProgramViews.{cond_view, expr_view}
-use Rattle.lra_operations.specs.declared.probes.Probe.TheVariants.{InterferencePoint}
-use Rattle.lra_operations.specs.declared.tree.Arm.{Arm}
-use Rattle.lra_operations.specs.declared.tree.Node.{Node}
-use Rattle.lra_operations.specs.Tree as graph
 use Rattle.lra_operations.specs.TreeViews.{arm_view, arms_before, arms_of, exit_view, node_view, row}
+use Rattle.lra_operations.specs.declared.probes.Probe.TheVariants.{InterferencePoint}
+use Rattle.lra_operations.specs.{declared.tree.Arm.Arm, declared.tree.Node.Node}
+use Rattle.lra_operations.specs.Tree as graph
 use Rattle.lra_analysis_spec.specs.Instrumented.{with_interference, instrumented, instrumented_arms}
 use Rattle.lra_threads_instrument.specs.declared.stack.Row as of_row
 use Rattle.lra_threads_instrument.specs.declared.stack.Selection as of_select
 use Rattle.lra_threads_instrument.specs.declared.stack.Next as next
-use Rattle.lra_threads_instrument.specs.declared.stack.Next.TheVariants.{Opens, Gives, Selects}
-use Rattle.lra_threads_instrument.specs.declared.stack.InstrumentFrame as place
 use Rattle.lra_threads_instrument.specs.declared.stack.InstrumentFrame.TheVariants.{Row, Last, First, Second, Body}
 use Rattle.lra_threads_instrument.specs.declared.stack.InstrumentFrame.TheVariants.{Catch, Arm as arm_place}
+use Rattle.lra_threads_instrument.specs.declared.stack.Next.TheVariants.{Opens, Gives, Selects}
+use Rattle.lra_threads_instrument.specs.declared.stack.InstrumentFrame as place
 
 -- the trees that are left in a row, the first of them last, and the row's last tree
 abbrev pub row_of_left : ℕ → List Node → Node → graph.Node

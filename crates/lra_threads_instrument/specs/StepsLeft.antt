@@ -1,20 +1,19 @@
 -- How many steps the opening of a tree may still take: so it ends.
-use Rattle.std.specs.Prelude.{◌≡◌, ◌<◌, ◌+◌, ◌*◌, ℕ, List, map}
 use Rattle.std.specs.List.{sum_by}
-use Rattle.lra_operations.specs.declared.tree.Node.{Node}
-use Rattle.lra_operations.specs.Tree as graph
-use Rattle.lra_operations.specs.TreeViews.{node_view}
+use Rattle.std.specs.Prelude.{◌≡◌, ◌<◌, ◌+◌, ◌*◌, ℕ, List, map}
 use Rattle.lra_operations.specs.Sizes.{arm_sizes, arms_tree_sizes, whole_size}
+use Rattle.lra_operations.specs.{TreeViews.node_view, declared.tree.Node.Node}
+use Rattle.lra_operations.specs.Tree as graph
 use Rattle.lra_threads_instrument.specs.declared.stack.Row as of_row
 use Rattle.lra_threads_instrument.specs.declared.stack.Selection as of_select
 use Rattle.lra_threads_instrument.specs.declared.stack.Next as next
-use Rattle.lra_threads_instrument.specs.declared.stack.Next.TheVariants.{Opens, Gives, Selects}
-use Rattle.lra_threads_instrument.specs.declared.stack.InstrumentFrame as place
+use Rattle.lra_threads_instrument.specs.Instrumented.{all_around, standing}
 use Rattle.lra_threads_instrument.specs.declared.stack.InstrumentFrame.TheVariants.{Row, Last, First, Second, Body}
 use Rattle.lra_threads_instrument.specs.declared.stack.InstrumentFrame.TheVariants.{Catch, Arm as arm_place}
-use Rattle.lra_threads_instrument.specs.declared.stack.Step as step
+use Rattle.lra_threads_instrument.specs.declared.stack.Next.TheVariants.{Opens, Gives, Selects}
 use Rattle.lra_threads_instrument.specs.declared.stack.Step.TheVariants.{Ended, Goes}
-use Rattle.lra_threads_instrument.specs.Instrumented.{all_around, standing}
+use Rattle.lra_threads_instrument.specs.declared.stack.InstrumentFrame as place
+use Rattle.lra_threads_instrument.specs.declared.stack.Step as step
 
 -- of a tree that is to be opened
 abbrev pub tree_left : Node → ℕ

@@ -1,12 +1,11 @@
 //! What others do is written into a tree, along a list of open places.
 
-ghost use Rattle.std.specs.Prelude.{◌≡◌, ◌+◌, ◌*◌, ℕ, map, IfOk};
-ghost use Rattle.std.specs.List.{sum_by};
+ghost use Rattle.std.specs.{List.sum_by, Prelude.◌≡◌, Prelude.◌+◌, Prelude.◌*◌, Prelude.ℕ, Prelude.map, Prelude.IfOk};
 ghost use Rattle.lra_program.specs.ProgramViews.{cond_view, expr_view};
 ghost use Rattle.lra_operations.specs.declared.probes.Probe.TheVariants.{InterferencePoint};
 ghost use Rattle.lra_operations.specs.Tree as graph;
-ghost use Rattle.lra_operations.specs.TreeViews.{arm_view, arms_of, node_view, op_view, row};
 ghost use Rattle.lra_operations.specs.Sizes.{arm_sizes, arms_tree_sizes, whole_size};
+ghost use Rattle.lra_operations.specs.TreeViews.{arm_view, arms_of, node_view, op_view, row};
 ghost use Rattle.lra_analysis_spec.specs.Instrumented.{with_interference, with_recording, instrumented};
 ghost use Rattle.lra_analysis_spec.specs.Instrumented.{instrumented_arms};
 ghost use Rattle.lra_program.specs.WrittenVariables.{written_variable, target_variable};

@@ -1,41 +1,21 @@
 -- From what is read of a source of several threads to what is told of it.
 use Rattle.std.proofs.Common.{◌≡◌, ◌∙◌, ◌≤◌, ℕ, ℤ, List, [], ◌∷◌, length, map, refl, sym, ap, ap₂, subst, arith}
-use Rattle.std.specs.Prelude.{Some, slice_get}
-use Rattle.std.specs.List.{AllZip}
-use Rattle.std.proofs.lemmas.Option.{get_or_from_slice_get, same_Some, slice_get_within}
-use Rattle.std.proofs.lemmas.List.{length-map}
-use Rattle.lra_syntax.specs.Grammar.{Spells}
-use Rattle.lra_syntax.specs.Trees.{FileTree}
-use Rattle.lra_resolution_spec.specs.RefuseThreads.{AcceptsThreads}
-use Rattle.lra_resolution_spec.specs.Resolve.{resolved_functions}
-use Rattle.lra_resolution_spec.specs.Threads.{thread_places, thread_program}
-use Rattle.lra_program.specs.Program.{Function, Program}
-use Rattle.lra_program.specs.ProgramViews.{function_or, program_view}
-use Rattle.lra_program.specs.declared.program.GlobalVariable.{GlobalVariable}
+use Rattle.std.proofs.{lemmas.List.length-map, lemmas.Option.get_or_from_slice_get, lemmas.Option.same_Some, lemmas.Option.slice_get_within}
+use Rattle.std.specs.{List.AllZip, Prelude.Some, Prelude.slice_get}
+use Rattle.lra_syntax.specs.{Grammar.Spells, Trees.FileTree}
+use Rattle.lra_resolution_spec.specs.{RefuseThreads.AcceptsThreads, Resolve.resolved_functions, Threads.thread_places, Threads.thread_program}
+use Rattle.lra_program.specs.{Program.Function, Program.Program, ProgramViews.function_or, ProgramViews.program_view, declared.program.GlobalVariable.GlobalVariable}
 use Rattle.lra_program.specs.declared.program.Program as declared
-use Rattle.lra_operations.specs.Agree.{IsInlinedTree}
-use Rattle.lra_operations.specs.Tree.{Node}
-use Rattle.lra_operations.specs.TreeViews.{node_view, site_view}
-use Rattle.lra_operations.specs.declared.tree.InlinedProgram.{InlinedProgram}
-use Rattle.lra_front_end.specs.Stages.{HasConstants}
-use Rattle.lra_front_end.specs.ThreadsClaims.{IsAcceptedThreads, IsThreadTree}
-use Rattle.lra_front_end.specs.ThreadsStages.{IsInlinedOf, IsThreadInlined}
+use Rattle.lra_operations.specs.{Agree.IsInlinedTree, Tree.Node, TreeViews.node_view, TreeViews.site_view, declared.tree.InlinedProgram.InlinedProgram}
+use Rattle.lra_front_end.specs.{Stages.HasConstants, ThreadsClaims.IsAcceptedThreads, ThreadsClaims.IsThreadTree, ThreadsStages.IsInlinedOf, ThreadsStages.IsThreadInlined}
 use Rattle.lra_analyse_source.proofs.Handing.{image_of}
-use Rattle.lra_analysis_spec.specs.Instrumented.{instrumented}
-use Rattle.lra_analysis_spec.specs.Plan.{Plan}
+use Rattle.lra_analysis_spec.specs.{Instrumented.instrumented, Plan.Plan}
 use Rattle.lra_threads_fixpoint.specs.Rounds.{AllRounds, ThreadsFixpoint}
 use Rattle.lra_threads_analysis.specs.Found.{AreInstrumented, AreReady, IsThreadResultOf, thread_finding}
-use Rattle.lra_threads_analysis.specs.Holding.{AllHold, AreFlagged}
-use Rattle.lra_threads_analysis.specs.declared.found.ThreadResult.{ThreadResult}
-use Rattle.lra_threads_analysis.specs.Interleaved.{AreThreads, IsThread, ThreadsHold}
-use Rattle.lra_threads_source.specs.Listed.{ShowsThreads, thread_place}
-use Rattle.lra_threads_source.specs.Stages.{AreGraphsOf, AreOfGraphs, IsFlagIn, IsInstrumented}
+use Rattle.lra_threads_analysis.specs.{Holding.AllHold, Holding.AreFlagged, Interleaved.AreThreads, Interleaved.IsThread, Interleaved.ThreadsHold, declared.found.ThreadResult.ThreadResult}
 use Rattle.lra_threads_source.specs.ThreadsReports.{IsThreadsReportOf, shared_program, thread_functions, threads_plan}
-use Rattle.lra_threads_source.specs.ThreadsText.{ThreadsReport}
-use Rattle.lra_threads_source.proofs.FlaggedPoints.{flag_there}
-use Rattle.lra_threads_source.proofs.Handed.{of_graphs}
-use Rattle.lra_threads_source.proofs.Readying.{are_graphs, are_ready, graph_at, zip_at, zip_viewed}
-use Rattle.lra_threads_source.proofs.Sound.{element_at}
+use Rattle.lra_threads_source.specs.{Listed.ShowsThreads, Listed.thread_place, Stages.AreGraphsOf, Stages.AreOfGraphs, Stages.IsFlagIn, Stages.IsInstrumented, ThreadsText.ThreadsReport}
+use Rattle.lra_threads_source.proofs.{FlaggedPoints.flag_there, Handed.of_graphs, Readying.are_graphs, Readying.are_ready, Readying.graph_at, Readying.zip_at, Readying.zip_viewed, Sound.element_at}
 
 -- the globals as they are handed on
 pub globals_seen : (t : FileTree) (p : declared.Program) (globals : List GlobalVariable) → program_view p ≡ thread_program t p.main → globals ≡ p.globals.items

@@ -1,32 +1,19 @@
 -- A first flag of rounds is that of a thread's point.
 use Rattle.std.proofs.Common.{◌≡◌, ◌∙◌, ◌≤◌, ◌<◌, ◌+◌, ◌-◌, ℕ, suc, Bool, List, [], ◌∷◌, length, refl, sym, ap, subst, arith}
-use Rattle.std.specs.Prelude.{⊤, Option, None, Some, slice_get}
-use Rattle.std.specs.List.{Contains}
 use Rattle.std.proofs.lemmas.Option.{slice_get_past, slice_get_within}
+use Rattle.std.specs.{List.Contains, Prelude.⊤, Prelude.Option, Prelude.None, Prelude.Some, Prelude.slice_get}
 use Rattle.lra_domain.specs.Interference.{Interference}
-use Rattle.lra_box.specs.Content.{BoxContent}
-use Rattle.lra_box.specs.Abstraction.{box_abstraction}
+use Rattle.lra_box.specs.{Abstraction.box_abstraction, Content.BoxContent}
 use Rattle.lra_base.specs.declared.refusals.Place.{Place}
-use Rattle.lra_program.specs.Program.{Program}
-use Rattle.lra_program.specs.Sites.{Site, sites_of}
-use Rattle.lra_operations.specs.Agree.{IsInlinedTree}
-use Rattle.lra_operations.specs.CheckedOperations.{accessing_ops}
-use Rattle.lra_operations.specs.Tree.{Node}
-use Rattle.lra_analysis_spec.specs.Accesses.{JudgesAccesses, OpInside}
-use Rattle.lra_analysis_spec.specs.UnderInterference.{absorbed}
-use Rattle.lra_analysis_spec.specs.Instrumented.{instrumented}
-use Rattle.lra_analysis_spec.specs.Operations.{lossy_operations}
-use Rattle.lra_analysis_spec.specs.Plan.{Plan}
-use Rattle.lra_fixpoint.specs.Counts.{failing_at, values_at}
-use Rattle.lra_fixpoint.specs.Numbers.{IsNumbered, asserts_of, values_in}
+use Rattle.lra_program.specs.{Program.Program, Sites.Site, Sites.sites_of}
+use Rattle.lra_operations.specs.{Agree.IsInlinedTree, CheckedOperations.accessing_ops, Tree.Node}
+use Rattle.lra_analysis_spec.specs.{Accesses.JudgesAccesses, Accesses.OpInside, Instrumented.instrumented, Operations.lossy_operations, Plan.Plan, UnderInterference.absorbed}
+use Rattle.lra_fixpoint.specs.{Counts.failing_at, Counts.values_at, Numbers.IsNumbered, Numbers.asserts_of, Numbers.values_in}
 use Rattle.lra_fixpoint.proofs.Counting.{counted_value, failing_counted, pass_found, value_counted}
 use Rattle.lra_threads_instrument.proofs.InstrumentedTrees.{numbered_of}
 use Rattle.lra_threads_fixpoint.specs.Intervals.{IntervalTable, empty_table, next_table}
 use Rattle.lra_threads_fixpoint.specs.Rounds.{AllRounds, AreThreadResults, ResultReadings, IsRound, RoundsEndIn, ThreadsFixpoint, first_flag, flag_of, flag_so_far, joining_rounds, settled, unsettled}
-use Rattle.lra_analyse_source.proofs.Flags.{IsBelow, graph_below, iteration_among_below}
-use Rattle.lra_analyse_source.proofs.Found.{flagged_below, found_of, point_below}
-use Rattle.lra_analyse_source.proofs.Handing.{no_longer}
-use Rattle.lra_analyse_source.proofs.Numbering.{numbered}
+use Rattle.lra_analyse_source.proofs.{Flags.IsBelow, Flags.graph_below, Flags.iteration_among_below, Found.flagged_below, Found.found_of, Found.point_below, Handing.no_longer, Numbering.numbered}
 use Rattle.lra_threads_analysis.specs.Found.{IsThreadResult, IsThreadResultOf, flag_of_thread, thread_finding, access_verdicts_of, thread_values, verdicts_of}
 use Rattle.lra_threads_analysis.specs.declared.found.ThreadResult.{ThreadResult}
 use Rattle.lra_threads_source.proofs.OpenedBelow.{opened_below}

@@ -1,18 +1,13 @@
 -- What is listed of a thread alone can stand behind the points of others: its numbers are those of its points, and its paths begin at `main`.
 use Rattle.std.proofs.Common.{◌≡◌, ◌≤◌, ◌<◌, ◌+◌, ◌^◌, ℕ, zero, suc, Bool, List, [], ◌∷◌, ◌++◌, length, map, refl, ap, arith}
-use Rattle.std.specs.Prelude.{All, Vec}
-use Rattle.std.specs.declared.alloc.Global.{Global}
-use Rattle.std.specs.List.{AllByRecursion, flat_map}
+use Rattle.std.specs.{List.AllByRecursion, List.flat_map, Prelude.All, Prelude.Vec, declared.alloc.Global.Global}
 use Rattle.lra_base.specs.declared.refusals.Place.{Place}
 use Rattle.lra_syntax.specs.Labels.{Labelled}
 use Rattle.lra_program.specs.Sites.{Site}
-use Rattle.lra_report.specs.Listing.{AreListed}
-use Rattle.lra_report.proofs.Every.{every_append}
-use Rattle.lra_report.specs.Report.{PointReport, Verdict}
-use Rattle.lra_report.specs.declared.verdict_kinds.VerdictKind.{VerdictKind}
 use Rattle.lra_report.specs.declared.verdict_kinds.VerdictKind.TheVariants.{Assertion, Fit}
-use Rattle.lra_report_build.specs.Views.{reported_view}
-use Rattle.lra_report_build.specs.AnalysisResults.{access_verdicts, access_verdicts_at, site_at, verdict_at}
+use Rattle.lra_report.specs.{Listing.AreListed, Report.PointReport, Report.Verdict, declared.verdict_kinds.VerdictKind.VerdictKind}
+use Rattle.lra_report.proofs.Every.{every_append}
+use Rattle.lra_report_build.specs.{AnalysisResults.access_verdicts, AnalysisResults.access_verdicts_at, AnalysisResults.site_at, AnalysisResults.verdict_at, Views.reported_view}
 use Rattle.lra_report_build.proofs.PolyhedronShown.{each_of}
 use Rattle.lra_threads_source.specs.Stages.{CanFollow}
 

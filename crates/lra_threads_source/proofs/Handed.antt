@@ -1,27 +1,18 @@
 -- What rounds end with, as the listing asks it.
 use Rattle.std.proofs.Common.{◌≡◌, ◌∙◌, ◌≤◌, ◌<◌, ◌+◌, ℕ, suc, Bool, true, false, List, [], ◌∷◌, length, map, sym, subst, arith}
-use Rattle.std.specs.Prelude.{Some, slice_get, if◌then◌else◌}
-use Rattle.std.specs.List.{AllByRecursion, Contains}
-use Rattle.std.proofs.lemmas.List.{length-map}
-use Rattle.std.proofs.lemmas.Option.{same_Some}
+use Rattle.std.proofs.{lemmas.List.length-map, lemmas.Option.same_Some}
+use Rattle.std.specs.{List.AllByRecursion, List.Contains, Prelude.Some, Prelude.slice_get, Prelude.if◌then◌else◌}
 use Rattle.lra_base.specs.declared.refusals.Place.{Place}
-use Rattle.lra_program.specs.Assertions.{assertions_from}
-use Rattle.lra_program.specs.Program.{Program}
-use Rattle.lra_program.specs.Sites.{Site}
-use Rattle.lra_program.specs.declared.program.GlobalVariable.{GlobalVariable}
-use Rattle.lra_operations.specs.Tree.{Node}
-use Rattle.lra_operations.specs.TreeViews.{node_view, site_view}
-use Rattle.lra_operations.specs.declared.tree.InlinedProgram.{InlinedProgram}
+use Rattle.lra_program.specs.{Assertions.assertions_from, Program.Program, Sites.Site, declared.program.GlobalVariable.GlobalVariable}
+use Rattle.lra_operations.specs.{Tree.Node, TreeViews.node_view, TreeViews.site_view, declared.tree.InlinedProgram.InlinedProgram}
 use Rattle.lra_linear_spec.proofs.Membership.{contains_head, contains_tail}
 use Rattle.lra_analysis_spec.specs.Instrumented.{instrumented}
 use Rattle.lra_bounds_checks.specs.BoundsChecks.{reported_view}
 use Rattle.lra_threads_fixpoint.specs.Rounds.{ThreadsFixpoint}
 use Rattle.lra_threads_analysis.specs.Found.{sites_in, access_verdicts_of, thread_values, verdicts_of}
-use Rattle.lra_threads_analysis.specs.Holding.{AllHold, HoldsInRound}
-use Rattle.lra_threads_analysis.specs.declared.found.ThreadResult.{ThreadResult}
+use Rattle.lra_threads_analysis.specs.{Holding.AllHold, Holding.HoldsInRound, declared.found.ThreadResult.ThreadResult}
 use Rattle.lra_threads_source.specs.Stages.{AreOfGraphs, IsOfGraph, points_in}
-use Rattle.lra_threads_source.proofs.FlaggedPoints.{answers_low}
-use Rattle.lra_threads_source.proofs.Following.{all_viewed}
+use Rattle.lra_threads_source.proofs.{FlaggedPoints.answers_low, Following.all_viewed}
 
 -- assertions stand at points
 asserting_low : (k n : ℕ) (sites : List Site) → k + length sites ≤ n → AllByRecursion (λ (i : ℕ). i < n) (map (λ (a : ℕ × Site). a.0) (assertions_from k sites))

@@ -1,11 +1,8 @@
 -- What is told of threads one behind the other.
 use Rattle.std.proofs.Common.{◌≡◌, ◌∙◌, ◌≤◌, ◌<◌, ◌+◌, ℕ, zero, suc, List, [], ◌∷◌, ◌++◌, length, drop, get_or, inl, inr, refl, sym, ap, subst, append_assoc, append-nil, add-one, arith}
-use Rattle.std.specs.Prelude.{Some, slice_get}
-use Rattle.std.specs.List.{Contains}
-use Rattle.std.proofs.lemmas.Bool.{cases_lt}
-use Rattle.std.proofs.lemmas.List.{at_drop_all, at_drop_more}
 use Rattle.std.proofs.lemmas.List.Elements.{Contains-append_cases, Contains-append_left, Contains-append_right}
-use Rattle.std.proofs.lemmas.Option.{none-some, same_Some}
+use Rattle.std.proofs.{lemmas.Bool.cases_lt, lemmas.List.at_drop_all, lemmas.List.at_drop_more, lemmas.Option.none-some, lemmas.Option.same_Some}
+use Rattle.std.specs.{List.Contains, Prelude.Some, Prelude.slice_get}
 use Rattle.lra_linear_spec.proofs.Membership.{contains_none}
 use Rattle.lra_threads_source.specs.Listed.{one_by_one}
 

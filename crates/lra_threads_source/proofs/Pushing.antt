@@ -1,34 +1,24 @@
 -- What is listed of threads grows, one more at a time.
 use Rattle.std.proofs.Common.{◌≡◌, ◌∙◌, ◌<◌, ◌+◌, ◌^◌, ◌⊎◌, ℕ, zero, suc, List, [], ◌∷◌, ◌++◌, length, map, take, get_or, inl, inr, refl, sym, ap, subst, append_assoc, add-one, arith}
-use Rattle.std.specs.Prelude.{All, Err, IfOk, Ok, Result, Some, slice_get}
-use Rattle.std.specs.List.{AllByRecursion, Contains, flat_map, sum_by}
-use Rattle.std.proofs.lemmas.List.{length-append, length-map, length-take-le, map-append}
-use Rattle.std.proofs.Math.Seq.{take-suc}
-use Rattle.std.proofs.lemmas.Option.{none-some, same_Some}
+use Rattle.std.proofs.{Math.Seq.take-suc, lemmas.List.length-append, lemmas.List.length-map, lemmas.List.length-take-le, lemmas.List.map-append, lemmas.Option.none-some, lemmas.Option.same_Some}
+use Rattle.std.specs.{List.AllByRecursion, List.Contains, List.flat_map, List.sum_by, Prelude.All, Prelude.Err, Prelude.IfOk, Prelude.Ok, Prelude.Result, Prelude.Some, Prelude.slice_get}
 use Rattle.lra_linear_spec.proofs.Membership.{contains_head, contains_tail}
-use Rattle.lra_box.specs.Content.{BoxContent}
-use Rattle.lra_box.specs.Abstraction.{box_abstraction}
+use Rattle.lra_box.specs.{Abstraction.box_abstraction, Content.BoxContent}
 use Rattle.lra_program.specs.Sites.{Site}
 use Rattle.lra_options.specs.declared.options.Domain.TheVariants.{Box}
-use Rattle.lra_report.specs.Listing.{AreListed, HasWidth}
 use Rattle.lra_report.specs.Report.{Invariant, PointReport}
-use Rattle.lra_report.specs.declared.verdict_kinds.VerdictKind.TheVariants.{Assertion, Fit}
-use Rattle.lra_syntax.specs.Labels.{Labelled, labels_of}
-use Rattle.lra_syntax.specs.Trees.{FileTree}
+use Rattle.lra_report.specs.{Listing.AreListed, Listing.HasWidth, declared.verdict_kinds.VerdictKind.TheVariants.Assertion, declared.verdict_kinds.VerdictKind.TheVariants.Fit}
+use Rattle.lra_syntax.specs.{Labels.Labelled, Labels.labels_of, Trees.FileTree}
 use Rattle.lra_resolution_spec.specs.LiveNames.{globals_named}
 use Rattle.lra_operations.specs.declared.tree.InlinedProgram.{InlinedProgram}
 use Rattle.lra_fixpoint.specs.Lives.{AreWide}
 use Rattle.lra_report_build.specs.AnalysisResults.{AreInvariants, access_verdicts_at, state_of, verdict_at}
-use Rattle.lra_report_build.specs.Views.{reported_view}
-use Rattle.lra_report_build.specs.declared.listing.Findings.{Findings}
-use Rattle.lra_report_build.specs.Shown.{AreShown, shown_state}
+use Rattle.lra_report_build.specs.{Shown.AreShown, Shown.shown_state, Views.reported_view, declared.listing.Findings.Findings}
 use Rattle.lra_analyse_source.proofs.Handing.{image_of}
-use Rattle.lra_threads_analysis.specs.Found.{sites_in, thread_values}
-use Rattle.lra_threads_analysis.specs.declared.found.ThreadResult.{ThreadResult}
+use Rattle.lra_threads_analysis.specs.{Found.sites_in, Found.thread_values, declared.found.ThreadResult.ThreadResult}
 use Rattle.lra_threads_source.specs.Listed.{AreListedAlone, ShowsPoints, one_by_one, points_before, reported_points}
 use Rattle.lra_threads_source.specs.Stages.{AreGraphsOf, judged_alone, points_in}
-use Rattle.lra_threads_source.proofs.PointNumbers.{before_same, few_points}
-use Rattle.lra_threads_source.proofs.InTurn.{first_more}
+use Rattle.lra_threads_source.proofs.{InTurn.first_more, PointNumbers.before_same, PointNumbers.few_points}
 
 -- one more, changed
 pub pushed : {A B : Type 0} (view : A → B) (change : B → B) (start listed new taken : List A) (x y : A)

@@ -1,50 +1,27 @@
 -- What is read of a source of several threads may be analysed, once its graphs are opened.
 use Rattle.std.proofs.Common.{◌≡◌, ◌∙◌, ◌≤◌, ◌<◌, ◌+◌, ℕ, zero, suc, Bool, true, false, List, [], ◌∷◌, ◌++◌, length, map, take, get_or, refl, sym, ap, subst, arith}
-use Rattle.std.specs.Prelude.{All, None, Some, Vec, slice_get, ◌&&◌, not, if◌then◌else◌}
-use Rattle.std.specs.declared.alloc.Global.{Global}
-use Rattle.std.specs.List.{AllZip, Contains, flat_map, sum_by}
-use Rattle.std.proofs.lemmas.List.{length-map}
-use Rattle.std.proofs.lemmas.List.Sums.{sum_by-cons}
 use Rattle.std.proofs.lemmas.Option.{get_or_from_slice_get, none-some, same_Some, slice_get-get_or}
-use Rattle.std.proofs.Math.Seq.{take-length}
+use Rattle.std.proofs.{Math.Seq.take-length, lemmas.List.length-map, lemmas.List.Sums.sum_by-cons}
+use Rattle.std.specs.Prelude.{All, None, Some, Vec, slice_get, ◌&&◌, not, if◌then◌else◌}
+use Rattle.std.specs.{List.AllZip, List.Contains, List.flat_map, List.sum_by, declared.alloc.Global.Global}
 use Rattle.lra_front_end.proofs.Faultless.{none_right}
 use Rattle.lra_base.specs.declared.refusals.Refusal.{Refusal}
-use Rattle.lra_syntax.specs.Functions.{functions_of}
-use Rattle.lra_syntax.specs.Labels.{labels_of}
-use Rattle.lra_syntax.specs.Trees.{FileTree}
-use Rattle.lra_resolution_spec.specs.NameFaults.{parts_faults}
-use Rattle.lra_resolution_spec.specs.Refuse.{greatest_points, limit_fault}
-use Rattle.lra_resolution_spec.specs.Resolve.{function_place}
+use Rattle.lra_syntax.specs.{Functions.functions_of, Labels.labels_of, Trees.FileTree}
 use Rattle.lra_resolution_spec.specs.Threads.{has_thread, thread_events, thread_faults, thread_name, thread_places, thread_places_from, thread_program}
-use Rattle.lra_program.specs.Accesses.{op_accesses_any}
-use Rattle.lra_program.specs.Program.{Program}
+use Rattle.lra_resolution_spec.specs.{NameFaults.parts_faults, Refuse.greatest_points, Refuse.limit_fault, Resolve.function_place}
 use Rattle.lra_program.specs.Sites.{Event, Site, comes, events_of, one_call_more, event_sites, sites_of}
-use Rattle.lra_program.specs.WellFormed.{AreGoodGlobals}
-use Rattle.lra_program.specs.declared.program.GlobalVariable.{GlobalVariable}
-use Rattle.lra_operations.specs.CheckedOperations.{OpAtPoint, accessing_ops}
-use Rattle.lra_operations.specs.Tree.{Node}
-use Rattle.lra_operations.specs.TreeViews.{node_view, site_view}
-use Rattle.lra_operations.specs.declared.tree.InlinedProgram.{InlinedProgram}
+use Rattle.lra_program.specs.{Accesses.op_accesses_any, Program.Program, WellFormed.AreGoodGlobals, declared.program.GlobalVariable.GlobalVariable}
+use Rattle.lra_operations.specs.{CheckedOperations.OpAtPoint, CheckedOperations.accessing_ops, Tree.Node, TreeViews.node_view, TreeViews.site_view, declared.tree.InlinedProgram.InlinedProgram}
 use Rattle.lra_operations.specs.declared.tree.Site as declared
-use Rattle.lra_analysis_spec.specs.Instrumented.{instrumented}
-use Rattle.lra_analysis_spec.specs.Plan.{Plan}
-use Rattle.lra_analysis_spec.specs.LiveLimit.{most_live}
+use Rattle.lra_analysis_spec.specs.{Instrumented.instrumented, LiveLimit.most_live, Plan.Plan}
 use Rattle.lra_overflow_checks.specs.Judged.{AreBelow}
 use Rattle.lra_pass_results.specs.Dimensions.{TreeFits}
-use Rattle.lra_fixpoint.specs.Lives.{PointsHave}
-use Rattle.lra_fixpoint.specs.Numbers.{IsNumbered}
+use Rattle.lra_fixpoint.specs.{Lives.PointsHave, Numbers.IsNumbered}
 use Rattle.lra_threads_instrument.proofs.InstrumentedTrees.{asks_opened, fits_of, numbered_of, points_of}
-use Rattle.lra_analyse_source.proofs.Fitting.{few_globals, tree_fits}
-use Rattle.lra_analyse_source.proofs.Flags.{graph_below}
-use Rattle.lra_analyse_source.proofs.Found.{asked_one}
-use Rattle.lra_analyse_source.proofs.Numbering.{numbered}
-use Rattle.lra_analyse_source.proofs.ReportSteps.{few_behind}
-use Rattle.lra_analyse_source.proofs.Widths.{graph_lives}
+use Rattle.lra_analyse_source.proofs.{Fitting.few_globals, Fitting.tree_fits, Flags.graph_below, Found.asked_one, Numbering.numbered, ReportSteps.few_behind, Widths.graph_lives}
 use Rattle.lra_front_end.specs.ThreadsStages.{IsInlinedOf, IsThreadInlined}
 use Rattle.lra_threads_analysis.specs.Found.{AreReady, IsReady, sites_in as points_of_graph}
-use Rattle.lra_threads_source.specs.Stages.{AreGraphsOf, IsInstrumented, points_in}
-use Rattle.lra_threads_source.specs.Listed.{thread_sites}
-use Rattle.lra_threads_source.specs.ThreadsReports.{shared_program}
+use Rattle.lra_threads_source.specs.{Listed.thread_sites, Stages.AreGraphsOf, Stages.IsInstrumented, Stages.points_in, ThreadsReports.shared_program}
 use Rattle.lra_threads_source.proofs.PointNumbers.{same_sums}
 
 -- lists side by side -------------------------------------------------------------------------------------------------

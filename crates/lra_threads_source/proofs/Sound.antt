@@ -1,52 +1,32 @@
 -- What is told of threads holds of all that they do beside each other.
 use Rattle.std.proofs.Common.{◌≡◌, ◌∙◌, ◌≤◌, ◌<◌, ◌+◌, ℕ, zero, suc, ℤ, Bool, true, List, [], ◌∷◌, length, get_or, take, inl, inr, refl, sym, ap, subst, arith}
-use Rattle.std.specs.Prelude.{Option, Some, IsTrue, option_map, slice_get}
-use Rattle.std.specs.List.{Contains, flat_map, sum_by}
-use Rattle.std.proofs.lemmas.List.{length-map}
-use Rattle.std.proofs.lemmas.List.Elements.{Contains-append_cases}
-use Rattle.std.proofs.lemmas.List.Sums.{sum_by-cons}
 use Rattle.std.proofs.lemmas.Option.{get_or_from_slice_get, same_Some, slice_get-map, slice_get_within}
+use Rattle.std.proofs.{lemmas.List.length-map, lemmas.List.Elements.Contains-append_cases, lemmas.List.Sums.sum_by-cons}
+use Rattle.std.specs.{List.Contains, List.flat_map, List.sum_by, Prelude.Option, Prelude.Some, Prelude.IsTrue, Prelude.option_map, Prelude.slice_get}
 use Rattle.lra_linear_spec.proofs.Membership.{contains_cases, contains_head, contains_none, contains_tail, map_from}
 use Rattle.lra_base.specs.declared.refusals.Place.{Place}
-use Rattle.lra_box.specs.Content.{BoxContent}
-use Rattle.lra_box.specs.Abstraction.{box_abstraction}
-use Rattle.lra_box.specs.declared.interval.Interval.{Interval}
-use Rattle.lra_syntax.specs.Labels.{Labelled, labels_of}
-use Rattle.lra_syntax.specs.Trees.{FileTree}
-use Rattle.lra_resolution_spec.specs.LiveNames.{globals_named}
-use Rattle.lra_resolution_spec.specs.Resolve.{resolved_functions}
-use Rattle.lra_resolution_spec.specs.Threads.{thread_places, thread_program}
-use Rattle.lra_program.specs.Program.{Function, Program}
-use Rattle.lra_program.specs.ProgramViews.{function_or}
-use Rattle.lra_program.specs.Sites.{Site, sites_of}
-use Rattle.lra_operations.specs.Agree.{IsInlinedTree, point_of}
-use Rattle.lra_operations.specs.Tree.{Node}
-use Rattle.lra_report.specs.Listing.{AreListed, listed_verdict}
-use Rattle.lra_report.specs.Report.{InvariantHolds, Invariant, PointReport, Verdict}
-use Rattle.lra_report.specs.declared.verdict_kinds.VerdictKind.{VerdictKind}
+use Rattle.lra_box.specs.{Abstraction.box_abstraction, Content.BoxContent, declared.interval.Interval.Interval}
+use Rattle.lra_syntax.specs.{Labels.Labelled, Labels.labels_of, Trees.FileTree}
+use Rattle.lra_resolution_spec.specs.{LiveNames.globals_named, Resolve.resolved_functions, Threads.thread_places, Threads.thread_program}
+use Rattle.lra_program.specs.{Program.Function, Program.Program, ProgramViews.function_or, Sites.Site, Sites.sites_of}
+use Rattle.lra_operations.specs.{Agree.IsInlinedTree, Agree.point_of, Tree.Node}
 use Rattle.lra_report.specs.declared.verdict_kinds.VerdictKind.TheVariants.{Assertion, Access}
+use Rattle.lra_report.specs.{Listing.AreListed, Listing.listed_verdict, Report.InvariantHolds, Report.Invariant, Report.PointReport, Report.Verdict, declared.verdict_kinds.VerdictKind.VerdictKind}
 use Rattle.lra_front_end.proofs.Named.{globals_as_many}
 use Rattle.lra_report_build.specs.AnalysisResults.{access_verdicts, access_verdicts_at, site_at, state_of, verdict_at}
 use Rattle.lra_report_build.specs.Shown.{shown_state}
 use Rattle.lra_analyse_source.proofs.Handing.{contained, image_of}
 use Rattle.lra_interleavings.specs.Interleavings.{AtThread, FailsThread, ThreadWritesValue, OutOfBoundsThread}
-use Rattle.lra_threads_fixpoint.specs.Rounds.{ThreadsFixpoint}
-use Rattle.lra_threads_fixpoint.specs.Interference.{interval_at, threads_interference}
+use Rattle.lra_threads_fixpoint.specs.{Interference.interval_at, Interference.threads_interference, Rounds.ThreadsFixpoint}
 use Rattle.lra_threads_analysis.specs.Found.{IsThreadResultOf, thread_finding, access_verdicts_of, thread_values, verdicts_of}
-use Rattle.lra_threads_analysis.specs.declared.found.ThreadResult.{ThreadResult}
-use Rattle.lra_threads_analysis.specs.Interleaved.{HoldsInterleaved}
+use Rattle.lra_threads_analysis.specs.{Interleaved.HoldsInterleaved, declared.found.ThreadResult.ThreadResult}
 use Rattle.lra_front_end.specs.ThreadsClaims.{IsThreadTree}
-use Rattle.lra_threads_source.specs.Listed.{AreListedAlone, ShowsPoints, accesses_alone, assertions_alone, number_in}
-use Rattle.lra_threads_source.specs.Listed.{point_in_thread, points_before, reported_points, one_by_one, thread_place, thread_sites, verdict_in_thread}
-use Rattle.lra_threads_source.specs.Listed.{reported_verdicts}
-use Rattle.lra_threads_source.specs.Listed.{reported_write, reported_writes}
-use Rattle.lra_threads_source.specs.ThreadsReports.{BreaksThread, HoldsInInterleavings, IsPointOf, IsThreadsReportOf, IsReportedWrite, ThreadsAreSound}
-use Rattle.lra_threads_source.specs.ThreadsReports.{shared_program, thread_functions}
-use Rattle.lra_threads_source.specs.ThreadsReports.{threads_plan}
+use Rattle.lra_threads_source.specs.Listed.{AreListedAlone, ShowsPoints, accesses_alone, assertions_alone, number_in, point_in_thread, points_before, reported_points, one_by_one, thread_place}
+use Rattle.lra_threads_source.specs.Listed.{thread_sites, verdict_in_thread, reported_verdicts, reported_write, reported_writes}
+use Rattle.lra_threads_source.specs.ThreadsReports.{BreaksThread, HoldsInInterleavings, IsPointOf, IsThreadsReportOf, IsReportedWrite, ThreadsAreSound, shared_program, thread_functions, threads_plan}
 use Rattle.lra_threads_source.specs.ThreadsText.{ThreadsReport, Writes}
-use Rattle.lra_threads_source.proofs.FlaggedPoints.{all_end_found, told_low, verdict_low}
 use Rattle.lra_threads_source.proofs.InTurn.{first_at, first_from, first_has, same_turn, sizes_from}
-use Rattle.lra_threads_source.proofs.Readying.{zip_at, zip_long}
+use Rattle.lra_threads_source.proofs.{FlaggedPoints.all_end_found, FlaggedPoints.told_low, FlaggedPoints.verdict_low, Readying.zip_at, Readying.zip_long}
 
 -- lists --------------------------------------------------------------------------------------------------------------
 

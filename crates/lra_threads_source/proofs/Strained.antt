@@ -1,14 +1,10 @@
 -- Without a flag what is told of threads is what is defined; a flag's number is that of a thread's point that strains.
-use Rattle.std.proofs.Common.{◌≡◌, ◌∙◌, ℕ, List, refl, sym}
+use Rattle.std.proofs.{Common.◌≡◌, Common.◌∙◌, Common.ℕ, Common.List, Common.refl, Common.sym, lemmas.Option.none-some, lemmas.Option.same_Some}
 use Rattle.std.specs.Prelude.{Option, None, Some, option_map}
-use Rattle.std.proofs.lemmas.Option.{none-some, same_Some}
 use Rattle.lra_resolution_spec.specs.Threads.{thread_program}
-use Rattle.lra_threads_source.specs.Listed.{number_in, thread_place, thread_sites}
-use Rattle.lra_threads_source.specs.ThreadsReports.{AreDefinedThreads, FlaggedThreadsStrain, IsThreadsReportOf, StrainsAtNumber, UnflaggedThreadsAreDefined}
-use Rattle.lra_threads_source.specs.ThreadsReports.{shared_program, threads_plan}
-use Rattle.lra_threads_source.specs.ThreadsText.{ThreadsReport}
-use Rattle.lra_threads_source.proofs.FlaggedPoints.{flag_there}
-use Rattle.lra_threads_source.proofs.Sound.{element_at, tree_at}
+use Rattle.lra_threads_source.specs.ThreadsReports.{AreDefinedThreads, FlaggedThreadsStrain, IsThreadsReportOf, StrainsAtNumber, UnflaggedThreadsAreDefined, shared_program, threads_plan}
+use Rattle.lra_threads_source.specs.{Listed.number_in, Listed.thread_place, Listed.thread_sites, ThreadsText.ThreadsReport}
+use Rattle.lra_threads_source.proofs.{FlaggedPoints.flag_there, Sound.element_at, Sound.tree_at}
 
 -- a number that is told is that of a flag
 told_flag : {A : Type 0} (f : A → ℕ) (o : Option A) (n : ℕ) → option_map f o ≡ Some n → (a : A) × (o ≡ Some a) × (f a ≡ n)

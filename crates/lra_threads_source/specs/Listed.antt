@@ -1,25 +1,18 @@
 -- What rounds find of threads, as one report lists it. Threads, and the points of each, are counted from 0 here; a
 -- report's numbers are one more, and the points of a thread count on behind those of the threads before it.
-use Rattle.std.specs.Prelude.{◌≡◌, ◌+◌, ℕ, suc, List, [], ◌∷◌, ◌++◌, length, map, take, drop, codes, Option}
-use Rattle.std.specs.Prelude.{None, Some, option_map, slice_get, get_or}
-use Rattle.std.specs.List.{flat_map, sum_by}
-use Rattle.std.specs.Fmt.{decimal}
-use Rattle.lra_box.specs.declared.interval.Interval.{Interval}
-use Rattle.lra_box.specs.Abstraction.{box_abstraction}
-use Rattle.lra_syntax.specs.Labels.{labels_of}
-use Rattle.lra_syntax.specs.Trees.{FileTree}
-use Rattle.lra_resolution_spec.specs.LiveNames.{globals_named}
-use Rattle.lra_resolution_spec.specs.Threads.{thread_places, thread_program}
+use Rattle.std.specs.Prelude.{◌≡◌, ◌+◌, ℕ, suc, List, [], ◌∷◌, ◌++◌, length, map, take, drop, codes, Option, None, Some}
+use Rattle.std.specs.{Fmt.decimal, List.flat_map, List.sum_by, Prelude.option_map, Prelude.slice_get, Prelude.get_or}
+use Rattle.lra_box.specs.{Abstraction.box_abstraction, declared.interval.Interval.Interval}
+use Rattle.lra_syntax.specs.{Labels.labels_of, Trees.FileTree}
+use Rattle.lra_resolution_spec.specs.{LiveNames.globals_named, Threads.thread_places, Threads.thread_program}
 use Rattle.lra_program.specs.Sites.{Site, sites_of}
 use Rattle.lra_options.specs.declared.options.Domain.TheVariants.{Box}
-use Rattle.lra_report.specs.Listing.{AreListed}
 use Rattle.lra_report.specs.Report.{PointReport, Verdict}
-use Rattle.lra_report.specs.declared.verdict_kinds.VerdictKind.TheVariants.{Assertion}
+use Rattle.lra_report.specs.{Listing.AreListed, declared.verdict_kinds.VerdictKind.TheVariants.Assertion}
 use Rattle.lra_report_build.specs.AnalysisResults.{access_verdicts_at, state_of, verdict_at}
 use Rattle.lra_report_build.specs.Shown.{AreShown, shown_state}
 use Rattle.lra_threads_fixpoint.specs.Intervals.{IntervalRow, IntervalTable}
-use Rattle.lra_threads_fixpoint.specs.Interference.{interval_at}
-use Rattle.lra_threads_fixpoint.specs.Rounds.{ThreadsFixpoint}
+use Rattle.lra_threads_fixpoint.specs.{Interference.interval_at, Rounds.ThreadsFixpoint}
 use Rattle.lra_threads_analysis.specs.Found.{access_verdicts_of, thread_values, verdicts_of}
 use Rattle.lra_threads_analysis.specs.declared.found.ThreadResult.{ThreadResult}
 use Rattle.lra_threads_source.specs.ThreadsText.{ThreadsReport, Writes}

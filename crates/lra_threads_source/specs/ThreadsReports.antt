@@ -1,37 +1,28 @@
 -- What a source of several threads deserves: what rounds of boxes find of its threads, shown as one report; and what
 -- that claims of the threads beside each other. Threads and points are counted from 0 here.
-use Rattle.std.specs.Prelude.{◌≡◌, ◌<◌, ◌+◌, ℕ, suc, ℤ, List, length, map, None, Some, slice_get, IsTrue}
 use Rattle.std.specs.List.{Contains}
+use Rattle.std.specs.Prelude.{◌≡◌, ◌<◌, ◌+◌, ℕ, suc, ℤ, List, length, map, None, Some, slice_get, IsTrue}
 use Rattle.lra_box.specs.Bounds.{InInterval}
 use Rattle.lra_syntax.specs.Trees.{FileTree}
-use Rattle.lra_resolution_spec.specs.LiveNames.{globals_named}
-use Rattle.lra_resolution_spec.specs.Resolve.{resolved_functions}
 use Rattle.lra_resolution_spec.specs.Threads.{thread_places, thread_program}
-use Rattle.lra_program.specs.Program.{Function, Program}
-use Rattle.lra_program.specs.ProgramViews.{function_or}
-use Rattle.lra_program.specs.Run.{Point}
-use Rattle.lra_program.specs.Sites.{Site}
-use Rattle.lra_operations.specs.Agree.{point_of}
-use Rattle.lra_operations.specs.Tree.{Node}
-use Rattle.lra_options.specs.declared.options.Domain.TheVariants.{Box}
-use Rattle.lra_options.specs.declared.options.Options.{Options}
+use Rattle.lra_resolution_spec.specs.{LiveNames.globals_named, Resolve.resolved_functions}
+use Rattle.lra_program.specs.{Program.Function, Program.Program, ProgramViews.function_or, Run.Point, Sites.Site}
+use Rattle.lra_operations.specs.{Agree.point_of, Tree.Node}
 use Rattle.lra_options.specs.OptionRows.{default_options}
+use Rattle.lra_options.specs.{declared.options.Domain.TheVariants.Box, declared.options.Options.Options}
 use Rattle.lra_report.specs.Report.{PointReport, Verdict, InvariantHolds}
 use Rattle.lra_report.specs.declared.verdict_kinds.VerdictKind.{VerdictKind}
 use Rattle.lra_report.specs.declared.verdict_kinds.VerdictKind.TheVariants.{Assertion, Fit, Access}
-use Rattle.lra_front_end.specs.Stages.{HasConstants}
-use Rattle.lra_front_end.specs.ThreadsClaims.{IsAcceptedThreads}
+use Rattle.lra_front_end.specs.{Stages.HasConstants, ThreadsClaims.IsAcceptedThreads}
 use Rattle.lra_analysis_spec.specs.Plan.{Plan, plan_of}
 use Rattle.lra_interleavings.specs.Interleavings.{AtThread, FailsThread, ThreadWritesValue, OutOfBoundsThread}
-use Rattle.lra_threads_fixpoint.specs.Intervals.{empty_table}
 use Rattle.lra_threads_fixpoint.specs.Rounds.{AllRounds, ThreadsFixpoint, joining_rounds}
-use Rattle.lra_threads_fixpoint.specs.Flags.{ComesToStrain}
+use Rattle.lra_threads_fixpoint.specs.{Flags.ComesToStrain, Intervals.empty_table}
 use Rattle.lra_threads_analysis.specs.Found.{IsThreadResultOf, IsExactResultOf, StrainsAt, thread_finding}
-use Rattle.lra_threads_analysis.specs.Holding.{AreFlagged}
-use Rattle.lra_threads_analysis.specs.declared.found.ThreadResult.{ThreadResult}
 use Rattle.lra_threads_analysis.specs.Interleaved.{HoldsInterleaved}
-use Rattle.lra_threads_source.specs.ThreadsText.{ThreadsReport, Writes}
+use Rattle.lra_threads_analysis.specs.{Holding.AreFlagged, declared.found.ThreadResult.ThreadResult}
 use Rattle.lra_threads_source.specs.Listed.{ShowsThreads, number_in, points_before, thread_place, thread_sites}
+use Rattle.lra_threads_source.specs.ThreadsText.{ThreadsReport, Writes}
 
 -- threads ----------------------------------------------------------------------------------------------------------
 

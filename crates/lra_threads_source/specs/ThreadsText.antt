@@ -2,8 +2,7 @@
 -- as a report tells it; what is judged of their assertions and accesses; and for each thread and global variable that
 -- have one the interval of the values that the thread gives it.
 use Rattle.std.specs.Prelude.{ℕ, ℤ, List, ◌++◌, codes, Option, None, Some}
-use Rattle.std.specs.List.{flat_map}
-use Rattle.std.specs.Fmt.{decimal, signed_decimal}
+use Rattle.std.specs.{Fmt.decimal, Fmt.signed_decimal, List.flat_map}
 use Rattle.lra_row_text.specs.Texts.{text_line}
 use Rattle.lra_report.specs.Report.{PointReport, Verdict}
 use Rattle.lra_report.specs.ReportText.{counts_line, flag_text, point_text, verdict_text}

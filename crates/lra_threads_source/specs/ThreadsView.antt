@@ -2,8 +2,7 @@
 use Rattle.std.specs.Prelude.{map, string_bytes}
 use Rattle.lra_report.specs.View.{point_report_of, verdict_of}
 use Rattle.lra_threads_source.specs.ThreadsText as told
-use Rattle.lra_threads_source.specs.declared.text.ThreadsReport.{ThreadsReport}
-use Rattle.lra_threads_source.specs.declared.text.Writes.{Writes}
+use Rattle.lra_threads_source.specs.{declared.text.ThreadsReport.ThreadsReport, declared.text.Writes.Writes}
 
 abbrev pub writes_of : Writes → told.Writes
 writes_of w = record { thread = w.thread; name = string_bytes w.name; low = w.interval.low; high = w.interval.high }

@@ -1,28 +1,24 @@
 //! What rounds find of threads, as one report lists it.
 
+ghost use Rattle.std.specs.List.{flat_map, sum_by};
 ghost use Rattle.std.specs.Prelude.{◌≡◌, ◌++◌, ◌<◌, ◌≤◌, ◌+◌, ◌^◌, ℕ, suc, length, map, take, drop, All, Some, IfOk};
 ghost use Rattle.std.specs.Prelude.{option_map, slice_get, string_bytes, codes, List};
-ghost use Rattle.std.specs.List.{flat_map, sum_by};
-ghost use Rattle.lra_syntax.specs.Labels.{labels_of};
-ghost use Rattle.lra_syntax.specs.Views.{tree_view};
-ghost use Rattle.lra_resolution_spec.specs.LiveNames.{globals_named};
-ghost use Rattle.lra_resolution_spec.specs.Refuse.{greatest_points};
+ghost use Rattle.lra_syntax.specs.{Labels.labels_of, Views.tree_view};
+ghost use Rattle.lra_resolution_spec.specs.{LiveNames.globals_named, Refuse.greatest_points};
 ghost use Rattle.lra_report.specs.Report as report;
 ghost use Rattle.lra_report.specs.View.{point_report_of, verdict_of};
 ghost use Rattle.lra_report.specs.declared.verdict_kinds.VerdictKind.TheVariants.{Assertion, Fit};
 ghost use Rattle.lra_report_build.specs.AnalysisResults.{access_verdicts_at, verdict_at};
 ghost use Rattle.lra_report_build.specs.Views.{reported_view};
-ghost use Rattle.lra_threads_fixpoint.specs.Found.{fixpoint_view};
-ghost use Rattle.lra_threads_fixpoint.specs.Interference.{interval_at};
+ghost use Rattle.lra_threads_fixpoint.specs.{Found.fixpoint_view, Interference.interval_at};
 ghost use Rattle.lra_threads_source.specs.Listed.{accesses_alone, all_verdicts, all_writes, assertions_alone};
 ghost use Rattle.lra_threads_source.specs.Listed.{number_in, point_in_thread, points_before, reported_points};
-ghost use Rattle.lra_threads_source.specs.Listed.{one_by_one, thread_path, thread_sites};
-ghost use Rattle.lra_threads_source.specs.Listed.{verdict_in_thread, reported_verdicts, reported_write};
-ghost use Rattle.lra_threads_source.specs.Listed.{reported_writes};
-ghost use Rattle.lra_threads_source.specs.Listed.{AreListedAlone, ShowsPoints, ShowsThreads};
-ghost use Rattle.lra_threads_source.specs.ThreadsView.{threads_report_of, writes_of};
+ghost use Rattle.lra_threads_source.specs.Listed.{one_by_one, thread_path, thread_sites, verdict_in_thread};
+ghost use Rattle.lra_threads_source.specs.Listed.{reported_verdicts, reported_write, reported_writes, AreListedAlone};
+ghost use Rattle.lra_threads_source.specs.Listed.{ShowsPoints, ShowsThreads};
 ghost use Rattle.lra_threads_source.specs.Stages.{AreGraphsOf, AreOfGraphs, BeginsAtMain, CanFollow, IsFlagIn};
 ghost use Rattle.lra_threads_source.specs.Stages.{IsJudgedIn, IsOfGraph, judged_alone, points_in};
+ghost use Rattle.lra_threads_source.specs.ThreadsView.{threads_report_of, writes_of};
 
 use crate::text::{ThreadsReport, Writes};
 use lra_box::Interval;

@@ -1,10 +1,8 @@
 //! What is written of several threads.
 
 ghost use Rattle.std.specs.Prelude.{◌≡◌, ◌++◌, count_by, map, IfOk, OnOk, string_bytes};
-ghost use Rattle.std.specs.Fmt.{decimal};
-ghost use Rattle.std.specs.List.{flat_map};
-ghost use Rattle.lra_report.specs.ReportText.{flag_text, is_unknown};
-ghost use Rattle.lra_report.specs.View.{verdict_of};
+ghost use Rattle.std.specs.{Fmt.decimal, List.flat_map};
+ghost use Rattle.lra_report.specs.{ReportText.flag_text, ReportText.is_unknown, View.verdict_of};
 ghost use Rattle.lra_threads_source.specs.ThreadsText as told;
 ghost use Rattle.lra_threads_source.specs.ThreadsView.{threads_report_of, writes_of};
 

@@ -1,14 +1,13 @@
 //! From the bytes of a source of several threads to what is found of them.
 
-ghost use Rattle.std.specs.Prelude.{◌≡◌, ◌<◌, ◌+◌, ◌^◌, ℕ, List, length, IfOk};
 ghost use Rattle.std.specs.List.{AllZip};
+ghost use Rattle.std.specs.Prelude.{◌≡◌, ◌<◌, ◌+◌, ◌^◌, ℕ, List, length, IfOk};
 ghost use Rattle.lra_base.specs.Refused.{IfRefused};
 ghost use Rattle.lra_syntax.specs.Grammar.{Spells};
 ghost use Rattle.lra_resolution_spec.specs.RefuseThreads.{RefuseThreads};
 ghost use Rattle.lra_threads_source.specs.Stages.{AreThreadsInstrumented, IsInstrumented, IsReadOf};
 ghost use Rattle.lra_threads_source.specs.ThreadsReports as threaded;
-ghost use Rattle.lra_threads_source.specs.ThreadsReports.{IsThreadsReportOf};
-ghost use Rattle.lra_threads_source.specs.ThreadsView.{threads_report_of};
+ghost use Rattle.lra_threads_source.specs.{ThreadsReports.IsThreadsReportOf, ThreadsView.threads_report_of};
 
 use crate::listing::{ThreadsOutline, list};
 use crate::text::ThreadsReport;

@@ -1,23 +1,17 @@
 -- Chains of conditions along their operands: what of a chain is done so far.
 use Rattle.std.proofs.Common.{◌≡◌, ℕ, zero, suc, ◌+◌, ◌<◌, ◌≤◌, List, [], ◌∷◌, ◌++◌, Bool, true, false, length, map, take, drop, get_or, refl, sym, ap, subst, ◌∙◌, arith}
+use Rattle.std.proofs.{lemmas.List.map_more, lemmas.List.take_all, lemmas.List.drop_more, lemmas.List.drop_all, lemmas.Result.IfOk-weaker}
 use Rattle.std.specs.Prelude.{not, IfOk}
 use Rattle.std.specs.Prelude as handed
-use Rattle.std.proofs.lemmas.Result.{IfOk-weaker}
-use Rattle.std.proofs.lemmas.List.{map_more, take_all, drop_more, drop_all}
-use Rattle.lra_domain.specs.declared.Exactness.{Exactness}
-use Rattle.lra_domain.specs.Abstraction.{Abstraction}
+use Rattle.lra_domain.specs.{Abstraction.Abstraction, declared.Exactness.Exactness}
 use Rattle.lra_program.specs.declared.program.Cond as declared_cond
-use Rattle.lra_program.specs.Program.{Cond}
-use Rattle.lra_program.specs.ProgramViews.{all_of, any_of, cond_view}
-use Rattle.lra_analysis_spec.specs.Operations.{lossy_operations}
-use Rattle.lra_analysis_spec.specs.Moves.{Takes}
-use Rattle.lra_analysis_spec.specs.MovesOf.{guard}
+use Rattle.lra_program.specs.{Program.Cond, ProgramViews.all_of, ProgramViews.any_of, ProgramViews.cond_view}
+use Rattle.lra_analysis_spec.specs.{Moves.Takes, MovesOf.guard, Operations.lossy_operations}
 use Rattle.lra_analysis_spec.proofs.Takes.{then_takes}
 use Rattle.lra_linearize.specs.Conditions.{in_turn_of, either_of}
 use Rattle.lra_linearize.proofs.CondSizes.{cond_size, chain_size, size_in}
-use Rattle.lra_transfer.specs.declared.splits.Kept.{Kept}
-use Rattle.lra_transfer.specs.declared.splits.ConditionSplit.{ConditionSplit}
 use Rattle.lra_transfer.specs.Splits.{TakesTo, SplitsBy, AreJoinedTo, AreJoinedBack, AllKeptHave, IsEitherSoFar}
+use Rattle.lra_transfer.specs.{declared.splits.ConditionSplit.ConditionSplit, declared.splits.Kept.Kept}
 use Rattle.lra_transfer.proofs.SideSteps.{chain_all, chain_any, either_step}
 
 -- what is joined from the right ---------------------------------------------------------------------------------------

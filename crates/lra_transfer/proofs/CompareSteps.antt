@@ -3,20 +3,13 @@ use Rattle.std.proofs.Common.{◌≡◌, ◌∙◌, ℕ, ℤ, Bool, refl, ap, sy
 use Rattle.std.specs.Prelude.{IfOk}
 use Rattle.std.specs.Prelude as handed
 use Rattle.lra_base.specs.Operators.{Comparison, equal}
-use Rattle.lra_domain.specs.Abstraction.{Abstraction}
-use Rattle.lra_domain.specs.Moves.{Moves}
-use Rattle.lra_domain.specs.declared.Exactness.{Exactness}
-use Rattle.lra_domain.specs.declared.Exactness.TheVariants.{Exact}
-use Rattle.lra_analysis_spec.specs.Linear.{constant_form}
-use Rattle.lra_analysis_spec.specs.Moves.{Takes}
-use Rattle.lra_analysis_spec.specs.Operations.{lossy_operations}
-use Rattle.lra_analysis_spec.specs.Linearization.{subtracted}
+use Rattle.lra_domain.specs.{Abstraction.Abstraction, Moves.Moves, declared.Exactness.Exactness, declared.Exactness.TheVariants.Exact}
+use Rattle.lra_analysis_spec.specs.MovesOf.{comparison_as, split_moves, comparison_moves, number_moves}
+use Rattle.lra_analysis_spec.specs.declared.linearization.Linearized.TheVariants.{Linear, Divided, Unseen}
+use Rattle.lra_analysis_spec.specs.{Linear.constant_form, Linearization.subtracted, Moves.Takes, Operations.lossy_operations, declared.linearization.Linearized.Linearized}
 use Rattle.lra_analysis_spec.proofs.Takes.{takes_made}
 use Rattle.lra_transfer.specs.Changes.{Does}
 use Rattle.lra_transfer.proofs.SideSteps.{leaves_as}
-use Rattle.lra_analysis_spec.specs.declared.linearization.Linearized.{Linearized}
-use Rattle.lra_analysis_spec.specs.declared.linearization.Linearized.TheVariants.{Linear, Divided, Unseen}
-use Rattle.lra_analysis_spec.specs.MovesOf.{comparison_as, split_moves, comparison_moves, number_moves}
 
 -- a comparison of which something is seen is split
 pub split_as : (live : ℕ) (op : Comparison) (s : Linearized) → (s ≡ Unseen → ⊥) → comparison_moves live op s ≡ split_moves live op s

@@ -1,17 +1,11 @@
 -- Steps of the proofs on the globals' first values.
 use Rattle.std.proofs.Common.{◌≡◌, ℕ, suc, ◌+◌, ℤ, List, ◌∷◌, length, refl, ap, ◌∙◌, subst, arith}
-use Rattle.std.specs.Prelude.{pos}
 use Rattle.std.proofs.lemmas.List.{length-replicate}
+use Rattle.std.specs.Prelude.{pos}
 use Rattle.lra_linear_forms.specs.Form.{Form}
-use Rattle.lra_domain.specs.Actions.{assign, embed}
-use Rattle.lra_domain.specs.declared.Exactness.{Exactness}
-use Rattle.lra_domain.specs.Parts.{CapsWithin}
-use Rattle.lra_domain.specs.Abstraction.{Abstraction, TransfersTo}
-use Rattle.lra_analysis_spec.specs.Linear.{constant_form}
-use Rattle.lra_analysis_spec.specs.declared.linearization.Linearized.TheVariants.{Linear}
-use Rattle.lra_domain.specs.Abstraction.{worse}
+use Rattle.lra_domain.specs.{Abstraction.Abstraction, Abstraction.TransfersTo, Abstraction.worse, Actions.assign, Actions.embed, Parts.CapsWithin, declared.Exactness.Exactness}
+use Rattle.lra_analysis_spec.specs.{Linear.constant_form, MovesOf.within_type, MovesOf.append_set, MovesOf.first_values, declared.linearization.Linearized.TheVariants.Linear}
 use Rattle.lra_program.specs.declared.program.GlobalVariable.{GlobalVariable}
-use Rattle.lra_analysis_spec.specs.MovesOf.{within_type, append_set, first_values}
 use Rattle.lra_transfer.specs.Changes.{Does}
 use Rattle.lra_transfer.proofs.ChangeSteps.{done_one}
 

@@ -4,23 +4,15 @@ use Rattle.std.specs.Prelude.{not, IfOk}
 use Rattle.std.specs.Prelude as handed
 use Rattle.lra_base.specs.declared.operators.Comparison as declared_comparison
 use Rattle.lra_base.specs.OperatorViews.{comparison_view}
-use Rattle.lra_domain.specs.declared.Exactness.{Exactness}
+use Rattle.lra_domain.specs.{Abstraction.Abstraction, Moves.Moves, Moves.first_then, Moves.join_of, declared.Exactness.Exactness}
 use Rattle.lra_program.specs.declared.program.Cond as declared_cond
 use Rattle.lra_program.specs.declared.program.Cond.{Compare, Nonzero, Opposite, All, Any, the_lemmas}
+use Rattle.lra_program.specs.{Program.compare, Program.nonzero, Program.opposite, Program.Cond, ProgramViews.all_of, ProgramViews.any_of, ProgramViews.cond_view, ProgramViews.expr_view}
 use Rattle.lra_program.specs.declared.program.Expr as declared_expr
-use Rattle.lra_program.specs.Program.{compare, nonzero, opposite}
-use Rattle.lra_program.specs.ProgramViews.{all_of, any_of, cond_view, expr_view}
 use Rattle.lra_linearize.proofs.CondSteps.{all_view, any_view}
-use Rattle.lra_domain.specs.Abstraction.{Abstraction}
-use Rattle.lra_program.specs.Program.{Cond}
-use Rattle.lra_analysis_spec.specs.Operations.{lossy_operations}
-use Rattle.lra_domain.specs.Moves.{Moves, first_then, join_of}
-use Rattle.lra_analysis_spec.specs.Moves.{Takes}
-use Rattle.lra_analysis_spec.specs.MovesOf.{guard}
+use Rattle.lra_analysis_spec.specs.{Moves.Takes, MovesOf.guard, Operations.lossy_operations}
 use Rattle.lra_analysis_spec.proofs.Takes.{then_takes, join_takes}
-use Rattle.lra_transfer.specs.declared.splits.Kept.{Kept}
-use Rattle.lra_transfer.specs.declared.splits.ConditionSplit.{ConditionSplit}
-use Rattle.lra_transfer.specs.Splits.{TakesTo, SplitsBy, AreJoinedTo}
+use Rattle.lra_transfer.specs.{Splits.TakesTo, Splits.SplitsBy, Splits.AreJoinedTo, declared.splits.ConditionSplit.ConditionSplit, declared.splits.Kept.Kept}
 
 -- the views of the forms, by the conditions in them
 pub compare_view : (op : declared_comparison.Comparison) (a b : declared_expr.Expr)

@@ -1,15 +1,10 @@
 -- Both sides of a condition at once, each with the exactness of what led to it.
 use Rattle.std.specs.Prelude.{◌≡◌, ℕ, Bool, not, List, [], ◌∷◌}
-use Rattle.lra_domain.specs.Abstraction.{Abstraction, worse}
-use Rattle.lra_domain.specs.declared.Exactness.{Exactness}
+use Rattle.lra_domain.specs.{Abstraction.Abstraction, Abstraction.worse, Moves.Moves, declared.Exactness.Exactness}
 use Rattle.lra_program.specs.Program.{Cond}
-use Rattle.lra_domain.specs.Moves.{Moves}
-use Rattle.lra_analysis_spec.specs.Moves.{Takes}
-use Rattle.lra_analysis_spec.specs.MovesOf.{guard}
-use Rattle.lra_analysis_spec.specs.Operations.{lossy_operations}
+use Rattle.lra_analysis_spec.specs.{Moves.Takes, MovesOf.guard, Operations.lossy_operations}
 use Rattle.lra_linearize.specs.Conditions.{either_of}
-use Rattle.lra_transfer.specs.declared.splits.Kept.{Kept}
-use Rattle.lra_transfer.specs.declared.splits.ConditionSplit.{ConditionSplit}
+use Rattle.lra_transfer.specs.{declared.splits.ConditionSplit.ConditionSplit, declared.splits.Kept.Kept}
 
 -- the moves lead from the one to the other, each with the exactness of what led to it
 abbrev pub TakesTo : {V H : Type 0} → Abstraction V H → Moves → Kept V → Kept V → Type 0

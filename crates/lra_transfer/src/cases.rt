@@ -3,9 +3,8 @@
 ghost use Rattle.std.specs.Prelude.{◌≡◌, ◌≤◌, ◌<◌, ◌+◌, length, IfOk, OnOk};
 ghost use Rattle.lra_domain.specs.Actions.{assign};
 ghost use Rattle.lra_domain.specs.Changes.{action_of, actions_of, AllCanBeMade, dims_after_actions};
-ghost use Rattle.lra_analysis_spec.specs.LiveLimit.{most_live};
 ghost use Rattle.lra_analysis_spec.specs.MovesOf.{in_turn, first_case, second_case, in_case, in_cases};
-ghost use Rattle.lra_analysis_spec.specs.Linearization.{Divides};
+ghost use Rattle.lra_analysis_spec.specs.{Linearization.Divides, LiveLimit.most_live};
 ghost use Rattle.lra_transfer.specs.Changes.{Does, Stays};
 
 use lra_analysis_spec::Division;

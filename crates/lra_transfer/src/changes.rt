@@ -1,14 +1,11 @@
 //! What a least change of the program does to a value.
 
 ghost use Rattle.std.specs.Prelude.{◌≡◌, ◌≤◌, ◌<◌, ◌+◌, ◌-◌, Some, suc, map, length, IfOk, OnOk};
-ghost use Rattle.lra_program.specs.Step.{append};
-ghost use Rattle.lra_program.specs.ProgramViews.{argument_view, expr_view};
+ghost use Rattle.lra_program.specs.{ProgramViews.argument_view, ProgramViews.expr_view, Step.append};
 ghost use Rattle.lra_operations.specs.TreeViews.{op_view};
-ghost use Rattle.lra_analysis_spec.specs.LiveLimit.{most_live};
-ghost use Rattle.lra_analysis_spec.specs.Linearization.{linearized};
-ghost use Rattle.lra_analysis_spec.specs.declared.linearization.Linearized.TheVariants.{Unseen};
 ghost use Rattle.lra_analysis_spec.specs.MovesOf.{within_type, set_to, set_target, append_set, push_all, drop_last};
-ghost use Rattle.lra_analysis_spec.specs.Live.{live_after_op};
+ghost use Rattle.lra_analysis_spec.specs.{Linearization.linearized, Live.live_after_op, LiveLimit.most_live};
+ghost use Rattle.lra_analysis_spec.specs.{declared.linearization.Linearized.TheVariants.Unseen};
 ghost use Rattle.lra_transfer.specs.Changes.{Does, OpTransfersTo, CellFits, OpFitsDims};
 
 use crate::cases::assign_in_cases;

@@ -1,17 +1,12 @@
 //! What a comparison leaves of a value.
 
 ghost use Rattle.std.specs.Prelude.{◌≡◌, ◌≤◌, ◌+◌, length, IfOk, OnOk};
-ghost use Rattle.lra_base.specs.Operators.{below, differs};
-ghost use Rattle.lra_base.specs.OperatorViews.{comparison_view};
+ghost use Rattle.lra_base.specs.{OperatorViews.comparison_view, Operators.below, Operators.differs};
 ghost use Rattle.lra_program.specs.ProgramViews.{expr_view};
-ghost use Rattle.lra_analysis_spec.specs.Linear.{comparison_test};
 ghost use Rattle.lra_analysis_spec.specs.Linearization.{Divides, LinearizedFits, linearized_difference};
-ghost use Rattle.lra_analysis_spec.specs.LiveLimit.{most_live};
-ghost use Rattle.lra_analysis_spec.specs.Operations.{lossy_operations};
-ghost use Rattle.lra_analysis_spec.specs.Moves.{Takes};
 ghost use Rattle.lra_analysis_spec.specs.MovesOf.{test_moves, case_moves, linearized_moves, split_moves};
-ghost use Rattle.lra_analysis_spec.specs.MovesOf.{comparison_moves};
-ghost use Rattle.lra_analysis_spec.specs.MovesOf.{number_moves};
+ghost use Rattle.lra_analysis_spec.specs.{Linear.comparison_test, LiveLimit.most_live, Moves.Takes};
+ghost use Rattle.lra_analysis_spec.specs.{MovesOf.comparison_moves, MovesOf.number_moves, Operations.lossy_operations};
 ghost use Rattle.lra_transfer.specs.Changes.{Does};
 
 use crate::cases::change_in_cases;

@@ -4,10 +4,7 @@
 ghost use Rattle.std.specs.Prelude.{◌≡◌, ◌≤◌, ◌∷◌, [], map, length, slice_index_or, IfOk, OnOk};
 ghost use Rattle.lra_program.specs.Program.{nonzero};
 ghost use Rattle.lra_program.specs.ProgramViews.{all_of, any_of, cond_view, expr_view};
-ghost use Rattle.lra_analysis_spec.specs.LiveLimit.{most_live};
-ghost use Rattle.lra_analysis_spec.specs.Operations.{lossy_operations};
-ghost use Rattle.lra_analysis_spec.specs.Moves.{Takes};
-ghost use Rattle.lra_analysis_spec.specs.MovesOf.{guard};
+ghost use Rattle.lra_analysis_spec.specs.{LiveLimit.most_live, Moves.Takes, MovesOf.guard, Operations.lossy_operations};
 ghost use Rattle.lra_linearize.specs.Conditions.{in_turn_of, either_of};
 ghost use Rattle.lra_transfer.specs.Splits.{AreJoinedBack, AllKeptHave, IsEitherSoFar};
 

@@ -2,9 +2,8 @@
 
 ghost use Rattle.std.specs.Prelude.{◌≡◌, ◌+◌, ◌<◌, ◌≤◌, suc, length, IfOk, OnOk};
 ghost use Rattle.lra_analysis_spec.specs.Linear.{constant_form};
-ghost use Rattle.lra_analysis_spec.specs.declared.linearization.Linearized.TheVariants.{Linear};
-ghost use Rattle.lra_analysis_spec.specs.LiveLimit.{most_live};
 ghost use Rattle.lra_analysis_spec.specs.MovesOf.{within_type, append_set, first_values};
+ghost use Rattle.lra_analysis_spec.specs.{LiveLimit.most_live, declared.linearization.Linearized.TheVariants.Linear};
 ghost use Rattle.lra_transfer.specs.Changes.{Does};
 
 use crate::types::hold_type;

@@ -3,8 +3,7 @@
 ghost use Rattle.std.specs.Prelude.{◌≡◌, ◌≤◌, IfOk, OnOk};
 ghost use Rattle.lra_base.specs.declared.number_types.NumberType.TheVariants.{Int};
 ghost use Rattle.lra_domain.specs.Moves.{Moves};
-ghost use Rattle.lra_analysis_spec.specs.LiveLimit.{most_live};
-ghost use Rattle.lra_analysis_spec.specs.MovesOf.{within_type};
+ghost use Rattle.lra_analysis_spec.specs.{LiveLimit.most_live, MovesOf.within_type};
 ghost use Rattle.lra_transfer.specs.Changes.{Does};
 
 use lra_base::NumberType;

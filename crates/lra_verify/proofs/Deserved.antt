@@ -1,34 +1,22 @@
 -- What an input deserves, by the answer to its program and to the lines behind its source.
-use Rattle.std.proofs.Common.{◌≡◌, ◌≤◌, ◌<◌, inl, inr, ℕ, List, length, Option, Some, None}
-use Rattle.std.proofs.Common.{Result, Ok, Err, IfOk, refl, ap, sym, ◌∙◌, subst, arith}
-use Rattle.lra_program.specs.Program.{Program}
-use Rattle.lra_operations.specs.Tree.{Node}
+use Rattle.std.proofs.Common.{◌≡◌, ◌≤◌, ◌<◌, inl, inr, ℕ, List, length, Option, Some, None, Result, Ok, Err, IfOk, refl, ap, sym, ◌∙◌, subst, arith}
+use Rattle.std.proofs.lemmas.List.{length-map}
+use Rattle.lra_program.specs.{Program.Program, ProgramViews.program_view, Sites.Site, Sites.sites_of}
+use Rattle.lra_operations.specs.{Tree.Node, TreeViews.node_view, TreeViews.site_view}
 use Rattle.lra_paths.specs.Paths.{AreFewPaths}
-use Rattle.lra_certificate_lines.specs.declared.refusals.VerifyError.{VerifyError}
 use Rattle.lra_certificate_lines.specs.declared.refusals.VerifyError.TheVariants.{Refused, Memory}
 use Rattle.lra_certificate_lines.specs.declared.refusals.VerifyRefusal.TheVariants.{Source, Paths, Line}
+use Rattle.lra_certificate_lines.specs.{LineViews.IsJudgedAs, declared.refusals.VerifyError.VerifyError}
 use Rattle.lra_certificate_spec.specs.Claims.{IsProgram, program_of, HasHead, VerifiesTo, verified, source_refused, line_refused, greatest_certificate}
 use Rattle.lra_certificate_spec.specs.Judged.{Head, judged, head_of, too_long, bad_line}
-use Rattle.lra_certificate_lines.specs.LineViews.{IsJudgedAs}
-use Rattle.lra_verify.specs.RefusalViews.{IfRefused}
-use Rattle.lra_verify.specs.SourceViews.{IsAnswerTo}
+use Rattle.lra_verify.specs.{HeadViews.head_view, RefusalViews.IfRefused, SourceViews.IsAnswerTo}
 use Rattle.lra_certificate_spec.proofs.JudgedBothWays.{few_points, judged_exactly}
-use Rattle.std.specs.List.{All}
-use Rattle.std.specs.Prelude.{map, option_map, ◌^◌}
-use Rattle.std.proofs.lemmas.List.{length-map}
-use Rattle.lra_base.specs.declared.refusals.Cause.{Cause}
-use Rattle.lra_base.specs.declared.refusals.Place.{Place}
-use Rattle.lra_syntax.specs.Grammar.{Spells}
-use Rattle.lra_syntax.specs.Views.{tree_view}
-use Rattle.lra_resolution_spec.specs.Refuse.{Refuse}
-use Rattle.lra_resolution_spec.specs.Resolve.{resolve}
-use Rattle.lra_program.specs.ProgramViews.{program_view}
-use Rattle.lra_program.specs.Sites.{Site, sites_of}
-use Rattle.lra_operations.specs.TreeViews.{node_view, site_view}
-use Rattle.lra_front_end.specs.Stages.{HasTree, HasInlinedTree}
-use Rattle.lra_front_end.specs.declared.front.AcceptedSource.{AcceptedSource}
+use Rattle.std.specs.{List.All, Prelude.map, Prelude.option_map, Prelude.◌^◌}
+use Rattle.lra_base.specs.{declared.refusals.Cause.Cause, declared.refusals.Place.Place}
+use Rattle.lra_syntax.specs.{Grammar.Spells, Views.tree_view}
+use Rattle.lra_resolution_spec.specs.{Refuse.Refuse, Resolve.resolve}
+use Rattle.lra_front_end.specs.{Stages.HasTree, Stages.HasInlinedTree, declared.front.AcceptedSource.AcceptedSource}
 use Rattle.lra_verify.specs.declared.head.Head as declared
-use Rattle.lra_verify.specs.HeadViews.{head_view}
 use Rattle.lra_verify.proofs.VerifySteps.{live_few}
 
 -- what is told of the lines, where the paths are few

@@ -1,16 +1,11 @@
 -- The lines behind those of the points, to the last, as the code tells of them.
-use Rattle.std.proofs.Common.{◌≡◌, ◌≤◌, ◌<◌, ℕ, Bool, true, false, List, [], ◌∷◌, length, drop, Ok, refl, ap, ◌∙◌, arith, cond}
-use Rattle.std.proofs.Common.{length-drop}
-use Rattle.std.specs.Prelude.{if◌then◌else◌, codes}
-use Rattle.std.specs.List.{slice_split, onto_first}
-use Rattle.std.proofs.lemmas.List.{drop_all}
-use Rattle.std.proofs.lemmas.List.Splits.{length-slice_split}
-use Rattle.lra_certificate_lines.specs.declared.refusals.VerifyError.{VerifyError}
-use Rattle.lra_verify.specs.declared.annotated.AnnotatedProgram.{AnnotatedProgram}
+use Rattle.std.proofs.Common.{◌≡◌, ◌≤◌, ◌<◌, ℕ, Bool, true, false, List, [], ◌∷◌, length, drop, Ok, refl, ap, ◌∙◌, arith, cond, length-drop}
+use Rattle.std.proofs.{lemmas.List.drop_all, lemmas.List.Splits.length-slice_split}
+use Rattle.std.specs.{List.slice_split, List.onto_first, Prelude.if◌then◌else◌, Prelude.codes}
+use Rattle.lra_certificate_lines.specs.{LineViews.IsFault, declared.refusals.VerifyError.VerifyError}
+use Rattle.lra_verify.specs.{EdgeViews.sources_by, EdgeViews.listed_by, EdgeViews.violations_by, EdgeViews.rest_by, EdgeViews.sites_in, declared.annotated.AnnotatedProgram.AnnotatedProgram}
 use Rattle.lra_certificate_spec.specs.Judged.{Left, Judged, then_judged, takes, refuses, bad_line, is_nothing, judged_end, counted}
 use Rattle.lra_certificate_spec.specs.Lines.{is_feed, pieces_at, line_number_at, left_at}
-use Rattle.lra_certificate_lines.specs.LineViews.{IsFault}
-use Rattle.lra_verify.specs.EdgeViews.{sources_by, listed_by, violations_by, rest_by, sites_in}
 use Rattle.lra_certificate_lines.proofs.Told.{then_ok, then_err, fault_through}
 
 -- ---- nothing stands behind the last line

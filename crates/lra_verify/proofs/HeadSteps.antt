@@ -1,11 +1,8 @@
 -- The head of an input, as the code reads it.
 use Rattle.std.proofs.Common.{◌≡◌, ◌≤◌, ◌+◌, ℕ, suc, ℤ, pos, negsuc, Bool, false, List, [], ◌∷◌, length, take, drop, Option, Some, None, Vec, refl, ap, sym, ◌∙◌, arith, add-one, drop-drop}
-use Rattle.std.specs.Prelude.{if◌then◌else◌, slice_get, codes, nat_eq}
-use Rattle.std.specs.Global.{Global}
-use Rattle.std.specs.List.{position_or_len}
 use Rattle.std.proofs.lemmas.Option.{slice_get_past, same_Some}
-use Rattle.lra_certificate_spec.specs.Judged.{Head, has_feed, headed, head_of, numbers_after}
-use Rattle.lra_certificate_spec.specs.NumberViews.{option_items}
+use Rattle.std.specs.{Global.Global, List.position_or_len, Prelude.if◌then◌else◌, Prelude.slice_get, Prelude.codes, Prelude.nat_eq}
+use Rattle.lra_certificate_spec.specs.{Judged.Head, Judged.has_feed, Judged.headed, Judged.head_of, Judged.numbers_after, NumberViews.option_items}
 
 abbrev pub head : List ℕ → List ℕ → Head
 head source rest = record { source = source; rest = rest }

@@ -1,13 +1,10 @@
 -- Listed assertions, one after the other, as the code tells of them.
 use Rattle.std.proofs.Common.{◌≡◌, ◌+◌, ◌∷◌, [], ℕ, suc, Bool, true, false, List, Ok, Err, refl, ap, sym, ◌∙◌, subst, arith, add-one}
-use Rattle.std.specs.Prelude.{if◌then◌else◌, ◌&&◌, codes}
-use Rattle.std.specs.Fmt.{decimal}
+use Rattle.std.specs.{Fmt.decimal, Prelude.if◌then◌else◌, Prelude.◌&&◌, Prelude.codes}
 use Rattle.lra_program.specs.Sites.{Site}
-use Rattle.lra_certificate_lines.specs.declared.refusals.VerifyError.{VerifyError}
-use Rattle.lra_certificate_spec.specs.CertificateText.{numbered_text, assert_text}
+use Rattle.lra_certificate_lines.specs.{LineViews.IsFault, declared.refusals.VerifyError.VerifyError}
 use Rattle.lra_certificate_spec.specs.Judged.{Left, Judged, then_judged, after_line, is_next_line, line_on, one_more}
-use Rattle.lra_certificate_spec.specs.Lines.{HasNoFeed}
-use Rattle.lra_certificate_lines.specs.LineViews.{IsFault}
+use Rattle.lra_certificate_spec.specs.{CertificateText.numbered_text, CertificateText.assert_text, Lines.HasNoFeed}
 use Rattle.lra_verify.specs.EdgeViews.{assertion_by, listed_by}
 use Rattle.lra_certificate_lines.proofs.Told.{then_ok, then_err, fault_through}
 use Rattle.lra_certificate_spec.proofs.WriteText.{AreFrom, from_lower, from_joined, text_from, decimal_from, clean}

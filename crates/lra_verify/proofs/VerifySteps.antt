@@ -1,48 +1,28 @@
 -- The lines of a program, told source by source, are those of the definition.
-use Rattle.std.proofs.Common.{◌≡◌, ◌≤◌, ◌<◌, ◌^◌, ℤ, ◌+◌, ◌++◌, ◌∷◌, [], ℕ, zero, suc, List, length, map}
-use Rattle.std.proofs.Common.{Bool, true, false, Option, Some, None, Ok}
-use Rattle.std.proofs.Common.{refl, ap, sym, ◌∙◌, subst, arith, ◌⊎◌, inl, inr, leb}
-use Rattle.std.specs.Prelude.{if◌then◌else◌, slice_get, ◌&&◌, option_map, get_or}
-use Rattle.std.specs.List.{flat_map, range_with_len}
-use Rattle.std.specs.List.{All}
-use Rattle.std.proofs.lemmas.List.{length-map}
-use Rattle.std.proofs.lemmas.Bool.Decides.{leb_tells}
-use Rattle.std.proofs.lemmas.Option.{slice_get-get_or, slice_get-map}
+use Rattle.std.proofs.Common.{◌≡◌, ◌≤◌, ◌<◌, ◌^◌, ℤ, ◌+◌, ◌++◌, ◌∷◌, [], ℕ, zero, suc, List, length, map, Bool, true, false, Option, Some, None, Ok, refl, ap, sym, ◌∙◌, subst, arith, ◌⊎◌, inl, inr}
+use Rattle.std.proofs.{Common.leb, lemmas.Bool.Decides.leb_tells, lemmas.List.length-map, lemmas.Option.slice_get-get_or, lemmas.Option.slice_get-map}
+use Rattle.std.specs.{List.flat_map, List.range_with_len, List.All, Prelude.if◌then◌else◌, Prelude.slice_get, Prelude.◌&&◌, Prelude.option_map, Prelude.get_or}
 use Rattle.lra_front_end.specs.Claims.{AreFew}
 use Rattle.lra_operations.specs.declared.tree.Site as declared
 use Rattle.lra_path_disjuncts.proofs.TableSteps.{get_left, get_seam}
 use Rattle.lra_domain.specs.Actions.{Action}
-use Rattle.lra_linear_spec.specs.declared.ConKind.{ConKind}
-use Rattle.lra_linear_spec.specs.Kinds.{is_equality}
+use Rattle.lra_linear_spec.specs.{Kinds.is_equality, declared.ConKind.ConKind}
 use Rattle.lra_systems.specs.LinearSystems.{LinearSystem, rows_by_kind}
-use Rattle.lra_verify.specs.PointViews.{HaveDims}
-use Rattle.lra_program.specs.Program.{Program}
-use Rattle.lra_program.specs.Sites.{Site, sites_of}
-use Rattle.lra_operations.specs.Tree.{Node}
-use Rattle.lra_operations.specs.TreeViews.{site_view}
+use Rattle.lra_verify.specs.EdgeViews.{edge_by, dead_by, sites_in, states_in, actions_out_of, actions_by, live_by, step_by, paths_to_by, IsAnnotatedProgram, source_by, sources_by, violation_by}
+use Rattle.lra_verify.specs.EdgeViews.{violations_by, listed_by, rest_by}
+use Rattle.lra_verify.specs.{PointViews.HaveDims, SourceViews.AreSources, SourceViews.LeadAs, declared.annotated.AnnotatedProgram.AnnotatedProgram}
+use Rattle.lra_program.specs.{Program.Program, Sites.Site, Sites.sites_of, declared.program.GlobalVariable.GlobalVariable}
+use Rattle.lra_operations.specs.{Tree.Node, TreeViews.site_view}
 use Rattle.lra_path_segments.specs.Segments.{Goal, comes_to, violates}
-use Rattle.lra_paths.specs.Paths.{Path, path_by, paths_between, paths_of, violations_of, sources_of, points_of, actions_between, actions_between_in}
-use Rattle.lra_path_disjuncts.specs.Disjuncts.{greatest_paths}
-use Rattle.lra_paths.specs.Paths.{AreFewIn, AreFewPaths, HasTooManyIn, HasTooManyPaths}
-use Rattle.lra_path_disjuncts.specs.Tables.{IsTable}
-use Rattle.lra_paths.specs.Sources.{to_goal, AreFewTo}
-use Rattle.lra_paths.specs.declared.sources.Source.{Source}
-use Rattle.lra_program.specs.declared.program.GlobalVariable.{GlobalVariable}
-use Rattle.lra_certificate_lines.specs.declared.refusals.VerifyError.{VerifyError}
-use Rattle.lra_certificate_spec.specs.Certificates.{live_at_source, state_from, state_to}
-use Rattle.lra_certificate_spec.specs.CertificateText.{assert_text}
+use Rattle.lra_paths.specs.Paths.{Path, path_by, paths_between, paths_of, violations_of, sources_of, points_of, actions_between, actions_between_in, AreFewIn, AreFewPaths, HasTooManyIn}
+use Rattle.lra_paths.specs.{Paths.HasTooManyPaths, Sources.to_goal, Sources.AreFewTo, declared.sources.Source.Source}
+use Rattle.lra_path_disjuncts.specs.{Disjuncts.greatest_paths, Tables.IsTable}
+use Rattle.lra_certificate_lines.specs.{LineViews.IsFault, declared.refusals.VerifyError.VerifyError}
+use Rattle.lra_certificate_spec.specs.Judged.{Left, Judged, RowsAtPoint, then_judged, judged_states, judged_path, judged_paths, violation_from, judged_violations, judged_listed, after_line}
+use Rattle.lra_certificate_spec.specs.Judged.{is_next_line, line_on, one_more, counted}
+use Rattle.lra_certificate_spec.specs.{CertificateText.assert_text, Certificates.live_at_source, Certificates.state_from, Certificates.state_to, Lines.judged_in_turn, Lines.left_at}
 use Rattle.lra_certificate_spec.specs.Judged as judged
-use Rattle.lra_certificate_spec.specs.Judged.{Left, Judged, RowsAtPoint, then_judged, judged_states, judged_path, judged_paths, violation_from}
-use Rattle.lra_certificate_spec.specs.Judged.{judged_violations, judged_listed}
-use Rattle.lra_certificate_spec.specs.Judged.{after_line, is_next_line, line_on, one_more, counted}
-use Rattle.lra_certificate_spec.specs.Lines.{judged_in_turn, left_at}
-use Rattle.lra_certificate_lines.specs.LineViews.{IsFault}
-use Rattle.lra_verify.specs.EdgeViews.{edge_by, dead_by, sites_in, states_in, actions_out_of, actions_by, live_by, step_by, paths_to_by, IsAnnotatedProgram}
-use Rattle.lra_verify.specs.EdgeViews.{source_by, sources_by, violation_by, violations_by, listed_by, rest_by}
-use Rattle.lra_verify.specs.SourceViews.{AreSources, LeadAs}
-use Rattle.lra_verify.specs.declared.annotated.AnnotatedProgram.{AnnotatedProgram}
-use Rattle.lra_certificate_lines.proofs.ShowSteps.{turn_both, turn_same}
-use Rattle.lra_certificate_lines.proofs.Told.{then_ok, then_err, then_same, fault_through}
+use Rattle.lra_certificate_lines.proofs.{ShowSteps.turn_both, ShowSteps.turn_same, Told.then_ok, Told.then_err, Told.then_same, Told.fault_through}
 use Rattle.lra_verify.proofs.EdgeSteps.{dead_same}
 
 -- ---- in turn, over lists of lists and over numbers

@@ -1,15 +1,12 @@
 -- Rows and points of a certificate as the code reads them.
 use Rattle.std.specs.Prelude.{◌≡◌, ℕ, List, map, Option, Some, None, slice_get}
-use Rattle.lra_linear_spec.specs.Descriptions.{LinearRow}
+use Rattle.lra_linear_spec.specs.{Descriptions.LinearRow, declared.ConKind.ConKind}
 use Rattle.lra_systems.specs.LinearSystems.{LinearSystem, constraints}
-use Rattle.lra_linear_spec.specs.declared.ConKind.{ConKind}
 use Rattle.lra_program.specs.Sites.{Site}
 use Rattle.lra_paths.specs.Paths.{live_of}
-use Rattle.lra_certificate_spec.specs.Judged.{Left, RowsAtPoint}
-use Rattle.lra_certificate_spec.specs.Lines.{left_at}
+use Rattle.lra_certificate_spec.specs.{Judged.Left, Judged.RowsAtPoint, Lines.left_at}
 use Rattle.lra_verify.specs.declared.points.PointRows.{PointRows}
-use Rattle.lra_verify.specs.declared.points.Point.{Point}
-use Rattle.lra_verify.specs.declared.points.Points.{Points}
+use Rattle.lra_verify.specs.{declared.points.Point.Point, declared.points.Points.Points}
 
 -- the rows, and what is left behind them
 abbrev pub rows_view : List ℕ → PointRows → List LinearRow × Left

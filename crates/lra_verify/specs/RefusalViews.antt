@@ -1,11 +1,10 @@
 -- What refusals of the code stand for, and what is told of an answer that may be one.
 use Rattle.std.specs.Prelude.{Result, Ok, Err, ⊤}
+use Rattle.lra_certificate_lines.specs.declared.refusals.VerifyError.TheVariants.{Refused, Memory}
 use Rattle.lra_certificate_lines.specs.declared.refusals.VerifyRefusal.{VerifyRefusal}
 use Rattle.lra_certificate_lines.specs.declared.refusals.VerifyRefusal.TheVariants.{Source, Paths, Line}
-use Rattle.lra_certificate_lines.specs.declared.refusals.VerifyError.{VerifyError}
-use Rattle.lra_certificate_lines.specs.declared.refusals.VerifyError.TheVariants.{Refused, Memory}
+use Rattle.lra_certificate_lines.specs.{Views.fault_view, declared.refusals.VerifyError.VerifyError}
 use Rattle.lra_certificate_spec.specs.Claims as claims
-use Rattle.lra_certificate_lines.specs.Views.{fault_view}
 
 abbrev pub refusal_view : VerifyRefusal → claims.VerifyAnswer
 refusal_view (Source r) = claims.source_refused r.cause r.place

@@ -1,15 +1,14 @@
 //! All paths of a program, from one source after the other, with what is said of its points.
 
-ghost use Rattle.std.specs.Prelude.{◌≡◌, ◌≤◌, ◌<◌, ◌^◌, length, slice_get, IfOk, IfSome};
 ghost use Rattle.std.specs.List.{range_with_len};
+ghost use Rattle.std.specs.Prelude.{◌≡◌, ◌≤◌, ◌<◌, ◌^◌, length, slice_get, IfOk, IfSome};
 ghost use Rattle.lra_paths.specs.Paths.{live_of};
 ghost use Rattle.lra_path_segments.specs.Segments.{comes_to};
 ghost use Rattle.lra_certificate_spec.specs.Certificates.{state_from, state_to};
-ghost use Rattle.lra_verify.specs.EdgeViews.{IsAnnotatedProgram, live_by, sites_in, states_in};
-ghost use Rattle.lra_verify.specs.EdgeViews.{paths_to_by, source_by, sources_by};
 ghost use Rattle.lra_certificate_spec.specs.Lines.{judged_in_turn, left_at};
-ghost use Rattle.lra_certificate_lines.specs.LineViews.{IsJudgedAs};
-ghost use Rattle.lra_certificate_lines.specs.PathCheckViews.{target_rows};
+ghost use Rattle.lra_verify.specs.EdgeViews.{IsAnnotatedProgram, live_by, sites_in, states_in, paths_to_by, source_by};
+ghost use Rattle.lra_verify.specs.EdgeViews.{sources_by};
+ghost use Rattle.lra_certificate_lines.specs.{LineViews.IsJudgedAs, PathCheckViews.target_rows};
 
 use crate::edges::{Edge, take_paths};
 use lra_certificate_lines::VerifyError;

@@ -1,7 +1,7 @@
 //! Paths from one source to one point, with what is said of both.
 
-ghost use Rattle.std.specs.Prelude.{◌≡◌, ◌≤◌, ◌<◌, ◌++◌, ◌^◌, length, codes, string_bytes, Some, IfOk, IfSome};
 ghost use Rattle.std.specs.Fmt.{decimal};
+ghost use Rattle.std.specs.Prelude.{◌≡◌, ◌≤◌, ◌<◌, ◌++◌, ◌^◌, length, codes, string_bytes, Some, IfOk, IfSome};
 ghost use Rattle.lra_systems.specs.LinearSystems.{constraints};
 ghost use Rattle.lra_path_disjuncts.specs.TableDisjuncts.{all_done, lists_done};
 ghost use Rattle.lra_verify.specs.EdgeViews.{dead_by, path_of};

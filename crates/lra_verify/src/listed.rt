@@ -1,10 +1,9 @@
 //! The assertions that are listed: nothing goes along the paths to where they are false.
 
 ghost use Rattle.std.specs.Prelude.{◌≡◌, ◌≤◌, ◌<◌, ◌^◌, ◌+◌, length, codes, string_bytes, IfOk};
-ghost use Rattle.lra_certificate_spec.specs.CertificateText.{numbered_text};
-ghost use Rattle.lra_verify.specs.EdgeViews.{IsAnnotatedProgram, assertion_by, violation_by, violations_by};
-ghost use Rattle.lra_verify.specs.EdgeViews.{listed_by, listed_view, sites_in};
-ghost use Rattle.lra_certificate_spec.specs.Lines.{left_at};
+ghost use Rattle.lra_certificate_spec.specs.{CertificateText.numbered_text, Lines.left_at};
+ghost use Rattle.lra_verify.specs.EdgeViews.{IsAnnotatedProgram, assertion_by, violation_by, violations_by, listed_by};
+ghost use Rattle.lra_verify.specs.EdgeViews.{listed_view, sites_in};
 ghost use Rattle.lra_certificate_lines.specs.LineViews.{IsJudgedAs};
 
 use crate::annotated::AnnotatedProgram;

@@ -1,18 +1,16 @@
 //! The points of a certificate, with their rows.
 
-ghost use Rattle.std.specs.Prelude.{◌≡◌, ◌≤◌, ◌<◌, ◌^◌, ◌++◌, length, map, codes, string_bytes};
-ghost use Rattle.std.specs.Prelude.{MatchOption, IfOk, IfSome};
-ghost use Rattle.std.specs.Prelude.{nat_eq, true, false, option_map, suc};
 ghost use Rattle.std.specs.List.{All, starts_with};
+ghost use Rattle.std.specs.Prelude.{◌≡◌, ◌≤◌, ◌<◌, ◌^◌, ◌++◌, length, map, codes, string_bytes, MatchOption, IfOk};
+ghost use Rattle.std.specs.Prelude.{IfSome, nat_eq, true, false, option_map, suc};
 ghost use Rattle.lra_program.specs.Sites.{Site};
 ghost use Rattle.lra_operations.specs.TreeViews.{site_view};
 ghost use Rattle.lra_script.specs.Views.{constraint_of};
 ghost use Rattle.lra_certificate_spec.specs.CertificateText.{point_text};
-ghost use Rattle.lra_certificate_spec.specs.Judged.{constraint_row, numbers_after, row_in, line_on};
-ghost use Rattle.lra_certificate_spec.specs.Judged.{judged_rows, judged_state, judged_states};
-ghost use Rattle.lra_certificate_spec.specs.Lines.{pieces_at, line_number_at, left_at, IsLineAt};
+ghost use Rattle.lra_certificate_spec.specs.Judged.{constraint_row, numbers_after, row_in, line_on, judged_rows};
+ghost use Rattle.lra_certificate_spec.specs.Judged.{judged_state, judged_states};
+ghost use Rattle.lra_certificate_spec.specs.Lines.{pieces_at, line_number_at, left_at, IsLineAt, is_row_line};
 ghost use Rattle.lra_certificate_lines.specs.LineViews.{IsJudgedAs};
-ghost use Rattle.lra_certificate_spec.specs.Lines.{is_row_line};
 ghost use Rattle.lra_verify.specs.PointViews.{rows_view, point_view, points_view, HaveDims};
 ghost use Rattle.lra_linear_spec.specs.Kinds.{is_equality};
 

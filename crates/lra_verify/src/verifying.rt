@@ -1,24 +1,18 @@
 //! From the bytes of an input to the numbers of its points and its listed assertions, where it is a certificate that
 //! meets its program.
 
-ghost use Rattle.std.specs.Prelude.{◌≡◌, ◌≤◌, ◌<◌, ◌^◌, ℕ, suc, [], length, map, slice_get, IfOk};
 ghost use Rattle.std.specs.List.{All};
+ghost use Rattle.std.specs.Prelude.{◌≡◌, ◌≤◌, ◌<◌, ◌^◌, ℕ, suc, [], length, map, slice_get, IfOk};
 ghost use Rattle.lra_program.specs.Program as programs;
-ghost use Rattle.lra_program.specs.ProgramViews.{program_view};
-ghost use Rattle.lra_program.specs.Sites.{sites_of};
-ghost use Rattle.lra_operations.specs.Tree.{Node};
-ghost use Rattle.lra_operations.specs.TreeViews.{node_view, site_view};
+ghost use Rattle.lra_program.specs.{ProgramViews.program_view, Sites.sites_of};
+ghost use Rattle.lra_operations.specs.{Tree.Node, TreeViews.node_view, TreeViews.site_view};
 ghost use Rattle.lra_paths.specs.Paths.{actions_between_in};
-ghost use Rattle.lra_path_segments.specs.TreeSegments.{AreSegmentsOf};
-ghost use Rattle.lra_path_segments.specs.TreeSegmentViews.{seen};
+ghost use Rattle.lra_path_segments.specs.{Segments.Goal, TreeSegmentViews.seen, TreeSegments.AreSegmentsOf};
 ghost use Rattle.lra_path_disjuncts.specs.Tables.{IsTable};
-ghost use Rattle.lra_path_segments.specs.Segments.{Goal};
-ghost use Rattle.lra_certificate_spec.specs.Claims.{VerifiesTo, verified};
-ghost use Rattle.lra_verify.specs.EdgeViews.{actions_out_of};
-ghost use Rattle.lra_certificate_spec.specs.Judged.{judged};
-ghost use Rattle.lra_certificate_lines.specs.LineViews.{IsJudgedAs};
-ghost use Rattle.lra_verify.specs.RefusalViews.{IfRefused};
+ghost use Rattle.lra_certificate_spec.specs.{Claims.VerifiesTo, Claims.verified, Judged.judged};
 ghost use Rattle.lra_verify.specs.SourceViews.{AreSources, IsAnswerTo, LeadAs};
+ghost use Rattle.lra_verify.specs.{EdgeViews.actions_out_of, RefusalViews.IfRefused};
+ghost use Rattle.lra_certificate_lines.specs.LineViews.{IsJudgedAs};
 
 use crate::annotated::AnnotatedProgram;
 use crate::head::head_of;

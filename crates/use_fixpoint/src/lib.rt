@@ -2,10 +2,8 @@
 #![tactic(auto)]
 
 ghost use Rattle.std.specs.Prelude.{◌≡◌, ◌≤◌, ◌^◌, ℤ, List, map, IfOk, OnOk};
-ghost use Rattle.guzhtarel.specs.Domains.Actions.{Within};
 ghost use Rattle.guzhtarel.specs.Domains.Changes.{AllReturn, actions_of_steps};
-ghost use Rattle.guzhtarel.specs.Domains.Moves.{SomeLeads};
-ghost use Rattle.guzhtarel.specs.Domains.Gammas.{InGamma};
+ghost use Rattle.guzhtarel.specs.{Domains.Actions.Within, Domains.Gammas.InGamma, Domains.Moves.SomeLeads};
 
 use guzhtarel::{Change, ConSys, Domain, Grown, Mode, change_all};
 use std::alloc::{AllocError, Global};

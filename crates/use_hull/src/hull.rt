@@ -1,11 +1,9 @@
 //! The hull of two systems of constraints.
 
 ghost use Rattle.std.specs.Prelude.{◌≡◌, IsTrue, IfOk};
-ghost use Rattle.guzhtarel.specs.Linear.Descriptions.{Con};
-ghost use Rattle.guzhtarel.specs.Linear.Points.{IsWithin};
 ghost use Rattle.guzhtarel.specs.Linear.SetOperations.{Hull, Union};
-ghost use Rattle.guzhtarel.specs.Lists.LinearSystems.{constraints};
 ghost use Rattle.guzhtarel.specs.Polyhedra.Polyhedra.{IsPolyhedronOf};
+ghost use Rattle.guzhtarel.specs.{Linear.Descriptions.Con, Linear.Points.IsWithin, Lists.LinearSystems.constraints};
 
 use guzhtarel::{ConSys, Poly};
 use std::alloc::{AllocError, Global};

@@ -1,7 +1,6 @@
 -- What each step keeps, a run keeps.
 use Rattle.std.proofs.Common.{◌≡◌, ℕ, zero, suc, ℤ, List}
-use Rattle.guzhtarel.specs.Domains.Actions.{Action}
-use Rattle.guzhtarel.specs.Domains.Moves.{SomeLeads}
+use Rattle.guzhtarel.specs.{Domains.Actions.Action, Domains.Moves.SomeLeads}
 use Rattle.use_reach.specs.Runs.{Runs, Reaches}
 
 run_kept : (P : List ℤ → Type 0) (ways : List (List Action)) → ((s t : List ℤ) → P s → SomeLeads ways s t → P t)

@@ -1,8 +1,7 @@
 -- A gas burner: the time, how long it leaked in all, how long ago it last did, in seconds.
 use Rattle.std.specs.Prelude.{ℕ, ℤ, pos, negsuc, List, [], ◌∷◌}
 use Rattle.guzhtarel.specs.Domains.Actions.{Action, assign, test}
-use Rattle.guzhtarel.specs.Forms.Form.{Form, HoldsAt}
-use Rattle.guzhtarel.specs.Linear.ConKind.TheVariants.{Ge}
+use Rattle.guzhtarel.specs.{Forms.Form.Form, Forms.Form.HoldsAt, Linear.ConKind.TheVariants.Ge}
 
 -- constant + a*time + b*leak + c*pause
 abbrev pub form : ℤ → ℤ → ℤ → ℤ → Form

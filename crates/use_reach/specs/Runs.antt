@@ -1,7 +1,6 @@
 -- Stores that changes give, and runs of a system of steps.
 use Rattle.std.specs.Prelude.{◌≡◌, ℕ, zero, suc, ℤ, List, length}
-use Rattle.guzhtarel.specs.Domains.Actions.{Action}
-use Rattle.guzhtarel.specs.Domains.Moves.{LeadsAll, SomeLeads}
+use Rattle.guzhtarel.specs.{Domains.Actions.Action, Domains.Moves.LeadsAll, Domains.Moves.SomeLeads}
 
 -- the actions may lead to the store from some store of n numbers: where they are tests, the store passes them
 abbrev pub IsGiven : ℕ → List Action → List ℤ → Type 0

@@ -1,17 +1,12 @@
 -- What the calls of signs owe, and their ranks.
 use Rattle.std.proofs.Common.{◌≡◌, ◌≤◌, ◌^◌, ℕ, ℤ, Bool, List, length, ◌↔◌}
 use Rattle.std.specs.Prelude.{IsTrue}
-use Rattle.guzhtarel.specs.Domains.Actions.{Action, ActionFits, Within}
-use Rattle.guzhtarel.specs.Domains.Exactness.TheVariants.{Exact}
-use Rattle.guzhtarel.specs.Domains.Laws.{PartsAreExact}
-use Rattle.guzhtarel.specs.Domains.Abstraction.{TransfersTo, Joins, Values}
-use Rattle.guzhtarel.specs.Domains.Rank.{RankFits}
 use Rattle.guzhtarel.specs.EntryDomains.{EntriesContent, lies_in, of_entries}
-use Rattle.guzhtarel.specs.Domains.ExactDomains.{abstraction_of}
+use Rattle.guzhtarel.specs.{Domains.Abstraction.TransfersTo, Domains.Abstraction.Joins, Domains.Abstraction.Values, Domains.Actions.Action, Domains.Actions.ActionFits, Domains.Actions.Within}
+use Rattle.guzhtarel.specs.{Domains.ExactDomains.abstraction_of, Domains.Exactness.TheVariants.Exact, Domains.Laws.PartsAreExact, Domains.Rank.RankFits}
 use Rattle.guzhtarel.proofs.Calls.ExactCalls as calls
 use Rattle.guzhtarel.proofs.EntryDomains as entries
-use Rattle.use_signs.specs.Signs.{sign}
-use Rattle.use_signs.specs.Laws.{sign_facts, signs_facts}
+use Rattle.use_signs.specs.{Laws.sign_facts, Laws.signs_facts, Signs.sign}
 
 pub changed : (step : Action) (old new : EntriesContent Bool) → ActionFits step (length old.entries) → new ≡ (of_entries sign).transfer step old
     → TransfersTo (abstraction_of (of_entries sign)) step old Exact new

@@ -1,20 +1,13 @@
 -- What signs keep.
 use Rattle.std.proofs.Common.{◌≡◌, ◌<◌, ◌≤◌, ◌^◌, ℕ, ℤ, pos, negsuc, ◌≤ℤ◌, ◌+ℤ◌, ◌*ℤ◌, Bool, true, false, not, ◌&&◌}
-use Rattle.std.proofs.Common.{◌||◌}
-use Rattle.std.proofs.Common.{List, [], ◌∷◌, length, refl, subst, sym, arith, ◌↔◌}
-use Rattle.std.specs.Prelude.{int_le}
-use Rattle.std.specs.Ordering.{int_eq}
-use Rattle.std.proofs.lemmas.Int.{ints}
-use Rattle.std.proofs.Math.Bool.{or-not_self}
-use Rattle.guzhtarel.specs.Linear.ConKind.TheVariants.{Ge}
-use Rattle.guzhtarel.specs.Linear.Vectors.{entry, product}
-use Rattle.guzhtarel.specs.Domains.Laws.{Laws}
-use Rattle.guzhtarel.specs.Entries.{AllHave, AllHold}
-use Rattle.guzhtarel.specs.EntryDomains.{EntryFacts, one_if, of_entries}
+use Rattle.std.proofs.Common.{◌||◌, List, [], ◌∷◌, length, refl, subst, sym, arith, ◌↔◌}
+use Rattle.std.proofs.{Math.Bool.or-not_self, lemmas.Int.ints}
+use Rattle.std.specs.{Ordering.int_eq, Prelude.int_le}
 use Rattle.guzhtarel.specs.Domains.ExactDomains.{Facts, abstraction_of, laws_of}
-use Rattle.guzhtarel.proofs.EntryChanges.{both_true}
-use Rattle.guzhtarel.proofs.EntryDomains.{facts_of}
-use Rattle.guzhtarel.proofs.Rows.UnitRows.{unit_product}
+use Rattle.guzhtarel.specs.EntryDomains.{EntryFacts, one_if, of_entries}
+use Rattle.guzhtarel.specs.Linear.Vectors.{entry, product}
+use Rattle.guzhtarel.specs.{Domains.Laws.Laws, Entries.AllHave, Entries.AllHold, Linear.ConKind.TheVariants.Ge}
+use Rattle.guzhtarel.proofs.{EntryChanges.both_true, EntryDomains.facts_of, Rows.UnitRows.unit_product}
 use Rattle.use_signs.specs.Signs.{Known, is_sum_known, sign_row, sign}
 
 -- ---- the value of a form that is known

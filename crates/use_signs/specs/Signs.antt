@@ -1,8 +1,7 @@
 -- Signs: of each variable, whether it is known to be at least 0.
-use Rattle.std.specs.Prelude.{ℤ, pos, ◌≤ℤ◌, ℕ, Bool, true, false, not, ◌&&◌, ◌||◌, List, [], ◌∷◌, int_le}
 use Rattle.std.specs.Ordering.{int_eq}
-use Rattle.guzhtarel.specs.EntryDomains.{EachEntry, one_if}
-use Rattle.guzhtarel.specs.Polyhedra.OperationStrain.{unit_row}
+use Rattle.std.specs.Prelude.{ℤ, pos, ◌≤ℤ◌, ℕ, Bool, true, false, not, ◌&&◌, ◌||◌, List, [], ◌∷◌, int_le}
+use Rattle.guzhtarel.specs.{EntryDomains.EachEntry, EntryDomains.one_if, Polyhedra.OperationStrain.unit_row}
 
 abbrev pub Known : Bool → ℤ → Type 0
 Known false x = Unit {0}

@@ -1,9 +1,8 @@
 //! What is known of numbers, as lists of truth values.
 
-ghost use Rattle.std.specs.Prelude.{◌≡◌, ◌+◌, ◌++◌, ◌≤◌, ◌^◌, length, replicate, OnOk};
-ghost use Rattle.guzhtarel.specs.Linear.ConKind.TheVariants.{Ge};
 ghost use Rattle.std.specs.Cmp.Lexicographic.{pointwise};
-ghost use Rattle.guzhtarel.specs.Entries.{join_each, rows_from, total};
+ghost use Rattle.std.specs.Prelude.{◌≡◌, ◌+◌, ◌++◌, ◌≤◌, ◌^◌, length, replicate, OnOk};
+ghost use Rattle.guzhtarel.specs.{Entries.join_each, Entries.rows_from, Entries.total, Linear.ConKind.TheVariants.Ge};
 ghost use Rattle.use_signs.specs.Signs.{is_sum_known, sign_row, sign};
 
 use guzhtarel::lists::unit;

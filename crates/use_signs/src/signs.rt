@@ -1,9 +1,8 @@
 //! Signs as a domain.
 
 ghost use Rattle.std.specs.Prelude.{◌≡◌, IfOk, IsTrue, length};
-ghost use Rattle.guzhtarel.specs.Domains.Rank.{RankFits};
-ghost use Rattle.guzhtarel.specs.Domains.ExactDomains.{abstraction_of};
 ghost use Rattle.guzhtarel.specs.EntryDomains.{lies_in, of_entries, system_of_entries};
+ghost use Rattle.guzhtarel.specs.{Domains.ExactDomains.abstraction_of, Domains.Rank.RankFits};
 ghost use Rattle.use_signs.specs.Signs.{sign};
 
 use crate::lists::{count_known, is_implied, is_sum_known, keep_both, push_signs};

@@ -5,9 +5,8 @@ ghost use Rattle.lra_base.specs.Limits.{greatest_live};
 ghost use Rattle.lra_program.specs.ProgramViews.{call_view, function_view, program_view};
 ghost use Rattle.lra_inline_steps.specs.Limits.{OnLimit};
 ghost use Rattle.lra_inline_steps.specs.Building as building;
-ghost use Rattle.lra_inline_steps.specs.Building.{callee_frame};
-ghost use Rattle.lra_inline_steps.specs.declared.frame.Frame.{Frame};
 ghost use Rattle.lra_inline_steps.specs.Inlining.{CallStands, IsCallWrittenOut, StopsAnywhere, StopsBehind};
+ghost use Rattle.lra_inline_steps.specs.{Building.callee_frame, declared.frame.Frame.Frame};
 
 use lra_inline_steps::{Around, Caller, Frame, InlineError, Limit, add_point, finish};
 use lra_operations::forms::{CallPlace, enclose_call, enclose_call_for};

@@ -3,10 +3,9 @@
 ghost use Rattle.std.specs.Prelude.{◌<◌, ℕ, List, IfOk};
 ghost use Rattle.lra_program.specs.Program as resolved;
 ghost use Rattle.lra_program.specs.Sites as points;
-ghost use Rattle.lra_inline_steps.specs.Limits.{OnLimit};
-ghost use Rattle.lra_inline_steps.specs.Inlining.{points_in, program_of};
 ghost use Rattle.lra_inline_steps.specs.Stack.{InlineTask, IsAfterFrame, InlineStepLeads, Stops};
 ghost use Rattle.lra_inline_steps.specs.Steps.{next_left, kind_left, place_left};
+ghost use Rattle.lra_inline_steps.specs.{Inlining.points_in, Inlining.program_of, Limits.OnLimit};
 ghost use Rattle.lra_inline_steps.specs.declared.stack.InlineContext.TheVariants as place;
 
 use super::calls::end_call;

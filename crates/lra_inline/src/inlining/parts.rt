@@ -4,16 +4,14 @@ ghost use Rattle.std.specs.Prelude.{◌≡◌, ◌+◌, ◌≤◌, ◌<◌, ℕ,
 ghost use Rattle.lra_base.specs.Limits.{greatest_live};
 ghost use Rattle.lra_program.specs.Program as resolved;
 ghost use Rattle.lra_program.specs.Sites as points;
-ghost use Rattle.lra_program.specs.Sites.{call_events};
-ghost use Rattle.lra_program.specs.WellFormed.{IsWellFormed};
 ghost use Rattle.lra_program.specs.ProgramViews.{call_view, item_view, items_of};
+ghost use Rattle.lra_program.specs.{Sites.call_events, WellFormed.IsWellFormed};
 ghost use Rattle.lra_operations.specs.TreeViews.{node_view};
 ghost use Rattle.lra_inline_steps.specs.Building as building;
 ghost use Rattle.lra_inline_steps.specs.Limits.{OnLimit, add_points, stopped};
-ghost use Rattle.lra_inline_steps.specs.Inlining.{points_in, program_of};
 ghost use Rattle.lra_inline_steps.specs.Stack.{a_call, all_items, inline_task, part_view, ItemsLoop, InlineStepLeads};
 ghost use Rattle.lra_inline_steps.specs.Stack.{StandsAs, StopsAs};
-ghost use Rattle.lra_inline_steps.specs.Steps.{next_left, work_steps};
+ghost use Rattle.lra_inline_steps.specs.{Inlining.points_in, Inlining.program_of, Steps.next_left, Steps.work_steps};
 
 use super::calls::{callee, enter_call};
 use lra_inline_steps::{

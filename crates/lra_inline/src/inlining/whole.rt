@@ -1,17 +1,15 @@
 //! The tree of a whole program and its points: those of `main`'s items, and the point of its end.
 
 ghost use Rattle.std.specs.Prelude.{◌≡◌, ◌≤◌, ℕ, List, [], ◌++◌, length, map, slice_get, IfOk, None, Some};
-ghost use Rattle.lra_operations.specs.Agree.{IsInlinedTree, Agrees};
-ghost use Rattle.lra_operations.specs.CheckedOperations.{AgreesOnAccesses};
+ghost use Rattle.lra_operations.specs.{Agree.IsInlinedTree, Agree.Agrees, CheckedOperations.AgreesOnAccesses};
 ghost use Rattle.lra_syntax.specs.Labels.{Labelled};
 ghost use Rattle.lra_resolution_spec.specs.Refuse.{greatest_live, limit_fault};
 ghost use Rattle.lra_program.specs.Sites as points;
 ghost use Rattle.lra_program.specs.Sites.{events_of, sites_of};
-ghost use Rattle.lra_program.specs.WellFormed.{IsWellFormed};
-ghost use Rattle.lra_program.specs.ProgramViews.{program_view};
+ghost use Rattle.lra_program.specs.{ProgramViews.program_view, WellFormed.IsWellFormed};
 ghost use Rattle.lra_operations.specs.TreeViews.{node_view, site_view};
-ghost use Rattle.lra_inline_steps.specs.Limits.{OnLimit, passed, refusal_of, stopped, add_points};
 ghost use Rattle.lra_inline_steps.specs.Inlining.{points_in};
+ghost use Rattle.lra_inline_steps.specs.Limits.{OnLimit, passed, refusal_of, stopped, add_points};
 
 use super::inline_items;
 use lra_inline_steps::{Around, Frame, GREATEST_CALLS, InlineError, add_point};

@@ -1,6 +1,5 @@
 -- Goals of `traces_agree`: does nothing.
-use Rattle.lra_inline_sound.proofs.Agreement.{graphs_have_trails}
-use Rattle.lra_inline_sound.proofs.DistinctSites.{distinct_sites}
+use Rattle.lra_inline_sound.proofs.{Agreement.graphs_have_trails, DistinctSites.distinct_sites}
 use Rattle.lra_inline_sound.proofs.traces_agree.Goals as goal
 
 pub returns : goal.returns

@@ -1,6 +1,5 @@
 -- Goals of `trees_agree`: does nothing.
-use Rattle.lra_inline_sound.proofs.Agreement.{trees_agree}
-use Rattle.lra_inline_sound.proofs.DistinctSites.{distinct_sites}
+use Rattle.lra_inline_sound.proofs.{Agreement.trees_agree, DistinctSites.distinct_sites}
 use Rattle.lra_inline_sound.proofs.trees_agree.Goals as goal
 
 pub returns : goal.returns

@@ -1,6 +1,5 @@
 -- Goals of `trees_agree_on_accesses`: does nothing.
-use Rattle.lra_inline_sound.proofs.CheckedOperations.{trees_agree_on_accesses}
-use Rattle.lra_inline_sound.proofs.DistinctSites.{distinct_sites}
+use Rattle.lra_inline_sound.proofs.{CheckedOperations.trees_agree_on_accesses, DistinctSites.distinct_sites}
 use Rattle.lra_inline_sound.proofs.trees_agree_on_accesses.Goals as goal
 
 pub returns : goal.returns

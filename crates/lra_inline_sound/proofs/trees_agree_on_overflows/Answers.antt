@@ -1,6 +1,5 @@
 -- Goals of `trees_agree_on_overflows`: does nothing.
-use Rattle.lra_inline_sound.proofs.CheckedOperations.{trees_agree_on_overflows}
-use Rattle.lra_inline_sound.proofs.DistinctSites.{distinct_sites}
+use Rattle.lra_inline_sound.proofs.{CheckedOperations.trees_agree_on_overflows, DistinctSites.distinct_sites}
 use Rattle.lra_inline_sound.proofs.trees_agree_on_overflows.Goals as goal
 
 pub returns : goal.returns

@@ -1,8 +1,6 @@
 use Rattle.std.proofs.Common.{◌≡◌, ◌^◌}
-use Rattle.guzhtarel.specs.Domains.Actions.{Within}
-use Rattle.guzhtarel.specs.Domains.Rank.{RankFits}
+use Rattle.guzhtarel.specs.{Domains.Actions.Within, Domains.Gammas.InGamma, Domains.Gammas.InHeadGamma, Domains.Rank.RankFits}
 use Rattle.guzhtarel.proofs.Ranks.RankNumbers.{phased}
-use Rattle.guzhtarel.specs.Domains.Gammas.{InGamma, InHeadGamma}
 use Rattle.use_fixpoint.proofs.invariant.Given as goal
 
 -- the head has the dimensions and the stores of the start

@@ -1,8 +1,6 @@
 -- Goals of `trees_fit`: the tree of operations of a well-formed program fits the iteration, and has each point
 -- once.
-use Rattle.lra_analyse_source.proofs.Fitting.{tree_fits}
-use Rattle.lra_analyse_source.proofs.Numbering.{numbered}
-use Rattle.lra_analyse_source.proofs.Flags.{graph_below}
+use Rattle.lra_analyse_source.proofs.{Fitting.tree_fits, Flags.graph_below, Numbering.numbered}
 use Rattle.lra_analyse_source.proofs.laws.trees_fit.Goals as goal
 
 pub returns-clause-fit : goal.returns-clause-fit

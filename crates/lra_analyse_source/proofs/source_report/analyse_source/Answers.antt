@@ -6,8 +6,7 @@ use Rattle.lra_box.specs.Abstraction.{box_abstraction}
 use Rattle.lra_octagon.specs.Abstraction.{octagon_abstraction}
 use Rattle.lra_poly_domain.specs.Abstraction.{polyhedron_abstraction}
 use Rattle.lra_report.specs.View.{report_of}
-use Rattle.lra_report_build.specs.Polyhedra.{shown_polyhedron}
-use Rattle.lra_report_build.specs.Shown.{shown_state}
+use Rattle.lra_report_build.specs.{Polyhedra.shown_polyhedron, Shown.shown_state}
 use Rattle.lra_analyse_source.proofs.Sayings.{over_domain}
 use Rattle.lra_analyse_source.proofs.source_report.analyse_source.Goals as goal
 

@@ -1,8 +1,6 @@
 use Rattle.std.proofs.Common.{map}
-use Rattle.lra_operations.specs.Tree.{Node}
-use Rattle.lra_operations.specs.TreeViews.{site_view}
-use Rattle.lra_path_segments.specs.TreeSegments.{AreSegmentsOf}
-use Rattle.lra_path_segments.specs.TreeSegmentViews.{seen}
+use Rattle.lra_operations.specs.{Tree.Node, TreeViews.site_view}
+use Rattle.lra_path_segments.specs.{TreeSegmentViews.seen, TreeSegments.AreSegmentsOf}
 use Rattle.lra_back.proofs.BackSteps.{IsNothingBefore}
 use Rattle.lra_back.proofs.analysis.are_none_left.Given as goal
 

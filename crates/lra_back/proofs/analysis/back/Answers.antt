@@ -4,8 +4,7 @@ use Rattle.lra_operations.specs.TreeViews.{node_view, site_view}
 use Rattle.lra_program.specs.Sites.{Site}
 use Rattle.lra_path_segments.specs.TreeSegmentViews.{seen}
 use Rattle.lra_back.specs.BackwardAnalysis.{AreWide}
-use Rattle.lra_back.proofs.Transfer.{traced}
-use Rattle.lra_back.proofs.BackSteps.{asserts_is, backs_over, left_over, needs_over, too_many}
+use Rattle.lra_back.proofs.{BackSteps.asserts_is, BackSteps.backs_over, BackSteps.left_over, BackSteps.needs_over, BackSteps.too_many, Transfer.traced}
 use Rattle.lra_back.proofs.analysis.back.Goals as goal
 
 pub returns-in_err-paths-clause-many : goal.returns-in_err-paths-clause-many

@@ -1,15 +1,10 @@
 -- Goals of `prepare`: what is gone back over from the point.
-use Rattle.std.proofs.Common.{List, ap, arith, map, subst, sym, ◌∙◌}
-use Rattle.std.proofs.lemmas.Option.{none-some}
+use Rattle.std.proofs.{Common.List, Common.ap, Common.arith, Common.map, Common.subst, Common.sym, Common.◌∙◌, lemmas.Option.none-some}
 use Rattle.lra_operations.specs.TreeViews.{site_view}
 use Rattle.lra_program.specs.ProgramViews.{cond_view}
-use Rattle.lra_path_segments.specs.TreeSegments.{AreSegmentsOf}
-use Rattle.lra_path_segments.specs.TreeSegmentViews.{seen}
-use Rattle.lra_path_segments.specs.declared.segments.TreeSegment.{TreeSegment}
+use Rattle.lra_path_segments.specs.{TreeSegmentViews.seen, TreeSegments.AreSegmentsOf, declared.segments.TreeSegment.TreeSegment}
 use Rattle.lra_back.specs.BackwardCalls.{condition_seen}
-use Rattle.lra_back.proofs.PathSteps.{read_at, same_there}
-use Rattle.lra_back.proofs.BackSteps.{asserted_found, is_task}
-use Rattle.lra_back.proofs.WideSteps.{assertion_inside, wide_at}
+use Rattle.lra_back.proofs.{BackSteps.asserted_found, BackSteps.is_task, PathSteps.read_at, PathSteps.same_there, WideSteps.assertion_inside, WideSteps.wide_at}
 use Rattle.lra_back.proofs.analysis.prepare.Goals as goal
 
 pub unreachable-requires : goal.unreachable-requires

@@ -4,8 +4,7 @@ use Rattle.std.proofs.lemmas.List.{length-map}
 use Rattle.lra_operations.specs.TreeViews.{site_view}
 use Rattle.lra_paths.specs.declared.sources.Source.{Source}
 use Rattle.lra_back.specs.BackwardCalls.{IsSourceOf}
-use Rattle.lra_back.proofs.MeetSteps.{append_cases, one_more}
-use Rattle.lra_back.proofs.BackSteps.{is_source_of}
+use Rattle.lra_back.proofs.{BackSteps.is_source_of, MeetSteps.append_cases, MeetSteps.one_more}
 use Rattle.lra_back.proofs.analysis.sources_of.Goals as goal
 
 pub points-preserved : goal.points-preserved

@@ -1,10 +1,7 @@
 use Rattle.std.proofs.Common.{◌≡◌, ℕ, Some, length, map, slice_get}
-use Rattle.lra_operations.specs.Tree.{Node}
-use Rattle.lra_operations.specs.TreeViews.{site_view}
-use Rattle.lra_path_segments.specs.TreeSegments.{AreSegmentsOf}
-use Rattle.lra_path_segments.specs.TreeSegmentViews.{seen}
-use Rattle.lra_paths.specs.Paths.{AreFewIn}
-use Rattle.lra_paths.specs.declared.sources.Source.{Source}
+use Rattle.lra_operations.specs.{Tree.Node, TreeViews.site_view}
+use Rattle.lra_path_segments.specs.{TreeSegmentViews.seen, TreeSegments.AreSegmentsOf}
+use Rattle.lra_paths.specs.{Paths.AreFewIn, declared.sources.Source.Source}
 use Rattle.lra_back.specs.BackwardCalls.{IsSourceOf}
 use Rattle.lra_back.proofs.analysis.sources_of.Given as goal
 

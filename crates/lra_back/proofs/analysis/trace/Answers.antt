@@ -3,11 +3,8 @@ use Rattle.std.proofs.Common.{◌≡◌, ℕ, List, Option, Some, ap, length, ma
 use Rattle.std.proofs.lemmas.Result.{IfOk-weaker}
 use Rattle.lra_operations.specs.TreeViews.{site_view}
 use Rattle.lra_path_segments.specs.TreeSegmentViews.{seen}
-use Rattle.lra_back.specs.Operations.{lossy_back_operations}
-use Rattle.lra_back.specs.BackwardAnalysis.{AreWide, BackwardAnalysis}
-use Rattle.lra_back.specs.BackwardCalls.{IsBackwardSolution, task_view}
-use Rattle.lra_back.proofs.BackSteps.{all_backs}
-use Rattle.lra_back.proofs.WideSteps.{wide_values}
+use Rattle.lra_back.specs.{BackwardAnalysis.AreWide, BackwardAnalysis.BackwardAnalysis, BackwardCalls.IsBackwardSolution, BackwardCalls.task_view, Operations.lossy_back_operations}
+use Rattle.lra_back.proofs.{BackSteps.all_backs, WideSteps.wide_values}
 use Rattle.lra_back.proofs.analysis.trace.Goals as goal
 
 pub returns-clause-traced : goal.returns-clause-traced

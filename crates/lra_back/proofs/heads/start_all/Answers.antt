@@ -1,8 +1,7 @@
 -- Goals of `start_all`: the heads of all points.
 use Rattle.std.proofs.Common.{◌+◌, List, add-one, refl, subst, sym, take}
 use Rattle.lra_back.specs.Operations.{lossy_back_operations}
-use Rattle.lra_back.proofs.PathSteps.{read_at}
-use Rattle.lra_back.proofs.HeadSteps.{AreFirst, IsFirst, first_all, first_heads, first_next, first_started}
+use Rattle.lra_back.proofs.{HeadSteps.AreFirst, HeadSteps.IsFirst, HeadSteps.first_all, HeadSteps.first_heads, HeadSteps.first_next, HeadSteps.first_started, PathSteps.read_at}
 use Rattle.lra_back.proofs.heads.start_all.Goals as goal
 
 pub points-preserved : goal.points-preserved

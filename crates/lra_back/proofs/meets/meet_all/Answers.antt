@@ -1,8 +1,7 @@
 -- Goals of `meet_all`: the value of each head, met with the forward value at its point.
 use Rattle.std.proofs.Common.{◌≡◌, ◌<◌, ◌+◌, List, Some, length, add-one, ap, arith, slice_get, subst, sym, ◌∙◌}
 use Rattle.lra_back.specs.Operations.{lossy_back_operations}
-use Rattle.lra_back.proofs.PathSteps.{read_at, same_there}
-use Rattle.lra_back.proofs.MeetSteps.{StillMeets, append_cases, last_meets, next_meets, one_more}
+use Rattle.lra_back.proofs.{MeetSteps.StillMeets, MeetSteps.append_cases, MeetSteps.last_meets, MeetSteps.next_meets, MeetSteps.one_more, PathSteps.read_at, PathSteps.same_there}
 use Rattle.lra_back.proofs.meets.meet_all.Goals as goal
 
 pub points-preserved : goal.points-preserved

@@ -1,9 +1,7 @@
 -- Goals of `go_over`: from the value behind a path to the one before it.
 use Rattle.std.proofs.Common.{◌≡◌, ◌<◌, ◌-◌, suc, length, take, arith, subst, sym}
 use Rattle.std.specs.Borrow.{Bor}
-use Rattle.lra_domain.specs.Changes.{action_of, dims_after_actions}
-use Rattle.lra_domain.specs.declared.Exactness.{Exactness}
-use Rattle.lra_domain.specs.declared.changes.Change.{Change}
+use Rattle.lra_domain.specs.{Changes.action_of, Changes.dims_after_actions, declared.Exactness.Exactness, declared.changes.Change.Change}
 use Rattle.lra_path_disjuncts.specs.TableDisjuncts.{all_done}
 use Rattle.lra_back.specs.Operations.{lossy_back_operations}
 use Rattle.lra_back.proofs.PathSteps.{IsOverFrom, over_one, read_mapped, undo_fits}

@@ -1,6 +1,5 @@
 use Rattle.lra_path_disjuncts.specs.TableDisjuncts.{lists_done}
-use Rattle.lra_back.specs.Operations.{lossy_back_operations}
-use Rattle.lra_back.specs.BackwardCalls.{IfThereHas}
+use Rattle.lra_back.specs.{BackwardCalls.IfThereHas, Operations.lossy_back_operations}
 use Rattle.lra_back.proofs.JoinSteps.{StillComes}
 use Rattle.lra_back.proofs.paths.join_paths.Given as goal
 

@@ -1,11 +1,8 @@
 -- Goals of `pre_of_all_points`: what a source's paths bring back from the heads of all points.
 use Rattle.std.proofs.Common.{◌+◌, List, add-one, subst, sym}
 use Rattle.lra_domain.specs.Actions.{Action}
-use Rattle.lra_back.specs.Operations.{lossy_back_operations}
-use Rattle.lra_back.specs.Preconditions.{PreOfPaths}
-use Rattle.lra_back.specs.BackwardCalls.{AllFit, paths_from}
-use Rattle.lra_back.proofs.PathSteps.{read_at}
-use Rattle.lra_back.proofs.JoinSteps.{first_from, last_from, next_from}
+use Rattle.lra_back.specs.{BackwardCalls.AllFit, BackwardCalls.paths_from, Operations.lossy_back_operations, Preconditions.PreOfPaths}
+use Rattle.lra_back.proofs.{JoinSteps.first_from, JoinSteps.last_from, JoinSteps.next_from, PathSteps.read_at}
 use Rattle.lra_back.proofs.paths.pre_of_all_points.Goals as goal
 
 pub targets-init : goal.targets-init

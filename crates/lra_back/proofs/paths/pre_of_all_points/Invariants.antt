@@ -1,5 +1,4 @@
-use Rattle.lra_back.specs.Operations.{lossy_back_operations}
-use Rattle.lra_back.specs.BackwardCalls.{IfThereHas, paths_from}
+use Rattle.lra_back.specs.{BackwardCalls.IfThereHas, BackwardCalls.paths_from, Operations.lossy_back_operations}
 use Rattle.lra_back.proofs.JoinSteps.{StillFrom}
 use Rattle.lra_back.proofs.paths.pre_of_all_points.Given as goal
 

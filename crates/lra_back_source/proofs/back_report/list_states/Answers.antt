@@ -1,6 +1,5 @@
 -- Goals of `list_states`: the points of a source with the states that show these values.
-use Rattle.std.proofs.Common.{length, map, ap, arith}
-use Rattle.std.proofs.lemmas.List.{length-map}
+use Rattle.std.proofs.{Common.length, Common.map, Common.ap, Common.arith, lemmas.List.length-map}
 use Rattle.lra_syntax.specs.Views.{tree_view}
 use Rattle.lra_operations.specs.TreeViews.{node_view, site_view}
 use Rattle.lra_report.specs.View.{point_report_of}

@@ -3,12 +3,10 @@ use Rattle.std.proofs.Common.{map}
 use Rattle.lra_syntax.specs.Views.{tree_view}
 use Rattle.lra_operations.specs.TreeViews.{node_view, site_view}
 use Rattle.lra_bounds_checks.specs.BoundsChecks.{reported_view}
-use Rattle.lra_poly_domain.specs.Laws.{polyhedron_laws}
-use Rattle.lra_poly_domain.specs.Abstraction.{polyhedron_abstraction}
+use Rattle.lra_poly_domain.specs.{Abstraction.polyhedron_abstraction, Laws.polyhedron_laws}
 use Rattle.lra_analyse_source.proofs.ReportSteps.{accessed_handed, few_dims}
 use Rattle.lra_back_source.specs.Forward.{forward_plan}
-use Rattle.lra_back_source.proofs.Answered.{listed_number}
-use Rattle.lra_back_source.proofs.Forward.{are_wide, flag_there, is_forward}
+use Rattle.lra_back_source.proofs.{Answered.listed_number, Forward.are_wide, Forward.flag_there, Forward.is_forward}
 use Rattle.lra_back_source.proofs.back_report.look_forward.Goals as goal
 
 pub judge_accesses-requires-clause-few : goal.judge_accesses-requires-clause-few

@@ -1,7 +1,6 @@
 -- Goals of `push_places`: puts the places of the bits of a word behind what is there.
-use Rattle.std.proofs.Common.{◌<◌, ◌+◌, ◌*◌, ◌^◌, arith, rules}
+use Rattle.std.proofs.{Common.◌<◌, Common.◌+◌, Common.◌*◌, Common.◌^◌, Common.arith, Common.rules, lemmas.Nat.Bits.bit_at-trailing_zeros}
 use Rattle.std.specs.Int.{w64, trailing_zeros}
-use Rattle.std.proofs.lemmas.Nat.Bits.{bit_at-trailing_zeros}
 use Rattle.lra_bits.proofs.Places.{all_left, one_fewer, zero_left, past_left, true_bit, still_within}
 use Rattle.lra_bits.proofs.bit_row.push_places.Goals as goal
 

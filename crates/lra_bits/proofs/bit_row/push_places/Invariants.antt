@@ -1,6 +1,5 @@
 use Rattle.std.proofs.Common.{◌≡◌, ℕ, ◌<◌, ◌+◌, ◌*◌, ◌^◌, Bool, List}
-use Rattle.std.specs.Prelude.{◌==◌, min}
-use Rattle.std.specs.Int.{bit_at}
+use Rattle.std.specs.{Int.bit_at, Prelude.◌==◌, Prelude.min}
 use Rattle.lra_bits.specs.TruthValues.{value_at, ArePlaces}
 use Rattle.lra_bits.proofs.Places.{ArePlacesBut}
 use Rattle.lra_bits.proofs.bit_row.push_places.Given as goal

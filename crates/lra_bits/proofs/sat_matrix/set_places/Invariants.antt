@@ -1,7 +1,6 @@
 use Rattle.std.proofs.Common.{◌/◌, nat_lt}
 use Rattle.std.specs.Prelude.{◌&&◌}
-use Rattle.lra_bits.specs.TruthValues.{value_at}
-use Rattle.lra_bits.specs.Transposed.{IsMarked}
+use Rattle.lra_bits.specs.{Transposed.IsMarked, TruthValues.value_at}
 use Rattle.lra_bits.proofs.sat_matrix.set_places.Given as goal
 
 abbrev pub invariant-loop-at : goal.invariant-loop-at

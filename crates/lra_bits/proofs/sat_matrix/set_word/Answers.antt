@@ -1,10 +1,8 @@
 -- Goals of `set_word`: puts place `k` in the rows at the places of the bits of the word at `at`.
 use Rattle.std.proofs.Common.{ℕ, ◌<◌, ◌+◌, ◌*◌, length, arith, rules, sym, ap, get_or, set, [], Bool, List, ◌∙◌, refl, subst, nat_eq, true}
-use Rattle.std.specs.Prelude.{IsTrue}
+use Rattle.std.proofs.{lemmas.List.get_or_default, lemmas.Nat.Bits.bit_at-trailing_zeros}
+use Rattle.std.specs.{Int.w64, Int.trailing_zeros, Prelude.IsTrue}
 use Rattle.lra_bits.specs.Transposed.{IsMarked, is_in_word}
-use Rattle.std.specs.Int.{w64, trailing_zeros}
-use Rattle.std.proofs.lemmas.List.{get_or_default}
-use Rattle.std.proofs.lemmas.Nat.Bits.{bit_at-trailing_zeros}
 use Rattle.lra_bits.proofs.Transposing.{marked_one, word_step, fewer_inside, in_word_lowest, wider_still}
 use Rattle.lra_bits.proofs.sat_matrix.set_word.Goals as goal
 

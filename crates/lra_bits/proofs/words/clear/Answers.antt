@@ -1,7 +1,6 @@
 -- Goals of `clear`: the word without this bit.
 use Rattle.std.specs.Int.{w64}
-use Rattle.std.proofs.lemmas.Nat.{and_le_l}
-use Rattle.std.proofs.lemmas.Nat.Bits.{bit_at_clear_same, bit_at_clear_other}
+use Rattle.std.proofs.{lemmas.Nat.and_le_l, lemmas.Nat.Bits.bit_at_clear_same, lemmas.Nat.Bits.bit_at_clear_other}
 use Rattle.lra_bits.proofs.Transposing.{smaller_without}
 use Rattle.lra_bits.proofs.words.clear.Goals as goal
 

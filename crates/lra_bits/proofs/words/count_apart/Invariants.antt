@@ -1,6 +1,5 @@
 use Rattle.std.proofs.Common.{◌≡◌, ◌<◌, ℕ}
-use Rattle.std.specs.Prelude.{slice_index}
-use Rattle.std.specs.Int.Bits.{bit_and}
+use Rattle.std.specs.{Int.Bits.bit_and, Prelude.slice_index}
 use Rattle.lra_bits.proofs.words.count_apart.Given as goal
 
 abbrev pub invariant-loop-i : goal.invariant-loop-i

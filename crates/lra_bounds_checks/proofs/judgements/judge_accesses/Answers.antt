@@ -1,9 +1,7 @@
 -- Goals of `judge_accesses`: which accesses of a tree are inside.
 use Rattle.std.proofs.Common.{None}
-use Rattle.lra_operations.specs.CheckedOperations.{accessing_ops}
-use Rattle.lra_operations.specs.TreeViews.{node_view}
-use Rattle.lra_analysis_spec.specs.Accesses.{OpInside}
-use Rattle.lra_analysis_spec.specs.Operations.{lossy_operations}
+use Rattle.lra_operations.specs.{CheckedOperations.accessing_ops, TreeViews.node_view}
+use Rattle.lra_analysis_spec.specs.{Accesses.OpInside, Operations.lossy_operations}
 use Rattle.lra_bounds_checks.proofs.ShownSteps.{finds_shown}
 use Rattle.lra_bounds_checks.proofs.judgements.judge_accesses.Goals as goal
 

@@ -2,10 +2,7 @@
 -- those of the others; an element's come behind those of its index.
 use Rattle.std.proofs.Common.{rules, ◌≡◌, ◌∙◌, ap, map}
 use Rattle.lra_program.specs.declared.program.Expr as declared
-use Rattle.lra_program.specs.declared.program.Expr.{the_lemmas}
-use Rattle.lra_program.specs.Accesses.{expr_accesses}
-use Rattle.lra_program.specs.Program.{Element, element}
-use Rattle.lra_program.specs.ProgramViews.{chained, expr_view, operation_view}
+use Rattle.lra_program.specs.{Accesses.expr_accesses, Program.Element, Program.element, ProgramViews.chained, ProgramViews.expr_view, ProgramViews.operation_view, declared.program.Expr.the_lemmas}
 use Rattle.lra_bounds_checks.specs.Listed.{access_view, operand_accesses}
 use Rattle.lra_bounds_checks.proofs.ListedSteps.{chained_accesses, next_behind, ok_behind, one_behind, operand_own, operand_rest, operand_splits}
 use Rattle.lra_bounds_checks.proofs.listing.+expressions.Goals as goal

@@ -1,7 +1,6 @@
 -- Goals of `push_aim`: an element that gets a value comes behind the accesses of its index.
 use Rattle.std.proofs.Common.{refl, map}
-use Rattle.lra_program.specs.Accesses.{aim_accesses, expr_accesses}
-use Rattle.lra_program.specs.ProgramViews.{element_view, expr_view}
+use Rattle.lra_program.specs.{Accesses.aim_accesses, Accesses.expr_accesses, ProgramViews.element_view, ProgramViews.expr_view}
 use Rattle.lra_bounds_checks.specs.Listed.{access_view}
 use Rattle.lra_bounds_checks.proofs.ListedSteps.{one_behind}
 use Rattle.lra_bounds_checks.proofs.listing.push_aim.Goals as goal

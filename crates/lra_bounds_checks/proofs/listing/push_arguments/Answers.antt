@@ -1,8 +1,6 @@
 -- Goals of `push_arguments`: the accesses of one argument behind those of the others.
 use Rattle.std.proofs.Common.{List, refl, map}
-use Rattle.lra_program.specs.declared.program.Argument.{Argument}
-use Rattle.lra_program.specs.Accesses.{arguments_accesses, expr_accesses}
-use Rattle.lra_program.specs.ProgramViews.{argument_view, expr_view}
+use Rattle.lra_program.specs.{Accesses.arguments_accesses, Accesses.expr_accesses, ProgramViews.argument_view, ProgramViews.expr_view, declared.program.Argument.Argument}
 use Rattle.lra_bounds_checks.specs.Listed.{access_view}
 use Rattle.lra_bounds_checks.proofs.ListedSteps.{next_behind}
 use Rattle.lra_bounds_checks.proofs.listing.push_arguments.Goals as goal

@@ -1,6 +1,5 @@
 use Rattle.std.proofs.Common.{◌≡◌, ◌++◌, drop, map}
-use Rattle.lra_program.specs.Accesses.{arguments_accesses}
-use Rattle.lra_program.specs.ProgramViews.{argument_view}
+use Rattle.lra_program.specs.{Accesses.arguments_accesses, ProgramViews.argument_view}
 use Rattle.lra_bounds_checks.specs.Listed.{access_view}
 use Rattle.lra_bounds_checks.proofs.listing.push_arguments.Given as goal
 

@@ -1,7 +1,6 @@
 -- Goals of `push_both`: the accesses of the right side come behind those of the left one.
 use Rattle.std.proofs.Common.{refl, map}
-use Rattle.lra_program.specs.Accesses.{expr_accesses}
-use Rattle.lra_program.specs.ProgramViews.{expr_view}
+use Rattle.lra_program.specs.{Accesses.expr_accesses, ProgramViews.expr_view}
 use Rattle.lra_bounds_checks.specs.Listed.{access_view}
 use Rattle.lra_bounds_checks.proofs.ListedSteps.{ok_behind}
 use Rattle.lra_bounds_checks.proofs.listing.push_both.Goals as goal

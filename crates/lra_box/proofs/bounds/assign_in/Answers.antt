@@ -1,8 +1,6 @@
 -- Goals of `assign_in`: assigns `constant + factors` to place `x`.
-use Rattle.std.proofs.Common.{arith, ap, refl, ◌≡◌, ◌++◌, take, drop, length}
+use Rattle.std.proofs.{Common.arith, Common.ap, Common.refl, Common.◌≡◌, Common.◌++◌, Common.take, Common.drop, Common.length, Math.Seq.take-append_seam, lemmas.Int.to_z-of_z}
 use Rattle.std.specs.Int.{w128}
-use Rattle.std.proofs.lemmas.Int.{to_z-of_z}
-use Rattle.std.proofs.Math.Seq.{take-append_seam}
 use Rattle.lra_box.proofs.bounds.assign_in.Goals as goal
 
 pub returns-in-Some : goal.returns-in-Some

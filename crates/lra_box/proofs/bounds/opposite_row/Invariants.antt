@@ -1,6 +1,5 @@
 use Rattle.std.proofs.Common.{◌≡◌, ◌++◌, length, map}
-use Rattle.std.specs.Prelude.{neg_ℤ}
-use Rattle.std.specs.List.{All}
+use Rattle.std.specs.{List.All, Prelude.neg_ℤ}
 use Rattle.lra_linear_spec.specs.Range.{InRange}
 use Rattle.lra_box.proofs.bounds.opposite_row.Given as goal
 

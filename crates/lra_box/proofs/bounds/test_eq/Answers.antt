@@ -1,11 +1,7 @@
 -- Goals of `test_eq`: refines by `constant + factors = 0`.
-use Rattle.std.proofs.Common.{rules, arith, ◌≡◌, pos, ◌-ℤ◌, length, FitsSigned}
-use Rattle.std.specs.Prelude.{neg_ℤ}
-use Rattle.std.specs.Int.{w128}
-use Rattle.std.proofs.lemmas.Int.{ints, to_z-of_z}
-use Rattle.std.proofs.lemmas.List.{length-map}
-use Rattle.lra_box.specs.Bounds.{form}
-use Rattle.lra_box.specs.Content.{bounds_view}
+use Rattle.std.proofs.{Common.rules, Common.arith, Common.◌≡◌, Common.pos, Common.◌-ℤ◌, Common.length, Common.FitsSigned, lemmas.Int.ints, lemmas.Int.to_z-of_z, lemmas.List.length-map}
+use Rattle.std.specs.{Int.w128, Prelude.neg_ℤ}
+use Rattle.lra_box.specs.{Bounds.form, Content.bounds_view}
 use Rattle.lra_box.proofs.TestLemmas.{equal_tested}
 use Rattle.lra_box.proofs.bounds.test_eq.Goals as goal
 

@@ -1,8 +1,7 @@
 -- Goals of `test_ge`: refines by `constant + factors >= 0`.
 use Rattle.std.proofs.Common.{rules, ◌≡◌, false, true, None}
 use Rattle.std.specs.Prelude.{pos, int_lt}
-use Rattle.lra_box.specs.Refine.{some_occurs}
-use Rattle.lra_box.specs.Content.{bounds_view}
+use Rattle.lra_box.specs.{Content.bounds_view, Refine.some_occurs}
 use Rattle.lra_box.proofs.TestLemmas.{none_tested, constant_fails, constant_holds}
 use Rattle.lra_box.proofs.bounds.test_ge.Goals as goal
 

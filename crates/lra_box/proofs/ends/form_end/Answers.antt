@@ -1,8 +1,6 @@
 -- Goals of `form_end`: the least or the greatest value of a form over the intervals.
-use Rattle.std.proofs.Common.{rules, ◌≡◌, [], ◌∷◌, None, Some, FitsSigned, to_z, of_z}
+use Rattle.std.proofs.{Common.rules, Common.◌≡◌, Common.[], Common.◌∷◌, Common.None, Common.Some, Common.FitsSigned, Common.to_z, Common.of_z, lemmas.Int.to_z-of_z, lemmas.List.nil_from_length}
 use Rattle.std.specs.Int.{w64, w128}
-use Rattle.std.proofs.lemmas.Int.{to_z-of_z}
-use Rattle.std.proofs.lemmas.List.{nil_from_length}
 use Rattle.lra_box.proofs.EndLemmas.{ends_here, ends_none, ends_on}
 use Rattle.lra_box.proofs.ends.form_end.Goals as goal
 

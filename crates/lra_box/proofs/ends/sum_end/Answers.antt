@@ -1,10 +1,8 @@
 -- Goals of `sum_end`: the least or the greatest value of `constant + coefficients` over the intervals, summed from
 -- the constant on in column order.
-use Rattle.std.proofs.Common.{rules, ◌≡◌, ◌∷◌, ◌∙◌, sym, Some, FitsSigned, to_z}
+use Rattle.std.proofs.{Common.rules, Common.◌≡◌, Common.◌∷◌, Common.◌∙◌, Common.sym, Common.Some, Common.FitsSigned, Common.to_z, lemmas.Int.to_z-of_z}
 use Rattle.std.specs.Int.{w128}
-use Rattle.std.proofs.lemmas.Int.{to_z-of_z}
-use Rattle.lra_box.specs.Sums.{sum_step}
-use Rattle.lra_box.specs.Bounds.{end_product}
+use Rattle.lra_box.specs.{Bounds.end_product, Sums.sum_step}
 use Rattle.lra_box.proofs.ends.sum_end.Goals as goal
 
 pub loop-factor-preserved : goal.loop-factor-preserved

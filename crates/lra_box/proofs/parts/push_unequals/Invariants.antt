@@ -1,7 +1,6 @@
 use Rattle.std.proofs.Common.{◌≡◌, ◌+◌, ◌++◌, length, replicate}
 use Rattle.lra_linear_spec.specs.declared.ConKind.TheVariants.{Ge}
-use Rattle.lra_box.specs.Bounds.{AllValidIntervals}
-use Rattle.lra_box.specs.Parts.{box_inequalities}
+use Rattle.lra_box.specs.{Bounds.AllValidIntervals, Parts.box_inequalities}
 use Rattle.lra_box.proofs.parts.push_unequals.Given as goal
 
 abbrev pub invariant-loop-interval : goal.invariant-loop-interval

@@ -1,10 +1,8 @@
 -- Goals of `refine_all`: tightens each place in order by `constant + factors >= 0`, until one is crossed.
-use Rattle.std.proofs.Common.{◌≡◌, ◌<◌, length, add-one, arith, sym, ◌∙◌, true, false, refl}
+use Rattle.std.proofs.{Common.◌≡◌, Common.◌<◌, Common.length, Common.add-one, Common.arith, Common.sym, Common.◌∙◌, Common.true, Common.false, Common.refl, lemmas.Int.to_z-of_z}
 use Rattle.std.specs.Int.{w128}
-use Rattle.std.proofs.lemmas.Int.{to_z-of_z}
 use Rattle.lra_box.specs.Bounds.{crossed}
-use Rattle.lra_box.proofs.SoundLemmas.{at_sound}
-use Rattle.lra_box.proofs.RefineSteps.{refine_on, refine_stops, refine_ends, refine_starts}
+use Rattle.lra_box.proofs.{RefineSteps.refine_on, RefineSteps.refine_stops, RefineSteps.refine_ends, RefineSteps.refine_starts, SoundLemmas.at_sound}
 use Rattle.lra_box.proofs.refine.refine_all.Goals as goal
 
 pub tight_at-tight-requires-clause-ends : goal.tight_at-tight-requires-clause-ends

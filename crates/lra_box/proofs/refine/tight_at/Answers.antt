@@ -1,9 +1,7 @@
 -- Goals of `tight_at`: the interval of a place, tightened by `constant + factors >= 0`.
-use Rattle.std.proofs.Common.{rules}
+use Rattle.std.proofs.{Common.rules, lemmas.Int.to_z-of_z}
 use Rattle.std.specs.Int.{w128}
-use Rattle.std.proofs.lemmas.Int.{to_z-of_z}
-use Rattle.lra_box.proofs.RefineLemmas.{set_back}
-use Rattle.lra_box.proofs.RefineSteps.{tight_of}
+use Rattle.lra_box.proofs.{RefineLemmas.set_back, RefineSteps.tight_of}
 use Rattle.lra_box.proofs.refine.tight_at.Goals as goal
 
 pub returns-clause-factors : goal.returns-clause-factors

@@ -1,8 +1,8 @@
 -- Goals of `membership`: whether the point is in the set that the constraints describe, tried in order; the divisor
 -- stands first.
 use Rattle.std.proofs.Common.{rules, ◌≡◌, ◌-◌, ℤ, pos, List, ◌∷◌, length, get_or, take, drop, subst, FitsSigned}
-use Rattle.std.specs.Int.{w128}
 use Rattle.std.proofs.lemmas.Int.{to_z-of_z}
+use Rattle.std.specs.Int.{w128}
 use Rattle.lra_systems.specs.LinearSystems.{constraints}
 use Rattle.lra_calc.specs.Script as script
 use Rattle.lra_calc.specs.Views.{answered}

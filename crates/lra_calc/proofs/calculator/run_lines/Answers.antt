@@ -1,12 +1,9 @@
 -- Goals of `run_lines`: carries out all lines.
 use Rattle.std.proofs.Common.{◌≡◌, ◌∙◌, ◌+◌, ◌<◌, ℕ, List, ◌∷◌, Bor, length, get_or, drop, map, ap, sym, subst}
+use Rattle.std.proofs.{lemmas.List.drop_more, lemmas.Result.err_from_is_err_and}
 use Rattle.std.specs.Prelude.{option_map}
-use Rattle.std.proofs.lemmas.List.{drop_more}
-use Rattle.std.proofs.lemmas.Result.{err_from_is_err_and}
-use Rattle.lra_script.specs.ScriptText.{without_return}
-use Rattle.lra_script.specs.Views.{texts}
-use Rattle.lra_calc.specs.Script.{CarriesOut}
-use Rattle.lra_calc.specs.Views.{session_of}
+use Rattle.lra_script.specs.{ScriptText.without_return, Views.texts}
+use Rattle.lra_calc.specs.{Script.CarriesOut, Views.session_of}
 use Rattle.lra_calc.proofs.SessionLemmas.{stop_ends}
 use Rattle.lra_calc.proofs.calculator.run_lines.Goals as goal
 

@@ -1,9 +1,7 @@
 use Rattle.std.proofs.Common.{◌+◌, drop, map, None}
 use Rattle.std.specs.Prelude.{option_map, IfSome}
-use Rattle.lra_script.specs.ScriptText.{without_return}
-use Rattle.lra_calc.specs.Script.{End, CarriesOut}
-use Rattle.lra_script.specs.Views.{texts}
-use Rattle.lra_calc.specs.Views.{session_of, IsSession}
+use Rattle.lra_script.specs.{ScriptText.without_return, Views.texts}
+use Rattle.lra_calc.specs.{Script.End, Script.CarriesOut, Views.session_of, Views.IsSession}
 use Rattle.lra_calc.proofs.calculator.run_lines.Given as goal
 
 abbrev pub invariant-loop-index : goal.invariant-loop-index

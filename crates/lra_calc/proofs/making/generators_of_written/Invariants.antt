@@ -1,7 +1,6 @@
 use Rattle.std.proofs.Common.{◌≡◌, ◌++◌, drop, length, map}
 use Rattle.lra_systems.specs.LinearSystems.{generators, FitKinds}
-use Rattle.lra_script.specs.LineForms.{row_of_generator}
-use Rattle.lra_script.specs.Views.{generator_view}
+use Rattle.lra_script.specs.{LineForms.row_of_generator, Views.generator_view}
 use Rattle.lra_calc.proofs.making.generators_of_written.Given as goal
 
 abbrev pub invariant-loop-generator : goal.invariant-loop-generator

@@ -1,14 +1,10 @@
 -- Goals of `limit`: the first set widened by the second, with those of the given constraints that are valid on
 -- both.
 use Rattle.std.proofs.Common.{List, map, subst, Ok}
-use Rattle.lra_linear_spec.specs.Descriptions.{LinearRow}
-use Rattle.lra_linear_spec.specs.OperationStrain.{LimitedStrains}
-use Rattle.lra_linear_spec.specs.Widening.{LimitedWidening}
+use Rattle.lra_linear_spec.specs.{Descriptions.LinearRow, OperationStrain.LimitedStrains, Widening.LimitedWidening}
 use Rattle.lra_systems.specs.LinearSystems.{constraints}
 use Rattle.lra_script.specs.Views.{constraint_of}
-use Rattle.lra_calc.specs.MadeSets.{IsLimited}
-use Rattle.lra_calc.specs.Script.{Widens}
-use Rattle.lra_calc.specs.Views.{made_of}
+use Rattle.lra_calc.specs.{MadeSets.IsLimited, Script.Widens, Views.made_of}
 use Rattle.lra_calc.proofs.WidenLemmas.{made_widens, outside_widens, refusal_placed}
 use Rattle.lra_calc.proofs.widening.limit.Goals as goal
 

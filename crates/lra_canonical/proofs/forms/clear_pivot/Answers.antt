@@ -1,7 +1,6 @@
 -- Goals of `clear_pivot`: the rows with 0 at the line's pivot.
-use Rattle.std.proofs.Common.{arith, List, ℤ, subst}
+use Rattle.std.proofs.{Common.arith, Common.List, Common.ℤ, Common.subst, lemmas.Result.err_from_is_err_and}
 use Rattle.lra_canonical.specs.Reduced.{IsCleared, IsClearingExcess}
-use Rattle.std.proofs.lemmas.Result.{err_from_is_err_and}
 use Rattle.lra_canonical.proofs.EchelonSteps.{cleared_more, cleared_passes}
 use Rattle.lra_canonical.proofs.forms.clear_pivot.Goals as goal
 

@@ -1,7 +1,6 @@
 -- Goals of `direct`: the row or its negative, whichever is positive at its pivot; none of a row of zeros.
-use Rattle.std.proofs.Common.{FitsSigned}
+use Rattle.std.proofs.{Common.FitsSigned, lemmas.Int.to_z-of_z, lemmas.Int.fits_signed_from_abs}
 use Rattle.std.specs.Int.{w128}
-use Rattle.std.proofs.lemmas.Int.{to_z-of_z, fits_signed_from_abs}
 use Rattle.lra_canonical.proofs.EchelonSteps.{directed_zero, directed_negative}
 use Rattle.lra_canonical.proofs.forms.direct.Goals as goal
 

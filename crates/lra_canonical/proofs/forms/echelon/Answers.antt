@@ -1,6 +1,5 @@
 -- Goals of `echelon`: makes the rows their reduced echelon form, one row after the other.
-use Rattle.std.proofs.Common.{◌≡◌, ◌<◌, arith, List, ℤ, length, get_or, subst, ap}
-use Rattle.std.proofs.lemmas.Result.{err_from_is_err_and}
+use Rattle.std.proofs.{Common.◌≡◌, Common.◌<◌, Common.arith, Common.List, Common.ℤ, Common.length, Common.get_or, Common.subst, Common.ap, lemmas.Result.err_from_is_err_and}
 use Rattle.lra_canonical.proofs.EchelonRows.{form_width, first_more, first_passes, extension_strains, form_end, same_equalities, one_form}
 use Rattle.lra_canonical.proofs.forms.echelon.Goals as goal
 

@@ -2,8 +2,7 @@
 use Rattle.std.proofs.Common.{rules}
 use Rattle.std.specs.Cmp.{on_total}
 use Rattle.lra_canonical.specs.declared.order.Marked.{Marked}
-use Rattle.lra_canonical.proofs.Orders.{cmp_by_total, sorted_by}
-use Rattle.lra_canonical.proofs.MarkedOrder.{marked_cmp, rows_sorted}
+use Rattle.lra_canonical.proofs.{MarkedOrder.marked_cmp, MarkedOrder.rows_sorted, Orders.cmp_by_total, Orders.sorted_by}
 use Rattle.lra_canonical.proofs.order.order_marked.Goals as goal
 
 pub returns-clause-sorted : goal.returns-clause-sorted

@@ -1,7 +1,6 @@
 -- Goals of `clear`: the row with 0 at the line's pivot.
-use Rattle.std.proofs.Common.{inl, inr, rules, FitsSigned}
+use Rattle.std.proofs.{Common.inl, Common.inr, Common.rules, Common.FitsSigned, lemmas.Int.to_z-of_z, lemmas.Int.fits_signed_from_abs}
 use Rattle.std.specs.Int.{w128}
-use Rattle.std.proofs.lemmas.Int.{to_z-of_z, fits_signed_from_abs}
 use Rattle.lra_canonical.proofs.Chains.{cleared_step, cleared_already}
 use Rattle.lra_canonical.proofs.reduction.clear.Goals as goal
 

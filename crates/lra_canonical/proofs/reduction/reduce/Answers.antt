@@ -1,6 +1,5 @@
 -- Goals of `reduce`: clears the row at the pivot of each row of the echelon form and takes it in lowest terms.
-use Rattle.lra_canonical.proofs.Chains.{clear_end, clear_reduced}
-use Rattle.lra_canonical.proofs.Solutions.{reduced_same, one_reduced}
+use Rattle.lra_canonical.proofs.{Chains.clear_end, Chains.clear_reduced, Solutions.reduced_same, Solutions.one_reduced}
 use Rattle.lra_canonical.proofs.reduction.reduce.Goals as goal
 
 pub returns-then-is_clear-clause-reduced : goal.returns-then-is_clear-clause-reduced

@@ -1,6 +1,5 @@
 -- Goals of `reduce_by`: the row reduced by the form.
-use Rattle.std.proofs.Common.{◌≡◌, length, rules, arith}
-use Rattle.std.proofs.lemmas.Result.{err_from_is_err_and}
+use Rattle.std.proofs.{Common.◌≡◌, Common.length, Common.rules, Common.arith, lemmas.Result.err_from_is_err_and}
 use Rattle.lra_canonical.proofs.Chains.{partly_more, partly_first, partly_end, partly_chain}
 use Rattle.lra_canonical.proofs.reduction.reduce_by.Goals as goal
 

@@ -1,8 +1,7 @@
 -- Goals of `redundant`: marks the rows that are covered by a row that isn't marked, one after the other.
 use Rattle.std.proofs.Common.{arith, sym, ◌∙◌, true≢false}
-use Rattle.lra_canonical.proofs.Irredundant.{marks_start, marks_more, marks_stay}
+use Rattle.lra_canonical.proofs.{Irredundant.marks_start, Irredundant.marks_more, Irredundant.marks_stay, redundancy.redundant.Goals.then-covered, redundancy.redundant.Goals.else-covered}
 use Rattle.lra_canonical.proofs.redundancy.redundant.Goals as goal
-use Rattle.lra_canonical.proofs.redundancy.redundant.Goals.{then-covered, else-covered}
 
 pub loop-place-init : goal.loop-place-init
 loop-place-init c = marks_start c.args.rows.now c.args.saturation.now c.in_ok-gone.gone c.in_ok-gone.ensures

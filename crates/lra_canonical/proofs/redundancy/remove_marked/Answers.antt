@@ -1,7 +1,6 @@
 -- Goals of `remove_marked`: takes out the rows that are marked; the others keep their order.
-use Rattle.std.proofs.Common.{◌≡◌, ◌<◌, List, ℤ, [], length, sym, ◌∙◌, arith}
+use Rattle.std.proofs.{Common.◌≡◌, Common.◌<◌, Common.List, Common.ℤ, Common.[], Common.length, Common.sym, Common.◌∙◌, Common.arith, lemmas.Grind.common_steps}
 use Rattle.std.specs.Vec.{vec_len}
-use Rattle.std.proofs.lemmas.Grind.{common_steps}
 use Rattle.lra_bits.proofs.Removal.{kept_gone, kept_stays}
 use Rattle.lra_canonical.proofs.redundancy.remove_marked.Goals as goal
 use Rattle.lra_canonical.proofs.redundancy.remove_marked.Goals.{then-not-get, else-not-get}

@@ -1,9 +1,7 @@
 -- Goals of `spaced_numbers`: the numbers of a text, each behind one space, where they are so many.
 use Rattle.std.proofs.Common.{rules, arith, ◌≡◌, ◌<◌, [], ◌∷◌, ◌++◌, length, FitsSigned, ap, length-append}
+use Rattle.std.proofs.{lemmas.Grind.common_steps, lemmas.Int.to_z-of_z, lemmas.List.Elements.All-append, lemmas.List.Elements.All-cons, lemmas.List.Elements.All-nil}
 use Rattle.std.specs.Int.{w128}
-use Rattle.std.proofs.lemmas.Grind.{common_steps}
-use Rattle.std.proofs.lemmas.Int.{to_z-of_z}
-use Rattle.std.proofs.lemmas.List.Elements.{All-append, All-cons, All-nil}
 use Rattle.lra_linear_spec.specs.Range.{InRange}
 use Rattle.lra_certificate_spec.specs.Judged.{spaced_numbers, words_of}
 use Rattle.lra_certificate_spec.proofs.NumberSteps.{number_more, too_many}

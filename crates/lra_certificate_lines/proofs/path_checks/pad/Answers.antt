@@ -1,12 +1,9 @@
 -- Goals of `pad`: the row, with zeros up to this width.
 use Rattle.std.proofs.Common.{arith, ◌≡◌, ◌∷◌, ◌++◌, ◌-◌, [], ℤ, List, pos, length, ap, sym, ◌∙◌, length-append, subst}
-use Rattle.std.proofs.lemmas.Grind.{common_steps}
+use Rattle.std.proofs.{lemmas.Grind.common_steps, lemmas.List.Elements.All-append}
 use Rattle.std.specs.List.{All}
-use Rattle.std.proofs.lemmas.List.Elements.{All-append}
-use Rattle.lra_linear_spec.specs.Range.{InRange}
-use Rattle.lra_linear_spec.specs.Vectors.{zeros}
-use Rattle.lra_certificate_lines.proofs.WalkSteps.{zeros_in}
-use Rattle.lra_certificate_lines.proofs.TrackSteps.{padded_more}
+use Rattle.lra_linear_spec.specs.{Range.InRange, Vectors.zeros}
+use Rattle.lra_certificate_lines.proofs.{TrackSteps.padded_more, WalkSteps.zeros_in}
 use Rattle.lra_certificate_lines.proofs.path_checks.pad.Goals as goal
 
 pub columns-preserved : goal.columns-preserved

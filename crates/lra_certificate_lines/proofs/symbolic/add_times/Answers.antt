@@ -1,10 +1,8 @@
 -- Goals of `add_times`: the sum with so many times the row.
 use Rattle.std.proofs.Common.{ℕ, ap, rules, to_z, ◌≡◌, ◌∙◌, sym, subst, refl, length, ℤ, pos, List, FitsSigned, Result, Ok}
+use Rattle.std.proofs.{lemmas.Int.to_z-of_z, lemmas.Result.IfOk-weaker, lemmas.Result.IfErr-weaker}
 use Rattle.std.specs.Int.{w128}
-use Rattle.std.proofs.lemmas.Int.{to_z-of_z}
-use Rattle.std.proofs.lemmas.Result.{IfOk-weaker, IfErr-weaker}
-use Rattle.lra_linear_spec.specs.declared.Excess.{Excess}
-use Rattle.lra_linear_spec.specs.CheckedArithmetic.{checked_added}
+use Rattle.lra_linear_spec.specs.{CheckedArithmetic.checked_added, declared.Excess.Excess}
 use Rattle.lra_linear_spec.proofs.CheckedArithmetic.{checked_blend_in_range}
 use Rattle.lra_row.specs.Rows.{IsExcessOf}
 use Rattle.lra_row.proofs.Combination.{blend_added}

@@ -1,14 +1,11 @@
 -- Goals of `compose`: the row over the symbols of a row over variables.
 use Rattle.std.proofs.Common.{rules, arith, suc, ◌+◌, ◌<◌, inl, inr, sym, ◌∙◌, ap, ◌-◌, List, ℤ, length, subst, FitsSigned}
-use Rattle.std.specs.Int.{w128}
-use Rattle.std.specs.Prelude.{slice_set}
-use Rattle.std.specs.List.{All}
-use Rattle.lra_linear_spec.specs.Vectors.{zeros}
 use Rattle.std.proofs.lemmas.Int.{to_z-of_z}
-use Rattle.lra_linear_spec.specs.Range.{InRange}
+use Rattle.std.specs.{Int.w128, List.All, Prelude.slice_set}
+use Rattle.lra_linear_spec.specs.{Range.InRange, Vectors.zeros}
 use Rattle.lra_certificate_lines.proofs.WalkSteps.{begun, first_in, goes_on, passes_on, ends}
-use Rattle.lra_certificate_lines.proofs.symbolic.compose.Goals as goal
 use Rattle.lra_certificate_lines.proofs.symbolic.compose.Goals.{then-columns-test+else-place-width, else-columns-test}
+use Rattle.lra_certificate_lines.proofs.symbolic.compose.Goals as goal
 
 pub columns-init : goal.columns-init
 columns-init c =

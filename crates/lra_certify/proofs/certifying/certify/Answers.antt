@@ -1,14 +1,12 @@
 -- Goals of `certify`: the lines behind the source of a certificate.
 use Rattle.std.proofs.Common.{Err, map, ap, sym, string_bytes}
-use Rattle.lra_program.specs.ProgramViews.{program_view}
-use Rattle.lra_program.specs.Sites.{sites_of}
+use Rattle.lra_program.specs.{ProgramViews.program_view, Sites.sites_of}
 use Rattle.lra_operations.specs.TreeViews.{node_view, site_view}
 use Rattle.lra_verify.specs.PointViews.{state_view}
 use Rattle.lra_verify.proofs.VerifySteps.{few_ready, many_ready}
 use Rattle.lra_certify.specs.Certified.{IsFailure}
 use Rattle.lra_certify.proofs.CertifiedSteps.{certified, body_fails, all_stay, all_denied, listable_below}
-use Rattle.lra_certify.proofs.PathSteps.{exit_with}
-use Rattle.lra_certify.proofs.ReadyWays.{are_ready, many_points}
+use Rattle.lra_certify.proofs.{PathSteps.exit_with, ReadyWays.are_ready, ReadyWays.many_points}
 use Rattle.lra_certify.proofs.certifying.certify.Goals as goal
 
 pub push_body-requires-clause-ways : goal.push_body-requires-clause-ways

@@ -1,8 +1,7 @@
 -- Goals of `push_body`: all lines behind the source.
 use Rattle.std.proofs.Common.{string_bytes}
 use Rattle.lra_certify.specs.WrittenPaths.{IfStopped, BodyStops}
-use Rattle.lra_certify.proofs.CertifiedSteps.{body_added, sources_stop, listing_stops}
-use Rattle.lra_certify.proofs.PathSteps.{exit_with}
+use Rattle.lra_certify.proofs.{CertifiedSteps.body_added, CertifiedSteps.sources_stop, CertifiedSteps.listing_stops, PathSteps.exit_with}
 use Rattle.lra_certify.proofs.certifying.push_body.Goals as goal
 
 pub returns-in_err-push_sources-clause-failure : goal.returns-in_err-push_sources-clause-failure

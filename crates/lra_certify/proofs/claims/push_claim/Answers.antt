@@ -3,9 +3,7 @@ use Rattle.std.proofs.Common.{Some, subst, string_bytes}
 use Rattle.lra_multipliers.specs.MultiplierViews.{multipliers_view}
 use Rattle.lra_farkas.specs.declared.first.MultipliersFailure.{MultipliersFailure}
 use Rattle.lra_certify.specs.PathFactViews.{IsLineFailure}
-use Rattle.lra_certify.proofs.ClaimSteps.{claim_added, claim_stops}
-use Rattle.lra_certify.proofs.FarkasLaws.{laws}
-use Rattle.lra_certify.proofs.FoundPaths.{claim_shown}
+use Rattle.lra_certify.proofs.{ClaimSteps.claim_added, ClaimSteps.claim_stops, FarkasLaws.laws, FoundPaths.claim_shown}
 use Rattle.lra_certify.proofs.claims.push_claim.Goals as goal
 
 pub unreachable-requires : goal.unreachable-requires

@@ -1,16 +1,11 @@
 -- Goals of `push_claims`: the lines of the claims of all rows.
-use Rattle.std.proofs.Common.{◌+◌, [], drop, ap, arith, string_bytes}
-use Rattle.std.proofs.lemmas.List.{drop_all}
-use Rattle.lra_linear_spec.specs.Cones.{with_row}
-use Rattle.lra_linear_spec.specs.Descriptions.{system_of}
-use Rattle.lra_linear_spec.specs.Kinds.{is_equality}
+use Rattle.std.proofs.{Common.◌+◌, Common.[], Common.drop, Common.ap, Common.arith, Common.string_bytes, lemmas.List.drop_all}
+use Rattle.lra_linear_spec.specs.{Cones.with_row, Descriptions.system_of, Kinds.is_equality}
 use Rattle.lra_systems.specs.LinearSystems.{constraints}
-use Rattle.lra_certificate_lines.proofs.ShowSteps.{constraint_from}
-use Rattle.lra_certificate_lines.proofs.TrackSteps.{constraints_few}
+use Rattle.lra_certificate_lines.proofs.{ShowSteps.constraint_from, TrackSteps.constraints_few}
 use Rattle.lra_certify.specs.PathFactViews.{IsClaimLine, ClaimStrained, by_line, SomeStrains, IfStrained}
-use Rattle.lra_certify.proofs.ClaimSteps.{system_next, hold_row}
 use Rattle.lra_certify.proofs.EachSteps.{left_all, left_next, left_stops, left_end}
-use Rattle.lra_certify.proofs.PathSteps.{exit_with, strained_weaker}
+use Rattle.lra_certify.proofs.{ClaimSteps.system_next, ClaimSteps.hold_row, PathSteps.exit_with, PathSteps.strained_weaker}
 use Rattle.lra_certify.proofs.claims.push_claims.Goals as goal
 
 pub loop-place-init : goal.loop-place-init

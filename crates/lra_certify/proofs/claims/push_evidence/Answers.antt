@@ -6,9 +6,7 @@ use Rattle.lra_certificate_spec.specs.Judged.{RowsAtPoint}
 use Rattle.lra_certificate_lines.specs.PathCheckViews.{target_rows}
 use Rattle.lra_farkas.specs.declared.first.MultipliersFailure.{MultipliersFailure}
 use Rattle.lra_certify.specs.PathFactViews.{AllLead, IsLineFailure}
-use Rattle.lra_certify.proofs.ClaimSteps.{dead_added, dead_stops, claims_told, claims_failed}
-use Rattle.lra_certify.proofs.FarkasLaws.{laws}
-use Rattle.lra_certify.proofs.FoundPaths.{dead_shown, target_holds}
+use Rattle.lra_certify.proofs.{ClaimSteps.dead_added, ClaimSteps.dead_stops, ClaimSteps.claims_told, ClaimSteps.claims_failed, FarkasLaws.laws, FoundPaths.dead_shown, FoundPaths.target_holds}
 use Rattle.lra_certify.proofs.claims.push_evidence.Goals as goal
 
 pub unreachable-requires : goal.unreachable-requires

@@ -1,15 +1,11 @@
 -- Goals of `push_edges`: the lines of all paths from a source to a point.
-use Rattle.std.proofs.Common.{length, ap, sym, ◌∙◌, refl, arith, map, List, subst, string_bytes}
-use Rattle.std.proofs.lemmas.Option.{slice_get_read}
+use Rattle.std.proofs.{Common.length, Common.ap, Common.sym, Common.◌∙◌, Common.refl, Common.arith, Common.map, Common.List, Common.subst, Common.string_bytes, lemmas.Option.slice_get_read}
 use Rattle.lra_domain.specs.Actions.{Action}
-use Rattle.lra_paths.specs.Paths.{path_by}
+use Rattle.lra_paths.specs.{Paths.path_by, Sources.to_goal, declared.sources.Source.Source}
 use Rattle.lra_path_segments.specs.Segments.{comes_to}
-use Rattle.lra_paths.specs.Sources.{to_goal}
 use Rattle.lra_path_disjuncts.specs.TableDisjuncts.{lists_done}
-use Rattle.lra_paths.specs.declared.sources.Source.{Source}
-use Rattle.lra_certify.specs.declared.failures.CertifyFailure.{CertifyFailure}
-use Rattle.lra_certify.specs.PathFactViews.{IfStrained}
 use Rattle.lra_certify.specs.WrittenPaths.{AllAreInductive, AddsPaths, SomePathStops, SomeStops, IfStopped, edge_lines, paths_to}
+use Rattle.lra_certify.specs.{PathFactViews.IfStrained, declared.failures.CertifyFailure.CertifyFailure}
 use Rattle.lra_certify.proofs.PathSteps.{led_lists, failed_edge}
 use Rattle.lra_certify.proofs.edges.push_edges.Goals as goal
 

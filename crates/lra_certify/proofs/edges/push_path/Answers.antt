@@ -2,8 +2,7 @@
 use Rattle.std.proofs.Common.{string_bytes}
 use Rattle.lra_path_disjuncts.specs.TableDisjuncts.{all_done}
 use Rattle.lra_certificate_lines.specs.PathCheckViews.{target_rows}
-use Rattle.lra_certify.proofs.EdgeFound.{walk_strained, grounds_lead, evidence_told, evidence_failed, grounds_are}
-use Rattle.lra_certify.proofs.FarkasLaws.{laws}
+use Rattle.lra_certify.proofs.{EdgeFound.walk_strained, EdgeFound.grounds_lead, EdgeFound.evidence_told, EdgeFound.evidence_failed, EdgeFound.grounds_are, FarkasLaws.laws}
 use Rattle.lra_certify.proofs.edges.push_path.Goals as goal
 
 pub push_evidence-requires-clause-are : goal.push_evidence-requires-clause-are

@@ -1,6 +1,5 @@
 -- Goals of `push_listed`: the lines of the assertions at these points.
-use Rattle.std.proofs.Common.{◌+◌, drop, get_or, arith, string_bytes}
-use Rattle.std.proofs.lemmas.List.{drop_all}
+use Rattle.std.proofs.{Common.◌+◌, Common.drop, Common.get_or, Common.arith, Common.string_bytes, lemmas.List.drop_all}
 use Rattle.lra_certify.proofs.PathSteps.{list_next, number_has, listed_begin, listed_next, listed_stop, listed_end}
 use Rattle.lra_certify.proofs.listed.push_listed.Goals as goal
 

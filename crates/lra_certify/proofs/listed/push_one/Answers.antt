@@ -1,7 +1,6 @@
 -- Goals of `push_one`: the lines of an assertion.
 use Rattle.std.proofs.Common.{◌∷◌, [], sym, subst, string_bytes, arith}
-use Rattle.lra_certify.specs.declared.failures.CertifyFailure.{CertifyFailure}
-use Rattle.lra_certify.specs.WrittenPaths.{ListStops, IfStopped}
+use Rattle.lra_certify.specs.{WrittenPaths.ListStops, WrittenPaths.IfStopped, declared.failures.CertifyFailure.CertifyFailure}
 use Rattle.lra_certify.proofs.PathSteps.{one_listed, failed_assertion}
 use Rattle.lra_certify.proofs.listed.push_one.Goals as goal
 

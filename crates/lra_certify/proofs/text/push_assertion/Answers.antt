@@ -1,6 +1,5 @@
 -- Goals of `push_assertion`: the line that lists an assertion.
-use Rattle.std.proofs.Common.{◌+◌, suc, add-one, codes, string_bytes}
-use Rattle.std.proofs.lemmas.Result.{on_ok_weaker}
+use Rattle.std.proofs.{Common.◌+◌, Common.suc, Common.add-one, Common.codes, Common.string_bytes, lemmas.Result.on_ok_weaker}
 use Rattle.lra_certify.proofs.TextSteps.{numbered_written}
 use Rattle.lra_certify.proofs.text.push_assertion.Goals as goal
 

@@ -1,6 +1,5 @@
 -- Goals of `push_edge`: the line that begins a path.
-use Rattle.std.proofs.Common.{◌+◌, refl, string_bytes}
-use Rattle.std.proofs.lemmas.Result.{on_ok_weaker}
+use Rattle.std.proofs.{Common.◌+◌, Common.refl, Common.string_bytes, lemmas.Result.on_ok_weaker}
 use Rattle.lra_certify.proofs.TextSteps.{edge_written}
 use Rattle.lra_certify.proofs.text.push_edge.Goals as goal
 

@@ -1,7 +1,6 @@
 -- Goals of `push_multipliers`: the line of this word with the multipliers.
-use Rattle.std.proofs.Common.{◌++◌, ◌∙◌, rules, ap, FitsSigned, List, ℤ, string_bytes}
+use Rattle.std.proofs.{Common.◌++◌, Common.◌∙◌, Common.rules, Common.ap, Common.FitsSigned, Common.List, Common.ℤ, Common.string_bytes, lemmas.Int.to_z-of_z}
 use Rattle.std.specs.Int.{w128}
-use Rattle.std.proofs.lemmas.Int.{to_z-of_z}
 use Rattle.lra_multipliers.specs.MultiplierViews.{multipliers_view}
 use Rattle.lra_certificate_spec.specs.CertificateText.{numbers_text}
 use Rattle.lra_certify.proofs.TextSteps.{multipliers_line}

@@ -1,10 +1,8 @@
 -- Goals of `push_rows`: the lines of the rows.
-use Rattle.std.proofs.Common.{◌+◌, ◌++◌, drop, arith, string_bytes}
-use Rattle.std.proofs.lemmas.List.{drop_all}
+use Rattle.std.proofs.{Common.◌+◌, Common.◌++◌, Common.drop, Common.arith, Common.string_bytes, lemmas.List.drop_all}
 use Rattle.lra_linear_spec.specs.Kinds.{is_equality}
 use Rattle.lra_systems.specs.LinearSystems.{constraints}
-use Rattle.lra_certificate_lines.proofs.ShowSteps.{constraint_from}
-use Rattle.lra_certificate_lines.proofs.TrackSteps.{constraints_few}
+use Rattle.lra_certificate_lines.proofs.{ShowSteps.constraint_from, TrackSteps.constraints_few}
 use Rattle.lra_certify.specs.Lines.{rows_text}
 use Rattle.lra_certify.proofs.TextSteps.{rows_left, rows_end, point_rows}
 use Rattle.lra_certify.proofs.text.push_rows.Goals as goal

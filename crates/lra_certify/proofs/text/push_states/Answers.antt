@@ -1,7 +1,5 @@
 -- Goals of `push_states`: the lines of the points.
-use Rattle.std.proofs.Common.{◌++◌, suc, refl, drop, map, ap, arith, string_bytes}
-use Rattle.std.proofs.lemmas.List.{drop_all}
-use Rattle.std.proofs.lemmas.List.Elements.{All-nil}
+use Rattle.std.proofs.{Common.◌++◌, Common.suc, Common.refl, Common.drop, Common.map, Common.ap, Common.arith, Common.string_bytes, lemmas.List.drop_all, lemmas.List.Elements.All-nil}
 use Rattle.lra_certificate_spec.specs.CertificateText.{states_text}
 use Rattle.lra_verify.specs.PointViews.{state_view}
 use Rattle.lra_certify.specs.Lines.{HasPointRows}

@@ -1,17 +1,14 @@
 -- Goals of `certify_solution`: the lines behind the source, by what the iteration found of its program.
-use Rattle.std.proofs.Common.{◌≡◌, ◌∙◌, List, length, map, ap, subst}
-use Rattle.std.proofs.lemmas.List.{length-map}
+use Rattle.std.proofs.{Common.◌≡◌, Common.◌∙◌, Common.List, Common.length, Common.map, Common.ap, Common.subst, lemmas.List.length-map}
 use Rattle.lra_linear_spec.specs.Polyhedra.{Polyhedron, IsPolyhedron}
 use Rattle.std.specs.List.{AllByRecursion}
 use Rattle.lra_syntax.specs.Views.{tree_view}
 use Rattle.lra_resolution_spec.specs.Resolve.{resolve}
-use Rattle.lra_program.specs.ProgramViews.{program_view}
+use Rattle.lra_program.specs.{ProgramViews.program_view, Sites.sites_of}
 use Rattle.lra_operations.specs.TreeViews.{node_view, site_view}
 use Rattle.lra_verify.specs.PointViews.{state_view}
 use Rattle.lra_certify_source.specs.Extraction.{state_by, dims_by, proved_in}
-use Rattle.lra_program.specs.Sites.{sites_of}
-use Rattle.lra_certify.specs.Certified.{AreListable}
-use Rattle.lra_certify.specs.InductiveRows.{AreInductiveRows}
+use Rattle.lra_certify.specs.{Certified.AreListable, InductiveRows.AreInductiveRows}
 use Rattle.lra_certify_source.proofs.Answered.{live_small, many_small, sites_are, states_many, listed, stay, have_dims, asked_so, written_so, failed_so, few_so}
 use Rattle.lra_certify_source.proofs.certify_report.certify_solution.Goals as goal
 

@@ -6,9 +6,7 @@ use Rattle.lra_report.specs.View.{report_of}
 use Rattle.lra_certificate_spec.specs.CertificateText.{head_text}
 use Rattle.lra_certify.proofs.PathSteps.{exit_with}
 use Rattle.lra_certify_source.specs.Certified.{HasSmallPoint, IsCertifyRefusalOf}
-use Rattle.lra_certify_source.specs.Refusals.{IfRefusal}
-use Rattle.lra_certify_source.specs.Extraction.{state_by, proved_in}
-use Rattle.lra_certify_source.specs.declared.refusals.CertifyError.TheVariants.{Memory}
+use Rattle.lra_certify_source.specs.{Extraction.state_by, Extraction.proved_in, Refusals.IfRefusal, declared.refusals.CertifyError.TheVariants.Memory}
 use Rattle.lra_certify_source.proofs.Answered.{answered, written, refused, counts, listed}
 use Rattle.lra_certify_source.proofs.certify_report.certify_source.Goals as goal
 

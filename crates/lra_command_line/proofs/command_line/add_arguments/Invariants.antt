@@ -1,7 +1,6 @@
 -- So far the first arguments are declared.
 use Rattle.std.proofs.Common.{◌≡◌, take}
-use Rattle.clap.specs.Words.{app_of}
-use Rattle.clap.specs.declared.builder.command.Command.TheViews.{out-Command}
+use Rattle.clap.specs.{Words.app_of, declared.builder.command.Command.TheViews.out-Command}
 use Rattle.lra_command_line.specs.CommandLine.{with_arguments}
 use Rattle.lra_command_line.proofs.command_line.add_arguments.Given as goal
 

@@ -1,8 +1,7 @@
 -- Whether one of the options from here on is given tells whether one is.
 use Rattle.std.proofs.Common.{◌≡◌, drop}
 use Rattle.std.specs.List.{list_any}
-use Rattle.clap.specs.Takes.{is_given}
-use Rattle.clap.specs.Words.{found_of, rows_of}
+use Rattle.clap.specs.{Takes.is_given, Words.found_of, Words.rows_of}
 use Rattle.lra_options.specs.OptionRows.{number_row, number_options}
 use Rattle.lra_command_line.specs.ParsedCommand.{gives_number}
 use Rattle.lra_command_line.proofs.words.gives_number.Given as goal

@@ -1,9 +1,7 @@
 -- Goals of `read_flags`.
-use Rattle.std.proofs.Common.{◌∙◌, Some, ap, refl, sym}
-use Rattle.std.proofs.lemmas.List.{drop_more}
+use Rattle.std.proofs.{Common.◌∙◌, Common.Some, Common.ap, Common.refl, Common.sym, lemmas.List.drop_more}
 use Rattle.clap.specs.Words.{found_of, rows_of}
-use Rattle.lra_options.specs.OptionRows.{flag_options}
-use Rattle.lra_options.specs.declared.options.FlagOption.TheVariants.{Limited}
+use Rattle.lra_options.specs.{OptionRows.flag_options, declared.options.FlagOption.TheVariants.Limited}
 use Rattle.lra_command_line.specs.ParsedCommand.{flag_at, with_flag}
 use Rattle.lra_command_line.proofs.OptionLists.{flag_read, read_on}
 use Rattle.lra_command_line.proofs.words.read_flags.Goals as goal

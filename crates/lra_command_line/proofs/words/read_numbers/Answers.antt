@@ -1,9 +1,7 @@
 -- Goals of `read_numbers`.
-use Rattle.std.proofs.Common.{◌∙◌, ◌^◌, Some, ap, refl, sym}
-use Rattle.std.proofs.lemmas.List.{drop_more}
+use Rattle.std.proofs.{Common.◌∙◌, Common.◌^◌, Common.Some, Common.ap, Common.refl, Common.sym, lemmas.List.drop_more}
 use Rattle.clap.specs.Words.{found_of, rows_of}
-use Rattle.lra_options.specs.OptionRows.{number_options}
-use Rattle.lra_options.specs.declared.options.NumberOption.TheVariants.{Parts}
+use Rattle.lra_options.specs.{OptionRows.number_options, declared.options.NumberOption.TheVariants.Parts}
 use Rattle.lra_command_line.specs.ParsedCommand.{number_at, with_number}
 use Rattle.lra_command_line.proofs.OptionLists.{number_read, read_on}
 use Rattle.lra_command_line.proofs.words.read_numbers.Goals as goal

@@ -1,9 +1,7 @@
 -- Goals of `read_settled`.
-use Rattle.std.proofs.Common.{sym, ◌∙◌}
-use Rattle.std.proofs.lemmas.List.{drop_more}
+use Rattle.std.proofs.{Common.sym, Common.◌∙◌, lemmas.List.drop_more}
 use Rattle.clap.specs.Words.{found_of, rows_of}
-use Rattle.lra_options.specs.OptionRows.{best_options, flag_options}
-use Rattle.lra_options.specs.declared.options.FlagOption.TheVariants.{Limited}
+use Rattle.lra_options.specs.{OptionRows.best_options, OptionRows.flag_options, declared.options.FlagOption.TheVariants.Limited}
 use Rattle.lra_command_line.specs.ParsedCommand.{with_beside}
 use Rattle.lra_command_line.proofs.OptionLists.{read_on}
 use Rattle.lra_command_line.proofs.words.read_settled.Goals as goal

@@ -1,6 +1,5 @@
 -- Goals of `answer_words`: the whole, as one record.
-use Rattle.std.proofs.Common.{◌≡◌, ◌<◌, length, refl, arith, rules}
-use Rattle.std.proofs.lemmas.Grind.{common_steps}
+use Rattle.std.proofs.{Common.◌≡◌, Common.◌<◌, Common.length, Common.refl, Common.arith, Common.rules, lemmas.Grind.common_steps}
 use Rattle.std.specs.Io.KnownBytes.{Appends}
 use Rattle.lra_io.specs.Causes.{AppendsPart, Rose}
 use Rattle.lra_commands.proofs.Ending.{unread, unstored, whole, cut}

@@ -1,7 +1,6 @@
 -- Goals of `run`: each clause follows from the record that tells the whole.
-use Rattle.lra_commands.proofs.Ending.{written, part, nothing, all_hold, all_written, all_fit, all_accesses, all_same, sampled, verified, certified, backs}
-use Rattle.lra_commands.proofs.Ending.{threads}
-use Rattle.lra_commands.proofs.Ending.{ends, usage, reads, read_fault, write_fault, complete, room}
+use Rattle.lra_commands.proofs.Ending.{written, part, nothing, all_hold, all_written, all_fit, all_accesses, all_same, sampled, verified, certified, backs, threads, ends, usage, reads, read_fault}
+use Rattle.lra_commands.proofs.Ending.{write_fault, complete, room}
 use Rattle.lra_commands.proofs.top_call.run.Goals as goal
 
 pub returns-clause-written : goal.returns-clause-written

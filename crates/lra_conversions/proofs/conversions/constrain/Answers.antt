@@ -1,14 +1,10 @@
 -- Goals of `constrain`: the constraints of the generators, and the generators that were not taken in.
 use Rattle.std.proofs.Common.{◌≡◌, ◌∙◌, ap, refl, sym, subst, length, List, ℕ, ◌∷◌, []}
 use Rattle.std.specs.List.{Contains}
-use Rattle.lra_linear_spec.specs.OperationStrain.{unit_row}
-use Rattle.lra_linear_spec.specs.Vectors.{negated}
+use Rattle.lra_linear_spec.specs.{OperationStrain.unit_row, Vectors.negated, declared.GenKind.GenKind, declared.GenKind.TheVariants.Point}
 use Rattle.lra_systems.specs.LinearSystems.{constraints}
-use Rattle.lra_linear_spec.specs.declared.GenKind.{GenKind}
-use Rattle.lra_linear_spec.specs.declared.GenKind.TheVariants.{Point}
-use Rattle.lra_description_pair.proofs.ConstraintLists.{nothing_constrained, constrained}
+use Rattle.lra_description_pair.proofs.{ConstraintLists.nothing_constrained, ConstraintLists.constrained, GeneratorPairs.taken}
 use Rattle.lra_cone.specs.Cones.{whole_space}
-use Rattle.lra_description_pair.proofs.GeneratorPairs.{taken}
 use Rattle.lra_conversions.proofs.conversions.constrain.Goals as goal
 
 subst_none : {xs ys : List GenKind} → xs ≡ ys → ¬ (Contains xs Point) → ¬ (Contains ys Point)

@@ -1,11 +1,10 @@
 -- Goals of `generate`: the rows kept, their points, rays and lines, and the rows left out.
 use Rattle.std.proofs.Common.{◌∙◌, ap, sym, subst, suc, ℕ, List}
 use Rattle.lra_systems.specs.LinearSystems.{constraints, generators}
-use Rattle.lra_description_pair.proofs.GeneratorLists.{generated, same_points}
+use Rattle.lra_description_pair.proofs.{GeneratorLists.generated, GeneratorLists.same_points, PairLosses.behind_positivity}
 use Rattle.lra_cone.proofs.Stepped.{lines_have_width, rays_have_width}
 use Rattle.lra_linear_spec.specs.Descriptions.{LinearRow}
 use Rattle.lra_cone.specs.Conversions.{AreTried}
-use Rattle.lra_description_pair.proofs.PairLosses.{behind_positivity}
 use Rattle.lra_conversions.proofs.conversions.generate.Goals as goal
 
 pub generator_list-requires-clause-lines : goal.generator_list-requires-clause-lines

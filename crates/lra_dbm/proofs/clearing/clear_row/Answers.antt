@@ -1,10 +1,8 @@
 -- Goals of `clear_row`: all entries of row `i` and their twins become infinite, those of the diagonal apart.
 use Rattle.std.proofs.Common.{subst, sym, ◌∙◌, ◌+◌}
-use Rattle.lra_dbm.specs.Cells.{Cells, entries}
-use Rattle.lra_dbm.specs.Clearing.{RowCleared}
-use Rattle.lra_dbm.proofs.Clears.{skips, goes_on}
+use Rattle.lra_dbm.specs.{Cells.Cells, Cells.entries, Clearing.RowCleared}
+use Rattle.lra_dbm.proofs.{Clears.skips, Clears.goes_on, clearing.clear_row.Goals.then-j-i, clearing.clear_row.Goals.else-j-i}
 use Rattle.lra_dbm.proofs.clearing.clear_row.Goals as goal
-use Rattle.lra_dbm.proofs.clearing.clear_row.Goals.{then-j-i, else-j-i}
 
 pub loop-j-preserved : goal.loop-j-preserved
 loop-j-preserved c = elim c.if-j-i.branch [

@@ -1,5 +1,4 @@
-use Rattle.lra_dbm.specs.Cells.{entries}
-use Rattle.lra_dbm.specs.Clearing.{RowCleared}
+use Rattle.lra_dbm.specs.{Cells.entries, Clearing.RowCleared}
 use Rattle.lra_dbm.proofs.clearing.clear_row.Given as goal
 
 abbrev pub invariant-loop-j : goal.invariant-loop-j

@@ -1,7 +1,6 @@
 -- Goals of `grow`: `k` variables with no bounds come last.
 use Rattle.std.proofs.Common.{subst, sym, ◌≡◌, ◌+◌, ◌∙◌, ap}
-use Rattle.lra_dbm.specs.Cells.{Cells, size, entries, IsMatrix}
-use Rattle.lra_dbm.specs.Clearing.{Settled}
+use Rattle.lra_dbm.specs.{Cells.Cells, Cells.size, Cells.entries, Cells.IsMatrix, Clearing.Settled}
 use Rattle.lra_dbm.proofs.Grows.{kept_whole, resized, settled_length, grown_entries, grown_matrix}
 use Rattle.lra_dbm.proofs.clearing.grow.Goals as goal
 

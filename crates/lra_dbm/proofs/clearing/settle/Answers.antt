@@ -1,7 +1,6 @@
 -- Goals of `settle`: the diagonal of the variables from `from` on becomes 0.
 use Rattle.std.proofs.Common.{subst, sym, rules, ◌+◌}
-use Rattle.lra_dbm.specs.Cells.{Cells}
-use Rattle.lra_dbm.specs.Clearing.{Settled}
+use Rattle.lra_dbm.specs.{Cells.Cells, Clearing.Settled}
 use Rattle.lra_dbm.proofs.Grows.{more_settled}
 use Rattle.lra_dbm.proofs.clearing.settle.Goals as goal
 

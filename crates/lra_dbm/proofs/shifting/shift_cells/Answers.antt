@@ -1,8 +1,7 @@
 -- Goals of `shift_cells`: the entries become those that the shift gives; whether a number of them passes the range.
 use Rattle.std.proofs.Common.{◌*◌, ap, sym, ◌∙◌, subst}
 use Rattle.std.specs.Prelude.{◌||◌}
-use Rattle.lra_dbm.specs.Cells.{Cells, entries}
-use Rattle.lra_dbm.specs.Shifting.{shifted_within, RowGiven}
+use Rattle.lra_dbm.specs.{Cells.Cells, Cells.entries, Shifting.shifted_within, Shifting.RowGiven}
 use Rattle.lra_dbm.proofs.Shifts.{both_shifted}
 use Rattle.lra_dbm.proofs.shifting.shift_cells.Goals as goal
 

@@ -2,11 +2,8 @@
 -- the range.
 use Rattle.std.proofs.Common.{rules, subst, sym, ap, ◌≡◌, ◌+◌, ◌∙◌}
 use Rattle.std.specs.Prelude.{◌||◌}
-use Rattle.lra_dbm.specs.Cells.{Cells, entries}
-use Rattle.lra_dbm.specs.Steps.{any_below}
-use Rattle.lra_dbm.specs.Shifting.{shifted_within, passes_at, RowGiven}
-use Rattle.lra_dbm.proofs.Turns.{any_more}
-use Rattle.lra_dbm.proofs.Shifts.{row_more, twins_within}
+use Rattle.lra_dbm.specs.{Cells.Cells, Cells.entries, Shifting.shifted_within, Shifting.passes_at, Shifting.RowGiven, Steps.any_below}
+use Rattle.lra_dbm.proofs.{Shifts.row_more, Shifts.twins_within, Turns.any_more}
 use Rattle.lra_dbm.proofs.shifting.shift_row.Goals as goal
 
 pub loop-j-preserved : goal.loop-j-preserved

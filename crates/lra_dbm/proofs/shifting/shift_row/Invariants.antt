@@ -1,7 +1,5 @@
 use Rattle.std.proofs.Common.{◌≡◌}
-use Rattle.lra_dbm.specs.Cells.{entries}
-use Rattle.lra_dbm.specs.Steps.{any_below}
-use Rattle.lra_dbm.specs.Shifting.{shifted_within, passes_at, RowGiven}
+use Rattle.lra_dbm.specs.{Cells.entries, Shifting.shifted_within, Shifting.passes_at, Shifting.RowGiven, Steps.any_below}
 use Rattle.lra_dbm.proofs.shifting.shift_row.Given as goal
 
 abbrev pub invariant-loop-j : goal.invariant-loop-j

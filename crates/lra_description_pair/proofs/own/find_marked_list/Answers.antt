@@ -1,10 +1,9 @@
 -- Goals of `find_marked_list`: the canonical description of what the rows taken into the cone generate, with the matrix.
-use Rattle.std.proofs.Common.{◌≡◌, ◌+◌, arith, sym, subst, suc, length, List, ℤ, ℕ}
-use Rattle.std.proofs.lemmas.Result.{err_from_is_err_and}
+use Rattle.std.proofs.{Common.◌≡◌, Common.◌+◌, Common.arith, Common.sym, Common.subst, Common.suc, Common.length, Common.List, Common.ℤ, Common.ℕ, lemmas.Result.err_from_is_err_and}
 use Rattle.lra_canonical.specs.Echelons.{HaveWidth}
 use Rattle.lra_description_pair.specs.OwnLists.{AnyReductionExcess}
-use Rattle.lra_description_pair.proofs.OwnRows.{all_width, tight_width, loose_width, echelon_excess, reduction_excess, as_many}
 use Rattle.lra_description_pair.proofs.OwnMade.{own_made, own_matrix}
+use Rattle.lra_description_pair.proofs.OwnRows.{all_width, tight_width, loose_width, echelon_excess, reduction_excess, as_many}
 use Rattle.lra_description_pair.proofs.own.find_marked_list.Goals as goal
 
 pub echelon-requires : goal.echelon-requires

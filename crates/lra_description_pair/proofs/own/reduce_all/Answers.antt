@@ -1,7 +1,7 @@
 -- Goals of `reduce_all`: reduces each of the rows by the form.
 use Rattle.std.proofs.Common.{arith, ◌≡◌, ◌≤◌, ◌<◌, ◌∙◌, drop, length, subst, sym, List, ℤ, ℕ}
-use Rattle.std.specs.List.{All}
 use Rattle.std.proofs.lemmas.Result.{err_from_is_err_and}
+use Rattle.std.specs.List.{All}
 use Rattle.lra_canonical.specs.Echelons.{HaveWidth}
 use Rattle.lra_description_pair.specs.OwnLists.{AreReducedBy}
 use Rattle.lra_description_pair.proofs.RowsReduced.{next_excess, next_reduced, next_width, partly_none, rows_reduced, rows_widths, taken_back}

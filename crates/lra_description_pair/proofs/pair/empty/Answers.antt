@@ -1,10 +1,6 @@
 -- Goals of `empty`: the polyhedron without a point.
-use Rattle.lra_linear_spec.specs.OperationStrain.{unit_row}
-use Rattle.lra_linear_spec.specs.Vectors.{negated}
-use Rattle.lra_linear_spec.specs.declared.ConKind.TheVariants.{Ge}
-use Rattle.lra_description_pair.proofs.ConstraintLists.{nothing_is}
-use Rattle.lra_description_pair.proofs.KnownPairs.{nothing_known}
-use Rattle.lra_description_pair.proofs.PairLists.{empty_lists}
+use Rattle.lra_linear_spec.specs.{OperationStrain.unit_row, Vectors.negated, declared.ConKind.TheVariants.Ge}
+use Rattle.lra_description_pair.proofs.{ConstraintLists.nothing_is, KnownPairs.nothing_known, PairLists.empty_lists}
 use Rattle.lra_description_pair.proofs.pair.empty.Goals as goal
 
 pub invariant_of-result : goal.invariant_of-result

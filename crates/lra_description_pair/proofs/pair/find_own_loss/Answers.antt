@@ -1,11 +1,8 @@
 -- Goals of `find_own_loss`: what is told where there is no own list.
-use Rattle.std.proofs.Common.{◌∙◌, arith, ap, sym, length}
-use Rattle.std.proofs.Common.{◌<◌, ◌-◌}
-use Rattle.std.proofs.lemmas.Result.{IfOk-weaker}
+use Rattle.std.proofs.{Common.◌∙◌, Common.arith, Common.ap, Common.sym, Common.length, Common.◌<◌, Common.◌-◌, lemmas.Result.IfOk-weaker}
 use Rattle.lra_linear_spec.specs.Kinds.{is_equality}
 use Rattle.lra_description_pair.specs.OwnLists.{IsOwnLoss}
-use Rattle.lra_description_pair.proofs.OwnRows.{some_rows}
-use Rattle.lra_description_pair.proofs.PairLosses.{own_loss_is}
+use Rattle.lra_description_pair.proofs.{OwnRows.some_rows, PairLosses.own_loss_is}
 use Rattle.lra_description_pair.proofs.pair.find_own_loss.Goals as goal
 
 pub returns-clause-loss : goal.returns-clause-loss

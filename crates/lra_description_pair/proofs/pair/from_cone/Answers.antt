@@ -2,8 +2,7 @@
 -- and of further ones that are taken in after them; and what was lost of these, as by `from_rows`.
 use Rattle.std.proofs.lemmas.Result.{IfOk-weaker}
 use Rattle.lra_systems.specs.LinearSystems.{constraints}
-use Rattle.lra_description_pair.proofs.MadeLemmas.{tried_is_made, tried_some}
-use Rattle.lra_description_pair.proofs.PairLosses.{of_tried}
+use Rattle.lra_description_pair.proofs.{MadeLemmas.tried_is_made, MadeLemmas.tried_some, PairLosses.of_tried}
 use Rattle.lra_description_pair.proofs.pair.from_cone.Goals as goal
 
 pub returns-clause-becomes : goal.returns-clause-becomes

@@ -1,16 +1,9 @@
 -- Goals of `from_generators`: the polyhedron of the generators, and what was lost.
-use Rattle.std.proofs.Common.{◌∙◌, ap, subst, List, ℕ, ◌∷◌, []}
+use Rattle.std.proofs.{Common.◌∙◌, Common.ap, Common.subst, Common.List, Common.ℕ, Common.◌∷◌, Common.[], lemmas.Result.IfOk-weaker}
 use Rattle.std.specs.List.{Contains}
-use Rattle.std.proofs.lemmas.Result.{IfOk-weaker}
-use Rattle.lra_linear_spec.specs.Descriptions.{Gen, inequality}
-use Rattle.lra_linear_spec.specs.OperationStrain.{FromGeneratorsStrains}
-use Rattle.lra_linear_spec.specs.Polyhedra.{falsity}
+use Rattle.lra_linear_spec.specs.{Descriptions.Gen, Descriptions.inequality, OperationStrain.FromGeneratorsStrains, Polyhedra.falsity, declared.GenKind.GenKind, declared.GenKind.TheVariants.Point}
 use Rattle.lra_systems.specs.LinearSystems.{generators}
-use Rattle.lra_linear_spec.specs.declared.GenKind.{GenKind}
-use Rattle.lra_linear_spec.specs.declared.GenKind.TheVariants.{Point}
-use Rattle.lra_description_pair.proofs.ConstraintLists.{no_point_given}
-use Rattle.lra_description_pair.proofs.MadeLemmas.{points_made, whole_made}
-use Rattle.lra_description_pair.proofs.PairLists.{empty_pair}
+use Rattle.lra_description_pair.proofs.{ConstraintLists.no_point_given, MadeLemmas.points_made, MadeLemmas.whole_made, PairLists.empty_pair}
 use Rattle.lra_description_pair.proofs.pair.from_generators.Goals as goal
 
 pub returns-then-not-has_point-clause-becomes : goal.returns-then-not-has_point-clause-becomes

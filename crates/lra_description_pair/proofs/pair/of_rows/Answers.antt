@@ -2,9 +2,8 @@
 use Rattle.std.proofs.Common.{rules, ◌≡◌, ◌≢◌, ◌∙◌, ap, length, refl, sym, []}
 use Rattle.lra_bits.specs.Matrix.{Matrix}
 use Rattle.lra_description_pair.specs.OwnLists.{columns_of}
-use Rattle.lra_description_pair.proofs.KnownPairs.{enough_rows, own_known, own_list_seen, rows_known}
 use Rattle.lra_description_pair.proofs.PairLists.{own_lines_width, own_rays_width, rows_made, none_made}
-use Rattle.lra_description_pair.proofs.OwnRows.{no_rows}
+use Rattle.lra_description_pair.proofs.{KnownPairs.enough_rows, KnownPairs.own_known, KnownPairs.own_list_seen, KnownPairs.rows_known, OwnRows.no_rows}
 use Rattle.lra_description_pair.proofs.pair.of_rows.Goals as goal
 
 pub known_constraints-requires-clause-lines : goal.known_constraints-requires-clause-lines

@@ -1,9 +1,7 @@
 -- Goals of `show_constraints`: the cone's constraints, and at which of the rows each is tight.
-use Rattle.std.proofs.Common.{◌∙◌, ap, arith, length, suc, sym, List, ℤ}
-use Rattle.std.proofs.lemmas.List.{length-append}
+use Rattle.std.proofs.{Common.◌∙◌, Common.ap, Common.arith, Common.length, Common.suc, Common.sym, Common.List, Common.ℤ, lemmas.List.length-append}
 use Rattle.lra_cone.proofs.Stepped.{lines_have_width, rays_have_width}
-use Rattle.lra_descriptions.specs.ShownLists.{ShowsConstraints}
-use Rattle.lra_descriptions.specs.declared.known.KnownConstraints.{KnownConstraints}
+use Rattle.lra_descriptions.specs.{ShownLists.ShowsConstraints, declared.known.KnownConstraints.KnownConstraints}
 use Rattle.lra_description_pair.proofs.KnownPairs.{shows_seen, shows_turned}
 use Rattle.lra_description_pair.proofs.pair.show_constraints.Goals as goal
 

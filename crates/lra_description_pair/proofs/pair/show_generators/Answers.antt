@@ -1,9 +1,7 @@
 -- Goals of `show_generators`: the cone's generators, and at which of the rows each is tight.
-use Rattle.std.proofs.Common.{◌∙◌, ap, arith, length, suc, sym, List, ℤ}
-use Rattle.std.proofs.lemmas.List.{length-append}
+use Rattle.std.proofs.{Common.◌∙◌, Common.ap, Common.arith, Common.length, Common.suc, Common.sym, Common.List, Common.ℤ, lemmas.List.length-append}
 use Rattle.lra_cone.proofs.Stepped.{lines_have_width, rays_have_width}
-use Rattle.lra_descriptions.specs.ShownLists.{ShowsGenerators}
-use Rattle.lra_descriptions.specs.declared.known.KnownGenerators.{KnownGenerators}
+use Rattle.lra_descriptions.specs.{ShownLists.ShowsGenerators, declared.known.KnownGenerators.KnownGenerators}
 use Rattle.lra_description_pair.proofs.KnownPairs.{shows_seen, shows_turned}
 use Rattle.lra_description_pair.proofs.pair.show_generators.Goals as goal
 

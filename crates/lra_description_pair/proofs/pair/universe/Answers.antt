@@ -1,8 +1,7 @@
 -- Goals of `universe`: all points of n dimensions.
 use Rattle.std.proofs.Common.{◌≡◌, ◌∙◌, ap, length, sym, suc}
 use Rattle.lra_cone.proofs.Stepped.{lines_have_width, rays_have_width}
-use Rattle.lra_description_pair.proofs.KnownPairs.{none_known}
-use Rattle.lra_description_pair.proofs.PairLists.{universe_made}
+use Rattle.lra_description_pair.proofs.{KnownPairs.none_known, PairLists.universe_made}
 use Rattle.lra_description_pair.proofs.pair.universe.Goals as goal
 
 pub generator_list-requires-clause-lines : goal.generator_list-requires-clause-lines

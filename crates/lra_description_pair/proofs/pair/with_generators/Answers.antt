@@ -1,15 +1,11 @@
 -- Goals of `with_generators`: the polyhedron of the generators that were taken into a cone, and of further ones
 -- that are taken in after them, some of all of them points.
-use Rattle.std.proofs.Common.{◌≡◌, ◌≢◌, ◌∙◌, arith, length, subst, sym, IfSome, List, ℕ, []}
+use Rattle.std.proofs.{Common.◌≡◌, Common.◌≢◌, Common.◌∙◌, Common.arith, Common.length, Common.subst, Common.sym, Common.IfSome, Common.List, Common.ℕ, Common.[], lemmas.Grind.common_steps}
 use Rattle.std.specs.Vec.{vec_len}
-use Rattle.std.proofs.lemmas.Grind.{common_steps}
-use Rattle.lra_linear_spec.specs.Descriptions.{LinearRow, Gen}
-use Rattle.lra_linear_spec.specs.Points.{IsEmptySet}
-use Rattle.lra_linear_spec.specs.Polyhedra.{IsPolyhedronOf}
+use Rattle.lra_linear_spec.specs.{Descriptions.LinearRow, Descriptions.Gen, Points.IsEmptySet, Polyhedra.IsPolyhedronOf}
 use Rattle.lra_systems.specs.LinearSystems.{constraints, generators}
 use Rattle.lra_description_pair.proofs.GeneratorPairs.{further_columns, further_rows, further_taken}
-use Rattle.lra_description_pair.proofs.OwnRows.{none_of, some_of}
-use Rattle.lra_description_pair.proofs.PairLosses.{if_none, list_strains, one_left_out}
+use Rattle.lra_description_pair.proofs.{OwnRows.none_of, OwnRows.some_of, PairLosses.if_none, PairLosses.list_strains, PairLosses.one_left_out}
 use Rattle.lra_description_pair.proofs.pair.with_generators.Goals as goal
 
 pub convert_own_list-requires-clause-columns : goal.convert_own_list-requires-clause-columns

@@ -3,12 +3,10 @@ use Rattle.std.proofs.Common.{◌≡◌, ◌∙◌, ◌++◌, ap, length, replic
 use Rattle.std.specs.List.{All}
 use Rattle.lra_bits.specs.Matrix.{Matrix}
 use Rattle.lra_linear_spec.specs.declared.ConKind.TheVariants.{Ge}
-use Rattle.lra_canonical.specs.MarkedRows.{bits_in, rows_in}
-use Rattle.lra_canonical.specs.declared.order.Marked.{Marked}
+use Rattle.lra_canonical.specs.{MarkedRows.bits_in, MarkedRows.rows_in, declared.order.Marked.Marked}
 use Rattle.lra_canonical.proofs.MarkedOrder.{rows_length, rows_shuffled}
 use Rattle.lra_descriptions.specs.ShownLists.{without}
-use Rattle.lra_descriptions.proofs.KnownLists.{constraints_go, constraints_matrix, sorted_bits, sorted_rows}
-use Rattle.lra_descriptions.proofs.Parted.{all_without, put_constraints}
+use Rattle.lra_descriptions.proofs.{KnownLists.constraints_go, KnownLists.constraints_matrix, KnownLists.sorted_bits, KnownLists.sorted_rows, Parted.all_without, Parted.put_constraints}
 use Rattle.lra_descriptions.proofs.known.known_constraints.Goals as goal
 
 pub append_constraints-requires-clause-rows : goal.append_constraints-requires-clause-rows

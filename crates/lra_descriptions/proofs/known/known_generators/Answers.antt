@@ -1,6 +1,5 @@
 -- Goals of `known_generators`: the points, rays and lines, with the rows of the matrix in the same order.
-use Rattle.std.proofs.Common.{arith, rules, ◌≡◌, ◌≢◌, ◌∙◌, ap, length, [], inl, suc, sym}
-use Rattle.std.proofs.lemmas.Grind.{common_steps}
+use Rattle.std.proofs.{Common.arith, Common.rules, Common.◌≡◌, Common.◌≢◌, Common.◌∙◌, Common.ap, Common.length, Common.[], Common.inl, Common.suc, Common.sym, lemmas.Grind.common_steps}
 use Rattle.lra_descriptions.specs.ShownLists.{directions_of, points_of}
 use Rattle.lra_descriptions.proofs.KnownLists.{generators_go, generators_shown, none_go, none_in, some_columns, sorted_bits, sorted_rows}
 use Rattle.lra_descriptions.proofs.Parted.{all_directions, all_points}

@@ -1,14 +1,10 @@
 -- Goals of `mark_others`: the marked rows other than this one.
 use Rattle.std.proofs.Common.{rules, ◌≡◌, ◌∙◌, ap, cond, length, subst, sym, Bool, [], ◌∷◌}
+use Rattle.std.proofs.{lemmas.Iterator.Adapters.YieldsList-from_vec, lemmas.Iterator.Consumers.YieldsList-end, lemmas.List.append-nil}
 use Rattle.std.specs.List.{All}
-use Rattle.std.proofs.lemmas.List.{append-nil}
-use Rattle.std.proofs.lemmas.Iterator.Adapters.{YieldsList-from_vec}
-use Rattle.std.proofs.lemmas.Iterator.Consumers.{YieldsList-end}
-use Rattle.lra_canonical.specs.MarkedRows.{AreToldBy}
-use Rattle.lra_canonical.specs.declared.order.Marked.{Marked}
+use Rattle.lra_canonical.specs.{MarkedRows.AreToldBy, declared.order.Marked.Marked}
 use Rattle.lra_descriptions.specs.ShownLists.{without}
-use Rattle.lra_descriptions.proofs.KnownLists.{all_yielded, kept_each, kept_rows, left_each}
-use Rattle.lra_descriptions.proofs.Parted.{without_append}
+use Rattle.lra_descriptions.proofs.{KnownLists.all_yielded, KnownLists.kept_each, KnownLists.kept_rows, KnownLists.left_each, Parted.without_append}
 use Rattle.lra_descriptions.proofs.known.mark_others.Goals as goal
 
 pub each-preserved-in-Continue-branch-2 : goal.each-preserved-in-Continue-branch-2

@@ -1,7 +1,6 @@
 use Rattle.std.proofs.Common.{◌≡◌, ℕ, ℤ, Bool, List, length}
 use Rattle.std.specs.List.{All}
-use Rattle.lra_canonical.specs.MarkedRows.{AreToldBy, rows_in}
-use Rattle.lra_canonical.specs.declared.order.Marked.{Marked}
+use Rattle.lra_canonical.specs.{MarkedRows.AreToldBy, MarkedRows.rows_in, declared.order.Marked.Marked}
 use Rattle.lra_descriptions.specs.ShownLists.{without}
 use Rattle.lra_descriptions.proofs.known.mark_others.Given as goal
 

@@ -1,7 +1,6 @@
 -- Goals of `mark_rows`: the rows, each with its row of the matrix.
 use Rattle.std.proofs.Common.{rules, arith, refl, ◌≡◌, ◌∙◌, ◌+◌, ◌<◌, ◌≤◌, ◌++◌, ◌∷◌, [], ap, length, length-append, subst, sym, take, List, Bool}
-use Rattle.std.proofs.lemmas.Iterator.Adapters.{YieldsList-from_vec}
-use Rattle.std.proofs.lemmas.Iterator.Consumers.{YieldsList-end, YieldsList-turn}
+use Rattle.std.proofs.{lemmas.Iterator.Adapters.YieldsList-from_vec, lemmas.Iterator.Consumers.YieldsList-end, lemmas.Iterator.Consumers.YieldsList-turn}
 use Rattle.lra_canonical.specs.declared.order.Marked.{Marked}
 use Rattle.lra_descriptions.proofs.KnownLists.{all_yielded, mark_more, marked_all, marked_told, marked_wide, still_inside}
 use Rattle.lra_descriptions.proofs.known.mark_rows.Goals as goal

@@ -1,12 +1,10 @@
 -- Goals of `part_rays`: the rays in their parts.
 use Rattle.std.proofs.Common.{rules, ◌≡◌, ◌∙◌, ap, cond, length, subst, sym, Bool, [], ◌∷◌}
+use Rattle.std.proofs.{lemmas.Iterator.Adapters.YieldsList-from_vec, lemmas.Iterator.Consumers.YieldsList-end}
 use Rattle.std.specs.List.{All}
-use Rattle.std.proofs.lemmas.Iterator.Adapters.{YieldsList-from_vec}
-use Rattle.std.proofs.lemmas.Iterator.Consumers.{YieldsList-end}
 use Rattle.lra_canonical.specs.declared.order.Marked.{Marked}
 use Rattle.lra_descriptions.specs.ShownLists.{directions_of, points_of}
-use Rattle.lra_descriptions.proofs.KnownLists.{all_yielded, kept_rows, one_row, other_row, parted_each}
-use Rattle.lra_descriptions.proofs.Parted.{directions_append, points_append}
+use Rattle.lra_descriptions.proofs.{KnownLists.all_yielded, KnownLists.kept_rows, KnownLists.one_row, KnownLists.other_row, KnownLists.parted_each, Parted.directions_append, Parted.points_append}
 use Rattle.lra_descriptions.proofs.known.part_rays.Goals as goal
 
 pub each-preserved : goal.each-preserved

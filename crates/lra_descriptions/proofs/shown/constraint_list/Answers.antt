@@ -1,7 +1,6 @@
 -- Goals of `constraint_list`: the lines as equalities, then the rays but this one, in order, as inequalities.
 use Rattle.std.proofs.Common.{◌≡◌, ◌∙◌, sym, subst, suc, length, List, ℤ, ℕ}
-use Rattle.std.specs.List.{All}
-use Rattle.std.specs.List.Sorted.{IsPermutation}
+use Rattle.std.specs.{List.All, List.Sorted.IsPermutation}
 use Rattle.lra_descriptions.proofs.Parted.{without_widths}
 use Rattle.lra_descriptions.proofs.shown.constraint_list.Goals as goal
 

@@ -2,8 +2,8 @@
 use Rattle.std.proofs.Common.{◌∙◌, ap, arith, sym, cond, Bool, [], ◌∷◌}
 use Rattle.lra_descriptions.specs.ShownLists.{directions_of}
 use Rattle.lra_descriptions.proofs.Parted.{directions_append, one_kept, one_left}
-use Rattle.lra_descriptions.proofs.shown.directions_among.Goals as goal
 use Rattle.lra_descriptions.proofs.shown.directions_among.Goals.{then-not-is_point+in_ok-copy+in_ok-push, else-not-is_point}
+use Rattle.lra_descriptions.proofs.shown.directions_among.Goals as goal
 
 pub loop-ray-preserved : goal.loop-ray-preserved
 loop-ray-preserved c =

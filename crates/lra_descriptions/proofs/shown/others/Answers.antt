@@ -1,9 +1,8 @@
 -- Goals of `others`: the rows other than this one.
 use Rattle.std.proofs.Common.{◌∙◌, ap, arith, sym, cond, Bool, [], ◌∷◌}
 use Rattle.lra_descriptions.specs.ShownLists.{without}
-use Rattle.lra_descriptions.proofs.Parted.{without_append, one_kept, one_left}
+use Rattle.lra_descriptions.proofs.{Parted.without_append, Parted.one_kept, Parted.one_left, shown.others.Goals.then-not-are_same+in_ok-copy+in_ok-push, shown.others.Goals.else-not-are_same}
 use Rattle.lra_descriptions.proofs.shown.others.Goals as goal
-use Rattle.lra_descriptions.proofs.shown.others.Goals.{then-not-are_same+in_ok-copy+in_ok-push, else-not-are_same}
 
 pub loop-other-preserved : goal.loop-other-preserved
 loop-other-preserved c =

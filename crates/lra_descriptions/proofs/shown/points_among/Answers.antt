@@ -1,9 +1,8 @@
 -- Goals of `points_among`: the rays above 0 in column 0.
 use Rattle.std.proofs.Common.{◌∙◌, ap, arith, sym, cond, Bool, [], ◌∷◌}
 use Rattle.lra_descriptions.specs.ShownLists.{points_of}
-use Rattle.lra_descriptions.proofs.Parted.{points_append, one_kept, one_left}
+use Rattle.lra_descriptions.proofs.{Parted.points_append, Parted.one_kept, Parted.one_left, shown.points_among.Goals.then-is_point+in_ok-copy+in_ok-push, shown.points_among.Goals.else-is_point}
 use Rattle.lra_descriptions.proofs.shown.points_among.Goals as goal
-use Rattle.lra_descriptions.proofs.shown.points_among.Goals.{then-is_point+in_ok-copy+in_ok-push, else-is_point}
 
 pub loop-ray-preserved : goal.loop-ray-preserved
 loop-ray-preserved c =

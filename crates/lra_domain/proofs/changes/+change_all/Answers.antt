@@ -1,6 +1,5 @@
 -- Goals of the functions that call each other around `change_all`: `returns`.
-use Rattle.std.proofs.Common.{◌≡◌, ◌∷◌, arith}
-use Rattle.std.proofs.lemmas.Grind.{common_steps}
+use Rattle.std.proofs.{Common.◌≡◌, Common.◌∷◌, Common.arith, lemmas.Grind.common_steps}
 use Rattle.lra_domain.proofs.ChangeLists.{all_kept, all_meet}
 use Rattle.lra_domain.proofs.changes.+change_all.Goals as goal
 

@@ -1,7 +1,6 @@
 -- Goals of `push_flattened`: each row combined with the line, behind what is there.
-use Rattle.std.proofs.Common.{arith, ◌<◌, length, rules, FitsSigned, subst, get_or, pos, List, ℤ, []}
+use Rattle.std.proofs.{Common.arith, Common.◌<◌, Common.length, Common.rules, Common.FitsSigned, Common.subst, Common.get_or, Common.pos, Common.List, Common.ℤ, Common.[], lemmas.Int.to_z-of_z}
 use Rattle.std.specs.Int.{w128}
-use Rattle.std.proofs.lemmas.Int.{to_z-of_z}
 use Rattle.lra_double_description.specs.Steps.{IsFlattened}
 use Rattle.lra_double_description.proofs.Flattening.{flattened_more, at_place}
 use Rattle.lra_double_description.proofs.line_step.push_flattened.Goals as goal

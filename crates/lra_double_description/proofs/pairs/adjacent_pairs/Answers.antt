@@ -1,13 +1,10 @@
 -- Goals of `adjacent_pairs`: the adjacent pairs of rays on both sides.
-use Rattle.std.proofs.Common.{◌≡◌, ◌<◌, ℕ, arith, length, subst, rules, FitsSigned, get_or, pos}
-use Rattle.std.specs.List.{All}
+use Rattle.std.proofs.{Common.◌≡◌, Common.◌<◌, Common.ℕ, Common.arith, Common.length, Common.subst, Common.rules, Common.FitsSigned, Common.get_or, Common.pos, lemmas.Int.to_z-of_z}
+use Rattle.std.specs.{Int.w128, List.All}
 use Rattle.lra_double_description.specs.Pairs.{ArePairs}
-use Rattle.lra_double_description.proofs.PairsBelow.{below_inside}
-use Rattle.std.specs.Int.{w128}
-use Rattle.std.proofs.lemmas.Int.{to_z-of_z}
-use Rattle.lra_double_description.proofs.PairLists.{less_said, not_less_said, pairs_skip_row}
-use Rattle.lra_double_description.proofs.pairs.adjacent_pairs.Goals as goal
 use Rattle.lra_double_description.proofs.pairs.adjacent_pairs.Goals.{then-products-up-gt0+in_ok-push_pairs_of, else-products-up-gt0}
+use Rattle.lra_double_description.proofs.{PairLists.less_said, PairLists.not_less_said, PairLists.pairs_skip_row, PairsBelow.below_inside}
+use Rattle.lra_double_description.proofs.pairs.adjacent_pairs.Goals as goal
 
 pub loop-up-preserved : goal.loop-up-preserved
 loop-up-preserved c =

@@ -1,13 +1,10 @@
 -- Goals of `push_pairs_of`: the adjacent pairs with the first ray at `up`, behind what is there.
-use Rattle.std.proofs.Common.{◌≡◌, [], refl, sym, ◌∙◌, get_or, length, arith}
-use Rattle.std.proofs.lemmas.Grind.{common_steps}
+use Rattle.std.proofs.{Common.◌≡◌, Common.[], Common.refl, Common.sym, Common.◌∙◌, Common.get_or, Common.length, Common.arith, lemmas.Grind.common_steps}
 use Rattle.std.specs.Vec.{vec_len}
-use Rattle.lra_double_description.proofs.PairLists.{pairs_skip, pairs_skip_third, pairs_push}
-use Rattle.lra_double_description.proofs.PairsBelow.{goes_first, pairs_here, below_here, goes_next, goes_end}
-use Rattle.lra_double_description.proofs.Thirds.{few_told, last_first}
+use Rattle.lra_double_description.proofs.pairs.push_pairs_of.Goals.{then-shares+then-are_adjacent+in_ok-tight+in_ok-push, else-shares, else-shares-via-then-shares+else-are_adjacent}
+use Rattle.lra_double_description.proofs.{PairLists.pairs_skip, PairLists.pairs_skip_third, PairLists.pairs_push, PairsBelow.goes_first, PairsBelow.pairs_here, PairsBelow.below_here}
+use Rattle.lra_double_description.proofs.{PairsBelow.goes_next, PairsBelow.goes_end, Thirds.few_told, Thirds.last_first, pairs.push_pairs_of.Goals.else-shares-via-else-shares}
 use Rattle.lra_double_description.proofs.pairs.push_pairs_of.Goals as goal
-use Rattle.lra_double_description.proofs.pairs.push_pairs_of.Goals.{then-shares+then-are_adjacent+in_ok-tight+in_ok-push, else-shares}
-use Rattle.lra_double_description.proofs.pairs.push_pairs_of.Goals.{else-shares-via-then-shares+else-are_adjacent, else-shares-via-else-shares}
 
 pub are_adjacent-requires-clause-places : goal.are_adjacent-requires-clause-places
 are_adjacent-requires-clause-places c =

@@ -1,6 +1,5 @@
 use Rattle.std.proofs.Common.{ℤ, ◌<ℤ◌, pos, List, length, slice_index_or}
-use Rattle.lra_double_description.specs.Pairs.{ArePairs}
-use Rattle.lra_double_description.specs.Below.{AreBelow}
+use Rattle.lra_double_description.specs.{Below.AreBelow, Pairs.ArePairs}
 use Rattle.lra_double_description.proofs.PairsBelow.{GoesOn}
 use Rattle.lra_double_description.proofs.pairs.push_pairs_of.Given as goal
 

@@ -1,7 +1,6 @@
 -- Goals of `multiply_all`: the products with each of the rows, or the first that passes the range.
-use Rattle.std.proofs.Common.{rules, arith, FitsSigned}
+use Rattle.std.proofs.{Common.rules, Common.arith, Common.FitsSigned, lemmas.Int.to_z-of_z}
 use Rattle.std.specs.Int.{w128}
-use Rattle.std.proofs.lemmas.Int.{to_z-of_z}
 use Rattle.lra_double_description.proofs.RowProducts.{product_named, products_more}
 use Rattle.lra_double_description.proofs.products.multiply_all.Goals as goal
 

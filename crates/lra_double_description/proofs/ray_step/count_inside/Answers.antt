@@ -1,11 +1,9 @@
 -- Goals of `count_inside`: how many products are as the kind asks.
-use Rattle.std.proofs.Common.{rules, FitsSigned, get_or, pos, ap, sym, ◌∙◌, cond, ◌+◌, Bool}
+use Rattle.std.proofs.{Common.rules, Common.FitsSigned, Common.get_or, Common.pos, Common.ap, Common.sym, Common.◌∙◌, Common.cond, Common.◌+◌, Common.Bool, lemmas.Int.to_z-of_z}
 use Rattle.std.specs.Int.{w128}
-use Rattle.std.proofs.lemmas.Int.{to_z-of_z}
 use Rattle.lra_linear_spec.specs.Kinds.{is_equality}
-use Rattle.lra_double_description.proofs.PairLists.{counted, plus_none}
+use Rattle.lra_double_description.proofs.{PairLists.counted, PairLists.plus_none, ray_step.count_inside.Goals.then-accepts, ray_step.count_inside.Goals.else-accepts}
 use Rattle.lra_double_description.proofs.ray_step.count_inside.Goals as goal
-use Rattle.lra_double_description.proofs.ray_step.count_inside.Goals.{then-accepts, else-accepts}
 
 pub loop-k-preserved : goal.loop-k-preserved
 loop-k-preserved c =

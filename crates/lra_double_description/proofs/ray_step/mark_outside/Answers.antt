@@ -1,8 +1,7 @@
 -- Goals of `mark_outside`: marks the rays whose product isn't as the kind asks; so many further places behind them are
 -- not marked.
-use Rattle.std.proofs.Common.{rules, arith, FitsSigned, get_or, pos}
+use Rattle.std.proofs.{Common.rules, Common.arith, Common.FitsSigned, Common.get_or, Common.pos, lemmas.Int.to_z-of_z}
 use Rattle.std.specs.Int.{w128}
-use Rattle.std.proofs.lemmas.Int.{to_z-of_z}
 use Rattle.lra_linear_spec.specs.Kinds.{is_equality}
 use Rattle.lra_double_description.proofs.Filling.{marks_more, marks_end}
 use Rattle.lra_double_description.proofs.ray_step.mark_outside.Goals as goal

@@ -1,6 +1,5 @@
 -- Goals of `rows_of_pairs`: for each pair the rows that are tight at both.
-use Rattle.std.proofs.Common.{◌∙◌, ◌++◌, ◌∷◌, [], List, Bool, ap, sym}
-use Rattle.std.proofs.lemmas.List.{map-append}
+use Rattle.std.proofs.{Common.◌∙◌, Common.◌++◌, Common.◌∷◌, Common.[], Common.List, Common.Bool, Common.ap, Common.sym, lemmas.List.map-append}
 use Rattle.lra_bits.specs.Matrix.{Matrix}
 use Rattle.lra_double_description.specs.declared.pairs.Pair.{Pair}
 use Rattle.lra_double_description.proofs.ray_step.rows_of_pairs.Goals as goal

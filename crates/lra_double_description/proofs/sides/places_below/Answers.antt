@@ -1,12 +1,10 @@
 -- Goals of `places_below`: the places of the products below 0.
-use Rattle.std.proofs.Common.{◌≡◌, ℕ, arith, length, subst, rules, FitsSigned, get_or, pos}
+use Rattle.std.proofs.{Common.◌≡◌, Common.ℕ, Common.arith, Common.length, Common.subst, Common.rules, Common.FitsSigned, Common.get_or, Common.pos, lemmas.Int.to_z-of_z}
 use Rattle.std.specs.Int.{w128}
-use Rattle.std.proofs.lemmas.Int.{to_z-of_z}
 use Rattle.lra_double_description.specs.Below.{AreBelow}
-use Rattle.lra_double_description.proofs.PairLists.{less_said, not_less_said}
-use Rattle.lra_double_description.proofs.PairsBelow.{below_start, below_more, below_skip}
-use Rattle.lra_double_description.proofs.sides.places_below.Goals as goal
 use Rattle.lra_double_description.proofs.sides.places_below.Goals.{then-products-k-lt0+in_ok-push, else-products-k-lt0}
+use Rattle.lra_double_description.proofs.{PairLists.less_said, PairLists.not_less_said, PairsBelow.below_start, PairsBelow.below_more, PairsBelow.below_skip}
+use Rattle.lra_double_description.proofs.sides.places_below.Goals as goal
 
 pub loop-k-init : goal.loop-k-init
 loop-k-init c = below_start c.args.products.now c.new-places.result.items c.new-places.ensures.items

@@ -1,8 +1,7 @@
 -- Goals of `low_product`: the product of two rows modulo 2 ^ 64.
 use Rattle.std.proofs.Common.{arith, rules, FitsSigned, get_or, pos, ℕ, ◌<◌, ◌≡◌, ◌^◌}
+use Rattle.std.proofs.{lemmas.Int.ints, lemmas.Int.to_z-of_z, lemmas.List.get_or_default}
 use Rattle.std.specs.Int.{w128}
-use Rattle.std.proofs.lemmas.Int.{ints, to_z-of_z}
-use Rattle.std.proofs.lemmas.List.{get_or_default}
 use Rattle.lra_duality.proofs.ResidueLemmas.{residue_more, residue_start, wrapped}
 use Rattle.lra_duality.proofs.exact.low_product.Goals as goal
 

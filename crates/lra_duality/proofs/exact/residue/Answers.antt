@@ -1,8 +1,6 @@
 -- Goals of `residue`: what is left of the product of two rows when it is divided by the modulus.
-use Rattle.std.proofs.Common.{arith, rules, FitsSigned, get_or, pos, ℕ, ◌<◌, ◌≡◌, to_z}
+use Rattle.std.proofs.{Common.arith, Common.rules, Common.FitsSigned, Common.get_or, Common.pos, Common.ℕ, Common.◌<◌, Common.◌≡◌, Common.to_z, lemmas.Int.to_z-of_z, lemmas.List.get_or_default}
 use Rattle.std.specs.Int.{w128}
-use Rattle.std.proofs.lemmas.Int.{to_z-of_z}
-use Rattle.std.proofs.lemmas.List.{get_or_default}
 use Rattle.lra_duality.proofs.ResidueLemmas.{not_minus_one, parts_fit, residue_more, residue_start, whole_fits}
 use Rattle.lra_duality.proofs.exact.residue.Goals as goal
 

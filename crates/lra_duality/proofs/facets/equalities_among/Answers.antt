@@ -1,9 +1,7 @@
 -- Goals of `equalities_among`: the equalities among the constraints.
 use Rattle.std.proofs.Common.{◌≡◌, ◌∙◌, ap, length, sym}
-use Rattle.lra_linear_spec.specs.Kinds.{is_equality}
-use Rattle.lra_linear_spec.specs.declared.ConKind.TheVariants.{Ge}
-use Rattle.lra_duality.proofs.StartLemmas.{line_more, line_left}
-use Rattle.lra_duality.proofs.facets.equalities_among.Goals.{then-is_equality+in_ok-copy+in_ok-push, else-is_equality}
+use Rattle.lra_linear_spec.specs.{Kinds.is_equality, declared.ConKind.TheVariants.Ge}
+use Rattle.lra_duality.proofs.{StartLemmas.line_more, StartLemmas.line_left, facets.equalities_among.Goals.then-is_equality+in_ok-copy+in_ok-push, facets.equalities_among.Goals.else-is_equality}
 use Rattle.lra_duality.proofs.facets.equalities_among.Goals as goal
 
 pub loop-place-preserved : goal.loop-place-preserved

@@ -1,6 +1,5 @@
 use Rattle.std.proofs.Common.{◌≡◌}
-use Rattle.lra_linear_spec.specs.Descriptions.{lines_of}
-use Rattle.lra_linear_spec.specs.Kinds.{is_equality}
+use Rattle.lra_linear_spec.specs.{Descriptions.lines_of, Kinds.is_equality}
 use Rattle.lra_systems.proofs.FirstMembers.{front}
 use Rattle.lra_duality.proofs.facets.equalities_among.Given as goal
 

@@ -2,8 +2,7 @@
 -- at.
 use Rattle.std.proofs.Common.{◌∙◌, ap, length, suc, sym, ℕ}
 use Rattle.lra_bits.specs.Matrix.{Matrix}
-use Rattle.lra_linear_spec.specs.Descriptions.{rays_of}
-use Rattle.lra_linear_spec.specs.OperationStrain.{unit_row}
+use Rattle.lra_linear_spec.specs.{Descriptions.rays_of, OperationStrain.unit_row}
 use Rattle.lra_linear_spec.proofs.UnitRows.{unit_length}
 use Rattle.lra_systems.specs.LinearSystems.{constraints, generators}
 use Rattle.lra_duality.proofs.FacetLemmas.{alone_matrix, alone_start, covered_matrix, covered_so, covered_start, matrix_rows, uncovered_so, values_width}

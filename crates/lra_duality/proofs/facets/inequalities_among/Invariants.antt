@@ -1,6 +1,5 @@
 use Rattle.std.proofs.Common.{◌≡◌}
-use Rattle.lra_linear_spec.specs.Descriptions.{rays_of}
-use Rattle.lra_linear_spec.specs.Kinds.{is_equality}
+use Rattle.lra_linear_spec.specs.{Descriptions.rays_of, Kinds.is_equality}
 use Rattle.lra_systems.proofs.FirstMembers.{front}
 use Rattle.lra_duality.proofs.facets.inequalities_among.Given as goal
 

@@ -2,16 +2,12 @@
 use Rattle.std.proofs.Common.{◌≡◌, ◌<◌, ◌≤◌, ◌∙◌, List, [], ap, arith, get_or, length, refl, subst, sym}
 use Rattle.std.proofs.lemmas.List.{get_or_default}
 use Rattle.lra_bits.specs.Matrix.{Matrix}
-use Rattle.lra_linear_spec.specs.Descriptions.{LinearRow, rays_of}
-use Rattle.lra_linear_spec.specs.Kinds.{is_equality}
-use Rattle.lra_linear_spec.specs.declared.ConKind.{ConKind}
-use Rattle.lra_linear_spec.specs.declared.ConKind.TheVariants.{Ge}
+use Rattle.lra_linear_spec.specs.{Descriptions.LinearRow, Descriptions.rays_of, Kinds.is_equality, declared.ConKind.ConKind, declared.ConKind.TheVariants.Ge}
 use Rattle.lra_cone.specs.Cones.{cone_saturation as by_rays}
 use Rattle.lra_systems.specs.LinearSystems.{rows_by_kind}
 use Rattle.lra_duality.specs.Saturations.{saturation_of}
-use Rattle.lra_duality.proofs.FacetLemmas.{tight_more, tight_left, tight_none}
-use Rattle.lra_duality.proofs.StartLemmas.{seen_all}
 use Rattle.lra_duality.proofs.facets.inequality_saturation.Goals.{then-not-is_equality+in_ok-copy+in_ok-add_row, else-not-is_equality}
+use Rattle.lra_duality.proofs.{FacetLemmas.tight_more, FacetLemmas.tight_left, FacetLemmas.tight_none, StartLemmas.seen_all}
 use Rattle.lra_duality.proofs.facets.inequality_saturation.Goals as goal
 
 pub loop-place-init : goal.loop-place-init

@@ -1,6 +1,5 @@
 use Rattle.std.proofs.Common.{◌≡◌, List}
-use Rattle.lra_linear_spec.specs.Descriptions.{LinearRow, rays_of}
-use Rattle.lra_linear_spec.specs.Kinds.{is_equality}
+use Rattle.lra_linear_spec.specs.{Descriptions.LinearRow, Descriptions.rays_of, Kinds.is_equality}
 use Rattle.lra_cone.specs.Cones.{cone_saturation as by_rays}
 use Rattle.lra_systems.specs.LinearSystems.{rows_by_kind}
 use Rattle.lra_duality.specs.Saturations.{saturation_of}

@@ -1,12 +1,9 @@
 -- Goals of `inclusion_of`: whether each of the generators meets each of the constraints.
 use Rattle.std.proofs.Common.{arith, ap, sym, ◌∙◌, ◌≡◌, length, List}
 use Rattle.std.specs.List.{All}
-use Rattle.lra_linear_spec.specs.Descriptions.{LinearRow}
+use Rattle.lra_linear_spec.specs.{Descriptions.LinearRow, Kinds.is_line, declared.GenKind.TheVariants.Point}
 use Rattle.lra_systems.specs.declared.membership.MembershipAnswer.TheVariants as holds
-use Rattle.lra_linear_spec.specs.declared.GenKind.TheVariants.{Point}
-use Rattle.lra_linear_spec.specs.Kinds.{is_line}
-use Rattle.lra_systems.specs.LinearSystems.{constraints}
-use Rattle.lra_systems.specs.FirstPlaces.{FirstAt}
+use Rattle.lra_systems.specs.{FirstPlaces.FirstAt, LinearSystems.constraints}
 use Rattle.lra_duality.specs.Inclusions.{Satisfies, SatisfiesAll, Passes, ViolatesFirst}
 use Rattle.lra_systems.proofs.FirstMembers.{first_at, one_more, all_gone_through}
 use Rattle.lra_duality.proofs.InclusionLemmas.{reply_seen, seen_generators}

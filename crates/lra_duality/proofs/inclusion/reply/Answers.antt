@@ -1,10 +1,7 @@
 -- Goals of `reply`: whether each row holds with the generator.
-use Rattle.std.proofs.Common.{rules, arith, refl, FitsSigned}
+use Rattle.std.proofs.{Common.rules, Common.arith, Common.refl, Common.FitsSigned, lemmas.Int.to_z-of_z}
 use Rattle.std.specs.Int.{w128}
-use Rattle.std.proofs.lemmas.Int.{to_z-of_z}
-use Rattle.lra_linear_spec.specs.Descriptions.{LinearRow}
-use Rattle.lra_linear_spec.specs.declared.ConKind.TheVariants.{Ge}
-use Rattle.lra_linear_spec.specs.Kinds.{is_equality}
+use Rattle.lra_linear_spec.specs.{Descriptions.LinearRow, Kinds.is_equality, declared.ConKind.TheVariants.Ge}
 use Rattle.lra_duality.specs.Inclusions.{Satisfies, Violates, Passes}
 use Rattle.lra_systems.proofs.FirstMembers.{member, first_at, one_more, all_gone_through, ok_of, err_of}
 use Rattle.lra_duality.proofs.inclusion.reply.Goals as goal

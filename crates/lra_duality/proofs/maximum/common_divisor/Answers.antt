@@ -1,7 +1,6 @@
 -- Goals of `common_divisor`: the greatest number that divides both.
-use Rattle.std.proofs.Common.{rules, FitsSigned}
+use Rattle.std.proofs.{Common.rules, Common.FitsSigned, lemmas.Int.to_z-of_z}
 use Rattle.std.specs.Int.{w128}
-use Rattle.std.proofs.lemmas.Int.{to_z-of_z}
 use Rattle.lra_duality.proofs.MaximumLemmas.{common_above}
 use Rattle.lra_duality.proofs.maximum.common_divisor.Goals as goal
 

@@ -1,9 +1,7 @@
 -- Goals of `first_wide`: the first generator with which the product passes the range.
 use Rattle.std.proofs.Common.{arith, List, sym}
 use Rattle.std.specs.List.{All}
-use Rattle.lra_linear_spec.specs.Descriptions.{LinearRow}
-use Rattle.lra_linear_spec.specs.Kinds.{is_line}
-use Rattle.lra_linear_spec.specs.declared.GenKind.TheVariants.{Point}
+use Rattle.lra_linear_spec.specs.{Descriptions.LinearRow, Kinds.is_line, declared.GenKind.TheVariants.Point}
 use Rattle.lra_systems.specs.FirstPlaces.{FirstAt}
 use Rattle.lra_duality.specs.Maxima.{StaysInRange, PassesRange, directed}
 use Rattle.lra_systems.proofs.FirstMembers.{first_at, one_more, all_gone_through, ok_of}

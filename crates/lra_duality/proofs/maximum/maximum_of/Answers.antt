@@ -1,9 +1,8 @@
 -- Goals of `maximum_of`: the greatest value on the points of the generators.
 use Rattle.std.proofs.Common.{◌<◌, ap, length, subst, sym, ℕ}
 use Rattle.std.specs.List.{All}
-use Rattle.lra_linear_spec.specs.Kinds.{is_line}
+use Rattle.lra_linear_spec.specs.{Kinds.is_line, declared.GenKind.TheVariants.Point}
 use Rattle.lra_systems.specs.LinearSystems.{generators}
-use Rattle.lra_linear_spec.specs.declared.GenKind.TheVariants.{Point}
 use Rattle.lra_duality.specs.Maxima.{StaysInRange, directed}
 use Rattle.lra_systems.proofs.FirstMembers.{at_member}
 use Rattle.lra_duality.proofs.MaximumLemmas.{greatest_there, many, row_there, rows_seen}

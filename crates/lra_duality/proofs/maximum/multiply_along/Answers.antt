@@ -1,7 +1,6 @@
 -- Goals of `multiply_along`: the product of the form, or of its opposite, with the row.
-use Rattle.std.proofs.Common.{rules, FitsSigned}
+use Rattle.std.proofs.{Common.rules, Common.FitsSigned, lemmas.Int.to_z-of_z}
 use Rattle.std.specs.Int.{w128}
-use Rattle.std.proofs.lemmas.Int.{to_z-of_z}
 use Rattle.lra_linear_forms.specs.Form.{form_row}
 use Rattle.lra_duality.proofs.MaximumLemmas.{opposite_fails, opposite_product, value_in_range}
 use Rattle.lra_duality.proofs.maximum.multiply_along.Goals as goal

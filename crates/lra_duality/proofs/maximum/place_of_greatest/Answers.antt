@@ -1,8 +1,7 @@
 -- Goals of `place_of_greatest`: the first point at which the form's value is the greatest.
 use Rattle.std.proofs.Common.{arith, refl}
 use Rattle.std.specs.List.{All}
-use Rattle.lra_linear_spec.specs.Kinds.{is_line}
-use Rattle.lra_linear_spec.specs.declared.GenKind.TheVariants.{Point}
+use Rattle.lra_linear_spec.specs.{Kinds.is_line, declared.GenKind.TheVariants.Point}
 use Rattle.lra_duality.specs.Maxima.{StaysInRange, directed}
 use Rattle.lra_systems.proofs.FirstMembers.{at_member}
 use Rattle.lra_duality.proofs.MaximumLemmas.{best_found, best_kept, best_taken, many, rows_seen}

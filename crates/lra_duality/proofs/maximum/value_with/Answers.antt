@@ -1,7 +1,6 @@
 -- Goals of `value_with`: the product of the form with a row with which it stays in the range.
-use Rattle.std.proofs.Common.{rules, FitsSigned}
+use Rattle.std.proofs.{Common.rules, Common.FitsSigned, lemmas.Int.to_z-of_z}
 use Rattle.std.specs.Int.{w128}
-use Rattle.std.proofs.lemmas.Int.{to_z-of_z}
 use Rattle.lra_duality.specs.Maxima.{directed}
 use Rattle.lra_duality.proofs.MaximumLemmas.{value_of_ok, value_in_range}
 use Rattle.lra_duality.proofs.maximum.value_with.Goals as goal

@@ -1,8 +1,7 @@
 -- Goals of `cone_of`: the cone of the constraints, by these generators; none where there is no generator, or are more,
 -- lines counted with them, than a cone may have rays, or too many dimensions.
 use Rattle.std.proofs.Common.{ℕ, subst}
-use Rattle.lra_linear_spec.specs.ConeStrain.{row_limit}
-use Rattle.lra_linear_spec.specs.Kinds.{is_line}
+use Rattle.lra_linear_spec.specs.{ConeStrain.row_limit, Kinds.is_line}
 use Rattle.lra_systems.specs.LinearSystems.{constraints, generators}
 use Rattle.lra_duality.specs.Incremental.{MayGoOn}
 use Rattle.lra_duality.proofs.KeptCones.{start_cone}

@@ -1,9 +1,7 @@
 -- Goals of `ray_saturation`: which of the positivity row and the constraints are tight at which points and rays.
 use Rattle.std.proofs.Common.{◌≡◌, ◌∙◌, ◌∷◌, ap, length, sym}
 use Rattle.lra_bits.specs.Matrix.{Matrix}
-use Rattle.lra_linear_spec.specs.Descriptions.{inequality}
-use Rattle.lra_linear_spec.specs.Polyhedra.{positivity}
-use Rattle.lra_linear_spec.specs.declared.GenKind.TheVariants.{Point}
+use Rattle.lra_linear_spec.specs.{Descriptions.inequality, Polyhedra.positivity, declared.GenKind.TheVariants.Point}
 use Rattle.lra_duality.proofs.StartLemmas.{matrix_more, matrix_left}
 use Rattle.lra_duality.proofs.start.ray_saturation.Goals.{then-not-goes_both_ways+in_ok-values_of+in_ok-add_row, else-not-goes_both_ways}
 use Rattle.lra_duality.proofs.start.ray_saturation.Goals as goal

@@ -1,8 +1,6 @@
 use Rattle.std.proofs.Common.{◌≡◌, ◌∷◌, List, length, suc}
-use Rattle.lra_linear_spec.specs.Descriptions.{LinearRow, inequality, rays_of}
-use Rattle.lra_linear_spec.specs.Polyhedra.{positivity}
+use Rattle.lra_linear_spec.specs.{Descriptions.LinearRow, Descriptions.inequality, Descriptions.rays_of, Kinds.is_line, Polyhedra.positivity}
 use Rattle.lra_cone.specs.Cones.{cone_saturation as by_rays}
-use Rattle.lra_linear_spec.specs.Kinds.{is_line}
 use Rattle.lra_systems.specs.LinearSystems.{rows_by_kind}
 use Rattle.lra_duality.specs.Saturations.{saturation_of}
 use Rattle.lra_systems.proofs.FirstMembers.{front}

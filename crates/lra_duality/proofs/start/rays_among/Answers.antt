@@ -1,9 +1,7 @@
 -- Goals of `rays_among`: the points and rays among them.
 use Rattle.std.proofs.Common.{◌≡◌, ◌∙◌, ap, length, sym}
-use Rattle.lra_linear_spec.specs.Kinds.{is_line}
-use Rattle.lra_linear_spec.specs.declared.GenKind.TheVariants.{Point}
-use Rattle.lra_duality.proofs.StartLemmas.{ray_more, ray_left}
-use Rattle.lra_duality.proofs.start.rays_among.Goals.{then-not-goes_both_ways+in_ok-copy+in_ok-push, else-not-goes_both_ways}
+use Rattle.lra_linear_spec.specs.{Kinds.is_line, declared.GenKind.TheVariants.Point}
+use Rattle.lra_duality.proofs.{StartLemmas.ray_more, StartLemmas.ray_left, start.rays_among.Goals.then-not-goes_both_ways+in_ok-copy+in_ok-push, start.rays_among.Goals.else-not-goes_both_ways}
 use Rattle.lra_duality.proofs.start.rays_among.Goals as goal
 
 pub loop-place-preserved : goal.loop-place-preserved

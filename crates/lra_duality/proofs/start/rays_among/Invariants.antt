@@ -1,6 +1,5 @@
 use Rattle.std.proofs.Common.{◌≡◌}
-use Rattle.lra_linear_spec.specs.Descriptions.{rays_of}
-use Rattle.lra_linear_spec.specs.Kinds.{is_line}
+use Rattle.lra_linear_spec.specs.{Descriptions.rays_of, Kinds.is_line}
 use Rattle.lra_systems.proofs.FirstMembers.{front}
 use Rattle.lra_duality.proofs.start.rays_among.Given as goal
 

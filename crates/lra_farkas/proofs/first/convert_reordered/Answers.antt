@@ -1,8 +1,7 @@
 -- Goals of `convert_reordered`: the polyhedron of the rows, as they are converted in another order.
 use Rattle.lra_systems.specs.LinearSystems.{constraints}
 use Rattle.lra_farkas.specs.RowsByKinds.{HasNoPoint}
-use Rattle.lra_farkas.proofs.FirstPoints.{exit_fails}
-use Rattle.lra_farkas.proofs.KeyedRows.{reordered_is, reordered_fails}
+use Rattle.lra_farkas.proofs.{FirstPoints.exit_fails, KeyedRows.reordered_is, KeyedRows.reordered_fails}
 use Rattle.lra_farkas.proofs.first.convert_reordered.Goals as goal
 
 pub returns-in_err-made-clause-failure : goal.returns-in_err-made-clause-failure

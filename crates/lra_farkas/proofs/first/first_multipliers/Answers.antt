@@ -1,9 +1,7 @@
 -- Goals of `first_multipliers`: the first generator, as multipliers.
 use Rattle.std.proofs.Common.{rules, ◌≡◌, ◌≤◌, ◌∙◌, ap, sym, subst, length, drop, List, ℤ, arith}
-use Rattle.std.specs.Int.{w128}
-use Rattle.std.specs.List.{All}
-use Rattle.std.proofs.lemmas.Int.{to_z-of_z}
-use Rattle.std.proofs.lemmas.List.Elements.{All-drop}
+use Rattle.std.proofs.{lemmas.Int.to_z-of_z, lemmas.List.Elements.All-drop}
+use Rattle.std.specs.{Int.w128, List.All}
 use Rattle.lra_linear_spec.specs.Range.{InRange}
 use Rattle.lra_farkas.proofs.FirstPoints.{some_rows, first_listed}
 use Rattle.lra_farkas.proofs.first.first_multipliers.Goals as goal

@@ -1,11 +1,10 @@
 -- Goals of `key_rows`: the rows in their order, each with what decides its place.
 use Rattle.std.proofs.Common.{◌≡◌, ℤ, List, suc, map, length, ap, sym, ◌∙◌, refl, subst, arith}
-use Rattle.std.specs.List.{All}
 use Rattle.std.proofs.lemmas.List.Elements.{All-push, All-nil}
+use Rattle.std.specs.List.{All}
 use Rattle.lra_linear_spec.specs.Kinds.{is_equality}
 use Rattle.lra_systems.proofs.LinearRows.{all_given}
-use Rattle.lra_farkas.specs.KeyedRows.{row_of_keyed}
-use Rattle.lra_farkas.specs.declared.orders.Keyed.{Keyed}
+use Rattle.lra_farkas.specs.{KeyedRows.row_of_keyed, declared.orders.Keyed.Keyed}
 use Rattle.lra_farkas.proofs.KeyedRows.{keyed_pushed}
 use Rattle.lra_farkas.proofs.orders.key_rows.Goals as goal
 

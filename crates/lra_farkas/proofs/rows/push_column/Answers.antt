@@ -1,12 +1,8 @@
 -- Goals of `push_column`: the entries of the rows in a column come last.
 use Rattle.std.proofs.Common.{rules, ◌≡◌, ◌<◌, ◌++◌, ◌∷◌, [], List, ℤ, map, length, FitsSigned, ap, sym, ◌∙◌, subst, arith}
-use Rattle.std.specs.Int.{w128}
-use Rattle.std.specs.List.{All}
-use Rattle.std.proofs.lemmas.Int.{to_z-of_z}
-use Rattle.std.proofs.lemmas.List.{take_all}
-use Rattle.std.proofs.lemmas.List.Elements.{All-push}
-use Rattle.lra_linear_spec.specs.Range.{InRange}
-use Rattle.lra_linear_spec.specs.Vectors.{entry}
+use Rattle.std.proofs.{lemmas.Int.to_z-of_z, lemmas.List.take_all, lemmas.List.Elements.All-push}
+use Rattle.std.specs.{Int.w128, List.All}
+use Rattle.lra_linear_spec.specs.{Range.InRange, Vectors.entry}
 use Rattle.lra_farkas.proofs.ListedRows.{column_more}
 use Rattle.lra_farkas.proofs.rows.push_column.Goals as goal
 

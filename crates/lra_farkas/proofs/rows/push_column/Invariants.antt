@@ -1,7 +1,6 @@
 use Rattle.std.proofs.Common.{◌≡◌, ◌++◌, map, take}
 use Rattle.std.specs.List.{All}
-use Rattle.lra_linear_spec.specs.Range.{InRange}
-use Rattle.lra_linear_spec.specs.Vectors.{entry}
+use Rattle.lra_linear_spec.specs.{Range.InRange, Vectors.entry}
 use Rattle.lra_farkas.proofs.rows.push_column.Given as goal
 
 abbrev pub invariant-loop-row : goal.invariant-loop-row

@@ -1,11 +1,9 @@
 -- Goals of `push_signs`: that the multipliers of inequalities are not below 0 comes last.
 use Rattle.std.proofs.Common.{ap, sym, ◌∙◌, ℕ, ◌+◌, ◌++◌, ◌∷◌, [], map, arith}
 use Rattle.lra_systems.specs.LinearSystems.{constraints}
-use Rattle.lra_farkas.specs.MultiplierRows.{sign_row}
-use Rattle.lra_farkas.specs.RowsByKinds.{columns_by_kinds}
-use Rattle.lra_farkas.proofs.ListedRows.{signs_more, signs_not, signs_end}
+use Rattle.lra_farkas.specs.{MultiplierRows.sign_row, RowsByKinds.columns_by_kinds}
+use Rattle.lra_farkas.proofs.{ListedRows.signs_more, ListedRows.signs_not, ListedRows.signs_end, rows.push_signs.Goals.then-not-is_equality+in_ok-push_sign, rows.push_signs.Goals.else-not-is_equality}
 use Rattle.lra_farkas.proofs.rows.push_signs.Goals as goal
-use Rattle.lra_farkas.proofs.rows.push_signs.Goals.{then-not-is_equality+in_ok-push_sign, else-not-is_equality}
 
 pub loop-place-preserved : goal.loop-place-preserved
 loop-place-preserved c =

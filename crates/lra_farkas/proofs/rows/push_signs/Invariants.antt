@@ -1,7 +1,6 @@
 use Rattle.std.proofs.Common.{◌≡◌, ◌++◌, map, length}
 use Rattle.lra_systems.specs.LinearSystems.{constraints}
-use Rattle.lra_farkas.specs.MultiplierRows.{sign_row}
-use Rattle.lra_farkas.specs.RowsByKinds.{columns_by_kinds}
+use Rattle.lra_farkas.specs.{MultiplierRows.sign_row, RowsByKinds.columns_by_kinds}
 use Rattle.lra_farkas.proofs.ListedRows.{signs_from}
 use Rattle.lra_farkas.proofs.rows.push_signs.Given as goal
 

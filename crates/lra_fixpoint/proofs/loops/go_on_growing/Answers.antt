@@ -1,8 +1,7 @@
 -- Goals of `go_on_growing`: behind a round of a loop whose head grows.
 use Rattle.std.proofs.Common.{ap, ◌∙◌, ◌^◌}
 use Rattle.lra_analysis_spec.specs.Plan.{Plan}
-use Rattle.lra_fixpoint.proofs.LoopFrames.{grown_wide, grown_stable, grown_next}
-use Rattle.lra_fixpoint.proofs.RoundSteps.{stable_less, grown_less}
+use Rattle.lra_fixpoint.proofs.{LoopFrames.grown_wide, LoopFrames.grown_stable, LoopFrames.grown_next, RoundSteps.stable_less, RoundSteps.grown_less}
 use Rattle.lra_fixpoint.proofs.loops.go_on_growing.Goals as goal
 
 pub grow_by-requires : goal.grow_by-requires

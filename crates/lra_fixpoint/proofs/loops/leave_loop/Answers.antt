@@ -2,8 +2,7 @@
 -- the condition is false.
 use Rattle.std.proofs.Common.{ap, ◌∙◌, false}
 use Rattle.lra_program.specs.ProgramViews.{cond_view}
-use Rattle.lra_analysis_spec.specs.MovesOf.{guard}
-use Rattle.lra_analysis_spec.specs.Operations.{lossy_operations}
+use Rattle.lra_analysis_spec.specs.{MovesOf.guard, Operations.lossy_operations}
 use Rattle.lra_analysis_spec.proofs.Takes.{takes_made}
 use Rattle.lra_pass_results.specs.Outcome.{headed, outcome_view}
 use Rattle.lra_fixpoint.proofs.loops.leave_loop.Goals as goal

@@ -1,7 +1,6 @@
 -- Goals of `narrow_on`: the loop is left with its last round, or a round of narrowing is next.
 use Rattle.std.proofs.Common.{◌≡◌, ◌-◌, suc, arith}
-use Rattle.lra_fixpoint.proofs.LoopFrames.{narrowed_few, narrowed_behind, narrowed_made, narrowed_kept, narrowed_waits}
-use Rattle.lra_fixpoint.proofs.RoundSteps.{narrowed_less}
+use Rattle.lra_fixpoint.proofs.{LoopFrames.narrowed_few, LoopFrames.narrowed_behind, LoopFrames.narrowed_made, LoopFrames.narrowed_kept, LoopFrames.narrowed_waits, RoundSteps.narrowed_less}
 use Rattle.lra_fixpoint.proofs.loops.narrow_on.Goals as goal
 
 pub finish-requires : goal.finish-requires

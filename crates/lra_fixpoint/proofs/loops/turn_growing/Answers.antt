@@ -2,12 +2,10 @@
 use Rattle.std.proofs.Common.{refl, subst}
 use Rattle.lra_program.specs.ProgramViews.{cond_view}
 use Rattle.lra_operations.specs.TreeViews.{node_view}
-use Rattle.lra_pass_results.specs.declared.heads.Growing.{Growing}
+use Rattle.lra_pass_results.specs.{Outcome.IsEntered, declared.heads.Growing.Growing, declared.tree_forms.Loop.Loop}
 use Rattle.lra_pass_stack.specs.declared.stack.GrowingFrame.{GrowingFrame}
-use Rattle.lra_pass_results.specs.declared.tree_forms.Loop.{Loop}
-use Rattle.lra_pass_results.specs.Outcome.{IsEntered}
-use Rattle.lra_fixpoint.proofs.LoopFrames.{growing_few, growing_kept, growing_again, growing_opens}
 use Rattle.lra_fixpoint.proofs.BoxedFrames.{growing_again_less, growing_leads, growing_less, growing_made}
+use Rattle.lra_fixpoint.proofs.LoopFrames.{growing_few, growing_kept, growing_again, growing_opens}
 use Rattle.lra_fixpoint.proofs.loops.turn_growing.Goals as goal
 
 abbrev place_of : {V H : Type 0} → Loop → V → Growing V H → V → GrowingFrame V H

@@ -3,8 +3,8 @@ use Rattle.std.proofs.Common.{refl, subst}
 use Rattle.lra_program.specs.ProgramViews.{cond_view}
 use Rattle.lra_operations.specs.TreeViews.{node_view}
 use Rattle.lra_pass_results.specs.Outcome.{IsEntered}
-use Rattle.lra_fixpoint.proofs.LoopFrames.{waiting_few, waiting_kept, narrowing_again, narrowing_opens}
 use Rattle.lra_fixpoint.proofs.BoxedFrames.{narrowing_again_less, narrowing_leads, narrowing_less, narrowing_made}
+use Rattle.lra_fixpoint.proofs.LoopFrames.{waiting_few, waiting_kept, narrowing_again, narrowing_opens}
 use Rattle.lra_fixpoint.proofs.loops.turn_narrowing.Goals as goal
 
 pub enter-requires : goal.enter-requires

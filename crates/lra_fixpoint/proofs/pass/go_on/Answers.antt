@@ -1,16 +1,12 @@
 -- Goals of `go_on`: the next step at a place, behind what the tree under way there gave.
-use Rattle.std.proofs.Common.{◌≡◌, ◌+◌, ◌<◌, ◌^◌, sym, subst, arith}
+use Rattle.std.proofs.{Common.◌≡◌, Common.◌+◌, Common.◌<◌, Common.◌^◌, Common.sym, Common.subst, Common.arith, lemmas.Result.IfOk-weaker}
 use Rattle.std.specs.Prelude.{IfOk}
-use Rattle.std.proofs.lemmas.Result.{IfOk-weaker}
 use Rattle.lra_operations.specs.TreeViews.{exit_view}
-use Rattle.lra_pass_stack.specs.declared.stack.GrowingFrame.{GrowingFrame}
-use Rattle.lra_pass_stack.specs.declared.stack.NarrowingFrame.{NarrowingFrame}
-use Rattle.lra_pass_stack.specs.Stack.{IsBranch, IsGrowing, IsMade, IsNarrowing, IsPassFrame, IsSelect}
+use Rattle.lra_pass_stack.specs.{Stack.IsBranch, Stack.IsGrowing, Stack.IsMade, Stack.IsNarrowing, Stack.IsPassFrame, Stack.IsSelect, StepsLeft.next_left, StepsLeft.place_left, StepsLeft.rounds_left}
+use Rattle.lra_pass_stack.specs.{StepsLeft.turns_left, declared.stack.GrowingFrame.GrowingFrame, declared.stack.NarrowingFrame.NarrowingFrame}
 use Rattle.lra_pass_results.specs.Outcome.{outcome_view, AreInTurn, AreBranchesJoined, Catches}
-use Rattle.lra_pass_stack.specs.StepsLeft.{next_left, place_left, rounds_left, turns_left}
-use Rattle.lra_pass_stack.proofs.OpenFrames.{branches_made, branches_meet, catch_made, jumps_have, last_made}
+use Rattle.lra_pass_stack.proofs.{OpenFrames.branches_made, OpenFrames.branches_meet, OpenFrames.catch_made, OpenFrames.jumps_have, OpenFrames.last_made, SelectSteps.place_falls}
 use Rattle.lra_pass_results.proofs.PassSteps.{if_both}
-use Rattle.lra_pass_stack.proofs.SelectSteps.{place_falls}
 use Rattle.lra_fixpoint.proofs.RoundSteps.{ends_less}
 use Rattle.lra_fixpoint.proofs.pass.go_on.Goals as goal
 

@@ -1,8 +1,7 @@
 -- Goals of `pass`: the pass over a tree, step by step.
 use Rattle.std.proofs.Common.{◌^◌, subst}
 use Rattle.lra_operations.specs.TreeViews.{node_view}
-use Rattle.lra_pass_stack.specs.Stack.{PassTask, PassStepReaches}
-use Rattle.lra_pass_stack.specs.StepsLeft.{all_left, TakesFewer}
+use Rattle.lra_pass_stack.specs.{Stack.PassTask, Stack.PassStepReaches, StepsLeft.all_left, StepsLeft.TakesFewer}
 use Rattle.lra_pass_stack.proofs.OpenFrames.{begins}
 use Rattle.lra_fixpoint.proofs.pass.pass.Goals as goal
 

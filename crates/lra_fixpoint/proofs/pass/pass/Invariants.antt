@@ -1,7 +1,6 @@
 use Rattle.std.proofs.Common.{◌^◌}
 use Rattle.lra_operations.specs.TreeViews.{node_view}
-use Rattle.lra_pass_stack.specs.Stack.{PassIsUnderWay}
-use Rattle.lra_pass_stack.specs.StepsLeft.{all_left}
+use Rattle.lra_pass_stack.specs.{Stack.PassIsUnderWay, StepsLeft.all_left}
 use Rattle.lra_fixpoint.proofs.pass.pass.Given as goal
 
 abbrev pub invariant-steps : goal.invariant-steps

@@ -1,8 +1,7 @@
 -- Goals of `take_step`: one step of a pass.
 use Rattle.std.proofs.Common.{◌<◌, ◌^◌, subst, sym}
-use Rattle.lra_pass_stack.specs.declared.stack.Next.TheVariants.{Again, Opens}
-use Rattle.lra_pass_stack.specs.Stack.{pass_task, IsPassFrame, PassStepLeads, PassStepReaches}
 use Rattle.lra_pass_stack.specs.StepsLeft.{all_left, next_left, place_left, tree_steps, TakesFewer}
+use Rattle.lra_pass_stack.specs.{Stack.pass_task, Stack.IsPassFrame, Stack.PassStepLeads, Stack.PassStepReaches, declared.stack.Next.TheVariants.Again, declared.stack.Next.TheVariants.Opens}
 use Rattle.lra_pass_stack.proofs.OpenFrames.{all_made, leads_on, popped, pushed, steps_on, went_on}
 use Rattle.lra_fixpoint.proofs.RoundSteps.{again_less, popped_less, pushed_less}
 use Rattle.lra_fixpoint.proofs.pass.take_step.Goals as goal

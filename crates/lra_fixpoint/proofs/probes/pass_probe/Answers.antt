@@ -1,7 +1,6 @@
 -- Goals of `pass_probe`: others act, or what a variable got is noted.
-use Rattle.std.proofs.Common.{◌≡◌, [], ◌∷◌, sym, subst}
+use Rattle.std.proofs.{Common.◌≡◌, Common.[], Common.◌∷◌, Common.sym, Common.subst, lemmas.Result.IfOk-weaker}
 use Rattle.std.specs.Prelude.{IfOk}
-use Rattle.std.proofs.lemmas.Result.{IfOk-weaker}
 use Rattle.lra_operations.specs.Tree.{probe}
 use Rattle.lra_analysis_spec.specs.Pass.{recorded, goes_on}
 use Rattle.lra_pass_results.specs.Outcome.{outcome_view, IsPassed}

@@ -1,14 +1,10 @@
 -- Goals of `analyse`: among nobody a derivation is one of a program that runs alone.
 use Rattle.std.proofs.Common.{List, map, sym, subst}
-use Rattle.lra_program.specs.declared.program.GlobalVariable.{GlobalVariable}
-use Rattle.lra_program.specs.WellFormed.{AreGoodGlobals}
+use Rattle.lra_program.specs.{WellFormed.AreGoodGlobals, declared.program.GlobalVariable.GlobalVariable}
 use Rattle.lra_operations.specs.TreeViews.{node_view, site_view}
-use Rattle.lra_analysis_spec.specs.Operations.{lossy_operations}
-use Rattle.lra_analysis_spec.specs.Pass.{nothing_absorbed}
+use Rattle.lra_analysis_spec.specs.{Operations.lossy_operations, Pass.nothing_absorbed}
 use Rattle.lra_analysis_spec.proofs.Unflagged.{derived_among_nobody}
-use Rattle.lra_fixpoint.proofs.Counting.{pass_counted}
-use Rattle.lra_fixpoint.proofs.Solving.{solved}
-use Rattle.lra_fixpoint.proofs.Covering.{begun_covers, covered_holds}
+use Rattle.lra_fixpoint.proofs.{Counting.pass_counted, Covering.begun_covers, Covering.covered_holds, Solving.solved}
 use Rattle.lra_fixpoint.proofs.solution.analyse.Goals as goal
 
 pub returns-clause-solved : goal.returns-clause-solved

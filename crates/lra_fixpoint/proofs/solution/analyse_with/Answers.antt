@@ -1,24 +1,14 @@
 -- Goals of `analyse_with`: the iteration over a program's tree of operations among others, from its global variables
 -- at their first values.
-use Rattle.std.proofs.Common.{List, None, length, map, sym, subst}
+use Rattle.std.proofs.{Common.List, Common.None, Common.length, Common.map, Common.sym, Common.subst, lemmas.List.Elements.All-nil}
 use Rattle.std.specs.List.{All}
-use Rattle.std.proofs.lemmas.List.Elements.{All-nil}
-use Rattle.lra_program.specs.declared.program.GlobalVariable.{GlobalVariable}
-use Rattle.lra_program.specs.WellFormed.{AreGoodGlobals}
-use Rattle.lra_operations.specs.Tree.{Node}
-use Rattle.lra_operations.specs.TreeViews.{node_view, site_view}
-use Rattle.lra_analysis_spec.specs.Operations.{lossy_operations}
-use Rattle.lra_analysis_spec.specs.UnderInterference.{absorbed}
-use Rattle.lra_analysis_spec.specs.Pass.{noted, PassUnder}
-use Rattle.lra_pass_results.specs.Outcome.{outcome_view}
-use Rattle.lra_pass_results.specs.LoopCache.{IsRecalled}
+use Rattle.lra_program.specs.{WellFormed.AreGoodGlobals, declared.program.GlobalVariable.GlobalVariable}
+use Rattle.lra_operations.specs.{Tree.Node, TreeViews.node_view, TreeViews.site_view}
+use Rattle.lra_analysis_spec.specs.{Operations.lossy_operations, Pass.noted, Pass.PassUnder, UnderInterference.absorbed}
+use Rattle.lra_pass_results.specs.{LoopCache.IsRecalled, Outcome.outcome_view}
 use Rattle.lra_fixpoint.specs.Tables.{note_view}
-use Rattle.lra_fixpoint.proofs.LoopNumbers.{numbered_loops}
-use Rattle.lra_fixpoint.proofs.Counting.{pass_counted}
-use Rattle.lra_fixpoint.proofs.Solving.{solved_among, derived_from}
-use Rattle.lra_fixpoint.proofs.Noting.{all_noted}
 use Rattle.lra_fixpoint.proofs.CoveringUnder.{begun_covers_among, covered_among}
-use Rattle.lra_fixpoint.proofs.Widths.{found_wide, notes_wide}
+use Rattle.lra_fixpoint.proofs.{Counting.pass_counted, LoopNumbers.numbered_loops, Noting.all_noted, Solving.solved_among, Solving.derived_from, Widths.found_wide, Widths.notes_wide}
 use Rattle.lra_fixpoint.proofs.solution.analyse_with.Goals as goal
 
 pub pass-requires-clause-remembers : goal.pass-requires-clause-remembers

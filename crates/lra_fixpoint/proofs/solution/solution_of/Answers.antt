@@ -1,6 +1,5 @@
 -- Goals of `solution_of`: what a pass found, in the order of the points.
-use Rattle.std.proofs.Common.{map, length, refl, sym}
-use Rattle.std.proofs.lemmas.List.{length-map}
+use Rattle.std.proofs.{Common.map, Common.length, Common.refl, Common.sym, lemmas.List.length-map}
 use Rattle.lra_operations.specs.TreeViews.{site_view}
 use Rattle.lra_pass_results.specs.Outcome.{outcome_view}
 use Rattle.lra_fixpoint.proofs.Tabled.{apart, tables_solve, values_count, verdicts_count}

@@ -1,9 +1,7 @@
 -- Goals of `number_held`: what the filled places hold, with the places' numbers.
-use Rattle.std.proofs.Common.{ap, ◌∙◌}
-use Rattle.std.proofs.Common.{Vec, Global, ℕ, Bool}
-use Rattle.lra_fixpoint.proofs.Filling.{place_some, place_none}
+use Rattle.std.proofs.Common.{ap, ◌∙◌, Vec, Global, ℕ, Bool}
+use Rattle.lra_fixpoint.proofs.{Filling.place_some, Filling.place_none, tables.number_held.Goals.in-Some+in_ok-push, tables.number_held.Goals.in_default}
 use Rattle.lra_fixpoint.proofs.tables.number_held.Goals as goal
-use Rattle.lra_fixpoint.proofs.tables.number_held.Goals.{in-Some+in_ok-push, in_default}
 
 pub places-preserved : goal.places-preserved
 places-preserved c =

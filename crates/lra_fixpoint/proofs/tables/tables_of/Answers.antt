@@ -1,12 +1,9 @@
 -- Goals of `tables_of`: the entries at their numbers; an assertion is proved where its value is empty.
 use Rattle.std.proofs.Common.{◌<◌, arith, ◌∙◌, List, ap, map, subst}
 use Rattle.lra_fixpoint.proofs.Filling.{vec_all, vec_next, value_place, failing_place, value_filled, failing_filled, given_filled}
-use Rattle.lra_fixpoint.proofs.Noting.{given_noted, failing_unnoted, value_unnoted}
-use Rattle.lra_fixpoint.proofs.Tabled.{none_tabled}
-use Rattle.lra_pass_results.specs.declared.outcome.PassEntry.{PassEntry}
-use Rattle.lra_pass_results.specs.Outcome.{entry_view}
-use Rattle.lra_fixpoint.specs.declared.tables.Note.{Note}
-use Rattle.lra_fixpoint.specs.Tables.{note_view, notes_in, AreTabled}
+use Rattle.lra_fixpoint.proofs.{Noting.given_noted, Noting.failing_unnoted, Noting.value_unnoted, Tabled.none_tabled}
+use Rattle.lra_pass_results.specs.{Outcome.entry_view, declared.outcome.PassEntry.PassEntry}
+use Rattle.lra_fixpoint.specs.{Tables.note_view, Tables.notes_in, Tables.AreTabled, declared.tables.Note.Note}
 use Rattle.lra_fixpoint.proofs.tables.tables_of.Goals as goal
 
 pub entries-init : goal.entries-init

@@ -1,7 +1,6 @@
 -- Goals of `read_source`: all that is read of a source, or its one refusal; memory may be wanting.
 use Rattle.lra_syntax.specs.Views.{tree_view}
-use Rattle.lra_front_end.proofs.ReadSteps.{exit_tree}
-use Rattle.lra_front_end.proofs.StageSteps.{well}
+use Rattle.lra_front_end.proofs.{ReadSteps.exit_tree, StageSteps.well}
 use Rattle.lra_front_end.proofs.front.read_source.Goals as goal
 
 pub inline_calls-requires-clause-well : goal.inline_calls-requires-clause-well

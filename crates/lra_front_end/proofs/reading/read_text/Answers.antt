@@ -1,12 +1,8 @@
 -- Goals of `read_text`: the tree of a source and its constants, or its refusal.
 use Rattle.std.proofs.Common.{List, arith, refl, sym, subst}
-use Rattle.lra_syntax.specs.declared.tokens.Token.{Token}
-use Rattle.lra_base.specs.declared.refusals.Cause.TheVariants.{TooLong}
-use Rattle.lra_base.specs.declared.refusals.Place.{Place}
+use Rattle.lra_syntax.specs.{Faults.IsTree, Grammar.Spells, Views.tree_view, declared.tokens.Token.Token}
+use Rattle.lra_base.specs.{declared.refusals.Cause.TheVariants.TooLong, declared.refusals.Place.Place}
 use Rattle.lra_base.proofs.Limit.{taken}
-use Rattle.lra_syntax.specs.Views.{tree_view}
-use Rattle.lra_syntax.specs.Faults.{IsTree}
-use Rattle.lra_syntax.specs.Grammar.{Spells}
 use Rattle.lra_resolution_spec.specs.RefuseThreads.{NotParsed}
 use Rattle.lra_parser_spec.specs.Files.{EndsOnce}
 use Rattle.lra_parser_spec.proofs.Ended.{lexed_end}

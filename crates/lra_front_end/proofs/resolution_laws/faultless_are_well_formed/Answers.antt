@@ -1,6 +1,5 @@
 -- Goals of `faultless_are_well_formed`: the program of a source without faults of names is well-formed.
-use Rattle.lra_front_end.proofs.Whole.{well_formed}
-use Rattle.lra_front_end.proofs.Spelled.{spelled_are_small}
+use Rattle.lra_front_end.proofs.{Spelled.spelled_are_small, Whole.well_formed}
 use Rattle.lra_front_end.proofs.resolution_laws.faultless_are_well_formed.Goals as goal
 
 pub returns-clause-trees : goal.returns-clause-trees

@@ -2,11 +2,9 @@
 -- behind the threads before it.
 use Rattle.std.proofs.Common.{◌≡◌, List, length, Some, sym, ap, ◌∙◌}
 use Rattle.lra_syntax.specs.Labels.{Labelled}
-use Rattle.lra_program.specs.ProgramViews.{program_view}
-use Rattle.lra_program.specs.Sites.{events_of}
+use Rattle.lra_program.specs.{ProgramViews.program_view, Sites.events_of}
 use Rattle.lra_resolution_spec.specs.Refuse.{limit_fault}
-use Rattle.lra_inline_steps.specs.Inlining.{points_in}
-use Rattle.lra_inline_steps.specs.Limits.{refusal_of}
+use Rattle.lra_inline_steps.specs.{Inlining.points_in, Limits.refusal_of}
 use Rattle.lra_front_end.proofs.StageSteps.{limit_passed}
 use Rattle.lra_front_end.proofs.threads.graph_of.Goals as goal
 

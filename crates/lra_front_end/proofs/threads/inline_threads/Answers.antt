@@ -1,21 +1,15 @@
 -- Goals of `inline_threads`: a tree of operations for each thread, or the refusal for the first recursive call, or for the
 -- first limit that the threads pass together.
 use Rattle.std.proofs.Common.{◌≡◌, ◌+◌, [], ◌++◌, length, map, drop, get_or, None, refl, ap, sym, ◌∙◌, subst}
-use Rattle.std.specs.List.{AllZip}
 use Rattle.std.proofs.lemmas.List.{at_drop_all, take_all}
-use Rattle.lra_syntax.specs.Views.{tree_view}
-use Rattle.lra_syntax.specs.Labels.{labels_of}
-use Rattle.lra_program.specs.Program.{Program}
-use Rattle.lra_program.specs.Sites.{events_of, sites_of}
-use Rattle.lra_program.specs.WellFormed.{IsWellFormed}
+use Rattle.std.specs.List.{AllZip}
+use Rattle.lra_syntax.specs.{Labels.labels_of, Views.tree_view}
+use Rattle.lra_program.specs.{Program.Program, Sites.events_of, Sites.sites_of, WellFormed.IsWellFormed}
 use Rattle.lra_operations.specs.TreeViews.{site_view}
-use Rattle.lra_resolution_spec.specs.LabelTable.{LabelLists}
-use Rattle.lra_resolution_spec.specs.Refuse.{limit_fault}
-use Rattle.lra_resolution_spec.specs.Threads.{thread_program}
+use Rattle.lra_resolution_spec.specs.{LabelTable.LabelLists, Refuse.limit_fault, Threads.thread_program}
 use Rattle.lra_inline_steps.specs.Inlining.{points_in}
 use Rattle.lra_front_end.specs.ThreadsStages.{IsInlinedOf, IsThreadInlined}
-use Rattle.lra_front_end.proofs.ThreadSteps.{exit_recursive, placed, stays_placed, events_at, events_behind}
-use Rattle.lra_front_end.proofs.ThreadSteps.{exit_limit, same_within, each_at, next_at, more_points, zip_more}
+use Rattle.lra_front_end.proofs.ThreadSteps.{exit_recursive, placed, stays_placed, events_at, events_behind, exit_limit, same_within, each_at, next_at, more_points, zip_more}
 use Rattle.lra_front_end.proofs.threads.inline_threads.Goals as goal
 
 pub check_calls-requires-clause-functions : goal.check_calls-requires-clause-functions

@@ -1,11 +1,9 @@
 -- The threads so far have their trees, and passed no limit; those that are left count behind their points.
 use Rattle.std.proofs.Common.{◌≡◌, length, drop, take}
 use Rattle.std.specs.List.{AllZip}
-use Rattle.lra_syntax.specs.Views.{tree_view}
-use Rattle.lra_syntax.specs.Labels.{labels_of}
+use Rattle.lra_syntax.specs.{Labels.labels_of, Views.tree_view}
 use Rattle.lra_program.specs.ProgramViews.{program_view}
-use Rattle.lra_resolution_spec.specs.Refuse.{limit_fault}
-use Rattle.lra_resolution_spec.specs.Threads.{thread_program, thread_events}
+use Rattle.lra_resolution_spec.specs.{Refuse.limit_fault, Threads.thread_program, Threads.thread_events}
 use Rattle.lra_inline_steps.specs.Inlining.{points_in}
 use Rattle.lra_front_end.specs.ThreadsStages.{IsThreadInlined}
 use Rattle.lra_front_end.proofs.ThreadSteps.{events_at}

@@ -3,8 +3,7 @@ use Rattle.std.proofs.Common.{◌∙◌, ap, sym, subst}
 use Rattle.std.specs.List.{AllByRecursion, AllZip}
 use Rattle.lra_syntax.specs.Views.{tree_view}
 use Rattle.lra_program.specs.WellFormed.{IsWellFormed}
-use Rattle.lra_resolution_spec.specs.Threads.{thread_program}
-use Rattle.lra_resolution_spec.specs.LabelTable.{LabelLists}
+use Rattle.lra_resolution_spec.specs.{LabelTable.LabelLists, Threads.thread_program}
 use Rattle.lra_front_end.specs.ThreadsStages.{IsThreadInlined}
 use Rattle.lra_front_end.proofs.ThreadSteps.{exit_unread, exit_tree, well, accepted}
 use Rattle.lra_front_end.proofs.threads_front.read_threads.Goals as goal

@@ -1,10 +1,7 @@
 -- Goals of `write_out`: what comes next leads to what the innermost place has under way.
-use Rattle.std.proofs.Common.{refl, sym, ◌∙◌}
-use Rattle.std.proofs.lemmas.List.{nil_from_length}
-use Rattle.lra_inline_steps.specs.Inlining.{points_in, program_of}
-use Rattle.lra_inline_steps.specs.Stack.{part_view, Stops, StopsAs}
-use Rattle.lra_inline_steps.proofs.OpenFrames.{all_stopped, part_stands, one_more, part_stopped, behind, all_written}
-use Rattle.lra_inline_steps.proofs.Stopping.{err_stopped}
+use Rattle.std.proofs.{Common.refl, Common.sym, Common.◌∙◌, lemmas.List.nil_from_length}
+use Rattle.lra_inline_steps.specs.{Inlining.points_in, Inlining.program_of, Stack.part_view, Stack.Stops, Stack.StopsAs}
+use Rattle.lra_inline_steps.proofs.{OpenFrames.all_stopped, OpenFrames.part_stands, OpenFrames.one_more, OpenFrames.part_stopped, OpenFrames.behind, OpenFrames.all_written, Stopping.err_stopped}
 use Rattle.lra_inline.proofs.StepsLeft.{fewer_left}
 use Rattle.lra_inline.proofs.inlining.write_out.Goals as goal
 

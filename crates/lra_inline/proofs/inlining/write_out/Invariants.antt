@@ -1,7 +1,5 @@
 -- Places are open, and what comes next leads to what the innermost has under way; each step leaves fewer to be taken.
-use Rattle.lra_inline_steps.specs.Inlining.{points_in, program_of}
-use Rattle.lra_inline_steps.specs.Stack.{InlineTask, InlineStepLeads, InliningIsUnderWay}
-use Rattle.lra_inline_steps.specs.Steps.{all_left}
+use Rattle.lra_inline_steps.specs.{Inlining.points_in, Inlining.program_of, Stack.InlineTask, Stack.InlineStepLeads, Stack.InliningIsUnderWay, Steps.all_left}
 use Rattle.lra_inline.proofs.inlining.write_out.Given as goal
 
 abbrev pub invariant-places : goal.invariant-places

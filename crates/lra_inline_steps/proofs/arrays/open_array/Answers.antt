@@ -2,9 +2,7 @@
 use Rattle.std.proofs.Common.{refl}
 use Rattle.lra_operations.specs.TreeViews.{node_view}
 use Rattle.lra_inline_steps.specs.Inlining.{points_in, program_around}
-use Rattle.lra_inline_steps.proofs.ItemRows.{filled_item, array_stops}
-use Rattle.lra_inline_steps.proofs.OpenFrames.{closed_ok}
-use Rattle.lra_inline_steps.proofs.Shown.{shown_act}
+use Rattle.lra_inline_steps.proofs.{ItemRows.filled_item, ItemRows.array_stops, OpenFrames.closed_ok, Shown.shown_act}
 use Rattle.lra_inline_steps.proofs.arrays.open_array.Goals as goal
 
 pub returns-clause-leads : goal.returns-clause-leads

@@ -1,13 +1,9 @@
 -- Goals of `write_value`: an element gets a value which no call gives.
 use Rattle.std.proofs.Common.{refl, ap, ap₂, ◌∙◌}
-use Rattle.lra_program.specs.Step.{store_element}
-use Rattle.lra_operations.specs.Tree.{act}
-use Rattle.lra_program.specs.ProgramViews.{expr_view, element_view}
-use Rattle.lra_operations.specs.TreeViews.{node_view}
+use Rattle.lra_program.specs.{ProgramViews.expr_view, ProgramViews.element_view, Step.store_element}
+use Rattle.lra_operations.specs.{Tree.act, TreeViews.node_view}
 use Rattle.lra_inline_steps.specs.Inlining.{points_in, program_around}
-use Rattle.lra_inline_steps.proofs.OpenFrames.{closed_ok}
-use Rattle.lra_inline_steps.proofs.Shown.{shown_act}
-use Rattle.lra_inline_steps.proofs.Writing.{write_written}
+use Rattle.lra_inline_steps.proofs.{OpenFrames.closed_ok, Shown.shown_act, Writing.write_written}
 use Rattle.lra_inline_steps.proofs.arrays.write_value.Goals as goal
 
 pub returns-clause-leads : goal.returns-clause-leads

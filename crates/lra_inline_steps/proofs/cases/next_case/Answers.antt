@@ -2,10 +2,8 @@
 use Rattle.std.proofs.Common.{◌<◌, map, refl, ap, subst}
 use Rattle.lra_program.specs.ProgramViews.{expr_view, stmt_view, case_view, cases_of}
 use Rattle.lra_operations.specs.TreeViews.{arm_view}
-use Rattle.lra_inline_steps.specs.Stack.{SwitchLoop, from_next}
-use Rattle.lra_inline_steps.specs.Steps.{call_steps, next_left, cases_left}
-use Rattle.lra_inline_steps.proofs.CaseRows.{passed_on, cases_end, case_next, none_steps, fewer_steps}
-use Rattle.lra_inline_steps.proofs.OpenFrames.{closed_ok}
+use Rattle.lra_inline_steps.specs.{Stack.SwitchLoop, Stack.from_next, Steps.call_steps, Steps.next_left, Steps.cases_left}
+use Rattle.lra_inline_steps.proofs.{CaseRows.passed_on, CaseRows.cases_end, CaseRows.case_next, CaseRows.none_steps, CaseRows.fewer_steps, OpenFrames.closed_ok}
 use Rattle.lra_inline_steps.proofs.cases.next_case.Goals as goal
 
 pub returns-in-None-clause-leads : goal.returns-in-None-clause-leads

@@ -1,11 +1,8 @@
 -- Goals of `assumption_of`: an assumption.
 use Rattle.std.proofs.Common.{◌∙◌, ap, true}
 use Rattle.lra_program.specs.Step.{test}
-use Rattle.lra_operations.specs.Tree.{Node, seq, point, act}
-use Rattle.lra_inline_steps.proofs.Shown.{shown_act}
-use Rattle.lra_operations.specs.TreeViews.{node_view}
-use Rattle.lra_inline_steps.proofs.Stopping.{made_ok, made_limit}
-use Rattle.lra_inline_steps.proofs.Writing.{assume_written}
+use Rattle.lra_operations.specs.{Tree.Node, Tree.seq, Tree.point, Tree.act, TreeViews.node_view}
+use Rattle.lra_inline_steps.proofs.{Shown.shown_act, Stopping.made_ok, Stopping.made_limit, Writing.assume_written}
 use Rattle.lra_inline_steps.proofs.lone.assumption_of.Goals as goal
 
 pub returns-clause-written : goal.returns-clause-written

@@ -1,10 +1,7 @@
 -- Goals of `inline_assertion`: an assertion.
 use Rattle.std.proofs.Common.{◌∙◌, ap}
-use Rattle.lra_operations.specs.Tree.{Node, seq, point, check}
-use Rattle.lra_inline_steps.proofs.Shown.{shown_check}
-use Rattle.lra_operations.specs.TreeViews.{node_view}
-use Rattle.lra_inline_steps.proofs.Stopping.{made_ok, made_limit}
-use Rattle.lra_inline_steps.proofs.Writing.{assert_written}
+use Rattle.lra_operations.specs.{Tree.Node, Tree.seq, Tree.point, Tree.check, TreeViews.node_view}
+use Rattle.lra_inline_steps.proofs.{Shown.shown_check, Stopping.made_ok, Stopping.made_limit, Writing.assert_written}
 use Rattle.lra_inline_steps.proofs.lone.inline_assertion.Goals as goal
 
 pub returns-clause-written : goal.returns-clause-written

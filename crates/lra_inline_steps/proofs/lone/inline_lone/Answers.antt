@@ -1,16 +1,11 @@
 -- Goals of `inline_lone`: a statement without parts, which makes no call.
 use Rattle.std.proofs.Common.{ap, ◌∙◌, subst}
-use Rattle.lra_program.specs.Program.{nothing, break, continue, assert, assume}
-use Rattle.lra_program.specs.ProgramViews.{cond_view, stmt_view}
+use Rattle.lra_program.specs.{Program.nothing, Program.break, Program.continue, Program.assert, Program.assume, ProgramViews.cond_view, ProgramViews.stmt_view}
 use Rattle.lra_operations.specs.TreeViews.{node_view}
-use Rattle.lra_inline_steps.specs.Building.{StmtStands}
-use Rattle.lra_inline_steps.specs.Inlining.{points_in, program_around}
+use Rattle.lra_inline_steps.specs.{Building.StmtStands, Inlining.points_in, Inlining.program_around}
 use Rattle.lra_inline_steps.proofs.Handed.{stmt_limit, break_handed, continue_handed, any_handed}
-use Rattle.lra_inline_steps.proofs.Shown.{shown_empty, shown_absent, shown_nothing}
-use Rattle.lra_inline_steps.proofs.Shown.{shown_break, shown_continue, shown_assert, shown_assume}
-use Rattle.lra_inline_steps.proofs.Writing.{stmt_as, absent_written}
-use Rattle.lra_inline_steps.proofs.Standing.{break_stands, continue_stands}
-use Rattle.lra_inline_steps.proofs.LoneStatements.{no_other}
+use Rattle.lra_inline_steps.proofs.Shown.{shown_empty, shown_absent, shown_nothing, shown_break, shown_continue, shown_assert, shown_assume}
+use Rattle.lra_inline_steps.proofs.{LoneStatements.no_other, Standing.break_stands, Standing.continue_stands, Writing.stmt_as, Writing.absent_written}
 use Rattle.lra_inline_steps.proofs.lone.inline_lone.Goals as goal
 
 pub returns-in-Absent-clause-written : goal.returns-in-Absent-clause-written

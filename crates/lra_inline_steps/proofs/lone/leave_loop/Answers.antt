@@ -1,8 +1,7 @@
 -- Goals of `leave_loop`: out of a loop or a `switch`, or on to a loop's next round.
 use Rattle.std.proofs.Common.{sym, ◌∙◌}
 use Rattle.lra_operations.specs.TreeViews.{node_view}
-use Rattle.lra_inline_steps.proofs.Stopping.{made_ok, made_limit}
-use Rattle.lra_inline_steps.proofs.Writing.{leaves_written}
+use Rattle.lra_inline_steps.proofs.{Stopping.made_ok, Stopping.made_limit, Writing.leaves_written}
 use Rattle.lra_inline_steps.proofs.lone.leave_loop.Goals as goal
 
 pub returns-clause-written : goal.returns-clause-written

@@ -1,7 +1,6 @@
 -- Goals of `lone_point`: nothing but a point.
 use Rattle.std.proofs.Common.{refl}
-use Rattle.lra_inline_steps.proofs.Shown.{shown_point}
-use Rattle.lra_inline_steps.proofs.Writing.{stmt_as, nothing_written}
+use Rattle.lra_inline_steps.proofs.{Shown.shown_point, Writing.stmt_as, Writing.nothing_written}
 use Rattle.lra_inline_steps.proofs.lone.lone_point.Goals as goal
 
 pub returns-clause-written : goal.returns-clause-written

@@ -1,8 +1,8 @@
 -- Goals of `live_inside`: how many variables live behind the items, where the number fits.
 use Rattle.std.proofs.Common.{◌∙◌}
 use Rattle.lra_inline_steps.proofs.LiveInside.{declared_behind, filled_behind, stated_behind, none_behind, beyond}
-use Rattle.lra_inline_steps.proofs.opening.live_inside.Goals as goal
 use Rattle.lra_inline_steps.proofs.opening.live_inside.Goals.{in-Declaration+in-Some, in-Array, in-Statement}
+use Rattle.lra_inline_steps.proofs.opening.live_inside.Goals as goal
 
 pub returns-in-None : goal.returns-in-None
 returns-in-None c = beyond c.args.items.now c.items.item-index c.items.inside _ c.item-item.result c.in-Declaration.field-0 c.items-test.true c.item-item.is c.in-Declaration.is c.items.invariant

@@ -1,13 +1,9 @@
 -- Goals of `open_assign`: an assignment, and what the variable gets.
 use Rattle.std.proofs.Common.{refl, ap, ◌∙◌}
-use Rattle.lra_program.specs.Step.{store_value}
-use Rattle.lra_operations.specs.Tree.{act}
-use Rattle.lra_program.specs.ProgramViews.{variable_view, expr_view, call_view}
-use Rattle.lra_operations.specs.TreeViews.{node_view}
+use Rattle.lra_program.specs.{ProgramViews.variable_view, ProgramViews.expr_view, ProgramViews.call_view, Step.store_value}
+use Rattle.lra_operations.specs.{Tree.act, TreeViews.node_view}
 use Rattle.lra_inline_steps.specs.Inlining.{points_in, program_around}
-use Rattle.lra_inline_steps.proofs.FirstSteps.{value_assigned, assign_opens}
-use Rattle.lra_inline_steps.proofs.OpenFrames.{closed_ok}
-use Rattle.lra_inline_steps.proofs.Shown.{shown_act}
+use Rattle.lra_inline_steps.proofs.{FirstSteps.value_assigned, FirstSteps.assign_opens, OpenFrames.closed_ok, Shown.shown_act}
 use Rattle.lra_inline_steps.proofs.opening.open_assign.Goals as goal
 
 pub returns-in_ok-value-in-Value-clause-leads : goal.returns-in_ok-value-in-Value-clause-leads

@@ -1,13 +1,9 @@
 -- Goals of `open_declaration`: a declarator, and what its variable gets.
 use Rattle.std.proofs.Common.{◌+◌, ap, refl, ◌∙◌, arith}
-use Rattle.lra_program.specs.Step.{store_value}
-use Rattle.lra_operations.specs.Tree.{act}
-use Rattle.lra_program.specs.ProgramViews.{given_view, expr_view, call_view, declarator_view}
-use Rattle.lra_operations.specs.TreeViews.{node_view}
+use Rattle.lra_program.specs.{ProgramViews.given_view, ProgramViews.expr_view, ProgramViews.call_view, ProgramViews.declarator_view, Step.store_value}
+use Rattle.lra_operations.specs.{Tree.act, TreeViews.node_view}
 use Rattle.lra_inline_steps.specs.Inlining.{points_in, program_around}
-use Rattle.lra_inline_steps.proofs.FirstSteps.{fresh_declared, value_declared, declaration_opens}
-use Rattle.lra_inline_steps.proofs.OpenFrames.{closed_ok}
-use Rattle.lra_inline_steps.proofs.Shown.{shown_act, shown_value, shown_result}
+use Rattle.lra_inline_steps.proofs.{FirstSteps.fresh_declared, FirstSteps.value_declared, FirstSteps.declaration_opens, OpenFrames.closed_ok, Shown.shown_act, Shown.shown_value, Shown.shown_result}
 use Rattle.lra_inline_steps.proofs.opening.open_declaration.Goals as goal
 
 pub returns-in-None-clause-leads : goal.returns-in-None-clause-leads

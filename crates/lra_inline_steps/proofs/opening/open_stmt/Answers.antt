@@ -1,7 +1,6 @@
 -- Goals of `open_stmt`: whichever form of statement it is.
 use Rattle.std.proofs.Common.{◌≡◌, map, ap, ◌∙◌, sym}
-use Rattle.lra_program.specs.Program.{block}
-use Rattle.lra_program.specs.ProgramViews.{stmt_view, item_view, items_of}
+use Rattle.lra_program.specs.{Program.block, ProgramViews.stmt_view, ProgramViews.item_view, ProgramViews.items_of}
 use Rattle.lra_inline_steps.proofs.Shown.{shown_block}
 use Rattle.lra_inline_steps.proofs.opening.open_stmt.Goals as goal
 

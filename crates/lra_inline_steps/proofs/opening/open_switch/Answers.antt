@@ -1,9 +1,7 @@
 -- Goals of `open_switch`: a `switch`, and its statements.
-use Rattle.std.proofs.Common.{map}
-use Rattle.std.proofs.lemmas.Result.{IfOk-weaker}
+use Rattle.std.proofs.{Common.map, lemmas.Result.IfOk-weaker}
 use Rattle.lra_program.specs.ProgramViews.{expr_view, case_view, cases_of}
-use Rattle.lra_inline_steps.specs.Inlining.{points_in, program_around}
-use Rattle.lra_inline_steps.specs.Steps.{next_left, cases_left}
+use Rattle.lra_inline_steps.specs.{Inlining.points_in, Inlining.program_around, Steps.next_left, Steps.cases_left}
 use Rattle.lra_inline_steps.proofs.CaseRows.{cases_begin, own_step_more}
 use Rattle.lra_inline_steps.proofs.opening.open_switch.Goals as goal
 

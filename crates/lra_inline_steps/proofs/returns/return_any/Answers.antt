@@ -2,8 +2,7 @@
 use Rattle.std.proofs.Common.{refl}
 use Rattle.lra_operations.specs.TreeViews.{node_view}
 use Rattle.lra_inline_steps.specs.Inlining.{points_in, program_around}
-use Rattle.lra_inline_steps.proofs.OpenFrames.{closed_ok}
-use Rattle.lra_inline_steps.proofs.Writing.{any_returned}
+use Rattle.lra_inline_steps.proofs.{OpenFrames.closed_ok, Writing.any_returned}
 use Rattle.lra_inline_steps.proofs.returns.return_any.Goals as goal
 
 pub returns-clause-leads : goal.returns-clause-leads

@@ -3,8 +3,7 @@ use Rattle.std.proofs.Common.{refl}
 use Rattle.lra_program.specs.ProgramViews.{expr_view}
 use Rattle.lra_operations.specs.TreeViews.{node_view}
 use Rattle.lra_inline_steps.specs.Inlining.{points_in, program_around}
-use Rattle.lra_inline_steps.proofs.OpenFrames.{closed_ok}
-use Rattle.lra_inline_steps.proofs.Writing.{value_returned}
+use Rattle.lra_inline_steps.proofs.{OpenFrames.closed_ok, Writing.value_returned}
 use Rattle.lra_inline_steps.proofs.returns.return_value.Goals as goal
 
 pub returns-clause-leads : goal.returns-clause-leads

@@ -1,7 +1,6 @@
 -- Goals of `write_whole`: writes all bytes, or only the first of them up to a write that fails, which is the last
 -- one.
-use Rattle.std.proofs.Common.{arith, refl}
-use Rattle.std.proofs.KnownBytes.{Appends-nil}
+use Rattle.std.proofs.{Common.arith, Common.refl, KnownBytes.Appends-nil}
 use Rattle.lra_io.specs.Calls.{none}
 use Rattle.lra_io.proofs.sink.write_whole.Goals as goal
 

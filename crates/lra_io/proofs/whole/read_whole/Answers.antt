@@ -1,6 +1,5 @@
 -- Goals of `read_whole`: reads to the end of the input, or one byte past the limit.
-use Rattle.std.proofs.Common.{◌≡◌, ◌∙◌, ◌+◌, ◌-◌, ◌≤◌, length, vec_len, arith}
-use Rattle.std.proofs.lemmas.Grind.{common_steps}
+use Rattle.std.proofs.{Common.◌≡◌, Common.◌∙◌, Common.◌+◌, Common.◌-◌, Common.◌≤◌, Common.length, Common.vec_len, Common.arith, lemmas.Grind.common_steps}
 use Rattle.lra_io.specs.Calls.{one_more}
 use Rattle.lra_io.proofs.Input.{piece_lost, piece_taken, piece_within}
 use Rattle.lra_io.proofs.whole.read_whole.Goals as goal

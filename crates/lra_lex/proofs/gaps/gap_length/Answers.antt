@@ -2,10 +2,9 @@
 use Rattle.std.proofs.Common.{◌∙◌, ℕ, List, sym}
 use Rattle.std.specs.Prelude.{IfSome, Option, Some, None, Bool}
 use Rattle.lra_lex.specs.Prefixes.{BeginsGap}
-use Rattle.lra_lex.proofs.RunLemmas.{differ}
-use Rattle.lra_lex.proofs.GapLemmas.{blank_gap, skip_gap, else_no_gap}
-use Rattle.lra_lex.proofs.gaps.gap_length.Goals as goal
 use Rattle.lra_lex.proofs.gaps.gap_length.Goals.{else-fresh-via-then-fresh+else-is_include, else-fresh-via-else-fresh}
+use Rattle.lra_lex.proofs.{GapLemmas.blank_gap, GapLemmas.skip_gap, GapLemmas.else_no_gap, RunLemmas.differ}
+use Rattle.lra_lex.proofs.gaps.gap_length.Goals as goal
 
 pub returns-then-is_blank-clause-found : goal.returns-then-is_blank-clause-found
 returns-then-is_blank-clause-found c = blank_gap c.args.fresh c.args.rest.now c.requires (sym c.is_blank.ensures ∙ c.if-is_blank.true)

@@ -1,11 +1,8 @@
 -- Goals of `is_include`: whether `#include` stands at the front, with spaces or tabs behind the `#` or without.
 use Rattle.std.proofs.Common.{◌≡◌, ℕ, ◌∙◌, List, sym, take, drop}
-use Rattle.std.proofs.lemmas.Bool.Decides.{Decides-eqb}
-use Rattle.std.proofs.lemmas.List.Sums.{prefix_len-le-length}
-use Rattle.std.proofs.lemmas.Slice.Eq.{slice_eq-Decides}
+use Rattle.std.proofs.{lemmas.Bool.Decides.Decides-eqb, lemmas.List.Sums.prefix_len-le-length, lemmas.Slice.Eq.slice_eq-Decides}
 use Rattle.std.specs.List.{prefix_len}
-use Rattle.lra_syntax.specs.Lexeme.{is_word_byte}
-use Rattle.lra_syntax.specs.Tokens.{is_space_or_tab}
+use Rattle.lra_syntax.specs.{Lexeme.is_word_byte, Tokens.is_space_or_tab}
 use Rattle.lra_lex.proofs.GapLemmas.{include_is, is_include, include_word}
 use Rattle.lra_lex.proofs.gaps.is_include.Goals as goal
 

@@ -1,7 +1,6 @@
 -- Goals of `read_operator`: the length and kind of the operator at the front.
 use Rattle.std.proofs.Common.{sym}
-use Rattle.lra_lex.proofs.LexemeLemmas.{operator_none}
-use Rattle.lra_lex.proofs.TokenLemmas.{operator_token_is}
+use Rattle.lra_lex.proofs.{LexemeLemmas.operator_none, TokenLemmas.operator_token_is}
 use Rattle.lra_lex.proofs.lexer.read_operator.Goals as goal
 
 pub returns-in-Some-clause-found : goal.returns-in-Some-clause-found

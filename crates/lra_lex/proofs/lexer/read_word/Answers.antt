@@ -1,6 +1,5 @@
 -- Goals of `read_word`: the length and kind of the word at the front.
-use Rattle.std.proofs.Common.{ap, ◌∙◌, ℕ, take}
-use Rattle.std.proofs.lemmas.List.Sums.{prefix_len-le-length}
+use Rattle.std.proofs.{Common.ap, Common.◌∙◌, Common.ℕ, Common.take, lemmas.List.Sums.prefix_len-le-length}
 use Rattle.lra_syntax.specs.Lexeme.{is_word_byte}
 use Rattle.lra_lex.proofs.TokenLemmas.{word_at, word_token_is}
 use Rattle.lra_lex.proofs.lexer.read_word.Goals as goal

@@ -3,8 +3,7 @@ use Rattle.std.proofs.Common.{◌≡◌, ℕ, List, take, drop}
 use Rattle.std.specs.List.{prefix_len}
 use Rattle.lra_syntax.specs.Lexeme.{is_digit_of, Base}
 use Rattle.lra_lex.specs.Literal.{base_of, base_at, front_size}
-use Rattle.lra_lex.proofs.RunLemmas.{differ}
-use Rattle.lra_lex.proofs.LiteralLemmas.{body_long, typed_in, none_in, no_literal, IsSplit}
+use Rattle.lra_lex.proofs.{LiteralLemmas.body_long, LiteralLemmas.typed_in, LiteralLemmas.none_in, LiteralLemmas.no_literal, LiteralLemmas.IsSplit, RunLemmas.differ}
 use Rattle.lra_lex.proofs.literals.parse_literal.Goals as goal
 
 split : (b : Base) (word body digits suffix : List ℕ) (front n : ℕ) → b ≡ base_at word → front ≡ front_size b → body ≡ drop front word → n ≡ prefix_len (is_digit_of b) body

@@ -1,8 +1,6 @@
 -- Goals of `negate_coefficients`: the numbers times -1, or `None` where one of these passes i64.
-use Rattle.std.proofs.Common.{rules, map, ◌≡◌, [], ◌∷◌, ◌∙◌, append_assoc}
-use Rattle.std.specs.Prelude.{neg_ℤ}
-use Rattle.std.specs.Int.{w64}
-use Rattle.std.proofs.lemmas.Int.{to_z-of_z}
+use Rattle.std.proofs.{Common.rules, Common.map, Common.◌≡◌, Common.[], Common.◌∷◌, Common.◌∙◌, Common.append_assoc, lemmas.Int.to_z-of_z}
+use Rattle.std.specs.{Int.w64, Prelude.neg_ℤ}
 use Rattle.lra_linear_forms.proofs.FormLemmas.{fits_later}
 use Rattle.lra_linear_forms.proofs.form.negate_coefficients.Goals as goal
 

@@ -1,7 +1,5 @@
 use Rattle.std.proofs.Common.{◌≡◌, ◌↔◌, ◌++◌, length, map, FitsSigned}
-use Rattle.std.specs.Prelude.{neg_ℤ}
-use Rattle.std.specs.Int.{w64}
-use Rattle.std.specs.List.{All}
+use Rattle.std.specs.{Int.w64, List.All, Prelude.neg_ℤ}
 use Rattle.lra_linear_forms.proofs.form.negate_coefficients.Given as goal
 
 abbrev pub invariant-loop-coefficient : goal.invariant-loop-coefficient

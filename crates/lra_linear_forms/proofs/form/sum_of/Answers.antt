@@ -1,7 +1,6 @@
 -- Goals of `sum_of`.
-use Rattle.std.proofs.Common.{rules, arith, ◌≡◌, [], ◌∷◌, ◌∙◌, sym, FitsSigned, to_z}
+use Rattle.std.proofs.{Common.rules, Common.arith, Common.◌≡◌, Common.[], Common.◌∷◌, Common.◌∙◌, Common.sym, Common.FitsSigned, Common.to_z, lemmas.Int.ints, lemmas.Int.to_z-of_z}
 use Rattle.std.specs.Int.{w64, w128}
-use Rattle.std.proofs.lemmas.Int.{ints, to_z-of_z}
 use Rattle.lra_linear_forms.proofs.FormLemmas.{summing_step, product_nothing}
 use Rattle.lra_linear_forms.proofs.form.sum_of.Goals as goal
 

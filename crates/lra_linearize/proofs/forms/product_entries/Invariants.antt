@@ -1,5 +1,4 @@
-use Rattle.std.proofs.Common.{length}
-use Rattle.std.proofs.Common.{map}
+use Rattle.std.proofs.Common.{length, map}
 use Rattle.std.specs.Prelude.{◌*ℤ◌}
 use Rattle.lra_linearize.proofs.FormSteps.{SoFar}
 use Rattle.lra_linearize.proofs.forms.product_entries.Given as goal

@@ -1,8 +1,7 @@
 -- Goals of `give_comparison`: the rows of a comparison; none where its difference isn't linear.
 use Rattle.lra_program.specs.ProgramViews.{expr_view}
-use Rattle.lra_linearize.proofs.CondSteps.{difference_wide, difference_there}
+use Rattle.lra_linearize.proofs.{CondSteps.difference_wide, CondSteps.difference_there, GuardThresholdSteps.rows_by_test}
 use Rattle.std.proofs.Common.{sym}
-use Rattle.lra_linearize.proofs.GuardThresholdSteps.{rows_by_test}
 use Rattle.lra_linearize.proofs.guard_thresholds.give_comparison.Goals as goal
 
 pub give_difference-requires : goal.give_difference-requires

@@ -1,7 +1,6 @@
 -- Goals of `subtract_number`: what is seen of a value minus a number.
 use Rattle.std.proofs.Common.{ap}
-use Rattle.lra_analysis_spec.specs.declared.linearization.Linearized.TheVariants.{Linear}
-use Rattle.lra_analysis_spec.specs.Linearization.{subtracted}
+use Rattle.lra_analysis_spec.specs.{Linearization.subtracted, declared.linearization.Linearized.TheVariants.Linear}
 use Rattle.lra_linearize.proofs.LinearizationSteps.{handed_on}
 use Rattle.lra_linearize.proofs.linearization.subtract_number.Goals as goal
 

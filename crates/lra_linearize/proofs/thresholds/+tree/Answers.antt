@@ -4,11 +4,9 @@ use Rattle.lra_operations.specs.Tree as graph
 use Rattle.lra_operations.specs.TreeViews.{exit_view, node_view, op_view, row, arm_view, arms_of}
 use Rattle.lra_program.specs.ProgramViews.{cond_view, expr_view}
 use Rattle.lra_analysis_spec.specs.Thresholds.{condition_rows, round_rows, rows_in}
-use Rattle.lra_linearize.proofs.TreeSizes.{arm_among, tree_among}
-use Rattle.lra_linearize.proofs.TreeViews.{act_view, catch_view, check_view, choose_view, iterate_view, last_taken, row_ends, select_view, seq_view, taken_as}
-use Rattle.lra_linearize.proofs.TreeViews.{taken_seen}
-use Rattle.lra_linearize.proofs.TreeViews.{arms_taken, entry_taken, none_taken, one_arm_taken, taken_dims, tree_taken, two_rounds}
-use Rattle.lra_linearize.proofs.ThresholdSteps.{iterate_rows, trees_taken}
+use Rattle.lra_linearize.proofs.TreeViews.{act_view, catch_view, check_view, choose_view, iterate_view, last_taken, row_ends, select_view, seq_view, taken_as, taken_seen, arms_taken, entry_taken}
+use Rattle.lra_linearize.proofs.TreeViews.{none_taken, one_arm_taken, taken_dims, tree_taken, two_rounds}
+use Rattle.lra_linearize.proofs.{ThresholdSteps.iterate_rows, ThresholdSteps.trees_taken, TreeSizes.arm_among, TreeSizes.tree_among}
 use Rattle.lra_linearize.proofs.thresholds.+tree.Goals as goal
 
 -- names of calls that stand in several arms (`take_condition`, `take_tree`, `deref`) as those of lra_transfer's `leave`: the first without its arm

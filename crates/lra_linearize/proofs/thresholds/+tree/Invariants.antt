@@ -3,8 +3,7 @@ use Rattle.std.specs.List.{flat_map}
 use Rattle.lra_operations.specs.TreeViews.{node_view}
 use Rattle.lra_analysis_spec.specs.Thresholds.{rows_in}
 use Rattle.lra_linearize.specs.Thresholds.{HasTaken}
-use Rattle.lra_linearize.proofs.TreeSizes.{arm_size, arms_size, tree_size, trees_size}
-use Rattle.lra_linearize.proofs.TreeViews.{IsTakenFrom}
+use Rattle.lra_linearize.proofs.{TreeSizes.arm_size, TreeSizes.arms_size, TreeSizes.tree_size, TreeSizes.trees_size, TreeViews.IsTakenFrom}
 use Rattle.lra_linearize.proofs.thresholds.+tree.Given as goal
 
 abbrev pub decreases-take_tree : goal.decreases-take_tree

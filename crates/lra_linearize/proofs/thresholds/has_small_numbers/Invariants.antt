@@ -1,6 +1,5 @@
 use Rattle.std.proofs.Common.{length, ◌≡◌, ◌^◌}
-use Rattle.std.specs.Prelude.{nat_le, unsigned_abs}
-use Rattle.std.specs.List.{list_all}
+use Rattle.std.specs.{List.list_all, Prelude.nat_le, Prelude.unsigned_abs}
 use Rattle.lra_analysis_spec.specs.Thresholds.{has_small_numbers}
 use Rattle.lra_linearize.proofs.thresholds.has_small_numbers.Given as goal
 

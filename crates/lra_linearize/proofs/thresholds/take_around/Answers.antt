@@ -1,9 +1,7 @@
 -- Goals of `take_around`: the rows around a difference are taken in, two for each k.
 use Rattle.std.proofs.Common.{◌∙◌, sym, pos, negsuc, [], ◌∷◌}
-use Rattle.lra_analysis_spec.specs.GuardThresholds.{row_of}
-use Rattle.lra_analysis_spec.specs.Thresholds.{row_against}
-use Rattle.lra_linearize.proofs.ThresholdSteps.{taken_both}
-use Rattle.lra_linearize.proofs.TreeViews.{last_taken}
+use Rattle.lra_analysis_spec.specs.{GuardThresholds.row_of, Thresholds.row_against}
+use Rattle.lra_linearize.proofs.{ThresholdSteps.taken_both, TreeViews.last_taken}
 use Rattle.lra_linearize.proofs.thresholds.take_around.Goals as goal
 
 pub take_both-requires-2 : goal.take_both-requires-2

@@ -1,11 +1,8 @@
 -- Goals of `take_both`: two rows are taken in.
 use Rattle.std.proofs.Common.{◌∙◌, ap, suc, sym, [], ◌∷◌}
 use Rattle.std.specs.Prelude.{neg_ℤ}
-use Rattle.lra_analysis_spec.specs.GuardThresholds.{row_of}
-use Rattle.lra_analysis_spec.specs.Thresholds.{row_against}
-use Rattle.lra_linearize.proofs.GuardThresholdSteps.{row_width}
-use Rattle.lra_linearize.proofs.ThresholdSteps.{against_width}
-use Rattle.lra_linearize.proofs.TreeViews.{last_taken}
+use Rattle.lra_analysis_spec.specs.{GuardThresholds.row_of, Thresholds.row_against}
+use Rattle.lra_linearize.proofs.{GuardThresholdSteps.row_width, ThresholdSteps.against_width, TreeViews.last_taken}
 use Rattle.lra_linearize.proofs.thresholds.take_both.Goals as goal
 
 pub take_in-requires : goal.take_in-requires

@@ -1,14 +1,11 @@
 -- Goals of `assign_list`: the generators, each with the form's value as coordinate x; or what is told of the
 -- first with which a number passes.
 use Rattle.std.proofs.Common.{arith, refl, subst, suc, sym}
-use Rattle.lra_linear_spec.specs.CheckedArithmetic.{checked_product}
-use Rattle.lra_linear_spec.specs.SetOperations.{assigned}
+use Rattle.lra_linear_spec.specs.{CheckedArithmetic.checked_product, SetOperations.assigned}
 use Rattle.lra_linear_spec.specs.declared.Excess as E
 use Rattle.lra_systems.specs.LinearSystems.{generators}
 use Rattle.lra_mapped_systems.specs.Forming.{IsLossAt}
-use Rattle.lra_mapped_systems.proofs.Assigning.{assigned_level}
-use Rattle.lra_mapped_systems.proofs.LossLemmas.{excess_of, lost_at}
-use Rattle.lra_mapped_systems.proofs.ListLemmas.{mapped_kinds, mapped_listed}
+use Rattle.lra_mapped_systems.proofs.{Assigning.assigned_level, ListLemmas.mapped_kinds, ListLemmas.mapped_listed, LossLemmas.excess_of, LossLemmas.lost_at}
 use Rattle.lra_mapped_systems.proofs.forming.assign_list.Goals as goal
 
 pub returns-in-Err-Excess-clause-lost : goal.returns-in-Err-Excess-clause-lost

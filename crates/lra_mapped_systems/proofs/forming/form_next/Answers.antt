@@ -5,8 +5,7 @@ use Rattle.std.specs.Prelude.{false, is_none}
 use Rattle.lra_linear_spec.specs.CheckedArithmetic.{checked_substitution}
 use Rattle.lra_systems.specs.LinearSystems.{constraints}
 use Rattle.lra_mapped_systems.specs.Forming.{IsLossAt}
-use Rattle.lra_mapped_systems.proofs.FormedLists.{formed_if_pushed, formed_left, formed_lost, substituted_fits}
-use Rattle.lra_mapped_systems.proofs.LossLemmas.{excess_of, lost_at}
+use Rattle.lra_mapped_systems.proofs.{FormedLists.formed_if_pushed, FormedLists.formed_left, FormedLists.formed_lost, FormedLists.substituted_fits, LossLemmas.excess_of, LossLemmas.lost_at}
 use Rattle.lra_mapped_systems.proofs.forming.form_next.Goals as goal
 
 pub push-requires : goal.push-requires

@@ -1,7 +1,6 @@
 -- Goals of `lengthen`: the row with k zeros behind it.
-use Rattle.std.proofs.Common.{◌≡◌, ◌++◌, ◌∷◌, [], arith, pos, subst, sym}
+use Rattle.std.proofs.{Common.◌≡◌, Common.◌++◌, Common.◌∷◌, Common.[], Common.arith, Common.pos, Common.subst, Common.sym, lemmas.List.Elements.All-push}
 use Rattle.std.specs.List.{All}
-use Rattle.std.proofs.lemmas.List.Elements.{All-push}
 use Rattle.lra_linear_spec.specs.Range.{InRange}
 use Rattle.lra_mapped_systems.proofs.PushedLists.{zero_pushed}
 use Rattle.lra_mapped_systems.proofs.lists.lengthen.Goals as goal

@@ -2,8 +2,7 @@
 use Rattle.std.proofs.Common.{◌≡◌, ◌∙◌, ap, length, sym, ℤ, List}
 use Rattle.lra_linear_spec.specs.Vectors.{entry}
 use Rattle.lra_systems.specs.LinearSystems.{generators}
-use Rattle.lra_mapped_systems.proofs.ListLemmas.{direction_level}
-use Rattle.lra_mapped_systems.proofs.PushedLists.{direction_added, fit_more, many_more}
+use Rattle.lra_mapped_systems.proofs.{ListLemmas.direction_level, PushedLists.direction_added, PushedLists.fit_more, PushedLists.many_more}
 use Rattle.lra_mapped_systems.proofs.lists.push_directions.Goals as goal
 
 pub loop-place-preserved : goal.loop-place-preserved

@@ -1,9 +1,8 @@
 -- Goals of `with_line`: the generators, then a line along a dimension.
 use Rattle.std.proofs.Common.{◌∙◌, ap, length, suc, sym}
-use Rattle.lra_linear_spec.specs.OperationStrain.{unit_row}
+use Rattle.lra_linear_spec.specs.{OperationStrain.unit_row, declared.GenKind.GenKind}
 use Rattle.lra_linear_spec.proofs.UnitRows.{unit_length}
 use Rattle.lra_systems.specs.LinearSystems.{LinearSystem}
-use Rattle.lra_linear_spec.specs.declared.GenKind.{GenKind}
 use Rattle.lra_mapped_systems.proofs.ListLemmas.{line_added, line_fits, unit_level, unit_seen}
 use Rattle.lra_mapped_systems.proofs.lists.with_line.Goals as goal
 

@@ -1,9 +1,8 @@
 -- Goals of `with_new_lines`: the generators, then a line along each of the dimensions behind the first n.
 use Rattle.std.proofs.Common.{◌∙◌, ◌+◌, ap, arith, length, refl, suc, sym, ℤ, List}
-use Rattle.lra_linear_spec.specs.Vectors.{entry}
+use Rattle.lra_linear_spec.specs.{Vectors.entry, declared.GenKind.TheVariants.Line}
 use Rattle.lra_linear_spec.proofs.UnitRows.{unit_length, unit_other}
 use Rattle.lra_systems.specs.LinearSystems.{generators}
-use Rattle.lra_linear_spec.specs.declared.GenKind.TheVariants.{Line}
 use Rattle.lra_mapped_systems.proofs.PushedLists.{all_lines, fit_more, line_pushed, many_more}
 use Rattle.lra_mapped_systems.proofs.lists.with_new_lines.Goals as goal
 

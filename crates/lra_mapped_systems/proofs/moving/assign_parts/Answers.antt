@@ -1,12 +1,7 @@
 -- Goals of `assign_parts`: the generators with the form's value in the column, lines apart.
-use Rattle.std.proofs.Common.{◌≡◌, ◌∙◌, ap, length, sym}
-use Rattle.std.proofs.lemmas.Result.{err_from_is_err_and}
-use Rattle.lra_linear_spec.specs.CheckedArithmetic.{checked_product}
-use Rattle.lra_linear_spec.specs.Kinds.{is_line}
-use Rattle.lra_linear_spec.specs.SetOperations.{assigned}
-use Rattle.lra_linear_spec.specs.declared.GenKind.TheVariants.{Point}
-use Rattle.lra_mapped_systems.proofs.MovedLists.{part_seen}
-use Rattle.lra_mapped_systems.proofs.MovingLosses.{some_passes}
+use Rattle.std.proofs.{Common.◌≡◌, Common.◌∙◌, Common.ap, Common.length, Common.sym, lemmas.Result.err_from_is_err_and}
+use Rattle.lra_linear_spec.specs.{CheckedArithmetic.checked_product, Kinds.is_line, SetOperations.assigned, declared.GenKind.TheVariants.Point}
+use Rattle.lra_mapped_systems.proofs.{MovedLists.part_seen, MovingLosses.some_passes}
 use Rattle.lra_mapped_systems.proofs.moving.assign_parts.Goals as goal
 
 pub loop-place-preserved : goal.loop-place-preserved

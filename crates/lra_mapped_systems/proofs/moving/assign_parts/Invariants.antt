@@ -1,5 +1,4 @@
-use Rattle.lra_linear_spec.specs.SetOperations.{assigned}
-use Rattle.lra_linear_spec.specs.Kinds.{is_line}
+use Rattle.lra_linear_spec.specs.{Kinds.is_line, SetOperations.assigned}
 use Rattle.lra_mapped_systems.proofs.MovedLists.{ArePartsOf}
 use Rattle.lra_mapped_systems.proofs.moving.assign_parts.Given as goal
 

@@ -1,12 +1,9 @@
 -- Goals of `substitute_canonically`: the constraints with the form put in for the column, as a canonical list.
-use Rattle.std.proofs.Common.{◌+◌, arith, sym, ◌∙◌}
-use Rattle.std.proofs.lemmas.Result.{err_from_is_err_and}
-use Rattle.lra_linear_spec.specs.Kinds.{is_equality}
-use Rattle.lra_linear_spec.specs.Vectors.{substituted}
+use Rattle.std.proofs.{Common.◌+◌, Common.arith, Common.sym, Common.◌∙◌, lemmas.Result.err_from_is_err_and}
+use Rattle.lra_linear_spec.specs.{Kinds.is_equality, Vectors.substituted}
 use Rattle.lra_systems.specs.LinearSystems.{constraints}
-use Rattle.lra_mapped_systems.proofs.MovedLists.{KeepsWidth, lines_wide, rays_wide}
-use Rattle.lra_mapped_systems.proofs.TakenBack.{substituted_width}
 use Rattle.lra_mapped_systems.proofs.MovingLosses.{substitution_canonical, substitution_forms}
+use Rattle.lra_mapped_systems.proofs.{MovedLists.KeepsWidth, MovedLists.lines_wide, MovedLists.rays_wide, TakenBack.substituted_width}
 use Rattle.lra_mapped_systems.proofs.moving.substitute_canonically.Goals as goal
 
 pub remake-requires-clause-lines : goal.remake-requires-clause-lines

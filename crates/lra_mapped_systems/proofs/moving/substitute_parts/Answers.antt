@@ -1,12 +1,7 @@
 -- Goals of `substitute_parts`: the constraints with the form put in for the column, equalities apart.
-use Rattle.std.proofs.Common.{◌≡◌, ◌∙◌, ap, length, sym}
-use Rattle.std.proofs.lemmas.Result.{err_from_is_err_and}
-use Rattle.lra_linear_spec.specs.CheckedArithmetic.{checked_substitution}
-use Rattle.lra_linear_spec.specs.Kinds.{is_equality}
-use Rattle.lra_linear_spec.specs.Vectors.{substituted}
-use Rattle.lra_linear_spec.specs.declared.ConKind.TheVariants.{Ge}
-use Rattle.lra_mapped_systems.proofs.MovedLists.{part_seen}
-use Rattle.lra_mapped_systems.proofs.MovingLosses.{some_passes}
+use Rattle.std.proofs.{Common.◌≡◌, Common.◌∙◌, Common.ap, Common.length, Common.sym, lemmas.Result.err_from_is_err_and}
+use Rattle.lra_linear_spec.specs.{CheckedArithmetic.checked_substitution, Kinds.is_equality, Vectors.substituted, declared.ConKind.TheVariants.Ge}
+use Rattle.lra_mapped_systems.proofs.{MovedLists.part_seen, MovingLosses.some_passes}
 use Rattle.lra_mapped_systems.proofs.moving.substitute_parts.Goals as goal
 
 pub loop-place-preserved : goal.loop-place-preserved

@@ -1,5 +1,4 @@
-use Rattle.lra_linear_spec.specs.Kinds.{is_equality}
-use Rattle.lra_linear_spec.specs.Vectors.{substituted}
+use Rattle.lra_linear_spec.specs.{Kinds.is_equality, Vectors.substituted}
 use Rattle.lra_mapped_systems.proofs.MovedLists.{ArePartsOf}
 use Rattle.lra_mapped_systems.proofs.moving.substitute_parts.Given as goal
 

@@ -1,7 +1,6 @@
 -- Goals of `agrees_at`: whether the multiple of the claim is the sum in a column.
-use Rattle.std.proofs.Common.{rules, FitsSigned, Some, ◌∙◌, ap}
+use Rattle.std.proofs.{Common.rules, Common.FitsSigned, Common.Some, Common.◌∙◌, Common.ap, lemmas.Int.to_z-of_z}
 use Rattle.std.specs.Int.{w128}
-use Rattle.std.proofs.lemmas.Int.{to_z-of_z}
 use Rattle.lra_multipliers.specs.MultiplierViews.{multipliers_view}
 use Rattle.lra_multipliers.proofs.CheckSteps.{agrees_told, premises_told, same_bits}
 use Rattle.lra_multipliers.proofs.columns.agrees_at.Goals as goal

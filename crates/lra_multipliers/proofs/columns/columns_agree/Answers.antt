@@ -1,10 +1,8 @@
 -- Goals of `columns_agree`: whether the multiple of the claim is the sum in each column.
 use Rattle.std.proofs.Common.{◌≡◌, ℕ, arith, length, sym, subst, ◌∙◌}
-use Rattle.lra_multipliers.specs.Columns.{column_agrees, AgreeBelow}
-use Rattle.lra_multipliers.specs.MultiplierViews.{multipliers_view}
-use Rattle.lra_multipliers.proofs.CheckSteps.{agree_on, agree_off}
+use Rattle.lra_multipliers.specs.{Columns.column_agrees, Columns.AgreeBelow, MultiplierViews.multipliers_view}
+use Rattle.lra_multipliers.proofs.{CheckSteps.agree_on, CheckSteps.agree_off, columns.columns_agree.Goals.then-agree, columns.columns_agree.Goals.else-agree}
 use Rattle.lra_multipliers.proofs.columns.columns_agree.Goals as goal
-use Rattle.lra_multipliers.proofs.columns.columns_agree.Goals.{then-agree, else-agree}
 
 pub loop-column-preserved : goal.loop-column-preserved
 loop-column-preserved c = elim c.if-agree.branch [

@@ -1,5 +1,4 @@
-use Rattle.lra_multipliers.specs.Columns.{column_agrees, AgreeBelow}
-use Rattle.lra_multipliers.specs.MultiplierViews.{multipliers_view}
+use Rattle.lra_multipliers.specs.{Columns.column_agrees, Columns.AgreeBelow, MultiplierViews.multipliers_view}
 use Rattle.lra_multipliers.proofs.columns.columns_agree.Given as goal
 
 abbrev pub invariant-loop-column : goal.invariant-loop-column

@@ -1,7 +1,7 @@
 -- Goals of `sum_column`: the sum of the rows with their factors in a column.
 use Rattle.std.proofs.Common.{◌<◌, ◌*◌, rules, arith, length, ℕ, w64, Fits, FitsSigned, pos, get_or, Some, None, ◌∙◌, sym, subst, refl, to_z, List, ℤ}
-use Rattle.std.specs.Int.{w128}
 use Rattle.std.proofs.lemmas.Int.{to_z-of_z}
+use Rattle.std.specs.Int.{w128}
 use Rattle.lra_multipliers.proofs.CheckLoops.{used_within, placed_all, placed_more}
 use Rattle.lra_multipliers.proofs.columns.sum_column.Goals as goal
 

@@ -1,11 +1,9 @@
 -- Goals of `assign_ends`: gives `x` the bounds of the form over the unary bounds.
-use Rattle.std.proofs.Common.{◌≡◌, ◌∙◌}
+use Rattle.std.proofs.{Common.◌≡◌, Common.◌∙◌, lemmas.Int.to_z-of_z}
 use Rattle.std.specs.Int.{w128}
-use Rattle.std.proofs.lemmas.Int.{to_z-of_z}
 use Rattle.lra_box.specs.Bounds.{form}
 use Rattle.lra_dbm.specs.Cells.{entries}
-use Rattle.lra_octagon.specs.Content.{matrix_view}
-use Rattle.lra_octagon.specs.Tables.{intervals}
+use Rattle.lra_octagon.specs.{Content.matrix_view, Tables.intervals}
 use Rattle.lra_octagon.proofs.AssignLemmas.{intervals_width, assigned_bound}
 use Rattle.lra_octagon.proofs.assigning.assign_ends.Goals as goal
 

@@ -1,10 +1,7 @@
 -- Goals of `assign_matrix`: assigns `constant + factors` to `x`.
 use Rattle.std.proofs.Common.{rules, ◌≡◌, ◌∙◌, sym, ap}
 use Rattle.lra_box.specs.Bounds.{form}
-use Rattle.lra_octagon.specs.Content.{matrix_view}
-use Rattle.lra_octagon.specs.declared.assigning.Assignment.TheVariants.{Equate, Shift}
-use Rattle.lra_octagon.specs.Forms.{shape}
-use Rattle.lra_octagon.specs.Tables.{assignment_of}
+use Rattle.lra_octagon.specs.{Content.matrix_view, Forms.shape, Tables.assignment_of, declared.assigning.Assignment.TheVariants.Equate, declared.assigning.Assignment.TheVariants.Shift}
 use Rattle.lra_octagon.proofs.AssignLemmas.{given_equate, given_shift, equate_below}
 use Rattle.lra_octagon.proofs.assigning.assign_matrix.Goals as goal
 

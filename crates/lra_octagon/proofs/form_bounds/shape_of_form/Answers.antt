@@ -1,8 +1,7 @@
 -- Goals of `shape_of_form`: the shape of the form with these coefficients.
 use Rattle.std.proofs.Common.{rules, arith, ◌≡◌, [], ◌∷◌, to_z, of_z}
+use Rattle.std.proofs.{lemmas.List.nil_from_length, lemmas.List.Elements.All-cons, lemmas.List.Elements.All-nil}
 use Rattle.std.specs.Int.{w64, w128}
-use Rattle.std.proofs.lemmas.List.{nil_from_length}
-use Rattle.std.proofs.lemmas.List.Elements.{All-cons, All-nil}
 use Rattle.lra_linear_spec.specs.Range.{InRange}
 use Rattle.lra_octagon.specs.Forms.{terms_from}
 use Rattle.lra_octagon.proofs.FormLemmas.{read_all, read_more, shape_fits}

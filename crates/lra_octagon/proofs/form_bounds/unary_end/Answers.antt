@@ -1,8 +1,7 @@
 -- Goals of `unary_end`: the least or the greatest value of the form over the unary bounds.
 use Rattle.std.proofs.Common.{rules, arith, ◌≡◌, [], ◌∷◌, None, Some, FitsSigned, to_z, of_z}
+use Rattle.std.proofs.{lemmas.Int.to_z-of_z, lemmas.List.nil_from_length}
 use Rattle.std.specs.Int.{w64, w128}
-use Rattle.std.proofs.lemmas.Int.{to_z-of_z}
-use Rattle.std.proofs.lemmas.List.{nil_from_length}
 use Rattle.lra_dbm.specs.Cells.{entries}
 use Rattle.lra_octagon.proofs.FormBoundLemmas.{column_more, no_column_left, no_end_here}
 use Rattle.lra_octagon.proofs.form_bounds.unary_end.Goals as goal

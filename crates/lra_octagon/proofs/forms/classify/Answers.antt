@@ -1,7 +1,6 @@
 -- Goals of `classify`: the shape of the form with these coefficients.
-use Rattle.std.proofs.Common.{rules, arith, ◌≡◌, ◌∷◌, FitsSigned}
+use Rattle.std.proofs.{Common.rules, Common.arith, Common.◌≡◌, Common.◌∷◌, Common.FitsSigned, lemmas.Int.to_z-of_z}
 use Rattle.std.specs.Int.{w128}
-use Rattle.std.proofs.lemmas.Int.{to_z-of_z}
 use Rattle.lra_octagon.specs.Forms.{terms_from}
 use Rattle.lra_octagon.proofs.FormLemmas.{read_more}
 use Rattle.lra_octagon.proofs.forms.classify.Goals as goal

@@ -1,7 +1,6 @@
 -- Goals of `test_eq`: tests by `e = 0`.
 use Rattle.std.proofs.Common.{rules}
-use Rattle.lra_octagon.specs.Content.{matrix_view}
-use Rattle.lra_octagon.specs.Tables.{minus_form}
+use Rattle.lra_octagon.specs.{Content.matrix_view, Tables.minus_form}
 use Rattle.lra_octagon.proofs.TestLemmas.{meets_eq, tested_as}
 use Rattle.lra_octagon.proofs.testing.test_eq.Goals as goal
 

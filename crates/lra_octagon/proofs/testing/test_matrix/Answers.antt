@@ -2,11 +2,8 @@
 use Rattle.std.proofs.Common.{rules, ◌≡◌, sym, ◌∙◌, true}
 use Rattle.std.specs.Prelude.{pos, int_lt}
 use Rattle.lra_box.specs.Bounds.{form}
-use Rattle.lra_octagon.specs.Content.{matrix_view}
-use Rattle.lra_octagon.specs.declared.forms.FormShape.TheVariants.{Constant, One, Two}
-use Rattle.lra_octagon.specs.Forms.{shape}
-use Rattle.lra_octagon.proofs.FormLemmas.{one_in_range, two_in_range}
-use Rattle.lra_octagon.proofs.TestLemmas.{tested_negative, tested_one, tested_two}
+use Rattle.lra_octagon.specs.{Content.matrix_view, Forms.shape, declared.forms.FormShape.TheVariants.Constant, declared.forms.FormShape.TheVariants.One, declared.forms.FormShape.TheVariants.Two}
+use Rattle.lra_octagon.proofs.{FormLemmas.one_in_range, FormLemmas.two_in_range, TestLemmas.tested_negative, TestLemmas.tested_one, TestLemmas.tested_two}
 use Rattle.lra_octagon.proofs.testing.test_matrix.Goals as goal
 
 pub returns-then-constant-lt0-clause-tested : goal.returns-then-constant-lt0-clause-tested

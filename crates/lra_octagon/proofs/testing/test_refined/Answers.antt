@@ -1,15 +1,11 @@
 -- Goals of `test_refined`: refines the unary bounds by `constant + factors >= 0`, enters them, and closes.
-use Rattle.std.proofs.Common.{rules, ◌≡◌, sym, ap, ◌∙◌, length, true, false}
+use Rattle.std.proofs.{Common.rules, Common.◌≡◌, Common.sym, Common.ap, Common.◌∙◌, Common.length, Common.true, Common.false, lemmas.Int.to_z-of_z}
 use Rattle.std.specs.Int.{w128}
-use Rattle.std.proofs.lemmas.Int.{to_z-of_z}
 use Rattle.lra_dbm.specs.Cells.{entries}
 use Rattle.lra_box.specs.Bounds.{form}
 use Rattle.lra_box.proofs.SoundLemmas.{at_sound}
-use Rattle.lra_octagon.specs.Content.{matrix_view}
-use Rattle.lra_octagon.specs.Tables.{some_crossed}
-use Rattle.lra_octagon.proofs.UnaryLemmas.{intervals_sound}
-use Rattle.lra_octagon.specs.StoreBounds.{length_intervals}
-use Rattle.lra_octagon.proofs.OtherLemmas.{tested_crossed, tested_refuted, tested_other}
+use Rattle.lra_octagon.specs.{Content.matrix_view, StoreBounds.length_intervals, Tables.some_crossed}
+use Rattle.lra_octagon.proofs.{OtherLemmas.tested_crossed, OtherLemmas.tested_refuted, OtherLemmas.tested_other, UnaryLemmas.intervals_sound}
 use Rattle.lra_octagon.proofs.testing.test_refined.Goals as goal
 
 pub returns-then-some_crossed-clause-tested : goal.returns-then-some_crossed-clause-tested

@@ -1,7 +1,6 @@
 -- Goals of `is_met`: whether the test is known to lower no entry.
 use Rattle.std.proofs.Common.{rules, ◌≡◌}
-use Rattle.lra_octagon.specs.Forms.{shape}
-use Rattle.lra_octagon.specs.Tables.{minus_form}
+use Rattle.lra_octagon.specs.{Forms.shape, Tables.minus_form}
 use Rattle.lra_octagon.proofs.TightLemmas.{met_eq, met_ge}
 use Rattle.lra_octagon.proofs.tightness.is_met.Goals as goal
 

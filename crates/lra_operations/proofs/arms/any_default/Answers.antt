@@ -1,7 +1,6 @@
 -- Goals of `any_default`: whether one of the labels is `default`.
-use Rattle.std.proofs.Common.{rules, ◌≡◌, ◌∷◌, ◌∙◌, Bool, map, ap, sym}
+use Rattle.std.proofs.{Common.rules, Common.◌≡◌, Common.◌∷◌, Common.◌∙◌, Common.Bool, Common.map, Common.ap, Common.sym, lemmas.List.nil_from_length}
 use Rattle.std.specs.Prelude.{◌||◌}
-use Rattle.std.proofs.lemmas.List.{nil_from_length}
 use Rattle.lra_operations.specs.TreeViews.{arm_view, arms_of}
 use Rattle.lra_operations.proofs.ArmViews.{arms_none, default_in, default_first}
 use Rattle.lra_operations.proofs.arms.any_default.Goals as goal

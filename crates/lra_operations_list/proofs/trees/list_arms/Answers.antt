@@ -1,9 +1,7 @@
 -- Goals of `list_arms`: what the first of the arms does comes behind the others.
-use Rattle.std.proofs.Common.{rules, ◌≡◌, ◌∷◌, map}
-use Rattle.std.proofs.lemmas.List.{nil_from_length}
+use Rattle.std.proofs.{Common.rules, Common.◌≡◌, Common.◌∷◌, Common.map, lemmas.List.nil_from_length}
 use Rattle.lra_operations.specs.Sizes.{arm_sizes, arms_tree_sizes}
-use Rattle.lra_operations_list.specs.TreeOperations.{op_at_point_view}
-use Rattle.lra_operations_list.specs.Due.{all_due, all_left}
+use Rattle.lra_operations_list.specs.{Due.all_due, Due.all_left, TreeOperations.op_at_point_view}
 use Rattle.lra_operations_list.proofs.TreeSteps.{entry_asks, entry_falls, no_arms_ask, none_falls, same_way, tree_asks, tree_falls, way_if}
 use Rattle.lra_operations_list.proofs.trees.list_arms.Goals as goal
 

@@ -1,7 +1,6 @@
 use Rattle.std.proofs.Common.{None, map}
 use Rattle.lra_operations.specs.TreeViews.{node_view}
-use Rattle.lra_operations_list.specs.TreeOperations.{op_at_point_view}
-use Rattle.lra_operations_list.specs.Due.{IsOnWay, all_due, all_left}
+use Rattle.lra_operations_list.specs.{Due.IsOnWay, Due.all_due, Due.all_left, TreeOperations.op_at_point_view}
 use Rattle.lra_operations_list.proofs.trees.list_operations.Given as goal
 
 -- what is done is listed, and the rest is due

@@ -1,7 +1,6 @@
 -- Goals of `open_node`: the trees in a tree are due before the others.
-use Rattle.lra_operations_list.proofs.TreeSteps.{seq_opens, seq_falls, choose_opens, choose_falls, iterate_opens, iterate_falls, catch_opens, catch_falls}
-use Rattle.lra_operations_list.proofs.TreeSteps.{select_opens, select_falls}
-use Rattle.lra_operations_list.proofs.TreeSteps.{empty_rests, point_rests, act_rests, check_rests, leave_rests}
+use Rattle.lra_operations_list.proofs.TreeSteps.{seq_opens, seq_falls, choose_opens, choose_falls, iterate_opens, iterate_falls, catch_opens, catch_falls, select_opens, select_falls, empty_rests}
+use Rattle.lra_operations_list.proofs.TreeSteps.{point_rests, act_rests, check_rests, leave_rests}
 use Rattle.lra_operations_list.proofs.trees.open_node.Goals as goal
 
 pub returns-in-Seq-clause-is : goal.returns-in-Seq-clause-is

@@ -1,7 +1,6 @@
 -- Goals of `push_apart`: a tree is due before the others, and behind it no variable is new.
 use Rattle.std.proofs.Common.{◌∙◌, ap, arith}
-use Rattle.lra_operations.specs.Tree.{seq}
-use Rattle.lra_operations.specs.TreeViews.{node_view}
+use Rattle.lra_operations.specs.{Tree.seq, TreeViews.node_view}
 use Rattle.lra_operations_list.proofs.TreeSteps.{due_push, left_push}
 use Rattle.lra_operations_list.proofs.trees.push_apart.Goals as goal
 

@@ -1,9 +1,8 @@
 -- Goals of the functions that call each other around `condition_computes`: a chain computes where its first operand does,
 -- or one of the others.
 use Rattle.std.proofs.Common.{◌∙◌, List, ap, sym, map}
-use Rattle.lra_program.specs.Overflow.{cond_computes}
+use Rattle.lra_program.specs.{Overflow.cond_computes, ProgramViews.cond_view}
 use Rattle.lra_program.specs.declared.program.Cond as declared
-use Rattle.lra_program.specs.ProgramViews.{cond_view}
 use Rattle.lra_overflow_checks.specs.Judged.{some_computes}
 use Rattle.lra_overflow_checks.proofs.ComputesSteps.{all_says, any_says, first_computes, others_compute}
 use Rattle.lra_overflow_checks.proofs.computes.+computing.Goals as goal

@@ -1,9 +1,7 @@
 -- Goals of `expression_computes`: a chain without operators is its first operand.
-use Rattle.std.proofs.Common.{◌≡◌, ◌∙◌, ap, sym, not, length, arith}
-use Rattle.std.proofs.lemmas.Grind.{common_steps}
-use Rattle.lra_program.specs.Overflow.{expr_computes}
+use Rattle.std.proofs.{Common.◌≡◌, Common.◌∙◌, Common.ap, Common.sym, Common.not, Common.length, Common.arith, lemmas.Grind.common_steps}
+use Rattle.lra_program.specs.{Overflow.expr_computes, ProgramViews.expr_view}
 use Rattle.lra_program.specs.declared.program.Expr as declared
-use Rattle.lra_program.specs.ProgramViews.{expr_view}
 use Rattle.lra_overflow_checks.proofs.ComputesSteps.{chain_view, chain_of_none, chain_of_some}
 use Rattle.lra_overflow_checks.proofs.computes.+expression_computes.Goals as goal
 

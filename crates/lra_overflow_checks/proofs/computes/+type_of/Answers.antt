@@ -1,9 +1,7 @@
 -- Goals of `type_of`: the type of an expression's value, along a chain.
 use Rattle.std.proofs.Common.{◌≡◌, ◌∙◌, List, ap, map, sym}
-use Rattle.lra_program.specs.Program.{type_of}
+use Rattle.lra_program.specs.{Program.type_of, ProgramViews.chained, ProgramViews.expr_view, ProgramViews.operation_view, declared.program.Operation.Operation}
 use Rattle.lra_program.specs.declared.program.Expr as declared
-use Rattle.lra_program.specs.declared.program.Operation.{Operation}
-use Rattle.lra_program.specs.ProgramViews.{chained, expr_view, operation_view}
 use Rattle.lra_overflow_checks.proofs.ComputesSteps.{chain_view, type_begins, type_next}
 use Rattle.lra_overflow_checks.proofs.computes.+type_of.Goals as goal
 

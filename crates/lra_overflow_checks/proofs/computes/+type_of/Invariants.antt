@@ -1,6 +1,5 @@
 use Rattle.std.proofs.Common.{◌≡◌, map, drop}
-use Rattle.lra_program.specs.Program.{type_of}
-use Rattle.lra_program.specs.ProgramViews.{expr_view, operation_view}
+use Rattle.lra_program.specs.{Program.type_of, ProgramViews.expr_view, ProgramViews.operation_view}
 use Rattle.lra_overflow_checks.proofs.ComputesSteps.{rest_type}
 use Rattle.lra_overflow_checks.proofs.computes.+type_of.Given as goal
 

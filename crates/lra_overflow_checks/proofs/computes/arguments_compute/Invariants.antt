@@ -1,6 +1,5 @@
 use Rattle.std.proofs.Common.{◌≡◌, map, length}
-use Rattle.lra_program.specs.ProgramViews.{argument_view}
-use Rattle.lra_program.specs.Overflow.{arguments_compute}
+use Rattle.lra_program.specs.{Overflow.arguments_compute, ProgramViews.argument_view}
 use Rattle.lra_overflow_checks.proofs.computes.arguments_compute.Given as goal
 
 abbrev pub invariant-loop-argument : goal.invariant-loop-argument

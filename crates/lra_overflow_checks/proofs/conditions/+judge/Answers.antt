@@ -2,8 +2,7 @@
 use Rattle.std.proofs.Common.{map, ◌≤◌, length, arith}
 use Rattle.lra_program.specs.ProgramViews.{cond_view}
 use Rattle.lra_linearize.proofs.CondSizes.{size_in}
-use Rattle.lra_overflow_checks.proofs.ConditionSteps.{compare_judged, nonzero_judged, opposite_judged, all_judged, any_judged}
-use Rattle.lra_overflow_checks.proofs.ConditionSteps.{operand_passed, judged_first, judged_on, judged_all, first_smaller}
+use Rattle.lra_overflow_checks.proofs.ConditionSteps.{compare_judged, nonzero_judged, opposite_judged, all_judged, any_judged, operand_passed, judged_first, judged_on, judged_all, first_smaller}
 use Rattle.lra_overflow_checks.proofs.conditions.+judge.Goals as goal
 
 pub judge_condition-returns-in-Compare : goal.judge_condition-returns-in-Compare

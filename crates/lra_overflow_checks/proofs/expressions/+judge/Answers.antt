@@ -1,14 +1,11 @@
 -- Goals of the functions that call each other around `judge_expression`: what is computed of a chain's operands so far.
 use Rattle.std.proofs.Common.{rules, ◌≡◌, ◌∙◌, ◌≤◌, List, refl, ap, map, sym, length, arith}
 use Rattle.lra_base.specs.declared.number_types.NumberType.TheVariants.{Long}
-use Rattle.lra_program.specs.declared.program.Operation.{Operation}
-use Rattle.lra_program.specs.declared.program.Expr as declared
-use Rattle.lra_program.specs.declared.program.Expr.{the_lemmas}
-use Rattle.lra_program.specs.Program.{literal, read, input, negate, element}
 use Rattle.lra_program.specs.ProgramViews.{chained, expr_view, operation_view, variable_view}
-use Rattle.lra_overflow_checks.proofs.ComputesSteps.{chain_view}
-use Rattle.lra_overflow_checks.proofs.ExpressionSteps.{literal_view, read_view, input_view, negate_view, element_seen, form_is_wide, leaf_computed, sign_behind}
-use Rattle.lra_overflow_checks.proofs.ExpressionSteps.{chain_behind, element_behind, chain_computed, chain_whole}
+use Rattle.lra_program.specs.{Program.literal, Program.read, Program.input, Program.negate, Program.element, declared.program.Expr.the_lemmas, declared.program.Operation.Operation}
+use Rattle.lra_program.specs.declared.program.Expr as declared
+use Rattle.lra_overflow_checks.proofs.ExpressionSteps.{literal_view, read_view, input_view, negate_view, element_seen, form_is_wide, leaf_computed, sign_behind, chain_behind, element_behind}
+use Rattle.lra_overflow_checks.proofs.{ComputesSteps.chain_view, ExpressionSteps.chain_computed, ExpressionSteps.chain_whole}
 use Rattle.lra_overflow_checks.proofs.expressions.+judge.Goals as goal
 
 pub judge_chain-operations-init : goal.judge_chain-operations-init

@@ -1,9 +1,7 @@
 -- Goals of `judge_element`: the answers on the index, then those on what the element gets.
 use Rattle.std.proofs.Common.{List, Bool, subst}
 use Rattle.std.specs.Prelude.{OnOk}
-use Rattle.lra_program.specs.declared.receivers.Receiver.{Receiver}
-use Rattle.lra_program.specs.Receivers.{waiting_in}
-use Rattle.lra_program.specs.ProgramViews.{expr_view}
+use Rattle.lra_program.specs.{ProgramViews.expr_view, Receivers.waiting_in, declared.receivers.Receiver.Receiver}
 use Rattle.lra_analysis_spec.specs.Fits.{GivenJudged}
 use Rattle.lra_overflow_checks.specs.Judged.{HasAnswers}
 use Rattle.lra_overflow_checks.proofs.ExpressionSteps.{behind_index}

@@ -1,11 +1,9 @@
 -- Goals of `fill_table`: the verdicts on all of what is done of which it is asked.
-use Rattle.std.proofs.Common.{◌<◌, ◌≤◌, length, refl, sym, subst, arith}
-use Rattle.std.proofs.lemmas.Option.{slice_get_read}
-use Rattle.lra_analysis_spec.specs.Operations.{lossy_operations}
-use Rattle.lra_analysis_spec.specs.LiveLimit.{most_live}
+use Rattle.std.proofs.{Common.◌<◌, Common.◌≤◌, Common.length, Common.refl, Common.sym, Common.subst, Common.arith, lemmas.Option.slice_get_read}
+use Rattle.lra_analysis_spec.specs.{LiveLimit.most_live, Operations.lossy_operations}
 use Rattle.lra_overflow_checks.proofs.TableSteps.{asked_more, none_fills, point_inside, unasked_more, whole_filled}
-use Rattle.lra_overflow_checks.proofs.questions.fill_table.Goals as goal
 use Rattle.lra_overflow_checks.proofs.questions.fill_table.Goals.{then-asked+in_ok-verdict, else-asked}
+use Rattle.lra_overflow_checks.proofs.questions.fill_table.Goals as goal
 
 pub doings-init : goal.doings-init
 doings-init g c = none_fills (lossy_operations g.D.Domain.abstraction) g.Q.Question.told c.args.values.now c.args.table.now.items

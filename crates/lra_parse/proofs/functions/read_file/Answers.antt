@@ -1,8 +1,6 @@
 -- Goals of `read_file`: parts, and the end.
-use Rattle.std.proofs.Common.{List, refl, ap, map}
-use Rattle.std.proofs.lemmas.Result.{err_from_is_err_and}
-use Rattle.lra_syntax.specs.Trees.{ExternalTree}
-use Rattle.lra_syntax.specs.Views.{external_view}
+use Rattle.std.proofs.{Common.List, Common.refl, Common.ap, Common.map, lemmas.Result.err_from_is_err_and}
+use Rattle.lra_syntax.specs.{Trees.ExternalTree, Views.external_view}
 use Rattle.lra_parser_spec.specs.Files.{begins_part, part_at, parts_at}
 use Rattle.lra_parse_expressions.proofs.Turning.{list_grown, list_start, list_turn}
 use Rattle.lra_parse.proofs.Headed.{file_exit, end_exit, file_gives}

@@ -1,10 +1,8 @@
 -- Goals of `read_globals`: globals with their semicolon, behind the name of the first.
 use Rattle.std.proofs.lemmas.Result.{err_from_is_err_and}
 use Rattle.lra_syntax.specs.declared.tokens.Mark.TheVariants as mark
-use Rattle.lra_syntax.specs.Trees.{globals}
-use Rattle.lra_syntax.specs.Views.{globals_view}
-use Rattle.lra_parser_spec.specs.Statements.{commas_from}
-use Rattle.lra_parser_spec.specs.Files.{global_rest, global_at, globals_of}
+use Rattle.lra_syntax.specs.{Trees.globals, Views.globals_view}
+use Rattle.lra_parser_spec.specs.{Files.global_rest, Files.global_at, Files.globals_of, Statements.commas_from}
 use Rattle.lra_parse.proofs.Headed.{ended_exit}
 use Rattle.lra_parse.proofs.globals.read_globals.Goals as goal
 

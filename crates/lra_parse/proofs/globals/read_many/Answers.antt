@@ -1,13 +1,8 @@
 -- Goals of `read_many`: globals with commas between them, behind the name of the first.
-use Rattle.std.proofs.Common.{List, [], refl, sym, arith, map}
-use Rattle.std.proofs.lemmas.Result.{err_from_is_err_and}
+use Rattle.std.proofs.{Common.List, Common.[], Common.refl, Common.sym, Common.arith, Common.map, lemmas.Result.err_from_is_err_and}
 use Rattle.lra_syntax.specs.declared.tokens.Mark.TheVariants as mark
-use Rattle.lra_syntax.specs.Trees.{GlobalTree}
-use Rattle.lra_syntax.specs.Views.{global_view}
-use Rattle.lra_parser_spec.specs.Tests.{is_mark}
-use Rattle.lra_parser_spec.specs.Reading.{list_step}
-use Rattle.lra_parser_spec.specs.Expressions.{after_mark}
-use Rattle.lra_parser_spec.specs.Files.{global_rest, global_at, globals_of}
+use Rattle.lra_syntax.specs.{Trees.GlobalTree, Views.global_view}
+use Rattle.lra_parser_spec.specs.{Expressions.after_mark, Files.global_rest, Files.global_at, Files.globals_of, Reading.list_step, Tests.is_mark}
 use Rattle.lra_parse_expressions.proofs.Turning.{turns_start, turn_off, list_grown, comma_turn, comma_exit, from_gives, from_exit}
 use Rattle.lra_parse.proofs.globals.read_many.Goals as goal
 

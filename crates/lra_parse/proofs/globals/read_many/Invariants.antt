@@ -1,10 +1,7 @@
 use Rattle.std.proofs.Common.{length, ◌≤◌, map}
 use Rattle.lra_syntax.specs.declared.tokens.Mark.TheVariants as mark
 use Rattle.lra_syntax.specs.Views.{global_view}
-use Rattle.lra_parser_spec.specs.Tests.{is_mark}
-use Rattle.lra_parser_spec.specs.Reading.{list_step, list_of}
-use Rattle.lra_parser_spec.specs.Expressions.{after_mark}
-use Rattle.lra_parser_spec.specs.Files.{global_at}
+use Rattle.lra_parser_spec.specs.{Expressions.after_mark, Files.global_at, Reading.list_step, Reading.list_of, Tests.is_mark}
 use Rattle.lra_parse_expressions.proofs.Turning.{Left}
 use Rattle.lra_parse.proofs.globals.read_many.Given as goal
 

@@ -1,8 +1,6 @@
 -- Goals of `refusal`: the refusal for the fault at which reading stops.
 use Rattle.std.proofs.Common.{subst, arith}
-use Rattle.lra_syntax.specs.declared.tokens.Token.{Token}
-use Rattle.lra_syntax.specs.Faults.{IsTextFault}
-use Rattle.lra_syntax.specs.Grammar.{Spells}
+use Rattle.lra_syntax.specs.{Faults.IsTextFault, Grammar.Spells, declared.tokens.Token.Token}
 use Rattle.lra_parser_spec.proofs.Answered.{fault_within, text_fault}
 use Rattle.lra_parse.proofs.parser.refusal.Goals as goal
 

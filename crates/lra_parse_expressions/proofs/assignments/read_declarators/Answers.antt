@@ -1,13 +1,8 @@
 -- Goals of `read_declarators`: declarators with commas between them.
-use Rattle.std.proofs.Common.{List, [], refl, sym, arith, map}
-use Rattle.std.proofs.lemmas.Result.{err_from_is_err_and}
+use Rattle.std.proofs.{Common.List, Common.[], Common.refl, Common.sym, Common.arith, Common.map, lemmas.Result.err_from_is_err_and}
 use Rattle.lra_syntax.specs.declared.tokens.Mark.TheVariants as mark
-use Rattle.lra_syntax.specs.Trees.{DeclaratorTree}
-use Rattle.lra_syntax.specs.Views.{declarator_view}
-use Rattle.lra_parser_spec.specs.Tests.{is_mark}
-use Rattle.lra_parser_spec.specs.Reading.{list_step}
-use Rattle.lra_parser_spec.specs.Expressions.{after_mark}
-use Rattle.lra_parser_spec.specs.Statements.{declarator_at, declaration_of}
+use Rattle.lra_syntax.specs.{Trees.DeclaratorTree, Views.declarator_view}
+use Rattle.lra_parser_spec.specs.{Expressions.after_mark, Reading.list_step, Statements.declarator_at, Statements.declaration_of, Tests.is_mark}
 use Rattle.lra_parse_expressions.proofs.Turning.{exit_gives, commas_first, turns_start, turn_off, list_grown, comma_turn, comma_exit, commas_gives, commas_exit}
 use Rattle.lra_parse_expressions.proofs.assignments.read_declarators.Goals as goal
 

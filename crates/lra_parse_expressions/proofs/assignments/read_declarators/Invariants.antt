@@ -1,10 +1,7 @@
 use Rattle.std.proofs.Common.{◌≡◌, length, ℕ, ◌≤◌, map}
 use Rattle.lra_syntax.specs.declared.tokens.Mark.TheVariants as mark
 use Rattle.lra_syntax.specs.Views.{declarator_view}
-use Rattle.lra_parser_spec.specs.Tests.{is_mark}
-use Rattle.lra_parser_spec.specs.Reading.{loop, list_step, list_of}
-use Rattle.lra_parser_spec.specs.Expressions.{after_mark}
-use Rattle.lra_parser_spec.specs.Statements.{declarator_at}
+use Rattle.lra_parser_spec.specs.{Expressions.after_mark, Reading.loop, Reading.list_step, Reading.list_of, Statements.declarator_at, Tests.is_mark}
 use Rattle.lra_parse_expressions.proofs.assignments.read_declarators.Given as goal
 
 abbrev pub invariant-declarators : goal.invariant-declarators

@@ -1,12 +1,8 @@
 -- Goals of `read_many`: expressions with commas between them.
-use Rattle.std.proofs.Common.{List, ap, arith, map}
-use Rattle.std.proofs.lemmas.Result.{err_from_is_err_and}
-use Rattle.lra_syntax.specs.Trees.{ExprTree}
-use Rattle.lra_syntax.specs.Views.{expr_view}
-use Rattle.lra_parser_spec.specs.Expressions.{expr_at}
-use Rattle.lra_parser_spec.specs.Statements.{listed}
-use Rattle.lra_parse_expressions.proofs.Turning.{exit_gives, commas_first, list_grown}
-use Rattle.lra_parse_expressions.proofs.Called.{many_start, many_turn, many_exit, many_gives}
+use Rattle.std.proofs.{Common.List, Common.ap, Common.arith, Common.map, lemmas.Result.err_from_is_err_and}
+use Rattle.lra_syntax.specs.{Trees.ExprTree, Views.expr_view}
+use Rattle.lra_parser_spec.specs.{Expressions.expr_at, Statements.listed}
+use Rattle.lra_parse_expressions.proofs.{Called.many_start, Called.many_turn, Called.many_exit, Called.many_gives, Turning.exit_gives, Turning.commas_first, Turning.list_grown}
 use Rattle.lra_parse_expressions.proofs.calls.read_many.Goals as goal
 
 pub many-init : goal.many-init

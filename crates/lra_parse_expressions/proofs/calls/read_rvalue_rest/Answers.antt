@@ -1,11 +1,7 @@
 -- Goals of `read_rvalue_rest`: a call, or an expression, behind the name that it begins with.
-use Rattle.lra_syntax.specs.Trees.{unary, term, expression, result}
-use Rattle.lra_syntax.specs.Views.{unary_view, term_view}
-use Rattle.lra_parser_spec.specs.Reading.{map_read}
-use Rattle.lra_parser_spec.specs.Expressions.{unary_at, factors, summands}
-use Rattle.lra_parser_spec.specs.Statements.{call_rest}
-use Rattle.lra_parse_expressions.proofs.Turning.{exit_gives, err_same, seq_exit, seq_then, map_exit}
-use Rattle.lra_parse_expressions.proofs.Unfolded.{call_is, no_call_is, no_call_exit}
+use Rattle.lra_syntax.specs.{Trees.unary, Trees.term, Trees.expression, Trees.result, Views.unary_view, Views.term_view}
+use Rattle.lra_parser_spec.specs.{Expressions.unary_at, Expressions.factors, Expressions.summands, Reading.map_read, Statements.call_rest}
+use Rattle.lra_parse_expressions.proofs.{Turning.exit_gives, Turning.err_same, Turning.seq_exit, Turning.seq_then, Turning.map_exit, Unfolded.call_is, Unfolded.no_call_is, Unfolded.no_call_exit}
 use Rattle.lra_parse_expressions.proofs.calls.read_rvalue_rest.Goals as goal
 
 pub returns-in_err-call-clause-gives : goal.returns-in_err-call-clause-gives

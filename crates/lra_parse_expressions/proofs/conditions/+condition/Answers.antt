@@ -1,20 +1,17 @@
 -- Goals of the functions that call each other around `condition`: `read_test`, `read_negation`, `read_conjunction`,
 -- `read_disjunction`.
-use Rattle.std.proofs.Common.{◌-◌, List, Ok, refl, sym, ap, ◌∙◌, arith, map}
-use Rattle.std.proofs.lemmas.Result.{err_from_is_err_and}
+use Rattle.std.proofs.{Common.◌-◌, Common.List, Common.Ok, Common.refl, Common.sym, Common.ap, Common.◌∙◌, Common.arith, Common.map, lemmas.Result.err_from_is_err_and}
 use Rattle.lra_syntax.specs.declared.tokens.Mark.TheVariants as mark
-use Rattle.lra_syntax.specs.declared.trees.Test.{Test}
-use Rattle.lra_syntax.specs.declared.trees.Conjunction.{Conjunction}
 use Rattle.lra_syntax.specs.Trees.{NegationTree, opposite_again, TestTree, test, ConjunctionTree, and, CondTree, conjunction, or}
 use Rattle.lra_syntax.specs.Views.{all_tests, any_conjunction, test_view, negation_view, conjunction_view, cond_view, unary_view}
+use Rattle.lra_syntax.specs.{declared.trees.Conjunction.Conjunction, declared.trees.Test.Test}
 use Rattle.lra_base.specs.declared.refusals.Cause.TheVariants.{TooDeep}
-use Rattle.lra_parser_spec.specs.Tests.{first}
-use Rattle.lra_parser_spec.specs.Reading.{expect, chain_rest}
 use Rattle.lra_parser_spec.specs.Expressions.{ended, next_and, next_or, test_at, negation_at, negation_of, conjunction_at, cond_at}
+use Rattle.lra_parser_spec.specs.{Reading.expect, Reading.chain_rest, Tests.first}
 use Rattle.lra_parse_expressions.proofs.Turning.{exit_gives, gives_same, stop_gives, err_same, seq_exit, seq_then, parens_give, parens_exit, chain_start, grown_turn, list_grown, chain_exit, chain_end}
-use Rattle.lra_parse_expressions.proofs.Viewed.{operand_is, and_push, or_push, negation_handed, negation_shorter}
 use Rattle.lra_parse_expressions.proofs.Unfolded.{one_on, one_off, opposite_gives, again_gives, strict_gives, operand_gives, opposed_exit, closed_exit, group_gives, value_gives, again_exit}
 use Rattle.lra_parse_expressions.proofs.Unfolded.{strict_exit, operand_exit, opposed_zero, opposed_some, opposed_handed, closed_zero, closed_some}
+use Rattle.lra_parse_expressions.proofs.Viewed.{operand_is, and_push, or_push, negation_handed, negation_shorter}
 use Rattle.lra_parse_expressions.proofs.conditions.+condition.Goals as goal
 
 pub read_test-returns-then-next_is-clause-gives : goal.read_test-returns-then-next_is-clause-gives

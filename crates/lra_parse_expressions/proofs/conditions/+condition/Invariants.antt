@@ -1,8 +1,6 @@
 use Rattle.std.proofs.Common.{◌≡◌, length, ℕ, ◌+◌, ◌*◌, ◌≤◌, map}
-use Rattle.lra_syntax.specs.Trees.{test, and, conjunction, or}
-use Rattle.lra_syntax.specs.Views.{test_view, conjunction_view, all_tests, any_conjunction}
-use Rattle.lra_parser_spec.specs.Reading.{loop, has, chain_step}
-use Rattle.lra_parser_spec.specs.Expressions.{next_and, next_or, test_at, conjunction_at, cond_at}
+use Rattle.lra_syntax.specs.{Trees.test, Trees.and, Trees.conjunction, Trees.or, Views.test_view, Views.conjunction_view, Views.all_tests, Views.any_conjunction}
+use Rattle.lra_parser_spec.specs.{Expressions.next_and, Expressions.next_or, Expressions.test_at, Expressions.conjunction_at, Expressions.cond_at, Reading.loop, Reading.has, Reading.chain_step}
 use Rattle.lra_parse_expressions.proofs.conditions.+condition.Given as goal
 
 abbrev pub decreases-read_disjunction : goal.decreases-read_disjunction

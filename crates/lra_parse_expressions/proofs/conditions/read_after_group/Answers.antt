@@ -1,15 +1,9 @@
 -- Goals of `read_after_group`: the test that begins with a condition in parentheses.
 use Rattle.std.proofs.Common.{◌≡◌, Some, ap, ◌∙◌, subst}
-use Rattle.lra_syntax.specs.declared.trees.Unary.{Group}
-use Rattle.lra_syntax.specs.declared.trees.Expr.{Expr}
-use Rattle.lra_syntax.specs.declared.trees.Cond.{Cond}
-use Rattle.lra_syntax.specs.Trees.{unary, term, group}
 use Rattle.lra_syntax.specs.Views.{unary_view, term_view, expr_view, cond_view}
-use Rattle.lra_parser_spec.specs.Reading.{seq}
-use Rattle.lra_parser_spec.specs.Expressions.{alone, unary_at, factors, summands, compared}
-use Rattle.lra_parse_expressions.proofs.Turning.{exit_gives, gives_same, err_same, seq_exit, seq_then, seq_handed}
-use Rattle.lra_parse_expressions.proofs.Viewed.{group_is}
-use Rattle.lra_parse_expressions.proofs.Unfolded.{group_from}
+use Rattle.lra_syntax.specs.{Trees.unary, Trees.term, Trees.group, declared.trees.Cond.Cond, declared.trees.Expr.Expr, declared.trees.Unary.Group}
+use Rattle.lra_parser_spec.specs.{Expressions.alone, Expressions.unary_at, Expressions.factors, Expressions.summands, Expressions.compared, Reading.seq}
+use Rattle.lra_parse_expressions.proofs.{Turning.exit_gives, Turning.gives_same, Turning.err_same, Turning.seq_exit, Turning.seq_then, Turning.seq_handed, Unfolded.group_from, Viewed.group_is}
 use Rattle.lra_parse_expressions.proofs.conditions.read_after_group.Goals as goal
 
 pub returns-in_err-term-in-Ok-clause-gives : goal.returns-in_err-term-in-Ok-clause-gives

@@ -1,23 +1,18 @@
 -- Goals of the functions that call each other around `expression`: `read_unary`, `read_named`, `read_index`, `read_group`,
 -- `read_factors`, `read_summands`.
-use Rattle.std.proofs.Common.{◌-◌, List, Ok, refl, sym, ap, ◌∙◌, arith, map}
-use Rattle.std.proofs.lemmas.Result.{err_from_is_err_and}
+use Rattle.std.proofs.{Common.◌-◌, Common.List, Common.Ok, Common.refl, Common.sym, Common.ap, Common.◌∙◌, Common.arith, Common.map, lemmas.Result.err_from_is_err_and}
 use Rattle.lra_base.specs.declared.refusals.Cause.TheVariants.{TooDeep}
 use Rattle.lra_syntax.specs.declared.tokens.Mark.TheVariants as mark
-use Rattle.lra_syntax.specs.declared.trees.Unary.{Unary, Literal}
-use Rattle.lra_syntax.specs.declared.trees.Expr.{Expr}
-use Rattle.lra_syntax.specs.declared.trees.Factor.{Factor}
-use Rattle.lra_syntax.specs.declared.trees.Summand.{Summand}
 use Rattle.lra_syntax.specs.Trees.{UnaryTree, TermTree, ExprTree, unary, term, group, element, negated, positive}
 use Rattle.lra_syntax.specs.Views.{unary_view, term_view, expr_view, factor_view, summand_view, product, sum_of, further_factor, further_term}
-use Rattle.lra_parser_spec.specs.Reading.{Text, has, tail, chain_step, expect, map_read}
+use Rattle.lra_syntax.specs.{declared.trees.Expr.Expr, declared.trees.Factor.Factor, declared.trees.Summand.Summand, declared.trees.Unary.Unary, declared.trees.Unary.Literal}
 use Rattle.lra_parser_spec.specs.Expressions.{factor_operator, sum_operator, unary_at, expr_at, factors, term_of, summands, ended, in_parens}
+use Rattle.lra_parser_spec.specs.Reading.{Text, has, tail, chain_step, expect, map_read}
 use Rattle.lra_parse_expressions.proofs.Turning.{exit_gives, gives_same, stop_gives, err_same, seq_exit, seq_then, seq_handed, map_exit, parens_exit, turns_start, pushed_turn, chain_exit, chain_end}
 use Rattle.lra_parse_expressions.proofs.Turning.{between_give, between_first, between_part, between_exit}
+use Rattle.lra_parse_expressions.proofs.Unfolded.{literal_gives, named_gives, element_gives, element_exit, variable_gives, index_zero, index_some, grouped_gives, minus_is, plus_is, open_is, input_is}
+use Rattle.lra_parse_expressions.proofs.Unfolded.{name_exit, negated_zero, negated_some, positive_zero, positive_some, grouped_zero, grouped_some}
 use Rattle.lra_parse_expressions.proofs.Viewed.{literal_is, variable_is, group_is, element_is, factor_is, term_is, summand_is, expr_is, product_push, sum_push}
-use Rattle.lra_parse_expressions.proofs.Unfolded.{literal_gives, named_gives, element_gives, element_exit, variable_gives, index_zero, index_some}
-use Rattle.lra_parse_expressions.proofs.Unfolded.{grouped_gives, minus_is, plus_is, open_is, input_is, name_exit, negated_zero}
-use Rattle.lra_parse_expressions.proofs.Unfolded.{negated_some, positive_zero, positive_some, grouped_zero, grouped_some}
 use Rattle.lra_parse_expressions.proofs.expressions.+expression.Goals as goal
 
 pub read_unary-returns-in-Some-clause-gives : goal.read_unary-returns-in-Some-clause-gives

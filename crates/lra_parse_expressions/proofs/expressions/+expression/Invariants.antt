@@ -1,8 +1,7 @@
 use Rattle.std.proofs.Common.{◌≡◌, length, ℕ, ◌+◌, ◌*◌, ◌≤◌, map}
-use Rattle.lra_syntax.specs.Trees.{unary, term}
-use Rattle.lra_syntax.specs.Views.{unary_view, term_view, factor_view, summand_view, product, sum_of, further_factor, further_term}
-use Rattle.lra_parser_spec.specs.Reading.{loop, has, chain_step}
+use Rattle.lra_syntax.specs.{Trees.unary, Trees.term, Views.unary_view, Views.term_view, Views.factor_view, Views.summand_view, Views.product, Views.sum_of, Views.further_factor, Views.further_term}
 use Rattle.lra_parser_spec.specs.Expressions.{factor_operator, sum_operator, unary_at, term_of, factors, summands}
+use Rattle.lra_parser_spec.specs.Reading.{loop, has, chain_step}
 use Rattle.lra_parse_expressions.proofs.expressions.+expression.Given as goal
 
 abbrev pub decreases-read_expr : goal.decreases-read_expr

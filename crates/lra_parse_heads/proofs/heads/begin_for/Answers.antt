@@ -1,7 +1,6 @@
 -- Goals of `begin_for`: a `for`, up to its branch.
 use Rattle.lra_syntax.specs.declared.tokens.Mark.TheVariants as mark
-use Rattle.lra_parser_spec.specs.Reading.{expect_at, seq, map_read}
-use Rattle.lra_parser_spec.specs.Statements.{branch_at, for_head_at, for_of}
+use Rattle.lra_parser_spec.specs.{Reading.expect_at, Reading.seq, Reading.map_read, Statements.branch_at, Statements.for_head_at, Statements.for_of}
 use Rattle.lra_parse_expressions.proofs.Turning.{seq_exit, seq_then}
 use Rattle.lra_parse_heads.proofs.Goes.{exit_on}
 use Rattle.lra_parse_heads.proofs.heads.begin_for.Goals as goal

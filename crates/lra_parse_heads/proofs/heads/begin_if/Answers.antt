@@ -1,8 +1,6 @@
 -- Goals of `begin_if`: an `if`, up to its branch.
 use Rattle.lra_syntax.specs.declared.tokens.Mark.TheVariants as mark
-use Rattle.lra_parser_spec.specs.Reading.{expect_at, seq}
-use Rattle.lra_parser_spec.specs.Expressions.{in_parens, cond_at}
-use Rattle.lra_parser_spec.specs.Statements.{branch_at, else_part}
+use Rattle.lra_parser_spec.specs.{Expressions.in_parens, Expressions.cond_at, Reading.expect_at, Reading.seq, Statements.branch_at, Statements.else_part}
 use Rattle.lra_parse_expressions.proofs.Turning.{seq_exit, seq_then}
 use Rattle.lra_parse_heads.proofs.Goes.{exit_on}
 use Rattle.lra_parse_heads.proofs.heads.begin_if.Goals as goal

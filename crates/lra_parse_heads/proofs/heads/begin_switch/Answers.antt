@@ -1,9 +1,7 @@
 -- Goals of `begin_switch`: a `switch`, up to its braces.
 use Rattle.lra_syntax.specs.declared.tokens.Mark.TheVariants as mark
 use Rattle.lra_syntax.specs.Trees.{switch}
-use Rattle.lra_parser_spec.specs.Reading.{expect_at, seq, map_read}
-use Rattle.lra_parser_spec.specs.Expressions.{in_parens, expr_at}
-use Rattle.lra_parser_spec.specs.Statements.{braces_at}
+use Rattle.lra_parser_spec.specs.{Expressions.in_parens, Expressions.expr_at, Reading.expect_at, Reading.seq, Reading.map_read, Statements.braces_at}
 use Rattle.lra_parse_expressions.proofs.Turning.{seq_exit, seq_then}
 use Rattle.lra_parse_heads.proofs.Goes.{exit_on, switch_goes}
 use Rattle.lra_parse_heads.proofs.heads.begin_switch.Goals as goal

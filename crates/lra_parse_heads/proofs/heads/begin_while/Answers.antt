@@ -1,9 +1,7 @@
 -- Goals of `begin_while`: a `while`, up to its branch.
 use Rattle.lra_syntax.specs.declared.tokens.Mark.TheVariants as mark
 use Rattle.lra_syntax.specs.Trees.{while}
-use Rattle.lra_parser_spec.specs.Reading.{expect_at, seq, map_read}
-use Rattle.lra_parser_spec.specs.Expressions.{in_parens, cond_at}
-use Rattle.lra_parser_spec.specs.Statements.{branch_at}
+use Rattle.lra_parser_spec.specs.{Expressions.in_parens, Expressions.cond_at, Reading.expect_at, Reading.seq, Reading.map_read, Statements.branch_at}
 use Rattle.lra_parse_expressions.proofs.Turning.{seq_exit, seq_then}
 use Rattle.lra_parse_heads.proofs.Goes.{exit_on}
 use Rattle.lra_parse_heads.proofs.heads.begin_while.Goals as goal

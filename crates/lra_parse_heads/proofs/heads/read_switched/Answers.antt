@@ -1,8 +1,7 @@
 -- Goals of `read_switched`: an expression in parentheses that open no level.
 use Rattle.lra_syntax.specs.declared.tokens.Mark.TheVariants as mark
 use Rattle.lra_syntax.specs.Views.{expr_view}
-use Rattle.lra_parser_spec.specs.Reading.{expect}
-use Rattle.lra_parser_spec.specs.Expressions.{ended, expr_at}
+use Rattle.lra_parser_spec.specs.{Expressions.ended, Expressions.expr_at, Reading.expect}
 use Rattle.lra_parse_expressions.proofs.Turning.{exit_gives, seq_exit, seq_then, parens_give, parens_exit}
 use Rattle.lra_parse_heads.proofs.heads.read_switched.Goals as goal
 

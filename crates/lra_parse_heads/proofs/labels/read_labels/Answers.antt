@@ -1,7 +1,6 @@
 -- Goals of `read_labels`: labels one behind the other, or none.
 use Rattle.std.proofs.Common.{refl, arith}
-use Rattle.lra_parser_spec.specs.Tests.{begins_label}
-use Rattle.lra_parser_spec.specs.Statements.{label_parser, labels_at}
+use Rattle.lra_parser_spec.specs.{Statements.label_parser, Statements.labels_at, Tests.begins_label}
 use Rattle.lra_parse_expressions.proofs.Turning.{exit_gives, list_start, list_turn, list_exit, list_end}
 use Rattle.lra_parse_heads.proofs.labels.read_labels.Goals as goal
 

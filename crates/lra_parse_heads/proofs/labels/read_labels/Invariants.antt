@@ -1,7 +1,5 @@
 use Rattle.std.proofs.Common.{length, ◌≤◌}
-use Rattle.lra_parser_spec.specs.Tests.{begins_label}
-use Rattle.lra_parser_spec.specs.Reading.{list_step}
-use Rattle.lra_parser_spec.specs.Statements.{label_parser, labels_at}
+use Rattle.lra_parser_spec.specs.{Reading.list_step, Statements.label_parser, Statements.labels_at, Tests.begins_label}
 use Rattle.lra_parse_expressions.proofs.Turning.{Left}
 use Rattle.lra_parse_heads.proofs.labels.read_labels.Given as goal
 

@@ -1,15 +1,11 @@
 -- Goals of the functions that call each other around `statement`: `finish`, `read_block`, `read_braces`, `read_branch`,
 -- `read_item`, `read_stated`.
-use Rattle.std.proofs.Common.{List, Bor, subst, Ok, sym, ap, ◌∙◌, ◌-◌, arith, refl, map}
-use Rattle.std.proofs.lemmas.Result.{err_from_is_err_and}
+use Rattle.std.proofs.{Common.List, Common.Bor, Common.subst, Common.Ok, Common.sym, Common.ap, Common.◌∙◌, Common.◌-◌, Common.arith, Common.refl, Common.map, lemmas.Result.err_from_is_err_and}
 use Rattle.lra_base.specs.declared.refusals.Place.{Place}
-use Rattle.lra_syntax.specs.Trees.{StmtTree, ItemsTree}
-use Rattle.lra_syntax.specs.declared.tokens.Mark.TheVariants as mark
 use Rattle.lra_syntax.specs.Views.{block_view, stmt_view, case_view, cases_of, cases_view}
-use Rattle.lra_syntax.specs.declared.tokens.Token.{Token}
-use Rattle.lra_syntax.specs.declared.trees.Block.{Block}
-use Rattle.lra_parser_spec.specs.Reading.{Read, ParsesAs, expect}
-use Rattle.lra_parser_spec.specs.Statements.{branch_at, braces_at, stated_at}
+use Rattle.lra_syntax.specs.{Trees.StmtTree, Trees.ItemsTree, declared.tokens.Token.Token, declared.trees.Block.Block}
+use Rattle.lra_syntax.specs.declared.tokens.Mark.TheVariants as mark
+use Rattle.lra_parser_spec.specs.{Reading.Read, Reading.ParsesAs, Reading.expect, Statements.branch_at, Statements.braces_at, Statements.stated_at}
 use Rattle.lra_parse_expressions.proofs.Turning.{ok_shorter, gives_same, exit_gives}
 use Rattle.lra_parse_heads.specs.Begun.{begun_rest}
 use Rattle.lra_parse_statements.proofs.Stated.{state_start, state_turn, block_exit, block_closes, branch_block, branch_simple, item_other, stated_block, stated_simple}

@@ -2,8 +2,7 @@ use Rattle.std.proofs.Common.{length, ◌+◌, ◌-◌, ◌*◌, ◌<◌, map}
 use Rattle.lra_syntax.specs.Views.{case_view}
 use Rattle.lra_parser_spec.specs.Statements.{items_at}
 use Rattle.lra_parse_heads.specs.Begun.{branches_left}
-use Rattle.lra_parse_statements.proofs.Stated.{State}
-use Rattle.lra_parse_statements.proofs.Braces.{Opened}
+use Rattle.lra_parse_statements.proofs.{Braces.Opened, Stated.State}
 use Rattle.lra_parse_statements.proofs.statements.+statement.Given as goal
 
 abbrev pub decreases-read_block : goal.decreases-read_block

@@ -1,8 +1,7 @@
 -- Goals of `close_cases`: what the braces of a `switch` hold, whose last one comes next.
 use Rattle.std.proofs.Common.{Ok, sym, ap, map, ◌∙◌}
 use Rattle.lra_syntax.specs.declared.tokens.Mark.TheVariants as mark
-use Rattle.lra_syntax.specs.Trees.{CasesTree}
-use Rattle.lra_syntax.specs.Views.{case_view, cases_of}
+use Rattle.lra_syntax.specs.{Trees.CasesTree, Views.case_view, Views.cases_of}
 use Rattle.lra_parse_expressions.proofs.Turning.{expect_value}
 use Rattle.lra_parse_statements.proofs.Stated.{braces_view}
 use Rattle.lra_parse_statements.proofs.statements.close_cases.Goals as goal

@@ -1,6 +1,5 @@
 -- Goals of `push_labels`: labels, behind the other items.
-use Rattle.std.proofs.Common.{sym, map}
-use Rattle.std.proofs.lemmas.List.{append-nil}
+use Rattle.std.proofs.{Common.sym, Common.map, lemmas.List.append-nil}
 use Rattle.lra_syntax.specs.Views.{case_view}
 use Rattle.lra_parse_statements.proofs.Braces.{label_turn}
 use Rattle.lra_parse_statements.proofs.statements.push_labels.Goals as goal

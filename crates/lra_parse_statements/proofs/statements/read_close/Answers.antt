@@ -1,8 +1,7 @@
 -- Goals of `read_close`: the block of these items, whose brace comes next.
 use Rattle.std.proofs.Common.{Ok, sym, ap, map, ◌∙◌}
 use Rattle.lra_base.specs.declared.refusals.Place.{Place}
-use Rattle.lra_syntax.specs.Trees.{ItemsTree}
-use Rattle.lra_syntax.specs.Views.{item_view, items_of}
+use Rattle.lra_syntax.specs.{Trees.ItemsTree, Views.item_view, Views.items_of}
 use Rattle.lra_parse_statements.proofs.Stated.{close_gives, body_view}
 use Rattle.lra_parse_statements.proofs.statements.read_close.Goals as goal
 

@@ -1,6 +1,5 @@
 -- Goals of `has_leaves`: one tree more has none in it.
-use Rattle.std.proofs.Common.{rules, ◌≡◌, ◌∷◌, List, true, sym, subst}
-use Rattle.std.proofs.lemmas.List.{nil_from_length}
+use Rattle.std.proofs.{Common.rules, Common.◌≡◌, Common.◌∷◌, Common.List, Common.true, Common.sym, Common.subst, lemmas.List.nil_from_length}
 use Rattle.lra_operations.specs.declared.tree.Node.{Node}
 use Rattle.lra_pass_results.specs.Flat.{AllLeaves}
 use Rattle.lra_pass_results.proofs.flat.has_leaves.Goals as goal

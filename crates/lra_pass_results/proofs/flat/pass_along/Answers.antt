@@ -1,12 +1,9 @@
 -- Goals of `pass_along`: one leaf more is passed, and the last.
-use Rattle.std.proofs.Common.{rules, ◌≡◌, ◌∷◌, map, ap, ◌∙◌}
-use Rattle.std.proofs.lemmas.List.{nil_from_length}
+use Rattle.std.proofs.{Common.rules, Common.◌≡◌, Common.◌∷◌, Common.map, Common.ap, Common.◌∙◌, lemmas.List.nil_from_length}
 use Rattle.lra_domain.specs.Interference.{no_interference}
-use Rattle.lra_operations.specs.Tree.{seq}
-use Rattle.lra_operations.specs.TreeViews.{node_view, row}
+use Rattle.lra_operations.specs.{Tree.seq, TreeViews.node_view, TreeViews.row}
 use Rattle.lra_pass_results.specs.TreeForms.{leaf_view}
-use Rattle.lra_pass_results.proofs.FlatRows.{first_leaf, flat_ends, flat_next}
-use Rattle.lra_pass_results.proofs.PassRows.{row_first, row_last}
+use Rattle.lra_pass_results.proofs.{FlatRows.first_leaf, FlatRows.flat_ends, FlatRows.flat_next, PassRows.row_first, PassRows.row_last}
 use Rattle.lra_pass_results.proofs.flat.pass_along.Goals as goal
 
 pub leaves-preserved : goal.leaves-preserved

@@ -5,8 +5,7 @@ use Rattle.lra_operations.specs.TreeViews.{node_view}
 use Rattle.lra_program.specs.ProgramViews.{cond_view}
 use Rattle.lra_systems.specs.LinearSystems.{LinearSystem}
 use Rattle.lra_linear_spec.specs.declared.ConKind.{ConKind}
-use Rattle.lra_analysis_spec.specs.GuardThresholds.{guard_thresholds}
-use Rattle.lra_analysis_spec.specs.Thresholds.{loop_thresholds, threshold_rows}
+use Rattle.lra_analysis_spec.specs.{GuardThresholds.guard_thresholds, Thresholds.loop_thresholds, Thresholds.threshold_rows}
 use Rattle.lra_pass_results.proofs.GivenLoops.{rows_by_condition, rows_by_thresholds}
 use Rattle.lra_pass_results.proofs.heads.rows_of.Goals as goal
 

@@ -1,8 +1,7 @@
 -- Goals of `go_on_row`: behind what the tree under way found, the next one is.
 use Rattle.std.proofs.Common.{◌≤◌, sym, subst}
 use Rattle.lra_analysis_spec.specs.Plan.{Plan}
-use Rattle.lra_pass_stack.proofs.OpenFrames.{row_followed}
-use Rattle.lra_pass_stack.proofs.RowLeaves.{row_way, row_falls}
+use Rattle.lra_pass_stack.proofs.{OpenFrames.row_followed, RowLeaves.row_way, RowLeaves.row_falls}
 use Rattle.lra_pass_stack.proofs.rows.go_on_row.Goals as goal
 
 pub next_of_row-requires-clause-parts : goal.next_of_row-requires-clause-parts

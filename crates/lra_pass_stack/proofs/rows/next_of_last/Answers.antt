@@ -2,8 +2,7 @@
 use Rattle.std.proofs.Common.{[], refl, arith}
 use Rattle.lra_pass_results.specs.Flat.{flat_view}
 use Rattle.lra_pass_results.proofs.AnyInterference.{flat_among}
-use Rattle.lra_pass_stack.proofs.OpenFrames.{last_leads}
-use Rattle.lra_pass_stack.proofs.RowLeaves.{last_followed}
+use Rattle.lra_pass_stack.proofs.{OpenFrames.last_leads, RowLeaves.last_followed}
 use Rattle.lra_pass_stack.proofs.rows.next_of_last.Goals as goal
 
 pub returns-in-Some-clause-leads : goal.returns-in-Some-clause-leads

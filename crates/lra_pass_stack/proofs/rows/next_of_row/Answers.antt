@@ -1,8 +1,6 @@
 -- Goals of `next_of_row`: flat trees are passed, and the first other one is next.
-use Rattle.std.proofs.Common.{rules, ◌≡◌, ◌∷◌, refl}
-use Rattle.std.proofs.lemmas.List.{nil_from_length}
-use Rattle.lra_pass_results.specs.declared.tree_forms.Row.{Row}
-use Rattle.lra_pass_results.specs.Flat.{flat_view}
+use Rattle.std.proofs.{Common.rules, Common.◌≡◌, Common.◌∷◌, Common.refl, lemmas.List.nil_from_length}
+use Rattle.lra_pass_results.specs.{Flat.flat_view, declared.tree_forms.Row.Row}
 use Rattle.lra_pass_stack.specs.StepsLeft.{most_rounds}
 use Rattle.lra_pass_results.proofs.AnyInterference.{flat_among}
 use Rattle.lra_pass_stack.proofs.RowLeaves.{first_fits, last_falls, first_followed, row_alone, steps_less, steps_within}

@@ -1,7 +1,6 @@
 -- Goals of `come_out`: what comes out behind the last arm; where nothing runs there, what has no match.
 use Rattle.std.proofs.lemmas.Result.{IfOk-weaker}
-use Rattle.lra_pass_results.specs.declared.outcome.PassOutcome.{PassOutcome}
-use Rattle.lra_pass_results.specs.Outcome.{running_on}
+use Rattle.lra_pass_results.specs.{Outcome.running_on, declared.outcome.PassOutcome.PassOutcome}
 use Rattle.lra_pass_stack.specs.Stack.{ComesOutAt}
 use Rattle.lra_pass_stack.proofs.SelectFrames.{comes_out_none, comes_out_some, run_dims}
 use Rattle.lra_pass_stack.proofs.selections.come_out.Goals as goal

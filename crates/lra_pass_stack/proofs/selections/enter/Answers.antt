@@ -1,6 +1,5 @@
 -- Goals of `enter`: the label is entered.
-use Rattle.std.proofs.Common.{ℕ, sym, subst}
-use Rattle.std.proofs.lemmas.Result.{IfOk-weaker}
+use Rattle.std.proofs.{Common.ℕ, Common.sym, Common.subst, lemmas.Result.IfOk-weaker}
 use Rattle.lra_pass_stack.specs.Stack.{EntersAt, JoinsAt, RunHas}
 use Rattle.lra_pass_stack.proofs.SelectFrames.{entered_at}
 use Rattle.lra_pass_stack.proofs.selections.enter.Goals as goal

@@ -1,13 +1,9 @@
 -- Goals of `enter_at`: what comes in at the label.
-use Rattle.std.proofs.Common.{◌≡◌, ◌∙◌, ap}
-use Rattle.std.proofs.lemmas.Result.{IfOk-weaker}
+use Rattle.std.proofs.{Common.◌≡◌, Common.◌∙◌, Common.ap, lemmas.Result.IfOk-weaker}
 use Rattle.lra_domain.specs.declared.Exactness.TheVariants.{Exact}
-use Rattle.lra_analysis_spec.specs.Operations.{lossy_operations}
-use Rattle.lra_analysis_spec.specs.MovesOf.{number_moves}
-use Rattle.lra_analysis_spec.specs.Pass.{Enters}
+use Rattle.lra_analysis_spec.specs.{MovesOf.number_moves, Operations.lossy_operations, Pass.Enters}
 use Rattle.std.specs.Prelude.{true}
-use Rattle.lra_transfer.specs.Changes.{Does}
-use Rattle.lra_transfer.specs.declared.splits.Kept.{Kept}
+use Rattle.lra_transfer.specs.{Changes.Does, declared.splits.Kept.Kept}
 use Rattle.lra_pass_stack.proofs.SelectFrames.{case_entered, default_entered}
 use Rattle.lra_pass_stack.proofs.selections.enter_at.Goals as goal
 

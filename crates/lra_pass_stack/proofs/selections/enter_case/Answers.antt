@@ -1,8 +1,6 @@
 -- Goals of `enter_case`: what is left of a copy of the value where what is seen has this number.
 use Rattle.std.proofs.Common.{◌≤◌, ◌∙◌, sym, subst, ap, true}
-use Rattle.lra_analysis_spec.specs.LiveLimit.{most_live}
-use Rattle.lra_analysis_spec.specs.Linearization.{LinearizedFits}
-use Rattle.lra_analysis_spec.specs.MovesOf.{number_moves}
+use Rattle.lra_analysis_spec.specs.{Linearization.LinearizedFits, LiveLimit.most_live, MovesOf.number_moves}
 use Rattle.lra_transfer.specs.Changes.{Does}
 use Rattle.lra_pass_stack.proofs.selections.enter_case.Goals as goal
 

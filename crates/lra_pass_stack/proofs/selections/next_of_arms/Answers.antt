@@ -1,10 +1,7 @@
 -- Goals of `next_of_arms`: the labels that come next are entered, then the tree behind them is next.
-use Rattle.std.proofs.Common.{rules, ◌≡◌, ◌∷◌, arith}
-use Rattle.std.proofs.lemmas.List.{nil_from_length}
-use Rattle.std.proofs.lemmas.Result.{IfOk-weaker}
+use Rattle.std.proofs.{Common.rules, Common.◌≡◌, Common.◌∷◌, Common.arith, lemmas.List.nil_from_length, lemmas.Result.IfOk-weaker}
 use Rattle.lra_pass_results.specs.Outcome.{outcome_view}
-use Rattle.lra_pass_stack.specs.Stack.{ComesOutAt, IsMade}
-use Rattle.lra_pass_stack.specs.StepsLeft.{most_rounds}
+use Rattle.lra_pass_stack.specs.{Stack.ComesOutAt, Stack.IsMade, StepsLeft.most_rounds}
 use Rattle.lra_pass_stack.proofs.SelectFrames.{arms_ended, label_few, label_other, label_running, label_width, other_running, owes_next, tree_owed}
 use Rattle.lra_pass_stack.proofs.SelectSteps.{arms_fewer, entry_less, tree_less}
 use Rattle.lra_pass_stack.proofs.selections.next_of_arms.Goals as goal

@@ -1,12 +1,8 @@
 -- Goals of `open_arm`: the tree before the arms that are left is next.
 use Rattle.std.proofs.Common.{◌+◌, ℕ, ap, subst, sym}
-use Rattle.lra_analysis_spec.specs.Operations.{lossy_operations}
-use Rattle.lra_analysis_spec.specs.Plan.{Plan}
-use Rattle.lra_analysis_spec.specs.Pass.{RunsFrom}
-use Rattle.lra_pass_stack.specs.declared.stack.SelectFrame.{SelectFrame}
-use Rattle.lra_pass_stack.specs.Stack.{RunHas}
+use Rattle.lra_analysis_spec.specs.{Operations.lossy_operations, Pass.RunsFrom, Plan.Plan}
+use Rattle.lra_pass_stack.specs.{Stack.RunHas, StepsLeft.most_rounds, StepsLeft.tree_steps, declared.stack.SelectFrame.SelectFrame}
 use Rattle.lra_pass_results.specs.Steps.{arms_steps}
-use Rattle.lra_pass_stack.specs.StepsLeft.{most_rounds, tree_steps}
 use Rattle.lra_pass_stack.proofs.SelectFrames.{arm_leads}
 use Rattle.lra_pass_stack.proofs.selections.open_arm.Goals as goal
 

@@ -1,7 +1,6 @@
 -- Goals of `push_globals_from`: the first global, and the others behind it.
 use Rattle.std.proofs.Common.{rules, ◌≡◌, ◌∷◌}
-use Rattle.lra_path_disjuncts.proofs.TableSteps.{within}
-use Rattle.lra_path_disjuncts.proofs.GuardSteps.{both_has}
+use Rattle.lra_path_disjuncts.proofs.{GuardSteps.both_has, TableSteps.within}
 use Rattle.lra_path_disjuncts.proofs.changes.+push_globals_from.Goals as goal
 
 pub push_first_then-requires-clause-first : goal.push_first_then-requires-clause-first

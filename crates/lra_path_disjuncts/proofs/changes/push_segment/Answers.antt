@@ -1,8 +1,6 @@
 -- Goals of `push_segment`: what is done so far, and then one more.
 use Rattle.std.proofs.Common.{◌≤◌, length, arith}
-use Rattle.lra_path_disjuncts.proofs.TableSteps.{within}
-use Rattle.lra_path_disjuncts.proofs.GuardSteps.{grows_on}
-use Rattle.lra_path_disjuncts.proofs.WayMoveSteps.{alive_on, way_more, way_whole}
+use Rattle.lra_path_disjuncts.proofs.{GuardSteps.grows_on, TableSteps.within, WayMoveSteps.alive_on, WayMoveSteps.way_more, WayMoveSteps.way_whole}
 use Rattle.lra_path_disjuncts.proofs.changes.push_segment.Goals as goal
 
 pub push_first_then-requires-clause-first : goal.push_first_then-requires-clause-first

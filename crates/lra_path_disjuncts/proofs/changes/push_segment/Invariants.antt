@@ -1,7 +1,6 @@
 use Rattle.std.proofs.Common.{◌≡◌, map, take}
 use Rattle.lra_path_segments.specs.TreeSegmentViews.{move_view}
-use Rattle.lra_path_disjuncts.specs.Tables.{Grows, Has, IsTable}
-use Rattle.lra_path_disjuncts.specs.SegmentMoves.{live_after_steps, segment_moves}
+use Rattle.lra_path_disjuncts.specs.{SegmentMoves.live_after_steps, SegmentMoves.segment_moves, Tables.Grows, Tables.Has, Tables.IsTable}
 use Rattle.lra_path_disjuncts.proofs.changes.push_segment.Given as goal
 
 -- what is done so far stands at the place

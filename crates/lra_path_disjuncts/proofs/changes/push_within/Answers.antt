@@ -1,7 +1,6 @@
 -- Goals of `push_within`: the moves stay where they are.
-use Rattle.lra_path_disjuncts.proofs.TableSteps.{within}
+use Rattle.lra_path_disjuncts.proofs.{GuardSteps.both_has, GuardSteps.still_in, GuardSteps.there_at, TableSteps.within}
 use Rattle.lra_path_disjuncts.specs.Tables.{moves_at}
-use Rattle.lra_path_disjuncts.proofs.GuardSteps.{both_has, still_in, there_at}
 use Rattle.lra_path_disjuncts.proofs.changes.push_within.Goals as goal
 
 pub push_first_then-requires-clause-first : goal.push_first_then-requires-clause-first

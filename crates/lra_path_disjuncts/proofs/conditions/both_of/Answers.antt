@@ -2,8 +2,7 @@
 use Rattle.std.proofs.Common.{◌∙◌, ap, Some}
 use Rattle.lra_domain.specs.Moves.{first_then}
 use Rattle.lra_path_disjuncts.specs.Tables.{moves_at}
-use Rattle.lra_path_disjuncts.proofs.TableSteps.{within}
-use Rattle.lra_path_disjuncts.proofs.GuardSteps.{grows_on, still_at, still_in, there_at, join_has}
+use Rattle.lra_path_disjuncts.proofs.{GuardSteps.grows_on, GuardSteps.still_at, GuardSteps.still_in, GuardSteps.there_at, GuardSteps.join_has, TableSteps.within}
 use Rattle.lra_path_disjuncts.proofs.conditions.both_of.Goals as goal
 
 pub push_first_then-requires-2-clause-first : goal.push_first_then-requires-2-clause-first

@@ -1,11 +1,8 @@
 -- Goals of `push_cases`: the end stands in the table, and then both cases.
-use Rattle.lra_domain.specs.Actions.{remove_last}
-use Rattle.lra_domain.specs.Changes.{action_of, actions_of}
-use Rattle.lra_domain.specs.Moves.{make, first_then}
+use Rattle.lra_domain.specs.{Actions.remove_last, Changes.action_of, Changes.actions_of, Moves.make, Moves.first_then}
 use Rattle.lra_analysis_spec.specs.MovesOf.{first_case, in_turn, second_case}
 use Rattle.lra_path_disjuncts.specs.Tables.{moves_at}
-use Rattle.lra_path_disjuncts.proofs.TableSteps.{within}
-use Rattle.lra_path_disjuncts.proofs.GuardSteps.{cases_have, grows_on, grows_to}
+use Rattle.lra_path_disjuncts.proofs.{GuardSteps.cases_have, GuardSteps.grows_on, GuardSteps.grows_to, TableSteps.within}
 use Rattle.lra_path_disjuncts.proofs.conditions.push_cases.Goals as goal
 
 pub push_case-requires-clause-end : goal.push_case-requires-clause-end

@@ -1,9 +1,6 @@
 -- Goals of `push_end`: both stand in the table.
-use Rattle.lra_domain.specs.Actions.{remove_last}
-use Rattle.lra_domain.specs.Changes.{action_of}
-use Rattle.lra_domain.specs.Moves.{make}
-use Rattle.lra_path_disjuncts.proofs.TableSteps.{within}
-use Rattle.lra_path_disjuncts.proofs.GuardSteps.{both_has, grows_to, grows_on}
+use Rattle.lra_domain.specs.{Actions.remove_last, Changes.action_of, Moves.make}
+use Rattle.lra_path_disjuncts.proofs.{GuardSteps.both_has, GuardSteps.grows_to, GuardSteps.grows_on, TableSteps.within}
 use Rattle.lra_path_disjuncts.proofs.conditions.push_end.Goals as goal
 
 pub push_first_then-requires-clause-first : goal.push_first_then-requires-clause-first

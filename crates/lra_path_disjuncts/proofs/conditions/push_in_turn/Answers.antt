@@ -1,8 +1,6 @@
 -- Goals of `push_in_turn`: one change more is made.
-use Rattle.lra_domain.specs.Changes.{action_of, actions_of}
-use Rattle.lra_domain.specs.Moves.{make}
-use Rattle.lra_path_disjuncts.proofs.TableSteps.{within}
-use Rattle.lra_path_disjuncts.proofs.GuardSteps.{turned_in}
+use Rattle.lra_domain.specs.{Changes.action_of, Changes.actions_of, Moves.make}
+use Rattle.lra_path_disjuncts.proofs.{GuardSteps.turned_in, TableSteps.within}
 use Rattle.lra_path_disjuncts.proofs.conditions.push_in_turn.Goals as goal
 
 pub push_first_then-requires-clause-first : goal.push_first_then-requires-clause-first

@@ -1,8 +1,8 @@
 -- Goals of the functions that call each other around `push_guards`: `push_guards`, `push_operand_guards`, `push_chain_guards`.
 use Rattle.std.proofs.Common.{rules, arith, []}
 use Rattle.lra_program.specs.ProgramViews.{cond_view}
-use Rattle.lra_path_disjuncts.proofs.GuardSteps.{grows_on, grows_to, still_in}
 use Rattle.lra_path_disjuncts.proofs.ChainSteps.{both_in, puts_in_front, joined_last, joined_in, joined_next, joined_all, size_at, size_next}
+use Rattle.lra_path_disjuncts.proofs.GuardSteps.{grows_on, grows_to, still_in}
 use Rattle.lra_path_disjuncts.proofs.guards.+guards.Goals as goal
 
 pub push_operand_guards-join_operands-requires-clause-one : goal.push_operand_guards-join_operands-requires-clause-one

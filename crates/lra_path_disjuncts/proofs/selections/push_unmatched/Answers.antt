@@ -1,7 +1,6 @@
 -- Goals of `push_unmatched`: one arm more, before those that are passed.
 use Rattle.std.proofs.Common.{sym, ◌∙◌}
-use Rattle.lra_path_disjuncts.proofs.GuardSteps.{grows_on}
-use Rattle.lra_path_disjuncts.proofs.LabelSteps.{all_passed, none_passed, one_passed, passed_in}
+use Rattle.lra_path_disjuncts.proofs.{GuardSteps.grows_on, LabelSteps.all_passed, LabelSteps.none_passed, LabelSteps.one_passed, LabelSteps.passed_in}
 use Rattle.lra_path_disjuncts.proofs.selections.push_unmatched.Goals as goal
 
 pub arms-init : goal.arms-init

@@ -1,6 +1,5 @@
 use Rattle.std.proofs.Common.{length}
-use Rattle.lra_path_disjuncts.specs.PassedLabels.{ArePassed}
-use Rattle.lra_path_disjuncts.specs.Tables.{Grows, IsTable}
+use Rattle.lra_path_disjuncts.specs.{PassedLabels.ArePassed, Tables.Grows, Tables.IsTable}
 use Rattle.lra_path_disjuncts.proofs.selections.push_unmatched.Given as goal
 
 -- the last labels are passed

@@ -1,7 +1,5 @@
 -- Goals of `push_unmatched_label`: a value is passed, and then the later ones are.
-use Rattle.lra_path_disjuncts.proofs.GuardSteps.{grows_to, still_in}
-use Rattle.lra_path_disjuncts.proofs.LabelSteps.{case_puts, default_puts}
-use Rattle.lra_path_disjuncts.proofs.TableSteps.{within}
+use Rattle.lra_path_disjuncts.proofs.{GuardSteps.grows_to, GuardSteps.still_in, LabelSteps.case_puts, LabelSteps.default_puts, TableSteps.within}
 use Rattle.lra_path_disjuncts.proofs.selections.push_unmatched_label.Goals as goal
 
 pub push_first_then-requires-clause-first : goal.push_first_then-requires-clause-first

@@ -1,7 +1,6 @@
 -- Goals of `write_disjunct`: along what is due.
 use Rattle.std.proofs.Common.{◌∙◌, sym}
-use Rattle.lra_path_disjuncts.specs.Tables.{moves_at, disjunct_at}
-use Rattle.lra_path_disjuncts.specs.TableDisjuncts.{all_done}
+use Rattle.lra_path_disjuncts.specs.{TableDisjuncts.all_done, Tables.moves_at, Tables.disjunct_at}
 use Rattle.lra_path_disjuncts.proofs.SideLists.{pending_last, pending_less, pending_next}
 use Rattle.lra_path_disjuncts.proofs.tables.write_disjunct.Goals as goal
 

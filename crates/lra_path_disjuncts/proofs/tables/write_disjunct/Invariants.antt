@@ -1,6 +1,5 @@
 use Rattle.std.proofs.Common.{◌≡◌, ◌++◌}
-use Rattle.lra_path_disjuncts.specs.Tables.{moves_at, disjunct_at}
-use Rattle.lra_path_disjuncts.specs.TableDisjuncts.{all_done, all_pending, pending_disjuncts_size}
+use Rattle.lra_path_disjuncts.specs.{TableDisjuncts.all_done, TableDisjuncts.all_pending, TableDisjuncts.pending_disjuncts_size, Tables.moves_at, Tables.disjunct_at}
 use Rattle.lra_path_disjuncts.proofs.tables.write_disjunct.Given as goal
 
 -- what is written, and then what is due, is the side

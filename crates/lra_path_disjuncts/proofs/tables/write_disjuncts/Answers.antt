@@ -1,8 +1,6 @@
 -- The goal of `write_disjuncts`: one side more.
-use Rattle.std.proofs.Common.{◌∙◌, [], ◌∷◌, ap}
-use Rattle.std.proofs.lemmas.List.{map-append}
-use Rattle.lra_path_disjuncts.specs.Tables.{moves_at}
-use Rattle.lra_path_disjuncts.specs.TableDisjuncts.{all_done, lists_done}
+use Rattle.std.proofs.{Common.◌∙◌, Common.[], Common.◌∷◌, Common.ap, lemmas.List.map-append}
+use Rattle.lra_path_disjuncts.specs.{TableDisjuncts.all_done, TableDisjuncts.lists_done, Tables.moves_at}
 use Rattle.lra_path_disjuncts.proofs.SideLists.{side_written}
 use Rattle.lra_path_disjuncts.proofs.tables.write_disjuncts.Goals as goal
 

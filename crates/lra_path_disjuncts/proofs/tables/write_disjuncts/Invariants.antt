@@ -1,7 +1,5 @@
 use Rattle.std.proofs.Common.{◌≡◌, ◌++◌, take}
-use Rattle.lra_path_disjuncts.specs.Disjuncts.{disjuncts}
-use Rattle.lra_path_disjuncts.specs.Tables.{moves_at}
-use Rattle.lra_path_disjuncts.specs.TableDisjuncts.{lists_done}
+use Rattle.lra_path_disjuncts.specs.{Disjuncts.disjuncts, TableDisjuncts.lists_done, Tables.moves_at}
 use Rattle.lra_path_disjuncts.proofs.tables.write_disjuncts.Given as goal
 
 abbrev pub invariant-sides : goal.invariant-sides

@@ -1,6 +1,5 @@
 use Rattle.std.proofs.Common.{◌≡◌}
-use Rattle.lra_path_segments.specs.TreeSegments.{segments_of_kind, segments_not_of_kind}
-use Rattle.lra_path_segments.specs.TreeSegmentViews.{kind_view, seen}
+use Rattle.lra_path_segments.specs.{TreeSegmentViews.kind_view, TreeSegmentViews.seen, TreeSegments.segments_of_kind, TreeSegments.segments_not_of_kind}
 use Rattle.lra_path_segments.proofs.segments.part.Given as goal
 
 abbrev pub invariant-each : goal.invariant-each

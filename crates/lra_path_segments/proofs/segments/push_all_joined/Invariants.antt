@@ -1,6 +1,5 @@
 use Rattle.std.proofs.Common.{◌≡◌, ◌++◌, take}
-use Rattle.lra_path_segments.specs.TreeSegments.{all_joined}
-use Rattle.lra_path_segments.specs.TreeSegmentViews.{seen}
+use Rattle.lra_path_segments.specs.{TreeSegmentViews.seen, TreeSegments.all_joined}
 use Rattle.lra_path_segments.proofs.segments.push_all_joined.Given as goal
 
 abbrev pub invariant-others : goal.invariant-others

@@ -1,6 +1,5 @@
 use Rattle.std.proofs.Common.{◌≡◌, ◌++◌, map}
-use Rattle.lra_path_segments.specs.TreeSegments.{ended}
-use Rattle.lra_path_segments.specs.TreeSegmentViews.{seen}
+use Rattle.lra_path_segments.specs.{TreeSegmentViews.seen, TreeSegments.ended}
 use Rattle.lra_path_segments.proofs.segments.push_ended.Given as goal
 
 abbrev pub invariant-each : goal.invariant-each

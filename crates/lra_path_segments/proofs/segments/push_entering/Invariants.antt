@@ -1,6 +1,5 @@
 use Rattle.std.proofs.Common.{◌≡◌, ◌++◌, map, take}
-use Rattle.lra_path_segments.specs.TreeSegments.{prefixed, starting, segments_of_kind}
-use Rattle.lra_path_segments.specs.TreeSegmentViews.{move_view, seen}
+use Rattle.lra_path_segments.specs.{TreeSegmentViews.move_view, TreeSegmentViews.seen, TreeSegments.prefixed, TreeSegments.starting, TreeSegments.segments_of_kind}
 use Rattle.lra_path_segments.proofs.segments.push_entering.Given as goal
 
 abbrev pub invariant-row : goal.invariant-row

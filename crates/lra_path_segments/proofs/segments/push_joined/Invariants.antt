@@ -1,6 +1,5 @@
 use Rattle.std.proofs.Common.{◌≡◌, ◌++◌, map, take}
-use Rattle.lra_path_segments.specs.TreeSegments.{joined_segments}
-use Rattle.lra_path_segments.specs.TreeSegmentViews.{tree_segment_view, seen}
+use Rattle.lra_path_segments.specs.{TreeSegmentViews.tree_segment_view, TreeSegmentViews.seen, TreeSegments.joined_segments}
 use Rattle.lra_path_segments.proofs.segments.push_joined.Given as goal
 
 abbrev pub invariant-ones : goal.invariant-ones

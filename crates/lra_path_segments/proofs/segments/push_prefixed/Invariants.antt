@@ -1,6 +1,5 @@
 use Rattle.std.proofs.Common.{◌≡◌, ◌++◌, map}
-use Rattle.lra_path_segments.specs.TreeSegments.{prefixed}
-use Rattle.lra_path_segments.specs.TreeSegmentViews.{move_view, seen}
+use Rattle.lra_path_segments.specs.{TreeSegmentViews.move_view, TreeSegmentViews.seen, TreeSegments.prefixed}
 use Rattle.lra_path_segments.proofs.segments.push_prefixed.Given as goal
 
 abbrev pub invariant-each : goal.invariant-each

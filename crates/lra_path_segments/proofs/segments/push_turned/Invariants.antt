@@ -1,6 +1,5 @@
 use Rattle.std.proofs.Common.{◌≡◌, ◌++◌, map}
-use Rattle.lra_path_segments.specs.TreeSegments.{turned}
-use Rattle.lra_path_segments.specs.TreeSegmentViews.{move_view, seen}
+use Rattle.lra_path_segments.specs.{TreeSegmentViews.move_view, TreeSegmentViews.seen, TreeSegments.turned}
 use Rattle.lra_path_segments.proofs.segments.push_turned.Given as goal
 
 abbrev pub invariant-each : goal.invariant-each

@@ -1,8 +1,6 @@
 -- The goal of `catch_last`: jumps come out behind the last.
 use Rattle.lra_operations.specs.TreeViews.{exit_view}
-use Rattle.lra_path_segments.specs.Tasks.{stack}
-use Rattle.lra_path_segments.specs.TreeSegments.{caught}
-use Rattle.lra_path_segments.specs.TreeSegmentViews.{seen}
+use Rattle.lra_path_segments.specs.{Tasks.stack, TreeSegmentViews.seen, TreeSegments.caught}
 use Rattle.lra_path_segments.proofs.TaskSteps.{one_used}
 use Rattle.lra_path_segments.proofs.trees.catch_last.Goals as goal
 

@@ -1,7 +1,5 @@
 -- The goal of `join_last`: the last tree, and then that before it.
-use Rattle.lra_path_segments.specs.Tasks.{stack}
-use Rattle.lra_path_segments.specs.TreeSegments.{sequenced}
-use Rattle.lra_path_segments.specs.TreeSegmentViews.{seen}
+use Rattle.lra_path_segments.specs.{Tasks.stack, TreeSegmentViews.seen, TreeSegments.sequenced}
 use Rattle.lra_path_segments.proofs.TaskSteps.{two_used}
 use Rattle.lra_path_segments.proofs.trees.join_last.Goals as goal
 

@@ -1,6 +1,5 @@
 -- The goal of `label_last`: the last stays, and its beginnings are behind the label.
-use Rattle.lra_path_segments.specs.Tasks.{stack}
-use Rattle.lra_path_segments.specs.TreeSegmentViews.{move_view, seen}
+use Rattle.lra_path_segments.specs.{Tasks.stack, TreeSegmentViews.move_view, TreeSegmentViews.seen}
 use Rattle.lra_path_segments.proofs.TaskSteps.{one_labelled}
 use Rattle.lra_path_segments.proofs.trees.label_last.Goals as goal
 

@@ -1,7 +1,6 @@
 -- The goal of `push_both`: the tree, and then this, are due.
 use Rattle.lra_operations.specs.TreeViews.{node_view}
-use Rattle.lra_path_segments.specs.Tasks.{effect}
-use Rattle.lra_path_segments.specs.TreeSegments.{tree_segments}
+use Rattle.lra_path_segments.specs.{Tasks.effect, TreeSegments.tree_segments}
 use Rattle.lra_path_segments.proofs.TaskSteps.{both_run}
 use Rattle.lra_path_segments.proofs.trees.push_both.Goals as goal
 

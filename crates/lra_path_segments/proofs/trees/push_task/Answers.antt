@@ -1,6 +1,5 @@
 -- Goals of `push_task`: this is due before the others.
-use Rattle.std.proofs.Common.{ap, ◌∙◌}
-use Rattle.std.proofs.lemmas.List.Sums.{sum_by_push}
+use Rattle.std.proofs.{Common.ap, Common.◌∙◌, lemmas.List.Sums.sum_by_push}
 use Rattle.lra_path_segments.specs.Tasks.{all_left, task_size}
 use Rattle.lra_path_segments.proofs.TaskSteps.{run_push}
 use Rattle.lra_path_segments.proofs.trees.push_task.Goals as goal

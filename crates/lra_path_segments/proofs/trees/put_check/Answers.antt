@@ -1,6 +1,5 @@
 -- The goal of `put_check`: a tree with two ways.
-use Rattle.lra_path_segments.specs.Tasks.{stack}
-use Rattle.lra_path_segments.specs.TreeSegmentViews.{seen}
+use Rattle.lra_path_segments.specs.{Tasks.stack, TreeSegmentViews.seen}
 use Rattle.lra_path_segments.proofs.TaskSteps.{first_put, second_put, put_as}
 use Rattle.lra_path_segments.proofs.trees.put_check.Goals as goal
 

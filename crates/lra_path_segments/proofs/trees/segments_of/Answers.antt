@@ -1,8 +1,7 @@
 -- Goals of `segments_of`: the ways of a tree, along a list of what is due.
 use Rattle.std.proofs.Common.{◌∙◌, refl, sym}
 use Rattle.lra_operations.specs.TreeViews.{node_view}
-use Rattle.lra_path_segments.specs.Tasks.{stack}
-use Rattle.lra_path_segments.specs.TreeSegments.{tree_segments}
+use Rattle.lra_path_segments.specs.{Tasks.stack, TreeSegments.tree_segments}
 use Rattle.lra_path_segments.proofs.TaskSteps.{run_first, run_last, step_falls, step_runs, ways_made}
 use Rattle.lra_path_segments.proofs.trees.segments_of.Goals as goal
 

@@ -1,7 +1,6 @@
 use Rattle.std.proofs.Common.{◌≡◌, [], ◌∷◌}
 use Rattle.lra_operations.specs.TreeViews.{node_view}
-use Rattle.lra_path_segments.specs.Tasks.{all_left, run, stack}
-use Rattle.lra_path_segments.specs.TreeSegments.{tree_segments}
+use Rattle.lra_path_segments.specs.{Tasks.all_left, Tasks.run, Tasks.stack, TreeSegments.tree_segments}
 use Rattle.lra_path_segments.proofs.trees.segments_of.Given as goal
 
 -- what is due makes the tree's ways of those that are there

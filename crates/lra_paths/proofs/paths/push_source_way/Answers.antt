@@ -2,8 +2,7 @@
 use Rattle.std.proofs.Common.{map}
 use Rattle.lra_path_segments.specs.TreeSegmentViews.{move_view}
 use Rattle.lra_path_disjuncts.specs.SegmentMoves.{segment_moves}
-use Rattle.lra_path_disjuncts.proofs.TableSteps.{within}
-use Rattle.lra_path_disjuncts.proofs.GuardSteps.{still_in}
+use Rattle.lra_path_disjuncts.proofs.{GuardSteps.still_in, TableSteps.within}
 use Rattle.lra_paths.proofs.DepartureSteps.{adds_one}
 use Rattle.lra_paths.proofs.paths.push_source_way.Goals as goal
 

@@ -1,13 +1,9 @@
 -- Goals of `convert_preimage`: the preimage, where the constraints are converted.
 use Rattle.std.proofs.Common.{◌≡◌, ◌∙◌, suc, subst, List}
-use Rattle.std.specs.Prelude.{IfNone, IfSome}
-use Rattle.std.specs.List.{Contains}
-use Rattle.lra_linear_spec.specs.CheckedArithmetic.{checked_substitution}
-use Rattle.lra_linear_spec.specs.Descriptions.{LinearRow}
-use Rattle.lra_linear_spec.specs.OperationStrain.{FormingPasses, substituted_rows}
+use Rattle.std.specs.{List.Contains, Prelude.IfNone, Prelude.IfSome}
+use Rattle.lra_linear_spec.specs.{CheckedArithmetic.checked_substitution, Descriptions.LinearRow, OperationStrain.FormingPasses, OperationStrain.substituted_rows}
 use Rattle.lra_systems.specs.LinearSystems.{constraints}
-use Rattle.lra_poly_images.proofs.SubstitutedSets.{assignment_of, preimage_becomes}
-use Rattle.lra_poly_images.proofs.KeptLists.{of_formed}
+use Rattle.lra_poly_images.proofs.{KeptLists.of_formed, SubstitutedSets.assignment_of, SubstitutedSets.preimage_becomes}
 use Rattle.lra_poly_images.proofs.images.convert_preimage.Goals as goal
 
 pub returns-clause-becomes : goal.returns-clause-becomes

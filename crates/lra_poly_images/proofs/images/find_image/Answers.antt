@@ -1,7 +1,6 @@
 -- Goals of `find_image`: the image by what is at hand.
 use Rattle.lra_linear_forms.specs.Form.{form_row}
-use Rattle.lra_poly_images.proofs.BackImages.{image_made}
-use Rattle.lra_poly_images.proofs.KeptLists.{stays_for}
+use Rattle.lra_poly_images.proofs.{BackImages.image_made, KeptLists.stays_for}
 use Rattle.lra_poly_images.proofs.images.find_image.Goals as goal
 
 pub returns-in-Some-clause-image : goal.returns-in-Some-clause-image

@@ -1,11 +1,8 @@
 -- Goals of `forget_anew`: lets the coordinate x be anything, where the generators are converted from nothing.
 use Rattle.std.proofs.Common.{◌++◌, ◌∷◌, [], suc}
-use Rattle.lra_linear_spec.specs.Descriptions.{Con, line}
-use Rattle.lra_linear_spec.specs.OperationStrain.{ForgetStrains, unit_row}
-use Rattle.lra_linear_spec.specs.SetOperations.{Forget}
+use Rattle.lra_linear_spec.specs.{Descriptions.Con, Descriptions.line, OperationStrain.ForgetStrains, OperationStrain.unit_row, SetOperations.Forget}
 use Rattle.lra_poly_images.proofs.ForgetLemmas.{forget_takes}
-use Rattle.lra_poly.proofs.TakenGenerators.{taken_becomes}
-use Rattle.lra_poly.proofs.UnitedLists.{tried_as}
+use Rattle.lra_poly.proofs.{TakenGenerators.taken_becomes, UnitedLists.tried_as}
 use Rattle.lra_poly_images.proofs.images.forget_anew.Goals as goal
 
 pub returns-clause-becomes : goal.returns-clause-becomes

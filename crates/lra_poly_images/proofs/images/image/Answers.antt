@@ -1,13 +1,10 @@
 -- Goals of `image`: gives the coordinate x the form's value.
 use Rattle.std.proofs.Common.{suc, subst, List, ℤ}
-use Rattle.lra_linear_spec.specs.Descriptions.{Con}
-use Rattle.lra_linear_spec.specs.OperationStrain.{ImageStrains}
-use Rattle.lra_linear_spec.specs.SetOperations.{Image}
+use Rattle.lra_linear_spec.specs.{Descriptions.Con, OperationStrain.ImageStrains, SetOperations.Image}
 use Rattle.lra_linear_forms.specs.Form.{form_row}
 use Rattle.lra_poly.specs.Outcomes.{Becomes}
 use Rattle.lra_poly.proofs.PolyLemmas.{exactly}
-use Rattle.lra_poly_images.proofs.BackImages.{row_width}
-use Rattle.lra_poly_images.proofs.KeptLists.{flagged_since}
+use Rattle.lra_poly_images.proofs.{BackImages.row_width, KeptLists.flagged_since}
 use Rattle.lra_poly_images.proofs.images.image.Goals as goal
 
 pub convert_image-requires-clause-form : goal.convert_image-requires-clause-form

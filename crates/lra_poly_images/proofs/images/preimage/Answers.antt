@@ -1,15 +1,12 @@
 -- Goals of `preimage`: becomes the set of the points that are brought into it when the coordinate x is given the
 -- form's value.
 use Rattle.std.proofs.Common.{suc, subst, List, ℤ}
-use Rattle.lra_linear_spec.specs.Descriptions.{Con}
-use Rattle.lra_linear_spec.specs.OperationStrain.{PreimageStrains}
-use Rattle.lra_linear_spec.specs.SetOperations.{Preimage}
+use Rattle.lra_linear_spec.specs.{Descriptions.Con, OperationStrain.PreimageStrains, SetOperations.Preimage}
 use Rattle.lra_poly.specs.Outcomes.{Becomes}
 use Rattle.lra_linear_forms.specs.Form.{form_row}
 use Rattle.lra_poly.proofs.PolyLemmas.{exactly}
-use Rattle.lra_poly_images.proofs.BackImages.{preimage_made, row_width}
+use Rattle.lra_poly_images.proofs.{BackImages.preimage_made, BackImages.row_width, KeptLists.flagged_since, KeptLists.stays_back_for}
 use Rattle.lra_poly_images.specs.FormedPreimages.{IsOfFormed}
-use Rattle.lra_poly_images.proofs.KeptLists.{flagged_since, stays_back_for}
 use Rattle.lra_poly_images.proofs.images.preimage.Goals as goal
 
 pub move_back-requires-clause-width : goal.move_back-requires-clause-width

@@ -1,15 +1,14 @@
 -- Goals of `replace_or_forget`: becomes the polyhedron of generators that give no more than what some value of the
 -- coordinate x brings into it; where that is flagged, the coordinate x is forgotten.
 use Rattle.std.proofs.Common.{refl, rules, suc, sym, subst}
-use Rattle.lra_linear_spec.specs.Polyhedra.{Polyhedron}
-use Rattle.lra_linear_spec.specs.Strain.{Loss}
+use Rattle.lra_linear_spec.specs.{Polyhedra.Polyhedron, Strain.Loss}
 use Rattle.lra_systems.specs.LinearSystems.{generators}
 use Rattle.lra_poly.specs.Outcomes.{IsOfGenerators}
 use Rattle.lra_poly.proofs.MetRows.{never}
 use Rattle.lra_poly_images.specs.Forgetting.{IsForgetResult}
 use Rattle.lra_poly_images.proofs.GivenUp.{flagged_anyway, forgotten_instead, not_flagged}
-use Rattle.lra_poly_images.proofs.images.replace_or_forget.Goals as goal
 use Rattle.lra_poly_images.proofs.images.replace_or_forget.Goals.{then-is_exact, else-is_exact+in_ok-give_up}
+use Rattle.lra_poly_images.proofs.images.replace_or_forget.Goals as goal
 
 pub returns-clause-becomes : goal.returns-clause-becomes
 returns-clause-becomes c =

@@ -1,7 +1,5 @@
 -- Goals of `elapse`: the time-elapse of two that have a point each.
-use Rattle.lra_linear_spec.specs.Descriptions.{Con}
-use Rattle.lra_linear_spec.specs.OperationStrain.{TimeElapseStrains}
-use Rattle.lra_linear_spec.specs.SetOperations.{TimeElapse}
+use Rattle.lra_linear_spec.specs.{Descriptions.Con, OperationStrain.TimeElapseStrains, SetOperations.TimeElapse}
 use Rattle.lra_systems.specs.LinearSystems.{generators}
 use Rattle.lra_duality.proofs.PolyhedronLemmas.{with_point}
 use Rattle.lra_poly.proofs.PolyLemmas.{exactly}

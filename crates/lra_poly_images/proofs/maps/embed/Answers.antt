@@ -1,11 +1,8 @@
 -- Goals of `embed`: adds k dimensions, the last ones, in which the coordinates may be anything.
 use Rattle.std.proofs.Common.{◌+◌}
-use Rattle.lra_linear_spec.specs.Descriptions.{Con}
-use Rattle.lra_linear_spec.specs.OperationStrain.{EmbedStrains, embedded}
-use Rattle.lra_linear_spec.specs.SetOperations.{Embed}
+use Rattle.lra_linear_spec.specs.{Descriptions.Con, OperationStrain.EmbedStrains, OperationStrain.embedded, SetOperations.Embed}
 use Rattle.lra_poly_images.proofs.EmbeddedSets.{embed_takes}
-use Rattle.lra_poly.proofs.TakenGenerators.{taken_becomes}
-use Rattle.lra_poly.proofs.UnitedLists.{tried_as}
+use Rattle.lra_poly.proofs.{TakenGenerators.taken_becomes, UnitedLists.tried_as}
 use Rattle.lra_poly_images.proofs.maps.embed.Goals as goal
 
 pub returns-clause-becomes : goal.returns-clause-becomes

@@ -1,8 +1,6 @@
 -- Goals of `time_elapse`: lets time elapse.
 use Rattle.std.proofs.Common.{inl, refl}
-use Rattle.lra_linear_spec.specs.Descriptions.{Con}
-use Rattle.lra_linear_spec.specs.OperationStrain.{TimeElapseStrains}
-use Rattle.lra_linear_spec.specs.SetOperations.{TimeElapse}
+use Rattle.lra_linear_spec.specs.{Descriptions.Con, OperationStrain.TimeElapseStrains, SetOperations.TimeElapse}
 use Rattle.lra_poly.proofs.PolyLemmas.{exactly}
 use Rattle.lra_poly_images.proofs.ElapsedSets.{elapse_copied, elapse_nothing}
 use Rattle.lra_poly_images.proofs.maps.time_elapse.Goals as goal

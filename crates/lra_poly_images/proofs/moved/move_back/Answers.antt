@@ -1,9 +1,8 @@
 -- Goals of `move_back`: the preimage under the assignment of the form to the column, by both lists; none as
 -- with the image.
 use Rattle.std.proofs.Common.{inl, inr, refl, suc}
-use Rattle.lra_poly_images.proofs.BackImages.{back_of, preimage_if_moved}
+use Rattle.lra_poly_images.proofs.{BackImages.back_of, BackImages.preimage_if_moved, KeptLists.stays_back_passed}
 use Rattle.lra_mapped_systems.proofs.TakenBack.{taken_forth}
-use Rattle.lra_poly_images.proofs.KeptLists.{stays_back_passed}
 use Rattle.lra_description_pair.proofs.PairLosses.{if_none}
 use Rattle.lra_poly_images.proofs.moved.move_back.Goals as goal
 

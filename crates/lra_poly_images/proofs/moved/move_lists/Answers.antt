@@ -1,12 +1,8 @@
 -- Goals of `move_lists`: the image under the assignment of the form to the column, which the other form takes back.
-use Rattle.std.proofs.Common.{subst, sym}
-use Rattle.std.proofs.lemmas.Result.{err_from_is_err_and}
-use Rattle.lra_linear_spec.specs.Descriptions.{Con}
-use Rattle.lra_linear_spec.specs.Polyhedra.{IsPolyhedronOf}
-use Rattle.lra_linear_spec.specs.SetOperations.{Image}
+use Rattle.std.proofs.{Common.subst, Common.sym, lemmas.Result.err_from_is_err_and}
+use Rattle.lra_linear_spec.specs.{Descriptions.Con, Polyhedra.IsPolyhedronOf, SetOperations.Image}
 use Rattle.lra_systems.specs.LinearSystems.{constraints, generators}
-use Rattle.lra_poly_images.proofs.KeptLists.{generators_pass, rows_pass}
-use Rattle.lra_poly_images.proofs.MovedPolyhedra.{image_limit, is_moving, moved_image}
+use Rattle.lra_poly_images.proofs.{KeptLists.generators_pass, KeptLists.rows_pass, MovedPolyhedra.image_limit, MovedPolyhedra.is_moving, MovedPolyhedra.moved_image}
 use Rattle.lra_poly_images.proofs.moved.move_lists.Goals as goal
 
 pub from_canonical-requires-clause-canonical : goal.from_canonical-requires-clause-canonical

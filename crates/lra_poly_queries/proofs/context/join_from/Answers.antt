@@ -1,8 +1,7 @@
 -- Goals of `join_from`: the constraints, then those of the list from the place on.
 use Rattle.std.proofs.Common.{◌∙◌, arith, sym}
 use Rattle.lra_systems.specs.LinearSystems.{constraints}
-use Rattle.lra_poly_queries.proofs.SimplifiedRows.{all_pushed, one_pushed}
-use Rattle.lra_poly_queries.proofs.TightenedRows.{one_counted}
+use Rattle.lra_poly_queries.proofs.{SimplifiedRows.all_pushed, SimplifiedRows.one_pushed, TightenedRows.one_counted}
 use Rattle.lra_poly_queries.proofs.context.join_from.Goals as goal
 
 pub loop-place-preserved : goal.loop-place-preserved

@@ -2,8 +2,7 @@
 use Rattle.std.proofs.Common.{◌+◌, ◌∙◌, ap, arith, length}
 use Rattle.lra_linear_spec.specs.Descriptions.{Con}
 use Rattle.lra_poly_queries.specs.Joined.{Concatenated, concatenated}
-use Rattle.lra_poly_queries.proofs.JoinedSets.{joined_takes}
-use Rattle.lra_poly_queries.proofs.TakenRows.{rows_becomes}
+use Rattle.lra_poly_queries.proofs.{JoinedSets.joined_takes, TakenRows.rows_becomes}
 use Rattle.lra_poly_queries.proofs.joining.concatenate.Goals as goal
 
 pub push_moved-requires : goal.push_moved-requires

@@ -2,8 +2,7 @@
 use Rattle.std.proofs.Common.{◌+◌, ◌∙◌, ap, arith, length}
 use Rattle.lra_linear_spec.specs.Descriptions.{Con}
 use Rattle.lra_poly_queries.specs.Expanded.{Expanded, expanded}
-use Rattle.lra_poly_queries.proofs.ExpandedSets.{expanded_takes, twin_length}
-use Rattle.lra_poly_queries.proofs.TakenRows.{rows_becomes}
+use Rattle.lra_poly_queries.proofs.{ExpandedSets.expanded_takes, ExpandedSets.twin_length, TakenRows.rows_becomes}
 use Rattle.lra_poly_queries.proofs.joining.expand.Goals as goal
 
 pub push_moved-requires : goal.push_moved-requires

@@ -1,10 +1,8 @@
 -- Goals of `extend_with`: the points with one further coordinate that meet the constraint.
 use Rattle.std.proofs.Common.{◌+◌, ◌∙◌, ap, arith, length}
-use Rattle.lra_linear_spec.specs.Descriptions.{Con, LinearRow}
-use Rattle.lra_linear_spec.specs.Kinds.{is_equality}
+use Rattle.lra_linear_spec.specs.{Descriptions.Con, Descriptions.LinearRow, Kinds.is_equality}
 use Rattle.lra_poly_queries.specs.Related.{Extended, extended}
-use Rattle.lra_poly_queries.proofs.RelatedSets.{extended_takes}
-use Rattle.lra_poly_queries.proofs.TakenRows.{rows_becomes}
+use Rattle.lra_poly_queries.proofs.{RelatedSets.extended_takes, TakenRows.rows_becomes}
 use Rattle.lra_poly_queries.proofs.joining.extend_with.Goals as goal
 
 pub push_moved-requires : goal.push_moved-requires

@@ -2,9 +2,7 @@
 use Rattle.std.proofs.Common.{◌∙◌, ap, arith, length, suc, sym}
 use Rattle.lra_linear_spec.specs.declared.ConKind.TheVariants.{Ge}
 use Rattle.lra_systems.specs.LinearSystems.{constraints}
-use Rattle.lra_poly_queries.proofs.JoinedSets.{all_moved, one_moved}
-use Rattle.lra_poly_queries.proofs.MovedSets.{chosen_width}
-use Rattle.lra_poly_queries.proofs.TightenedRows.{one_counted}
+use Rattle.lra_poly_queries.proofs.{JoinedSets.all_moved, JoinedSets.one_moved, MovedSets.chosen_width, TightenedRows.one_counted}
 use Rattle.lra_poly_queries.proofs.joining.push_moved.Goals as goal
 
 pub push-requires : goal.push-requires

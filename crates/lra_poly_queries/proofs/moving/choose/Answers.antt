@@ -1,9 +1,6 @@
 -- Goals of `choose`: the row with the columns of these dimensions.
-use Rattle.std.proofs.Common.{rules, ◌≡◌, ◌++◌, ◌∷◌, [], FitsSigned, subst, sym}
-use Rattle.std.specs.Int.{w128}
-use Rattle.std.specs.List.{All}
-use Rattle.std.proofs.lemmas.Int.{to_z-of_z}
-use Rattle.std.proofs.lemmas.List.Elements.{All-push}
+use Rattle.std.proofs.{Common.rules, Common.◌≡◌, Common.◌++◌, Common.◌∷◌, Common.[], Common.FitsSigned, Common.subst, Common.sym, lemmas.Int.to_z-of_z, lemmas.List.Elements.All-push}
+use Rattle.std.specs.{Int.w128, List.All}
 use Rattle.lra_linear_spec.specs.Range.{InRange}
 use Rattle.lra_poly_queries.proofs.MovedSets.{one_chosen}
 use Rattle.lra_poly_queries.proofs.moving.choose.Goals as goal

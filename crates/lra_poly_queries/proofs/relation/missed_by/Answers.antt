@@ -1,10 +1,6 @@
 -- Goals of `missed_by`: which signs the form misses with each of the generators.
-use Rattle.std.proofs.Common.{◌≡◌, ◌∙◌, ◌∷◌, [], ap, length, sym, List}
-use Rattle.std.proofs.lemmas.Result.{err_from_is_err_and}
-use Rattle.lra_linear_spec.specs.Descriptions.{LinearRow, inequality}
-use Rattle.lra_linear_spec.specs.Kinds.{is_line}
-use Rattle.lra_linear_spec.specs.OperationStrain.{ProductsPass}
-use Rattle.lra_linear_spec.specs.declared.GenKind.TheVariants.{Point}
+use Rattle.std.proofs.{Common.◌≡◌, Common.◌∙◌, Common.◌∷◌, Common.[], Common.ap, Common.length, Common.sym, Common.List, lemmas.Result.err_from_is_err_and}
+use Rattle.lra_linear_spec.specs.{Descriptions.LinearRow, Descriptions.inequality, Kinds.is_line, OperationStrain.ProductsPass, declared.GenKind.TheVariants.Point}
 use Rattle.lra_duality.specs.Maxima.{StaysInRange}
 use Rattle.lra_duality.proofs.InclusionLemmas.{seen_generators}
 use Rattle.lra_systems.proofs.FirstMembers.{one_more}

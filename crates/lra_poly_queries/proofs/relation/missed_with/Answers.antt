@@ -1,7 +1,6 @@
 -- Goals of `missed_with`: which signs the form misses with a generator.
-use Rattle.std.proofs.Common.{rules, FitsSigned}
+use Rattle.std.proofs.{Common.rules, Common.FitsSigned, lemmas.Int.to_z-of_z}
 use Rattle.std.specs.Int.{w128}
-use Rattle.std.proofs.lemmas.Int.{to_z-of_z}
 use Rattle.lra_poly_queries.proofs.MissedLists.{missed_here}
 use Rattle.lra_poly_queries.proofs.relation.missed_with.Goals as goal
 

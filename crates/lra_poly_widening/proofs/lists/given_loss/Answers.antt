@@ -1,17 +1,11 @@
 -- Goals of `given_loss`: the loss of the first given constraint that isn't known to fail and a product of which
 -- passes the range.
 use Rattle.std.proofs.Common.{arith, ap, sym, subst, ◌∙◌, ◌≡◌, ◌+◌, ◌++◌, length, List}
-use Rattle.lra_linear_spec.specs.declared.ConKind.TheVariants.{Ge}
-use Rattle.lra_linear_spec.specs.Descriptions.{LinearRow}
-use Rattle.lra_linear_spec.specs.Kinds.{is_equality}
-use Rattle.lra_linear_spec.specs.OperationStrain.{valid_on}
+use Rattle.lra_linear_spec.specs.{Descriptions.LinearRow, Kinds.is_equality, OperationStrain.valid_on, declared.ConKind.TheVariants.Ge}
 use Rattle.lra_systems.proofs.FirstMembers.{front, member}
 use Rattle.lra_systems.specs.LinearSystems.{constraints}
-use Rattle.lra_poly_widening.specs.Rank.{kept_thresholds}
-use Rattle.lra_poly_widening.specs.Validity.{IsValidity}
-use Rattle.lra_poly_widening.proofs.Loops.{front_seen, front_step}
-use Rattle.lra_poly_widening.proofs.Places.{given_passes, row_among}
-use Rattle.lra_poly_widening.proofs.Validities.{kept_valid}
+use Rattle.lra_poly_widening.specs.{Rank.kept_thresholds, Validity.IsValidity}
+use Rattle.lra_poly_widening.proofs.{Loops.front_seen, Loops.front_step, Places.given_passes, Places.row_among, Validities.kept_valid}
 use Rattle.lra_poly_widening.proofs.lists.given_loss.Goals as goal
 
 pub returns-in-Some-clause-flagged : goal.returns-in-Some-clause-flagged

@@ -1,6 +1,5 @@
 use Rattle.std.proofs.Common.{◌≡◌}
-use Rattle.lra_linear_spec.specs.Kinds.{is_equality}
-use Rattle.lra_linear_spec.specs.OperationStrain.{valid_on}
+use Rattle.lra_linear_spec.specs.{Kinds.is_equality, OperationStrain.valid_on}
 use Rattle.lra_systems.proofs.FirstMembers.{front}
 use Rattle.lra_poly_widening.specs.Rank.{kept_thresholds}
 use Rattle.lra_poly_widening.proofs.lists.given_loss.Given as goal

@@ -1,10 +1,7 @@
 -- Goals of `tight_rows`: the constraints of the second that are tight on the first.
 use Rattle.std.proofs.Common.{arith, ap, sym, ◌∙◌, ◌≡◌, ◌+◌, [], length, map, suc, List}
 use Rattle.std.specs.List.{filter}
-use Rattle.lra_linear_spec.specs.declared.ConKind.TheVariants.{Ge}
-use Rattle.lra_linear_spec.specs.Descriptions.{LinearRow}
-use Rattle.lra_linear_spec.specs.Kinds.{is_equality}
-use Rattle.lra_linear_spec.specs.Widening.{is_tight}
+use Rattle.lra_linear_spec.specs.{Descriptions.LinearRow, Kinds.is_equality, Widening.is_tight, declared.ConKind.TheVariants.Ge}
 use Rattle.lra_systems.proofs.FirstMembers.{front, member}
 use Rattle.lra_systems.specs.LinearSystems.{constraints}
 use Rattle.lra_duality.specs.Saturations.{saturated}

@@ -1,7 +1,6 @@
 use Rattle.std.proofs.Common.{◌≡◌, ◌++◌, []}
 use Rattle.std.specs.List.{filter}
-use Rattle.lra_linear_spec.specs.Kinds.{is_equality}
-use Rattle.lra_linear_spec.specs.Widening.{is_tight}
+use Rattle.lra_linear_spec.specs.{Kinds.is_equality, Widening.is_tight}
 use Rattle.lra_systems.proofs.FirstMembers.{front}
 use Rattle.lra_systems.specs.LinearSystems.{constraints}
 use Rattle.lra_poly_widening.proofs.lists.tight_rows.Given as goal

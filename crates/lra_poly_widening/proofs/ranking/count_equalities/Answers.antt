@@ -1,10 +1,7 @@
 -- Goals of `count_equalities`: how many equalities are among the constraints.
-use Rattle.std.proofs.Common.{arith, ap, ◌∙◌, ◌<◌, ◌+◌, [], get_or, length, refl}
-use Rattle.std.proofs.lemmas.List.{get_or_default}
+use Rattle.std.proofs.{Common.arith, Common.ap, Common.◌∙◌, Common.◌<◌, Common.◌+◌, Common.[], Common.get_or, Common.length, Common.refl, lemmas.List.get_or_default}
 use Rattle.std.specs.List.{filter}
-use Rattle.lra_linear_spec.specs.declared.ConKind.TheVariants.{Ge}
-use Rattle.lra_linear_spec.specs.Descriptions.{LinearRow}
-use Rattle.lra_linear_spec.specs.Kinds.{is_equality}
+use Rattle.lra_linear_spec.specs.{Descriptions.LinearRow, Kinds.is_equality, declared.ConKind.TheVariants.Ge}
 use Rattle.lra_systems.proofs.FirstMembers.{front, member}
 use Rattle.lra_poly_widening.proofs.Loops.{count_few, count_step, front_seen, front_step}
 use Rattle.lra_poly_widening.proofs.ranking.count_equalities.Goals as goal

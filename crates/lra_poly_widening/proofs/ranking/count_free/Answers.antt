@@ -1,19 +1,15 @@
 -- Goals of `count_free`: how many inequalities saturate what none of the given do that hold.
 use Rattle.std.proofs.Common.{arith, ap, map, refl, subst, sym, ◌∙◌, ◌≡◌, ◌+◌, ◌<◌, [], get_or, length, take, List, ℕ}
-use Rattle.std.specs.Prelude.{slice_index_or}
-use Rattle.std.specs.List.{filter}
 use Rattle.std.proofs.lemmas.List.{get_or_default, length-map, take_all}
+use Rattle.std.specs.{List.filter, Prelude.slice_index_or}
 use Rattle.lra_bits.specs.Matrix.{Matrix}
-use Rattle.lra_linear_spec.specs.declared.ConKind.TheVariants.{Ge}
-use Rattle.lra_linear_spec.specs.Descriptions.{LinearRow}
-use Rattle.lra_linear_spec.specs.Kinds.{is_equality}
+use Rattle.lra_linear_spec.specs.{Descriptions.LinearRow, Kinds.is_equality, declared.ConKind.TheVariants.Ge}
 use Rattle.lra_systems.proofs.FirstMembers.{member}
 use Rattle.lra_systems.specs.LinearSystems.{constraints, rows_by_kind}
 use Rattle.lra_duality.proofs.SaturationLemmas.{given_length}
 use Rattle.lra_duality.specs.Saturations.{saturated}
 use Rattle.lra_poly_widening.specs.Rank.{held_thresholds, is_free}
-use Rattle.lra_poly_widening.proofs.AlikeLemmas.{bits_at, free_by_bits, row_more}
-use Rattle.lra_poly_widening.proofs.Loops.{count_few, count_step}
+use Rattle.lra_poly_widening.proofs.{AlikeLemmas.bits_at, AlikeLemmas.free_by_bits, AlikeLemmas.row_more, Loops.count_few, Loops.count_step}
 use Rattle.lra_poly_widening.proofs.ranking.count_free.Goals as goal
 
 pub row-requires : goal.row-requires

@@ -1,7 +1,6 @@
 -- Goals of `equalities`: the equalities, one more than the dimensions where there is no point.
 use Rattle.std.proofs.Common.{ap, length, refl, subst, suc, sym, ◌∙◌, ◌≡◌, ◌<◌, ℕ}
-use Rattle.lra_poly_widening.proofs.Places.{width_at}
-use Rattle.lra_poly_widening.proofs.WideningLemmas.{no_equalities, one_row, some_equalities}
+use Rattle.lra_poly_widening.proofs.{Places.width_at, WideningLemmas.no_equalities, WideningLemmas.one_row, WideningLemmas.some_equalities}
 use Rattle.lra_poly_widening.proofs.ranking.equalities.Goals as goal
 
 pub bounds-rows-0 : goal.bounds-rows-0

@@ -1,17 +1,12 @@
 -- Goals of `one_holds_where`: whether one of the given constraints holds and saturates what the bits say.
 use Rattle.std.proofs.Common.{ap, sym, ◌∙◌, ◌≡◌, ◌+◌, length}
 use Rattle.std.specs.Prelude.{◌&&◌}
-use Rattle.lra_linear_spec.specs.declared.ConKind.TheVariants.{Ge}
-use Rattle.lra_linear_spec.specs.Kinds.{is_equality}
+use Rattle.lra_linear_spec.specs.{Kinds.is_equality, declared.ConKind.TheVariants.Ge}
 use Rattle.lra_systems.proofs.FirstMembers.{front, member}
 use Rattle.lra_systems.specs.LinearSystems.{constraints}
 use Rattle.lra_duality.specs.Saturations.{saturated}
-use Rattle.lra_poly_widening.specs.Rank.{holds_in_range}
-use Rattle.lra_poly_widening.specs.Saturated.{same_values}
-use Rattle.lra_poly_widening.proofs.AlikeLemmas.{none_more}
-use Rattle.lra_poly_widening.proofs.Counting.{any_from}
-use Rattle.lra_poly_widening.proofs.Loops.{front_step}
-use Rattle.lra_poly_widening.proofs.Places.{row_among}
+use Rattle.lra_poly_widening.specs.{Rank.holds_in_range, Saturated.same_values}
+use Rattle.lra_poly_widening.proofs.{AlikeLemmas.none_more, Counting.any_from, Loops.front_step, Places.row_among}
 use Rattle.lra_poly_widening.proofs.ranking.one_holds_where.Goals as goal
 
 pub returns-then-holds_where : goal.returns-then-holds_where

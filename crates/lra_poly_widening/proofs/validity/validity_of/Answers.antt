@@ -1,12 +1,7 @@
 -- Goals of `validity_of`: whether the constraint holds with each of the generators.
-use Rattle.std.proofs.Common.{rules, arith, refl, FitsSigned, ◌≡◌, ◌∙◌, ap, sym, length, List, Err}
-use Rattle.std.specs.Int.{w128}
-use Rattle.std.specs.List.{All, Contains}
-use Rattle.std.proofs.lemmas.Int.{to_z-of_z}
-use Rattle.lra_linear_spec.specs.CheckedArithmetic.{checked_product}
-use Rattle.lra_linear_spec.specs.Descriptions.{LinearRow}
-use Rattle.lra_linear_spec.specs.Kinds.{is_equality, is_line}
-use Rattle.lra_linear_spec.specs.declared.GenKind.TheVariants.{Point}
+use Rattle.std.proofs.{Common.rules, Common.arith, Common.refl, Common.FitsSigned, Common.◌≡◌, Common.◌∙◌, Common.ap, Common.sym, Common.length, Common.List, Common.Err, lemmas.Int.to_z-of_z}
+use Rattle.std.specs.{Int.w128, List.All, List.Contains}
+use Rattle.lra_linear_spec.specs.{CheckedArithmetic.checked_product, Descriptions.LinearRow, Kinds.is_equality, Kinds.is_line, declared.GenKind.TheVariants.Point}
 use Rattle.lra_duality.specs.Inclusions.{Satisfies, Violates}
 use Rattle.lra_systems.proofs.FirstMembers.{member, first_at, one_more, all_gone_through, ok_of}
 use Rattle.lra_duality.proofs.InclusionLemmas.{has_member, seen_generators}

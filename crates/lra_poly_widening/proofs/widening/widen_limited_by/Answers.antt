@@ -1,10 +1,8 @@
 -- Goals of `widen_limited_by`: the widening of the first by the second, limited by the given constraints.
 use Rattle.std.proofs.Common.{subst, refl, inl, inr, ℕ, []}
-use Rattle.lra_linear_spec.specs.Descriptions.{Con}
-use Rattle.lra_linear_spec.specs.Polyhedra.{IsPolyhedronOf}
+use Rattle.lra_linear_spec.specs.{Descriptions.Con, Polyhedra.IsPolyhedronOf}
 use Rattle.lra_systems.specs.LinearSystems.{constraints}
-use Rattle.lra_poly_widening.proofs.WideningLemmas.{wide_inside, widened_empty, widened_wide, yes_inside}
-use Rattle.lra_poly_widening.proofs.StayingLemmas.{staying}
+use Rattle.lra_poly_widening.proofs.{StayingLemmas.staying, WideningLemmas.wide_inside, WideningLemmas.widened_empty, WideningLemmas.widened_wide, WideningLemmas.yes_inside}
 use Rattle.lra_poly_widening.proofs.widening.widen_limited_by.Goals as goal
 
 pub returns-in_ok-all-in-Wide-clause-widened : goal.returns-in_ok-all-in-Wide-clause-widened

@@ -3,8 +3,7 @@ use Rattle.std.proofs.Common.{ap, ◌∙◌, ◌++◌}
 use Rattle.lra_linear_spec.specs.Kinds.{is_equality}
 use Rattle.lra_systems.specs.LinearSystems.{constraints}
 use Rattle.lra_poly_widening.specs.Rank.{kept_thresholds}
-use Rattle.lra_poly_widening.proofs.WideningLemmas.{not_exact, seen_columns, widened_made, widened_passed}
-use Rattle.lra_poly_widening.proofs.StayingLemmas.{of_staying}
+use Rattle.lra_poly_widening.proofs.{StayingLemmas.of_staying, WideningLemmas.not_exact, WideningLemmas.seen_columns, WideningLemmas.widened_made, WideningLemmas.widened_passed}
 use Rattle.lra_poly_widening.proofs.widening.widen_within.Goals as goal
 
 pub returns-then-is_exact-clause-widened : goal.returns-then-is_exact-clause-widened

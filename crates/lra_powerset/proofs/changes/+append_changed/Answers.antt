@@ -1,6 +1,5 @@
 -- Goals of the functions that call each other around `append_changed`: `returns`.
-use Rattle.std.proofs.Common.{◌≡◌, ◌∷◌, arith}
-use Rattle.std.proofs.lemmas.Grind.{common_steps}
+use Rattle.std.proofs.{Common.◌≡◌, Common.◌∷◌, Common.arith, lemmas.Grind.common_steps}
 use Rattle.lra_powerset.specs.Changes.{borrowed_action}
 use Rattle.lra_powerset.proofs.ChangeLemmas.{append_more}
 use Rattle.lra_powerset.proofs.changes.+append_changed.Goals as goal

@@ -1,6 +1,5 @@
 -- Goals of the functions that call each other around `stays_with_all`: `returns`.
-use Rattle.std.proofs.Common.{◌≡◌, ◌∷◌, [], arith}
-use Rattle.std.proofs.lemmas.Grind.{common_steps}
+use Rattle.std.proofs.{Common.◌≡◌, Common.◌∷◌, Common.[], Common.arith, lemmas.Grind.common_steps}
 use Rattle.lra_powerset.proofs.GrowthLemmas.{all_fails, all_more, all_none}
 use Rattle.lra_powerset.proofs.growth.+stays_with_all.Goals as goal
 

@@ -1,10 +1,8 @@
 -- Goals of `become_one`: the parts, not one, become one, which grows by next's; nothing where a join of parts or
 -- its growth strains.
-use Rattle.std.proofs.Common.{◌≡◌, ◌<◌, [], length, sym, ◌∙◌, arith}
-use Rattle.std.proofs.lemmas.Grind.{common_steps}
+use Rattle.std.proofs.{Common.◌≡◌, Common.◌<◌, Common.[], Common.length, Common.sym, Common.◌∙◌, Common.arith, lemmas.Grind.common_steps}
 use Rattle.lra_powerset.specs.Laws.{fits_formed}
-use Rattle.lra_powerset.proofs.AnswerLemmas.{fits_dims}
-use Rattle.lra_powerset.proofs.GrowthLemmas.{head_of_some, merges_some, one_first, one_more}
+use Rattle.lra_powerset.proofs.{AnswerLemmas.fits_dims, GrowthLemmas.head_of_some, GrowthLemmas.merges_some, GrowthLemmas.one_first, GrowthLemmas.one_more}
 use Rattle.lra_powerset.proofs.growth.become_one.Goals as goal
 
 pub merge_exactly-requires-clause-alike : goal.merge_exactly-requires-clause-alike

@@ -2,8 +2,7 @@
 use Rattle.std.proofs.Common.{◌≡◌, sym, rules}
 use Rattle.lra_domain.specs.declared.Exactness.TheVariants.{Exact}
 use Rattle.lra_powerset.specs.Laws.{fits_formed}
-use Rattle.lra_powerset.proofs.AnswerLemmas.{fits_dims}
-use Rattle.lra_powerset.proofs.GrowthLemmas.{grown_formed, merged_exact, one_exact}
+use Rattle.lra_powerset.proofs.{AnswerLemmas.fits_dims, GrowthLemmas.grown_formed, GrowthLemmas.merged_exact, GrowthLemmas.one_exact}
 use Rattle.lra_powerset.proofs.growth.grow_one.Goals as goal
 
 pub merge-requires-clause-alike : goal.merge-requires-clause-alike

@@ -3,8 +3,7 @@
 use Rattle.std.proofs.Common.{inl, inr, subst, sym, ◌∙◌}
 use Rattle.lra_domain.specs.declared.Exactness.TheVariants.{Exact}
 use Rattle.lra_powerset.specs.Laws.{fits_formed}
-use Rattle.lra_powerset.proofs.AnswerLemmas.{fits_dims}
-use Rattle.lra_powerset.proofs.GrowthLemmas.{head_of_some, stays_as, grown_as}
+use Rattle.lra_powerset.proofs.{AnswerLemmas.fits_dims, GrowthLemmas.head_of_some, GrowthLemmas.stays_as, GrowthLemmas.grown_as}
 use Rattle.lra_powerset.proofs.growth.start_and_grow.Goals as goal
 
 pub merge_exactly-requires-clause-alike : goal.merge_exactly-requires-clause-alike

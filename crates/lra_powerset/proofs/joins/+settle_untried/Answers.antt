@@ -1,10 +1,8 @@
 -- Goals of the functions that call each other around `settle_untried`: `returns`, `settle_once`, `into_one`, `settle_untried`.
 use Rattle.std.proofs.Common.{◌<◌, length, arith, rules}
 use Rattle.lra_powerset.specs.Laws.{fits_formed}
-use Rattle.lra_powerset.proofs.CollapseLemmas.{settled_ends}
-use Rattle.lra_powerset.proofs.AnswerLemmas.{fits_dims, further_fewer, further_fit, settled_further, settled_strained, strained_alike, strained_fit}
-use Rattle.lra_powerset.proofs.AnswerLemmas.{strained_some}
-use Rattle.lra_powerset.proofs.AntichainLemmas.{further_apart}
+use Rattle.lra_powerset.proofs.AnswerLemmas.{fits_dims, further_fewer, further_fit, settled_further, settled_strained, strained_alike, strained_fit, strained_some}
+use Rattle.lra_powerset.proofs.{AntichainLemmas.further_apart, CollapseLemmas.settled_ends}
 use Rattle.lra_powerset.proofs.joins.+settle_untried.Goals as goal
 
 pub settle_once-requires-clause-alike : goal.settle_once-requires-clause-alike

@@ -1,9 +1,7 @@
 -- Goals of the functions that call each other around `all_lie_in`: `returns`.
-use Rattle.std.proofs.Common.{◌≡◌, ◌∷◌, arith, rules}
-use Rattle.std.proofs.lemmas.Grind.{common_steps}
+use Rattle.std.proofs.{Common.◌≡◌, Common.◌∷◌, Common.arith, Common.rules, lemmas.Grind.common_steps}
 use Rattle.lra_domain.specs.declared.Included.TheVariants.{No}
-use Rattle.lra_powerset.specs.Lists.{SomePart}
-use Rattle.lra_powerset.specs.Values.{IsUndecided}
+use Rattle.lra_powerset.specs.{Lists.SomePart, Values.IsUndecided}
 use Rattle.lra_powerset.proofs.AnswerLemmas.{told_all, told_no}
 use Rattle.lra_powerset.proofs.reduction.+all_lie_in.Goals as goal
 

@@ -1,6 +1,5 @@
 -- Goals of the functions that call each other around `lies_below_some`: `returns`.
-use Rattle.std.proofs.Common.{◌≡◌, ◌∷◌, arith, inl, rules}
-use Rattle.std.proofs.lemmas.Grind.{common_steps}
+use Rattle.std.proofs.{Common.◌≡◌, Common.◌∷◌, Common.arith, Common.inl, Common.rules, lemmas.Grind.common_steps}
 use Rattle.lra_domain.specs.declared.Included.TheVariants.{Yes}
 use Rattle.lra_powerset.specs.Reduction.{BelowStrains}
 use Rattle.lra_powerset.proofs.AnswerLemmas.{told_some, told_yes}

@@ -1,6 +1,5 @@
 -- Goals of the functions that call each other around `lies_in_some`: `returns`.
-use Rattle.std.proofs.Common.{◌≡◌, ◌∷◌, arith, inl, rules}
-use Rattle.std.proofs.lemmas.Grind.{common_steps}
+use Rattle.std.proofs.{Common.◌≡◌, Common.◌∷◌, Common.arith, Common.inl, Common.rules, lemmas.Grind.common_steps}
 use Rattle.lra_domain.specs.declared.Included.TheVariants.{Yes}
 use Rattle.lra_powerset.proofs.AnswerLemmas.{told_of, told_some}
 use Rattle.lra_powerset.proofs.reduction.+lies_in_some.Goals as goal

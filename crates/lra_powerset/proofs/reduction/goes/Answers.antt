@@ -1,9 +1,7 @@
 -- Goals of `goes`: whether the part goes, with these before it and these behind it.
 use Rattle.std.proofs.Common.{◌≡◌, inl, rules}
 use Rattle.lra_domain.specs.declared.Included.TheVariants.{Yes}
-use Rattle.lra_powerset.specs.Lists.{SomePart}
-use Rattle.lra_powerset.specs.Reduction.{BelowStrains}
-use Rattle.lra_powerset.specs.Values.{IsUndecided}
+use Rattle.lra_powerset.specs.{Lists.SomePart, Reduction.BelowStrains, Values.IsUndecided}
 use Rattle.lra_powerset.proofs.AnswerLemmas.{told_goes, told_yes}
 use Rattle.lra_powerset.proofs.reduction.goes.Goals as goal
 

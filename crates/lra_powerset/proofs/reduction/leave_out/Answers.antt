@@ -1,8 +1,6 @@
 -- Goals of `leave_out`: the parts that go are left out.
-use Rattle.std.proofs.Common.{◌≡◌, ◌∷◌, length, vec_len, ap, ◌∙◌, arith, rules}
-use Rattle.std.proofs.lemmas.Grind.{common_steps}
-use Rattle.lra_domain.specs.declared.Included.{Included}
-use Rattle.lra_domain.specs.declared.Included.TheVariants.{Yes}
+use Rattle.std.proofs.{Common.◌≡◌, Common.◌∷◌, Common.length, Common.vec_len, Common.ap, Common.◌∙◌, Common.arith, Common.rules, lemmas.Grind.common_steps}
+use Rattle.lra_domain.specs.{declared.Included.Included, declared.Included.TheVariants.Yes}
 use Rattle.lra_powerset.proofs.TellLemmas.{leave_at, leave_gone, leave_stays}
 use Rattle.lra_powerset.proofs.reduction.leave_out.Goals as goal
 

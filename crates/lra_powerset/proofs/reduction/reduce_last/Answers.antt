@@ -1,6 +1,5 @@
 -- Goals of `reduce_last`: a list is reduced of which only the last part is new.
-use Rattle.std.proofs.Common.{◌≡◌, [], ◌∷◌, ◌++◌, length, vec_len, ap, arith, length-append}
-use Rattle.std.proofs.lemmas.Grind.{common_steps}
+use Rattle.std.proofs.{Common.◌≡◌, Common.[], Common.◌∷◌, Common.◌++◌, Common.length, Common.vec_len, Common.ap, Common.arith, Common.length-append, lemmas.Grind.common_steps}
 use Rattle.lra_powerset.proofs.TellLemmas.{told_long}
 use Rattle.lra_powerset.proofs.reduction.reduce_last.Goals as goal
 

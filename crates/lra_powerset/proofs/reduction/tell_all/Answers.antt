@@ -1,6 +1,5 @@
 -- Goals of `tell_all`: of each part whether it goes.
-use Rattle.std.proofs.Common.{◌≡◌, ℕ, [], length, vec_len, take, ap, ◌∙◌, arith}
-use Rattle.std.proofs.lemmas.Grind.{common_steps}
+use Rattle.std.proofs.{Common.◌≡◌, Common.ℕ, Common.[], Common.length, Common.vec_len, Common.take, Common.ap, Common.◌∙◌, Common.arith, lemmas.Grind.common_steps}
 use Rattle.lra_powerset.proofs.TellLemmas.{cut_dims, tell_ends, tell_front, tell_next}
 use Rattle.lra_powerset.proofs.reduction.tell_all.Goals as goal
 

@@ -1,6 +1,5 @@
 -- Goals of the functions that call each other around `append_rows`: `returns`.
-use Rattle.std.proofs.Common.{◌≡◌, ◌∷◌, arith}
-use Rattle.std.proofs.lemmas.Grind.{common_steps}
+use Rattle.std.proofs.{Common.◌≡◌, Common.◌∷◌, Common.arith, lemmas.Grind.common_steps}
 use Rattle.lra_powerset.proofs.SetLemmas.{more_fit, more_hold}
 use Rattle.lra_powerset.proofs.set.+append_rows.Goals as goal
 

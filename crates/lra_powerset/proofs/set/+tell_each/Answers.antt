@@ -1,6 +1,5 @@
 -- Goals of the functions that call each other around `tell_each`: `returns`.
-use Rattle.std.proofs.Common.{◌≡◌, ◌∷◌, arith}
-use Rattle.std.proofs.lemmas.Grind.{common_steps}
+use Rattle.std.proofs.{Common.◌≡◌, Common.◌∷◌, Common.arith, lemmas.Grind.common_steps}
 use Rattle.lra_powerset.proofs.SetLemmas.{more_tell}
 use Rattle.lra_powerset.proofs.set.+tell_each.Goals as goal
 

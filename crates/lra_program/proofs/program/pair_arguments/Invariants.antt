@@ -1,9 +1,7 @@
 -- Those so far, and then those that the types and expressions left over give, are all.
 use Rattle.std.proofs.Common.{◌≡◌, ◌++◌, map}
-use Rattle.std.specs.Slice.Iter.{iter_rest}
-use Rattle.std.specs.Iterator.Adapters.{zip_first, zip_second}
-use Rattle.lra_program.specs.ProgramViews.{argument_view, expr_view}
-use Rattle.lra_program.specs.Step.{arguments_for}
+use Rattle.std.specs.{Iterator.Adapters.zip_first, Iterator.Adapters.zip_second, Slice.Iter.iter_rest}
+use Rattle.lra_program.specs.{ProgramViews.argument_view, ProgramViews.expr_view, Step.arguments_for}
 use Rattle.lra_program.proofs.program.pair_arguments.Given as goal
 
 abbrev pub invariant-loop-number_type : goal.invariant-loop-number_type

@@ -2,9 +2,8 @@
 use Rattle.std.proofs.Common.{◌≡◌, ◌++◌, rules}
 use Rattle.std.specs.Prelude.{option_to_list}
 use Rattle.lra_scopes.specs.Calls.{functions_at}
-use Rattle.lra_recursion.proofs.Reading.{further_label}
+use Rattle.lra_recursion.proofs.{Reading.further_label, calls.add_calls.Goals.in-Some+in_ok-push, calls.add_calls.Goals.in_default}
 use Rattle.lra_recursion.proofs.calls.add_calls.Goals as goal
-use Rattle.lra_recursion.proofs.calls.add_calls.Goals.{in-Some+in_ok-push, in_default}
 
 pub labels-preserved : goal.labels-preserved
 labels-preserved c =

@@ -1,13 +1,11 @@
 -- Goals of `find_calls`: all calls of a source in text order.
-use Rattle.std.proofs.Common.{◌≡◌, ◌++◌, ◌∙◌, rules, ap, refl, length}
-use Rattle.std.specs.Prelude.{slice_get, Vec}
-use Rattle.std.specs.declared.alloc.Global.{Global}
+use Rattle.std.proofs.{Common.◌≡◌, Common.◌++◌, Common.◌∙◌, Common.rules, Common.ap, Common.refl, Common.length, lemmas.Option.slice_get_past, lemmas.Option.slice_get_read}
+use Rattle.std.specs.{Prelude.slice_get, Prelude.Vec, declared.alloc.Global.Global}
 use Rattle.lra_recursion.specs.declared.calls.Call.{Call}
-use Rattle.std.proofs.lemmas.Option.{slice_get_past, slice_get_read}
 use Rattle.lra_scopes.specs.Calls.{functions_at}
 use Rattle.lra_recursion.proofs.Reading.{own_calls, further_function, called_by_one, called_by_none}
-use Rattle.lra_recursion.proofs.calls.find_calls.Goals as goal
 use Rattle.lra_recursion.proofs.calls.find_calls.Goals.{then-place-len+in_ok-add_calls, else-place-len}
+use Rattle.lra_recursion.proofs.calls.find_calls.Goals as goal
 
 pub functions-preserved : goal.functions-preserved
 functions-preserved c =

@@ -1,7 +1,6 @@
 -- Goals of `first_recursive`: the place of the first call, in text order, whose callee reaches the function that holds
 -- it.
-use Rattle.std.proofs.Common.{◌≡◌, ◌∙◌, sym, length, arith}
-use Rattle.std.proofs.lemmas.Grind.{common_steps}
+use Rattle.std.proofs.{Common.◌≡◌, Common.◌∙◌, Common.sym, Common.length, Common.arith, lemmas.Grind.common_steps}
 use Rattle.std.specs.Vec.{vec_len}
 use Rattle.lra_recursion.proofs.Reaching.{resolved_first}
 use Rattle.lra_recursion.proofs.recursion.first_recursive.Goals as goal

@@ -1,6 +1,5 @@
 -- Goals of `add_call`: adds a call to the row of its caller.
-use Rattle.std.proofs.Common.{ℕ, Vec, Global, ◌++◌, ◌∷◌, [], length, refl, sym, ap, ◌∙◌}
-use Rattle.std.proofs.lemmas.Option.{slice_get_read}
+use Rattle.std.proofs.{Common.ℕ, Common.Vec, Common.Global, Common.◌++◌, Common.◌∷◌, Common.[], Common.length, Common.refl, Common.sym, Common.ap, Common.◌∙◌, lemmas.Option.slice_get_read}
 use Rattle.lra_recursion.specs.Calls.{callees_of}
 use Rattle.lra_recursion.proofs.Adding.{row_added}
 use Rattle.lra_recursion.proofs.rows.add_call.Goals as goal

@@ -1,9 +1,7 @@
 -- Goals of `reached`: for each place whether it is come to.
 use Rattle.std.proofs.Common.{map, length, arith, rules, refl, sym, ap, ◌∙◌, Some, ◌≡◌, ◌<◌}
-use Rattle.std.proofs.lemmas.List.{length-map}
-use Rattle.std.proofs.lemmas.Option.{slice_get_read}
-use Rattle.lra_recursion.proofs.Elements.{mapped_at}
-use Rattle.lra_recursion.proofs.Visiting.{begun_search, open_within, further_search, ended_search}
+use Rattle.std.proofs.{lemmas.List.length-map, lemmas.Option.slice_get_read}
+use Rattle.lra_recursion.proofs.{Elements.mapped_at, Visiting.begun_search, Visiting.open_within, Visiting.further_search, Visiting.ended_search}
 use Rattle.lra_recursion.proofs.search.reached.Goals as goal
 
 pub left-init : goal.left-init

@@ -2,8 +2,7 @@
 -- report.
 use Rattle.lra_syntax.specs.Grammar.{Spells}
 use Rattle.lra_report.specs.View.{report_of}
-use Rattle.lra_report.proofs.OneText.{one_report}
-use Rattle.lra_report.proofs.SourceTexts.{one_accepted, one_source}
+use Rattle.lra_report.proofs.{OneText.one_report, SourceTexts.one_accepted, SourceTexts.one_source}
 use Rattle.lra_report.proofs.law.one_text.Goals as goal
 
 pub returns-clause-program : goal.returns-clause-program

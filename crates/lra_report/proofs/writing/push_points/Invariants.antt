@@ -1,7 +1,6 @@
 use Rattle.std.proofs.Common.{◌≡◌, ◌++◌, take, map, string_bytes}
 use Rattle.std.specs.List.{flat_map}
-use Rattle.lra_report.specs.ReportText.{point_text}
-use Rattle.lra_report.specs.View.{point_report_of}
+use Rattle.lra_report.specs.{ReportText.point_text, View.point_report_of}
 use Rattle.lra_report.proofs.writing.push_points.Given as goal
 
 abbrev pub invariant-loop-point : goal.invariant-loop-point

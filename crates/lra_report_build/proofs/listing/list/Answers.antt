@@ -2,18 +2,15 @@
 use Rattle.std.proofs.Common.{List, map, ◌++◌, refl, subst}
 use Rattle.std.specs.List.{flat_map}
 use Rattle.lra_operations.specs.TreeViews.{site_view}
-use Rattle.lra_syntax.specs.Views.{tree_view}
+use Rattle.lra_syntax.specs.{Labels.Labelled, Labels.labels_of, Views.tree_view}
 use Rattle.lra_resolution_spec.specs.Resolve.{resolve}
-use Rattle.lra_program.specs.Sites.{Site, sites_of}
-use Rattle.lra_syntax.specs.Labels.{Labelled, labels_of}
-use Rattle.lra_report.specs.declared.verdict_kinds.VerdictKind.TheVariants.{Assertion, Fit}
-use Rattle.lra_program.specs.Assertions.{assertions_from}
+use Rattle.lra_program.specs.{Assertions.assertions_from, Sites.Site, Sites.sites_of}
 use Rattle.lra_report.specs.Listing.{fits_asked, subjects_of, accesses_at, accesses_from}
-use Rattle.lra_report.specs.View.{verdict_of, report_of}
+use Rattle.lra_report.specs.{View.verdict_of, View.report_of, declared.verdict_kinds.VerdictKind.TheVariants.Assertion, declared.verdict_kinds.VerdictKind.TheVariants.Fit}
 use Rattle.lra_report_build.specs.AnalysisResults.{AreFitting, AreAccessVerdicts, AreVerdicts, access_verdicts_at, verdict_at}
 use Rattle.lra_report_build.specs.Views.{reported_view}
-use Rattle.lra_report_build.proofs.Verdicts.{all_told, are_fitting, are_inside, are_judged, judged_append}
 use Rattle.lra_report_build.proofs.Reports.{fitting_there, inside_there, lists_by_parts, verdicts_there}
+use Rattle.lra_report_build.proofs.Verdicts.{all_told, are_fitting, are_inside, are_judged, judged_append}
 use Rattle.lra_report_build.proofs.listing.list.Goals as goal
 
 pub list_verdicts-requires-clause-assertions : goal.list_verdicts-requires-clause-assertions

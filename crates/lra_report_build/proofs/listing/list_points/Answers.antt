@@ -1,7 +1,6 @@
 -- Goals of `list_points`: the points of the report.
 use Rattle.std.proofs.Common.{rules, arith, ◌≡◌, ◌∙◌, ◌+◌, ◌++◌, ◌∷◌, [], ap, length, length-append}
-use Rattle.std.proofs.lemmas.Iterator.Consumers.{YieldsList-turn}
-use Rattle.std.proofs.lemmas.Iterator.Adapters.{YieldsList-from_vec}
+use Rattle.std.proofs.{lemmas.Iterator.Adapters.YieldsList-from_vec, lemmas.Iterator.Consumers.YieldsList-turn}
 use Rattle.lra_report_build.specs.AnalysisResults.{state_of}
 use Rattle.lra_report_build.proofs.Points.{point_listed, inside_sites, wide_state, states_taken}
 use Rattle.lra_report_build.proofs.listing.list_points.Goals as goal

@@ -2,8 +2,7 @@
 use Rattle.std.proofs.Common.{◌≡◌, length, map, take, vec_len, Vec, Global}
 use Rattle.lra_operations.specs.TreeViews.{site_view}
 use Rattle.lra_row_text.specs.Part.{Part}
-use Rattle.lra_report.specs.Listing.{AreListed}
-use Rattle.lra_report.specs.View.{point_report_of}
+use Rattle.lra_report.specs.{Listing.AreListed, View.point_report_of}
 use Rattle.lra_report_build.specs.AnalysisResults.{state_of}
 use Rattle.lra_report_build.proofs.listing.list_points.Given as goal
 

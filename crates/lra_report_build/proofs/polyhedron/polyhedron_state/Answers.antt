@@ -1,16 +1,12 @@
 -- Goals of `polyhedron_state`: the state of a polyhedron, given by its canonical lists.
 use Rattle.std.proofs.Common.{◌≡◌, ◌∙◌, ◌<◌, ℤ, suc, List, [], ◌∷◌, ◌++◌, length, sym, ap, subst, arith}
-use Rattle.std.specs.List.{All}
 use Rattle.std.proofs.lemmas.Grind.{common_steps}
-use Rattle.lra_linear_spec.specs.Range.{InRange}
-use Rattle.lra_linear_spec.specs.declared.ConKind.{ConKind}
-use Rattle.lra_linear_spec.specs.declared.GenKind.{GenKind}
+use Rattle.std.specs.List.{All}
+use Rattle.lra_linear_spec.specs.{Range.InRange, declared.ConKind.ConKind, declared.GenKind.GenKind}
 use Rattle.lra_systems.specs.LinearSystems.{LinearSystem}
-use Rattle.lra_row_text.specs.Part.{Part}
-use Rattle.lra_row_text.specs.Lists.{shown_rows, shown_generators}
+use Rattle.lra_row_text.specs.{Lists.shown_rows, Lists.shown_generators, Part.Part}
 use Rattle.lra_report_build.specs.Polyhedra.{shown_polyhedron, polyhedron_of}
-use Rattle.lra_report_build.proofs.CanonicalLemmas.{shown_canonical}
-use Rattle.lra_report_build.proofs.PolyhedronShown.{none_shown, some_shown, told_so, spelled_so}
+use Rattle.lra_report_build.proofs.{CanonicalLemmas.shown_canonical, PolyhedronShown.none_shown, PolyhedronShown.some_shown, PolyhedronShown.told_so, PolyhedronShown.spelled_so}
 use Rattle.lra_report_build.proofs.polyhedron.polyhedron_state.Goals as goal
 
 pub returns-then-is_empty-clause-told : goal.returns-then-is_empty-clause-told

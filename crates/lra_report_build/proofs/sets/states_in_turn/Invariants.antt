@@ -1,10 +1,8 @@
 -- So far the states of the first values are there, one after another, as the values are, and as their texts tell them.
 use Rattle.std.proofs.Common.{◌≡◌, take}
-use Rattle.std.specs.Prelude.{flat_map}
-use Rattle.std.specs.List.{AllByRecursion}
+use Rattle.std.specs.{List.AllByRecursion, Prelude.flat_map}
 use Rattle.lra_report.specs.Spelled.{IsSpelledPart}
-use Rattle.lra_report_build.specs.Canonical.{AreCanonicallyShown}
-use Rattle.lra_report_build.specs.Shown.{IsShown}
+use Rattle.lra_report_build.specs.{Canonical.AreCanonicallyShown, Shown.IsShown}
 use Rattle.lra_report_build.proofs.sets.states_in_turn.Given as goal
 
 abbrev pub invariant-values : goal.invariant-values

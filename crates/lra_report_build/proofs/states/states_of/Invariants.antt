@@ -2,8 +2,7 @@
 use Rattle.std.proofs.Common.{◌≡◌, map, take}
 use Rattle.std.specs.List.{AllByRecursion}
 use Rattle.lra_report.specs.Spelled.{IsSpelledPart}
-use Rattle.lra_report_build.specs.Canonical.{AreCanonicallyShown}
-use Rattle.lra_report_build.specs.Shown.{IsShown}
+use Rattle.lra_report_build.specs.{Canonical.AreCanonicallyShown, Shown.IsShown}
 use Rattle.lra_report_build.proofs.states.states_of.Given as goal
 
 abbrev pub invariant-values : goal.invariant-values

@@ -1,9 +1,7 @@
 use Rattle.std.proofs.Common.{◌≡◌, ◌++◌, drop, map}
-use Rattle.serde_json.specs.Data.{string}
-use Rattle.serde_json.specs.View.{view}
+use Rattle.serde_json.specs.{Data.string, View.view}
 use Rattle.lra_systems.specs.LinearSystems.{FitKinds}
-use Rattle.lra_row_text.specs.Texts.{generator_text}
-use Rattle.lra_row_text.specs.Lists.{shown_generators}
+use Rattle.lra_row_text.specs.{Lists.shown_generators, Texts.generator_text}
 use Rattle.lra_report_json.proofs.lists.generator_values.Given as goal
 
 abbrev pub invariant-loop-index : goal.invariant-loop-index

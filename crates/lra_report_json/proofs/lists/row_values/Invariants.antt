@@ -1,8 +1,6 @@
 use Rattle.std.proofs.Common.{◌≡◌, ◌++◌, drop, map}
-use Rattle.serde_json.specs.Data.{string}
-use Rattle.serde_json.specs.View.{view}
-use Rattle.lra_row_text.specs.Texts.{row_text}
-use Rattle.lra_row_text.specs.Lists.{shown_rows}
+use Rattle.serde_json.specs.{Data.string, View.view}
+use Rattle.lra_row_text.specs.{Lists.shown_rows, Texts.row_text}
 use Rattle.lra_report_json.proofs.lists.row_values.Given as goal
 
 abbrev pub invariant-loop-index : goal.invariant-loop-index

@@ -1,9 +1,6 @@
 -- Goals of `is_listed`: whether a verdict stands under this key.
-use Rattle.std.proofs.Common.{rules, tests, ◌∙◌}
-use Rattle.std.proofs.lemmas.Iterator.{YieldsList-from_slice}
-use Rattle.std.proofs.lemmas.Iterator.Search.{any_from_yields_List}
-use Rattle.lra_report.specs.View.{verdict_of}
-use Rattle.lra_report.specs.declared.report.Verdict.{Verdict}
+use Rattle.std.proofs.{Common.rules, Common.tests, Common.◌∙◌, lemmas.Iterator.YieldsList-from_slice, lemmas.Iterator.Search.any_from_yields_List}
+use Rattle.lra_report.specs.{View.verdict_of, declared.report.Verdict.Verdict}
 use Rattle.lra_report_json.specs.ReportJson.{is_under}
 use Rattle.lra_report_json.proofs.Keyed.{list_any-map}
 use Rattle.lra_report_json.proofs.whole.is_listed.Goals as goal

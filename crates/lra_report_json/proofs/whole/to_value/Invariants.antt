@@ -1,8 +1,7 @@
 -- So far the first kinds are added.
 use Rattle.std.proofs.Common.{◌≡◌, take, fold}
 use Rattle.serde_json.specs.View.{members_view}
-use Rattle.lra_report.specs.VerdictKinds.{kinds}
-use Rattle.lra_report.specs.View.{report_of}
+use Rattle.lra_report.specs.{VerdictKinds.kinds, View.report_of}
 use Rattle.lra_report_json.specs.ReportJson.{fixed_members, with_verdicts}
 use Rattle.lra_report_json.proofs.whole.to_value.Given as goal
 

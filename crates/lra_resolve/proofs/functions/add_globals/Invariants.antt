@@ -1,11 +1,8 @@
 -- The first globals are there; the faults of those that are left are those of all.
 use Rattle.std.proofs.Common.{◌≡◌, ◌∷◌, ◌++◌, map, take, drop}
 use Rattle.std.specs.List.{flat_map}
-use Rattle.lra_syntax.specs.Trees.{GlobalTree}
-use Rattle.lra_syntax.specs.Views.{global_view}
-use Rattle.lra_resolution_spec.specs.NameFaults.{globals_faults, global_names}
-use Rattle.lra_resolution_spec.specs.Scope.{global_entry}
-use Rattle.lra_resolution_spec.specs.Resolve.{variables_by, arrays_by}
+use Rattle.lra_syntax.specs.{Trees.GlobalTree, Views.global_view}
+use Rattle.lra_resolution_spec.specs.{NameFaults.globals_faults, NameFaults.global_names, Resolve.variables_by, Resolve.arrays_by, Scope.global_entry}
 use Rattle.lra_resolve.proofs.functions.add_globals.Given as goal
 
 abbrev pub invariant-globals : goal.invariant-globals

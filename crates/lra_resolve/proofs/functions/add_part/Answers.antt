@@ -1,7 +1,6 @@
 -- Goals of `add_part`.
 use Rattle.std.proofs.Common.{List, ◌∷◌}
-use Rattle.lra_syntax.specs.Trees.{ExternalTree}
-use Rattle.lra_syntax.specs.Views.{external_view}
+use Rattle.lra_syntax.specs.{Trees.ExternalTree, Views.external_view}
 use Rattle.lra_resolution_spec.specs.NameFaults.{parts_faults}
 use Rattle.lra_scopes.specs.Calls.{functions_at}
 use Rattle.lra_scopes.proofs.FirstFaults.{exit_tells_all}

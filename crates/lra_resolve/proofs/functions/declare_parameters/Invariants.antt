@@ -1,8 +1,7 @@
 -- The first parameters are declared; the faults of those that are left are those of all.
 use Rattle.std.proofs.Common.{◌≡◌, [], map, take, drop}
 use Rattle.lra_syntax.specs.declared.trees.Parameter.{Parameter}
-use Rattle.lra_resolution_spec.specs.Scope.{names_in, function_scope}
-use Rattle.lra_resolution_spec.specs.NameFaults.{parameters_faults}
+use Rattle.lra_resolution_spec.specs.{NameFaults.parameters_faults, Scope.names_in, Scope.function_scope}
 use Rattle.lra_resolve.proofs.functions.declare_parameters.Given as goal
 
 abbrev pub invariant-parameters : goal.invariant-parameters

@@ -1,16 +1,11 @@
 -- Goals of `resolve_all`: all parts of the source.
 use Rattle.std.proofs.Common.{List, [], ◌++◌, ◌+◌, map, drop, sym, ap, ◌∙◌, append-nil}
-use Rattle.lra_syntax.specs.declared.trees.ExternalDeclaration.{ExternalDeclaration}
-use Rattle.lra_syntax.specs.Trees.{ExternalTree}
-use Rattle.lra_syntax.specs.Views.{external_view}
+use Rattle.lra_syntax.specs.{Functions.functions_in, Trees.ExternalTree, Views.external_view, declared.trees.ExternalDeclaration.ExternalDeclaration}
 use Rattle.lra_program.specs.ProgramViews.{function_view}
-use Rattle.lra_resolution_spec.specs.NameFaults.{parts_faults}
-use Rattle.lra_resolution_spec.specs.Resolve.{globals_in, arrays_in, resolve_parts}
-use Rattle.lra_syntax.specs.Functions.{functions_in}
+use Rattle.lra_resolution_spec.specs.{NameFaults.parts_faults, Resolve.globals_in, Resolve.arrays_in, Resolve.resolve_parts}
 use Rattle.lra_scopes.specs.Calls.{functions_at}
 use Rattle.lra_resolve_simple.specs.Labelling.{labels_of_functions}
-use Rattle.lra_scopes.proofs.FirstFaults.{exit_tells, rest_tells}
-use Rattle.lra_scopes.proofs.Loops.{parts_step, parts_end}
+use Rattle.lra_scopes.proofs.{FirstFaults.exit_tells, FirstFaults.rest_tells, Loops.parts_step, Loops.parts_end}
 use Rattle.lra_resolve.proofs.functions.resolve_all.Goals as goal
 
 pub parts-preserved : goal.parts-preserved

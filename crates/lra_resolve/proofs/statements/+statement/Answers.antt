@@ -1,35 +1,23 @@
 -- Goals of the functions that call each other around `statement`: `resolve_items`, `resolve_stmt`, `resolve_block`,
 -- `resolve_choice`, `resolve_loop`, `resolve_switch`.
 use Rattle.std.proofs.Common.{List, [], ◌∷◌, ◌+◌, subst, map, drop, refl, ap, sym, ◌∙◌, arith, Option, option_map, option_copied, Bor, Vec, Global}
-use Rattle.lra_syntax.specs.Trees.{ItemsTree, StmtTree}
-use Rattle.lra_program.specs.declared.program.BlockItem.{BlockItem as ProgramItem}
-use Rattle.lra_program.specs.declared.program.CaseItem.{CaseItem as ProgramCase}
-use Rattle.lra_syntax.specs.declared.trees.BlockItem.{BlockItem}
-use Rattle.lra_syntax.specs.declared.trees.CaseItem.{CaseItem}
-use Rattle.lra_syntax.specs.declared.trees.Stmt.{Stmt}
+use Rattle.std.proofs.lemmas.List.{at_drop_all}
 use Rattle.lra_syntax.specs.Views.{items_of, item_view, block_view, cond_view, stmt_view, expr_view, cases_of, case_view, cases_view}
-use Rattle.lra_program.specs.ProgramViews.{item_view as program_item_view, stmt_view as program_stmt_view}
-use Rattle.lra_program.specs.ProgramViews.{expr_view as program_expr_view, case_view as program_case_view, cases_of as program_cases_of}
-use Rattle.lra_resolution_spec.specs.NameFaults.{Around, items_faults}
-use Rattle.lra_resolution_spec.specs.Resolve.{resolve_stmt, resolve_items, items_count}
+use Rattle.lra_syntax.specs.{Labels.plain_label, Trees.ItemsTree, Trees.StmtTree, declared.trees.BlockItem.BlockItem, declared.trees.CaseItem.CaseItem, declared.trees.Stmt.Stmt}
+use Rattle.lra_program.specs.ProgramViews.{item_view as program_item_view, stmt_view as program_stmt_view, expr_view as program_expr_view, case_view as program_case_view, cases_of as program_cases_of}
+use Rattle.lra_program.specs.{declared.program.BlockItem.BlockItem as ProgramItem, declared.program.CaseItem.CaseItem as ProgramCase}
+use Rattle.lra_resolution_spec.specs.{NameFaults.Around, NameFaults.items_faults, Resolve.resolve_stmt, Resolve.resolve_items, Resolve.items_count}
 use Rattle.lra_scopes.specs.Calls.{functions_at}
-use Rattle.lra_resolve_simple.specs.Statements.{around_of, followed, switch_of}
-use Rattle.lra_resolve_simple.specs.LoopHeads.{rounds_view, loop_around}
+use Rattle.lra_resolve_simple.specs.{Labelling.Adds, LoopHeads.rounds_view, LoopHeads.loop_around, Statements.around_of, Statements.followed, Statements.switch_of}
 use Rattle.lra_scopes.proofs.FirstFaults.{tells_front, tells_behind, exit_tells, rest_tells}
 use Rattle.lra_scopes.proofs.Loops.{parts_step, first_told, second_told, both_clean, made_told, found_so, wanting_told}
-use Rattle.std.proofs.lemmas.List.{at_drop_all}
-use Rattle.lra_resolve_simple.proofs.StatementLaws.{extends_self, extends_then, block_items, block_end, kept_so, block_is, absent_is, choice_found}
-use Rattle.lra_resolve_simple.proofs.StatementLaws.{if_is, if_else_is, while_is, for_is, switch_is}
-use Rattle.lra_resolve.proofs.LoopLaws.{faults_of_loop, meaning_of_loop, count_of_loop, loops, without, with_other, count_without, count_with, labelled_without}
-use Rattle.lra_resolve.proofs.LoopLaws.{labelled_with, front_told, other_told}
-use Rattle.lra_resolve.proofs.LoopLaws.{clean_without, clean_with, loop_left, block_found, block_left, block_counted, refused}
-use Rattle.lra_resolve_simple.proofs.SimpleLaws.{rest_is_simple}
-use Rattle.lra_base.specs.declared.refusals.Place.{Place}
-use Rattle.lra_syntax.specs.Labels.{plain_label}
-use Rattle.lra_resolve_simple.specs.Labelling.{Adds}
-use Rattle.lra_resolve_simple.proofs.LabellingLaws.{reaches_none, reaches_step, reaches_all, blocks}
+use Rattle.lra_resolve_simple.proofs.StatementLaws.{extends_self, extends_then, block_items, block_end, kept_so, block_is, absent_is, choice_found, if_is, if_else_is, while_is, for_is, switch_is}
+use Rattle.lra_resolve_simple.proofs.{LabellingLaws.reaches_none, LabellingLaws.reaches_step, LabellingLaws.reaches_all, LabellingLaws.blocks, SimpleLaws.rest_is_simple}
 use Rattle.lra_resolve.proofs.CaseLaws.{all_cases, selects_none, selects_label, selects_stated, label_told, stated_told, value_told, switch_told, switch_found}
 use Rattle.lra_resolve.proofs.ItemLaws.{Passes, passes_declaration, passes_statement, declaration_told, statement_told}
+use Rattle.lra_resolve.proofs.LoopLaws.{faults_of_loop, meaning_of_loop, count_of_loop, loops, without, with_other, count_without, count_with, labelled_without, labelled_with, front_told, other_told}
+use Rattle.lra_resolve.proofs.LoopLaws.{clean_without, clean_with, loop_left, block_found, block_left, block_counted, refused}
+use Rattle.lra_base.specs.declared.refusals.Place.{Place}
 use Rattle.lra_resolve.proofs.statements.+statement.Goals as goal
 use Rattle.lra_resolve.proofs.statements.+statement.Goals.{resolve_items-in-Declaration+in_ok-add_declaration-in-Declaration}
 use Rattle.lra_resolve.proofs.statements.+statement.Goals.{resolve_items-in-Statement+in_ok-stmt-in-Statement+in_ok-push-in-Statement}

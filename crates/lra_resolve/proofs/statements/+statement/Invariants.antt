@@ -1,16 +1,11 @@
 -- The items that are left, in the scope of those before them, are as all of them in the scope of the block. A call goes down the
 -- tree, or hands on what it was given: the arms of a statement stand above the statements in them.
 use Rattle.std.proofs.Common.{◌≡◌, ℕ, ◌+◌, ◌*◌, max, map, drop, Option, Some, None, option_copied}
-use Rattle.lra_syntax.specs.declared.trees.Stmt.{Stmt}
-use Rattle.lra_syntax.proofs.trees.Stmt.TheLaws.{the_size}
-use Rattle.lra_syntax.proofs.trees.Block.TheLaws.{the_size as block_size}
-use Rattle.lra_syntax.proofs.trees.Cases.TheLaws.{the_size as cases_size}
-use Rattle.lra_syntax.specs.Views.{items_of, item_view, cases_of, case_view}
+use Rattle.lra_syntax.specs.{Views.items_of, Views.item_view, Views.cases_of, Views.case_view, declared.trees.Stmt.Stmt}
+use Rattle.lra_syntax.proofs.{trees.Block.TheLaws.the_size as block_size, trees.Cases.TheLaws.the_size as cases_size, trees.Stmt.TheLaws.the_size}
 use Rattle.lra_program.specs.ProgramViews.{item_view as program_item_view}
-use Rattle.lra_resolution_spec.specs.NameFaults.{items_faults}
-use Rattle.lra_resolution_spec.specs.Resolve.{resolve_items, items_count}
-use Rattle.lra_scopes.specs.Calls.{functions_at}
-use Rattle.lra_scopes.specs.Scopes.{Extends}
+use Rattle.lra_resolution_spec.specs.{NameFaults.items_faults, Resolve.resolve_items, Resolve.items_count}
+use Rattle.lra_scopes.specs.{Calls.functions_at, Scopes.Extends}
 use Rattle.lra_resolve_simple.specs.Statements.{around_of, followed}
 use Rattle.lra_resolve_simple.proofs.LabellingLaws.{LeadsOn}
 use Rattle.lra_resolve.proofs.CaseLaws.{Selects}

@@ -1,11 +1,8 @@
 -- Goals of `resolve_threads`: without faults of names the source has two threads, or it is refused for want of them.
 use Rattle.std.proofs.Common.{◌≡◌, ◌<◌, ◌≤◌, List, ap, sym, ◌∙◌, subst}
-use Rattle.lra_syntax.specs.declared.trees.ExternalDeclaration.{ExternalDeclaration}
-use Rattle.lra_syntax.specs.Functions.{functions_of}
-use Rattle.lra_syntax.specs.Views.{tree_view}
+use Rattle.lra_syntax.specs.{Functions.functions_of, Views.tree_view, declared.trees.ExternalDeclaration.ExternalDeclaration}
 use Rattle.lra_resolution_spec.specs.Threads.{greatest_threads, thread_places_from, thread_faults}
-use Rattle.lra_scopes.specs.Calls.{functions_at}
-use Rattle.lra_scopes.specs.Outcome.{StopsAtFirstFault}
+use Rattle.lra_scopes.specs.{Calls.functions_at, Outcome.StopsAtFirstFault}
 use Rattle.lra_resolve.proofs.ThreadLaws.{few_told, two_clean}
 use Rattle.lra_resolve.proofs.threads.resolve_threads.Goals as goal
 

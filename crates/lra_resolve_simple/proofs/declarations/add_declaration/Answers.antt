@@ -1,19 +1,11 @@
 -- Goals of `add_declaration`: resolves the declarators of a declaration into further items.
-use Rattle.std.proofs.Common.{List, ◌∷◌, ◌+◌, map, drop, subst, sym, ap, ◌∙◌, arith}
-use Rattle.lra_syntax.specs.declared.trees.Declarator.{Declarator}
-use Rattle.lra_program.specs.Program.{BlockItems}
-use Rattle.lra_syntax.specs.Trees.{DeclaratorTree}
-use Rattle.lra_syntax.specs.Views.{declarator_view}
-use Rattle.lra_program.specs.ProgramViews.{item_view}
-use Rattle.lra_resolution_spec.specs.Scope.{Scope, with_declarators}
-use Rattle.lra_resolution_spec.specs.NameFaults.{declarators_faults}
-use Rattle.lra_resolution_spec.specs.Resolve.{resolve_declarators}
+use Rattle.std.proofs.{Common.List, Common.◌∷◌, Common.◌+◌, Common.map, Common.drop, Common.subst, Common.sym, Common.ap, Common.◌∙◌, Common.arith, lemmas.List.take_all}
+use Rattle.lra_syntax.specs.{Trees.DeclaratorTree, Views.declarator_view, declared.trees.Declarator.Declarator}
+use Rattle.lra_program.specs.{Program.BlockItems, ProgramViews.item_view}
+use Rattle.lra_resolution_spec.specs.{NameFaults.declarators_faults, Resolve.resolve_declarators, Scope.Scope, Scope.with_declarators}
 use Rattle.lra_scopes.specs.Calls.{functions_at}
-use Rattle.lra_resolve_simple.specs.Statements.{followed}
-use Rattle.lra_scopes.proofs.FirstFaults.{exit_tells, rest_tells}
-use Rattle.std.proofs.lemmas.List.{take_all}
-use Rattle.lra_resolve_simple.specs.Labelling.{Declares}
-use Rattle.lra_scopes.proofs.Loops.{parts_step, parts_end}
+use Rattle.lra_resolve_simple.specs.{Labelling.Declares, Statements.followed}
+use Rattle.lra_scopes.proofs.{FirstFaults.exit_tells, FirstFaults.rest_tells, Loops.parts_step, Loops.parts_end}
 use Rattle.lra_resolve_simple.proofs.LabellingLaws.{declares_step}
 use Rattle.lra_resolve_simple.proofs.declarations.add_declaration.Goals as goal
 

@@ -1,14 +1,10 @@
 -- The declarators that are left, in the scope of those before them, are as all of them in the scope of the declaration.
 use Rattle.std.proofs.Common.{◌≡◌, ◌+◌, ◌∷◌, suc, map, take, drop}
-use Rattle.lra_program.specs.Program.{BlockItems}
+use Rattle.lra_program.specs.{Program.BlockItems, ProgramViews.item_view}
 use Rattle.lra_syntax.specs.Views.{declarator_view}
-use Rattle.lra_program.specs.ProgramViews.{item_view}
-use Rattle.lra_resolution_spec.specs.Scope.{with_declarators}
-use Rattle.lra_resolution_spec.specs.NameFaults.{declarators_faults}
-use Rattle.lra_resolution_spec.specs.Resolve.{resolve_declarators}
+use Rattle.lra_resolution_spec.specs.{NameFaults.declarators_faults, Resolve.resolve_declarators, Scope.with_declarators}
 use Rattle.lra_scopes.specs.Calls.{functions_at}
-use Rattle.lra_resolve_simple.specs.Labelling.{Declares}
-use Rattle.lra_resolve_simple.specs.Statements.{followed}
+use Rattle.lra_resolve_simple.specs.{Labelling.Declares, Statements.followed}
 use Rattle.lra_resolve_simple.proofs.declarations.add_declaration.Given as goal
 
 abbrev pub invariant-declarators : goal.invariant-declarators

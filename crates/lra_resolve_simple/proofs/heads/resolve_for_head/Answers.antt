@@ -2,8 +2,7 @@
 -- parentheses.
 use Rattle.std.proofs.Common.{refl, option_map, ◌∙◌}
 use Rattle.lra_syntax.specs.Views.{init_view, assign_view}
-use Rattle.lra_scopes.proofs.FirstFaults.{tells_front, tells_behind}
-use Rattle.lra_scopes.proofs.Loops.{wanting_told, first_told, second_told, both_clean}
+use Rattle.lra_scopes.proofs.{FirstFaults.tells_front, FirstFaults.tells_behind, Loops.wanting_told, Loops.first_told, Loops.second_told, Loops.both_clean}
 use Rattle.lra_resolve_simple.proofs.LabellingLaws.{begun, fronted}
 use Rattle.lra_resolve_simple.proofs.heads.resolve_for_head.Goals as goal
 

@@ -1,7 +1,7 @@
 -- Goals of `resolve_simple`: a statement without statements in it.
 use Rattle.std.proofs.Common.{refl}
-use Rattle.lra_resolve_simple.proofs.StatementLaws.{nothing_is, assign_is, call_is, break_is, continue_is, return_is, assert_is, assume_is}
 use Rattle.lra_resolve_simple.proofs.SimpleLaws.{no_other, by_one_label}
+use Rattle.lra_resolve_simple.proofs.StatementLaws.{nothing_is, assign_is, call_is, break_is, continue_is, return_is, assert_is, assume_is}
 use Rattle.lra_resolve_simple.proofs.kinds.resolve_simple.Goals as goal
 
 pub unreachable-requires : goal.unreachable-requires

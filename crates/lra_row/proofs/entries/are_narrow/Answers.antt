@@ -1,10 +1,6 @@
 -- Goals of `are_narrow`: whether each number is narrow.
-use Rattle.std.proofs.Common.{rules, arith, FitsSigned, IsTrue, get_or, pos, subst}
-use Rattle.std.specs.Int.{w128}
-use Rattle.std.specs.List.{All}
-use Rattle.std.proofs.lemmas.Int.{to_z-of_z}
-use Rattle.std.proofs.lemmas.List.{take_all}
-use Rattle.std.proofs.lemmas.List.Elements.{All-more}
+use Rattle.std.proofs.{Common.rules, Common.arith, Common.FitsSigned, Common.IsTrue, Common.get_or, Common.pos, Common.subst, lemmas.Int.to_z-of_z, lemmas.List.take_all, lemmas.List.Elements.All-more}
+use Rattle.std.specs.{Int.w128, List.All}
 use Rattle.lra_row.specs.Words.{IsNarrow}
 use Rattle.lra_row.proofs.entries.are_narrow.Goals as goal
 

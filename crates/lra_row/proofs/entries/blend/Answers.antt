@@ -1,10 +1,7 @@
 -- Goals of `blend`: a u + b v of two rows.
 use Rattle.std.proofs.Common.{rules, arith, FitsSigned, ◌∙◌, sym, ap, length}
+use Rattle.std.proofs.{lemmas.Int.to_z-of_z, lemmas.List.length_push, lemmas.Result.err_from_is_err_and, lemmas.Slice.Zip.Zip-more, lemmas.Slice.Zip.either_empty_from_Zip}
 use Rattle.std.specs.Int.{w128}
-use Rattle.std.proofs.lemmas.Int.{to_z-of_z}
-use Rattle.std.proofs.lemmas.List.{length_push}
-use Rattle.std.proofs.lemmas.Result.{err_from_is_err_and}
-use Rattle.std.proofs.lemmas.Slice.Zip.{Zip-more, either_empty_from_Zip}
 use Rattle.lra_row.proofs.CheckedRows.{blend_passes, blend_taken, blend_end}
 use Rattle.lra_row.proofs.entries.blend.Goals as goal
 

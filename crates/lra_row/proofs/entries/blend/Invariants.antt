@@ -1,7 +1,6 @@
 -- The entries so far with those left over are the row, and there is room for each of these.
 use Rattle.std.proofs.Common.{◌≡◌, ◌+◌, ◌≤◌, length}
-use Rattle.std.specs.Slice.Iter.{iter_rest}
-use Rattle.std.specs.Iterator.Adapters.{zip_first, zip_second}
+use Rattle.std.specs.{Iterator.Adapters.zip_first, Iterator.Adapters.zip_second, Slice.Iter.iter_rest}
 use Rattle.lra_linear_spec.specs.CheckedArithmetic.{checked_blend}
 use Rattle.lra_row.proofs.CheckedRows.{prepend}
 use Rattle.lra_row.proofs.entries.blend.Given as goal

@@ -1,7 +1,6 @@
 -- Goals of `blend_entry`: a u + b v in one column.
-use Rattle.std.proofs.Common.{rules, FitsSigned}
+use Rattle.std.proofs.{Common.rules, Common.FitsSigned, lemmas.Int.to_z-of_z}
 use Rattle.std.specs.Int.{w128}
-use Rattle.std.proofs.lemmas.Int.{to_z-of_z}
 use Rattle.lra_row.proofs.Words.{sum_fits, entry_words}
 use Rattle.lra_row.proofs.entries.blend_entry.Goals as goal
 

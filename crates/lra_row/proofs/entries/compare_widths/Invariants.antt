@@ -1,6 +1,5 @@
 use Rattle.std.proofs.Common.{◌≡◌, drop}
-use Rattle.std.specs.Ordering.{int_cmp}
-use Rattle.std.specs.Cmp.Lexicographic.{slice_cmp}
+use Rattle.std.specs.{Cmp.Lexicographic.slice_cmp, Ordering.int_cmp}
 use Rattle.lra_linear_spec.specs.RowOrder.{constant_last, row_cmp}
 use Rattle.lra_row.proofs.entries.compare_widths.Given as goal
 

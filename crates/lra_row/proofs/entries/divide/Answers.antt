@@ -1,9 +1,7 @@
 -- Goals of `divide`: divides each entry, all of which the positive divisor divides.
 use Rattle.std.proofs.Common.{rules, arith, FitsSigned, get_or, pos, ap, ◌∙◌, int_div, set}
+use Rattle.std.proofs.{lemmas.Int.to_z-of_z, lemmas.List.get_or_default, lemmas.List.Edits.map_over_more}
 use Rattle.std.specs.Int.{w128}
-use Rattle.std.proofs.lemmas.Int.{to_z-of_z}
-use Rattle.std.proofs.lemmas.List.{get_or_default}
-use Rattle.std.proofs.lemmas.List.Edits.{map_over_more}
 use Rattle.lra_row.proofs.entries.divide.Goals as goal
 
 pub loop-x-preserved : goal.loop-x-preserved

@@ -1,7 +1,7 @@
 -- Goals of `divisor_of`: the greatest number that divides each entry, 0 where all are 0.
 use Rattle.std.proofs.Common.{rules, arith, FitsSigned, get_or, pos, unsigned_abs, ◌≡◌, ◌+◌, subst, to_z}
-use Rattle.std.specs.Int.{w128, IsGcd}
 use Rattle.std.proofs.lemmas.Int.{ints, to_z-of_z}
+use Rattle.std.specs.Int.{w128, IsGcd}
 use Rattle.lra_row.proofs.RowDivisors.{divisor_further, divisor_whole, divisor_one}
 use Rattle.lra_row.proofs.entries.divisor_of.Goals as goal
 

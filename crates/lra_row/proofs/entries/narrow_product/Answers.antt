@@ -1,11 +1,9 @@
 -- Goals of `narrow_product`: the product of two rows of narrow numbers.
 use Rattle.std.proofs.Common.{rules, arith, FitsSigned, ◌∙◌, ◌+◌, ◌<◌, ◌^◌, ◌+ℤ◌, ap, length, sym, subst, to_z}
+use Rattle.std.proofs.{lemmas.Int.to_z-of_z, lemmas.Slice.Zip.Zip-more, lemmas.Slice.Zip.either_empty_from_Zip}
 use Rattle.std.specs.Int.{w128}
-use Rattle.std.proofs.lemmas.Int.{to_z-of_z}
-use Rattle.std.proofs.lemmas.Slice.Zip.{Zip-more, either_empty_from_Zip}
 use Rattle.lra_row.specs.Words.{IsNarrowSum}
-use Rattle.lra_row.proofs.CheckedRows.{columns_end}
-use Rattle.lra_row.proofs.Narrow.{narrow_word, narrow_first, narrow_rest, narrow_times, narrow_fits, narrow_column}
+use Rattle.lra_row.proofs.{CheckedRows.columns_end, Narrow.narrow_word, Narrow.narrow_first, Narrow.narrow_rest, Narrow.narrow_times, Narrow.narrow_fits, Narrow.narrow_column}
 use Rattle.lra_row.proofs.entries.narrow_product.Goals as goal
 
 pub loop-x-init : goal.loop-x-init

@@ -1,8 +1,6 @@
 -- The sum of the columns that were gone through is narrow for their number, and the columns left over are narrow.
 use Rattle.std.proofs.Common.{◌≡◌, ℕ, ◌+◌, pos, length}
-use Rattle.std.specs.List.{All}
-use Rattle.std.specs.Slice.Iter.{iter_rest}
-use Rattle.std.specs.Iterator.Adapters.{zip_first, zip_second}
+use Rattle.std.specs.{Iterator.Adapters.zip_first, Iterator.Adapters.zip_second, List.All, Slice.Iter.iter_rest}
 use Rattle.lra_linear_spec.specs.CheckedArithmetic.{checked_product_from}
 use Rattle.lra_row.specs.Words.{IsNarrow, IsNarrowSum}
 use Rattle.lra_row.proofs.entries.narrow_product.Given as goal

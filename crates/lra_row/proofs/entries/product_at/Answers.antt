@@ -1,8 +1,6 @@
 -- Goals of `product_at`: the product of a row with the vector of a divisor and numerators.
-use Rattle.std.proofs.Common.{FitsSigned, rules, pos, get_or, ◌∙◌, ap, Err}
+use Rattle.std.proofs.{Common.FitsSigned, Common.rules, Common.pos, Common.get_or, Common.◌∙◌, Common.ap, Common.Err, lemmas.Int.to_z-of_z, lemmas.Result.err_from_is_err_and}
 use Rattle.std.specs.Int.{w128}
-use Rattle.std.proofs.lemmas.Int.{to_z-of_z}
-use Rattle.std.proofs.lemmas.Result.{err_from_is_err_and}
 use Rattle.lra_row.proofs.CheckedRows.{product_split, first_passes}
 use Rattle.lra_row.proofs.entries.product_at.Goals as goal
 

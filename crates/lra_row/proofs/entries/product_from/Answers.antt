@@ -1,11 +1,8 @@
 -- Goals of `product_from`: the sum of `start` and the product of two rows.
 use Rattle.std.proofs.Common.{rules, FitsSigned, ◌∙◌, ap, Err, to_z, ◌+ℤ◌}
+use Rattle.std.proofs.{lemmas.Int.to_z-of_z, lemmas.Result.err_from_is_err_and, lemmas.Slice.Zip.Zip-more, lemmas.Slice.Zip.either_empty_from_Zip}
 use Rattle.std.specs.Int.{w128}
-use Rattle.std.proofs.lemmas.Int.{to_z-of_z}
-use Rattle.std.proofs.lemmas.Result.{err_from_is_err_and}
-use Rattle.std.proofs.lemmas.Slice.Zip.{Zip-more, either_empty_from_Zip}
-use Rattle.lra_row.proofs.CheckedRows.{columns_end}
-use Rattle.lra_row.proofs.Words.{sum_fits, column_word, column_ok, column_err}
+use Rattle.lra_row.proofs.{CheckedRows.columns_end, Words.sum_fits, Words.column_word, Words.column_ok, Words.column_err}
 use Rattle.lra_row.proofs.entries.product_from.Goals as goal
 
 pub overflow_add-sum : goal.overflow_add-sum

@@ -1,6 +1,5 @@
 use Rattle.std.proofs.Common.{◌≡◌}
-use Rattle.std.specs.Slice.Iter.{iter_rest}
-use Rattle.std.specs.Iterator.Adapters.{zip_first, zip_second}
+use Rattle.std.specs.{Iterator.Adapters.zip_first, Iterator.Adapters.zip_second, Slice.Iter.iter_rest}
 use Rattle.lra_linear_spec.specs.CheckedArithmetic.{checked_product_from}
 use Rattle.lra_row.proofs.entries.product_from.Given as goal
 

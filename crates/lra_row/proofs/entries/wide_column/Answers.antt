@@ -1,8 +1,6 @@
 -- Goals of `wide_column`: the sum with the product of one column.
-use Rattle.std.proofs.Common.{rules, FitsSigned, [], ◌∷◌, ◌∙◌, ap, Err, refl}
+use Rattle.std.proofs.{Common.rules, Common.FitsSigned, Common.[], Common.◌∷◌, Common.◌∙◌, Common.ap, Common.Err, Common.refl, lemmas.Int.to_z-of_z, lemmas.Result.err_from_is_err_and}
 use Rattle.std.specs.Int.{w128}
-use Rattle.std.proofs.lemmas.Int.{to_z-of_z}
-use Rattle.std.proofs.lemmas.Result.{err_from_is_err_and}
 use Rattle.lra_row.proofs.CheckedRows.{product_passes, column_summed}
 use Rattle.lra_row.proofs.entries.wide_column.Goals as goal
 

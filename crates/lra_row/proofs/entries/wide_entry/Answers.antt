@@ -1,8 +1,6 @@
 -- Goals of `wide_entry`: a u + b v in one column.
-use Rattle.std.proofs.Common.{rules, FitsSigned, ◌∙◌, ap, Err}
+use Rattle.std.proofs.{Common.rules, Common.FitsSigned, Common.◌∙◌, Common.ap, Common.Err, lemmas.Int.to_z-of_z, lemmas.Result.err_from_is_err_and}
 use Rattle.std.specs.Int.{w128}
-use Rattle.std.proofs.lemmas.Int.{to_z-of_z}
-use Rattle.std.proofs.lemmas.Result.{err_from_is_err_and}
 use Rattle.lra_row.proofs.CheckedRows.{second_passes, entry_summed}
 use Rattle.lra_row.proofs.entries.wide_entry.Goals as goal
 

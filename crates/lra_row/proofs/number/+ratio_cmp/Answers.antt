@@ -1,8 +1,7 @@
 -- Goals of the functions that call each other around `ratio_cmp`: `returns`, `ratio_cmp`.
 use Rattle.std.proofs.Common.{arith, ◌∙◌, sym, inl, inr, ℤ, pos, ◌*ℤ◌, ◌≡◌, ap, FitsSigned, to_z, of_z, ◌⊎◌}
 use Rattle.std.proofs.lemmas.Int.{ints, to_z-of_z}
-use Rattle.std.specs.Ordering.{int_cmp}
-use Rattle.std.specs.Int.{int_div_euclid, int_rem_euclid, w128}
+use Rattle.std.specs.{Int.int_div_euclid, Int.int_rem_euclid, Int.w128, Ordering.int_cmp}
 use Rattle.lra_row.proofs.Ratio.{ratio_apart, ratio_same, ratio_end, rem_bounds}
 use Rattle.lra_row.proofs.number.+ratio_cmp.Goals as goal
 use Rattle.lra_row.proofs.number.+ratio_cmp.Goals.{then-r-eq0-via-then-r-eq0, then-r-eq0-via-else-r-eq0+then-s-eq0}

@@ -5,8 +5,8 @@ use Rattle.std.specs.Int.{w128}
 use Rattle.lra_linear_spec.specs.Range.{InRange}
 use Rattle.lra_row.specs.Division.{floor_quotient}
 use Rattle.lra_row.proofs.Division.{floor_law, floor_above, floor_exact, floor_below, in_range_bits, lower_fits}
-use Rattle.lra_row.proofs.number.floor_div.Goals as goal
 use Rattle.lra_row.proofs.number.floor_div.Goals.{then-b-lt0+then-rem_euclid-ne0, else-b-lt0, else-b-lt0-via-then-b-lt0+else-rem_euclid-ne0, else-b-lt0-via-else-b-lt0}
+use Rattle.lra_row.proofs.number.floor_div.Goals as goal
 
 nonzero : (b : ℤ) → 0 < of_z w128 b → ¬ (b ≡ pos 0)
 nonzero b h e = let k : of_z w128 b ≡ 0 = ap (of_z w128) e in omega (arith, h, k)

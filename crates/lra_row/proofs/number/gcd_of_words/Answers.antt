@@ -1,6 +1,5 @@
 -- Goals of `gcd_of_words`: Euclid's algorithm on words.
-use Rattle.std.proofs.Common.{arith}
-use Rattle.std.proofs.lemmas.Nat.Gcd.{IsGcd-from_mod, IsGcd-from_zero}
+use Rattle.std.proofs.{Common.arith, lemmas.Nat.Gcd.IsGcd-from_mod, lemmas.Nat.Gcd.IsGcd-from_zero}
 use Rattle.lra_row.proofs.Facts.{gcd_one}
 use Rattle.lra_row.proofs.number.gcd_of_words.Goals as goal
 

@@ -1,6 +1,5 @@
 -- Goals of `multiply_words`: the product of two words.
-use Rattle.std.proofs.Common.{refl}
-use Rattle.std.proofs.lemmas.Int.{to_z-of_z}
+use Rattle.std.proofs.{Common.refl, lemmas.Int.to_z-of_z}
 use Rattle.lra_row.proofs.Words.{word_fits, word_product, product_fits}
 use Rattle.lra_row.proofs.number.multiply_words.Goals as goal
 

@@ -1,7 +1,6 @@
 -- Goals of `quotient`: the quotient by a positive divisor, rounded towards 0.
-use Rattle.std.proofs.Common.{FitsSigned, int_div, refl}
+use Rattle.std.proofs.{Common.FitsSigned, Common.int_div, Common.refl, lemmas.Int.to_z-of_z, lemmas.Int.quot_fits}
 use Rattle.std.specs.Int.{w64, w128}
-use Rattle.std.proofs.lemmas.Int.{to_z-of_z, quot_fits}
 use Rattle.lra_row.proofs.Words.{word_fits}
 use Rattle.lra_row.proofs.number.quotient.Goals as goal
 

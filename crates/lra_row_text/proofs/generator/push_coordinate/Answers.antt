@@ -1,7 +1,6 @@
 -- Goals of `push_coordinate`: appends a coordinate in lowest terms.
-use Rattle.std.proofs.Common.{FitsSigned}
+use Rattle.std.proofs.{Common.FitsSigned, lemmas.Int.to_z-of_z}
 use Rattle.std.specs.Int.{w128}
-use Rattle.std.proofs.lemmas.Int.{to_z-of_z}
 use Rattle.lra_row_text.proofs.LowestTerms.{common_above, divisor_left, lowest_text}
 use Rattle.lra_row_text.proofs.generator.push_coordinate.Goals as goal
 

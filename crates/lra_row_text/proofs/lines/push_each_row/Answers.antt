@@ -2,8 +2,7 @@
 use Rattle.std.proofs.Common.{arith, get_or}
 use Rattle.lra_linear_spec.specs.declared.ConKind.TheVariants as con
 use Rattle.lra_row_text.proofs.Lists.{drop_front, drop_at, row_step, rows_end}
-use Rattle.lra_row_text.specs.Shown.{report_row}
-use Rattle.lra_row_text.specs.Lines.{row_line}
+use Rattle.lra_row_text.specs.{Lines.row_line, Shown.report_row}
 use Rattle.lra_row_text.proofs.lines.push_each_row.Goals as goal
 
 pub loop-index-preserved : goal.loop-index-preserved

@@ -1,8 +1,7 @@
 use Rattle.std.proofs.Common.{◌≡◌, ◌++◌, drop, string_bytes}
 use Rattle.std.specs.List.{flat_map}
 use Rattle.lra_systems.specs.LinearSystems.{FitKinds}
-use Rattle.lra_row_text.specs.Lists.{shown_generators}
-use Rattle.lra_row_text.specs.Lines.{generator_line}
+use Rattle.lra_row_text.specs.{Lines.generator_line, Lists.shown_generators}
 use Rattle.lra_row_text.proofs.lines.push_generators.Given as goal
 
 abbrev pub invariant-loop-index : goal.invariant-loop-index

@@ -1,6 +1,5 @@
 use Rattle.std.proofs.Common.{◌≡◌, ◌+◌, ◌++◌, drop, map, string_bytes}
-use Rattle.lra_row_text.specs.Texts.{form_text, negated_if}
-use Rattle.lra_row_text.specs.Shown.{rest_text}
+use Rattle.lra_row_text.specs.{Shown.rest_text, Texts.form_text, Texts.negated_if}
 use Rattle.lra_row_text.proofs.row.push_form.Given as goal
 
 abbrev pub invariant-loop-index : goal.invariant-loop-index

@@ -1,13 +1,11 @@
 -- Goals of `row_text`.
-use Rattle.std.proofs.Common.{◌≡◌, ap, ap₂, sym, ◌∙◌, arith, rules, string_bytes, FitsSigned}
+use Rattle.std.proofs.{Common.◌≡◌, Common.ap, Common.ap₂, Common.sym, Common.◌∙◌, Common.arith, Common.rules, Common.string_bytes, Common.FitsSigned, lemmas.Int.to_z-of_z}
 use Rattle.std.specs.Int.{w128, cast_signed}
-use Rattle.std.proofs.lemmas.Int.{to_z-of_z}
-use Rattle.lra_linear_spec.specs.Vectors.{entry}
-use Rattle.lra_linear_spec.specs.declared.ConKind.{ConKind}
+use Rattle.lra_linear_spec.specs.{Vectors.entry, declared.ConKind.ConKind}
 use Rattle.lra_row_text.specs.Texts.{relation_text}
 use Rattle.lra_row_text.proofs.RowTexts.{no_entry, pieces_make}
-use Rattle.lra_row_text.proofs.row.row_text.Goals as goal
 use Rattle.lra_row_text.proofs.row.row_text.Goals.{in-Eq-default, in-Ge-true, in-Ge-false, then-width-gt0, else-width-gt0}
+use Rattle.lra_row_text.proofs.row.row_text.Goals as goal
 
 relation_is : (c : goal.In_ok-write) → c.match-kind.relation.now ≡ relation_text c.args.kind c.is_negated-is_negated.result
 relation_is c = elim c.match-kind.branch [

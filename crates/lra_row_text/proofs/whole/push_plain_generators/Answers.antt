@@ -2,8 +2,7 @@
 use Rattle.std.proofs.Common.{arith, get_or}
 use Rattle.lra_linear_spec.specs.declared.GenKind.TheVariants as gen
 use Rattle.lra_row_text.proofs.Lists.{drop_front, drop_at, row_step, rows_end, first_fits, further_fit}
-use Rattle.lra_row_text.specs.Shown.{report_generator}
-use Rattle.lra_row_text.specs.Whole.{plain_generator}
+use Rattle.lra_row_text.specs.{Shown.report_generator, Whole.plain_generator}
 use Rattle.lra_row_text.proofs.whole.push_plain_generators.Goals as goal
 
 pub push_plain_generator-requires : goal.push_plain_generator-requires

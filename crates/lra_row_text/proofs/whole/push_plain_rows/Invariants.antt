@@ -1,7 +1,6 @@
 use Rattle.std.proofs.Common.{◌≡◌, ◌++◌, drop, string_bytes}
 use Rattle.std.specs.List.{flat_map}
-use Rattle.lra_row_text.specs.Lists.{shown_rows}
-use Rattle.lra_row_text.specs.Whole.{plain_row}
+use Rattle.lra_row_text.specs.{Lists.shown_rows, Whole.plain_row}
 use Rattle.lra_row_text.proofs.whole.push_plain_rows.Given as goal
 
 abbrev pub invariant-loop-index : goal.invariant-loop-index

@@ -1,6 +1,5 @@
 use Rattle.std.proofs.Common.{◌≡◌, ◌*◌, ◌++◌, string_bytes}
-use Rattle.lra_sample.specs.Draws.{state_after}
-use Rattle.lra_sample.specs.Sample.{block_lines}
+use Rattle.lra_sample.specs.{Draws.state_after, Sample.block_lines}
 use Rattle.lra_sample.proofs.source.push_blocks.Given as goal
 
 abbrev pub invariant-loop : goal.invariant-loop

@@ -1,6 +1,5 @@
 -- Goals of `summary`: the lines that tell of a sample source of this seed and size and of its report.
-use Rattle.std.proofs.Common.{◌≡◌, length, refl, arith, ◌∙◌}
-use Rattle.std.proofs.lemmas.Grind.{common_steps}
+use Rattle.std.proofs.{Common.◌≡◌, Common.length, Common.refl, Common.arith, Common.◌∙◌, lemmas.Grind.common_steps}
 use Rattle.std.specs.Vec.{vec_len}
 use Rattle.lra_report.specs.View.{report_of}
 use Rattle.lra_sample.proofs.Summaries.{counted_verdicts, summary_lines}

@@ -2,8 +2,7 @@
 use Rattle.std.proofs.Common.{refl, map, ap}
 use Rattle.lra_program.specs.ProgramViews.{expr_view}
 use Rattle.lra_scopes.specs.Calls.{argument_faults, resolve_argument}
-use Rattle.lra_scopes.proofs.FirstFaults.{parts_clean}
-use Rattle.lra_scopes.proofs.Loops.{memory_told, part_told, all_clean, parts_found, all_found}
+use Rattle.lra_scopes.proofs.{FirstFaults.parts_clean, Loops.memory_told, Loops.part_told, Loops.all_clean, Loops.parts_found, Loops.all_found}
 use Rattle.lra_scopes.proofs.calls.resolve_arguments.Goals as goal
 
 pub arguments-init : goal.arguments-init

@@ -3,10 +3,9 @@
 use Rattle.std.proofs.Common.{map, ap, arith, refl, ◌∙◌}
 use Rattle.lra_program.specs.ProgramViews.{cond_view}
 use Rattle.lra_resolution_spec.specs.NameFaults.{negation_faults, test_faults}
-use Rattle.lra_scopes.proofs.FirstFaults.{parts_clean}
-use Rattle.lra_scopes.proofs.Loops.{memory_told, only_told, first_told, part_told, made_told, found_so, all_clean, rest_clean, parts_found}
 use Rattle.lra_scopes.proofs.CondLaws.{faults_of_test, test_means, faults_of_conjunction, conjunction_means, code_conjunction_faults, code_cond_faults, conjunction_found, cond_found, again_is}
-use Rattle.lra_scopes.proofs.CondLaws.{operand_is, opposite_is, value_is, compare_is}
+use Rattle.lra_scopes.proofs.Loops.{memory_told, only_told, first_told, part_told, made_told, found_so, all_clean, rest_clean, parts_found}
+use Rattle.lra_scopes.proofs.{CondLaws.operand_is, CondLaws.opposite_is, CondLaws.value_is, CondLaws.compare_is, FirstFaults.parts_clean}
 use Rattle.lra_scopes.proofs.conditions.+condition.Goals as goal
 
 pub resolve_conjunction-returns-in_err-first-clause-told : goal.resolve_conjunction-returns-in_err-first-clause-told

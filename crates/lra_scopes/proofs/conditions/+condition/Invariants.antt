@@ -1,9 +1,7 @@
 -- The faults of the operands that are left are those of the whole; what the first ones mean is there.
 use Rattle.std.proofs.Common.{◌≡◌, map, take, drop}
 use Rattle.std.specs.List.{flat_map}
-use Rattle.lra_syntax.specs.declared.trees.Conjunction.{out-Conjunction}
-use Rattle.lra_syntax.specs.declared.trees.Cond.{out-Cond}
-use Rattle.lra_syntax.specs.Views.{conjunction_view, cond_view as tree_cond_view}
+use Rattle.lra_syntax.specs.{Views.conjunction_view, Views.cond_view as tree_cond_view, declared.trees.Cond.out-Cond, declared.trees.Conjunction.out-Conjunction}
 use Rattle.lra_program.specs.ProgramViews.{cond_view}
 use Rattle.lra_resolution_spec.specs.NameFaults.{conjunction_faults, cond_faults}
 use Rattle.lra_scopes.proofs.CondLaws.{faults_of_test, test_means, faults_of_conjunction, conjunction_means}

@@ -1,9 +1,8 @@
 -- Goals of the functions that call each other around `expression`: `resolve_term`, `resolve_expr`.
 use Rattle.std.proofs.Common.{map, ap, arith, refl}
 use Rattle.lra_program.specs.ProgramViews.{expr_view, operation_view}
-use Rattle.lra_scopes.proofs.FirstFaults.{parts_clean}
-use Rattle.lra_scopes.proofs.Loops.{memory_told, first_told, part_told, made_told, found_so, all_clean, rest_clean, parts_found}
 use Rattle.lra_scopes.proofs.ChainLaws.{faults_of_factor, factor_means, faults_of_summand, summand_means, code_term_faults, code_expr_faults, term_found, sum_found}
+use Rattle.lra_scopes.proofs.{FirstFaults.parts_clean, Loops.memory_told, Loops.first_told, Loops.part_told, Loops.made_told, Loops.found_so, Loops.all_clean, Loops.rest_clean, Loops.parts_found}
 use Rattle.lra_scopes.proofs.expressions.+expression.Goals as goal
 
 pub resolve_term-returns-in_err-first-clause-told : goal.resolve_term-returns-in_err-first-clause-told

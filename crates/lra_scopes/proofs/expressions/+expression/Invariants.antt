@@ -1,12 +1,9 @@
 -- The faults of the operands that are left are those of the whole; what the first ones mean is there.
 use Rattle.std.proofs.Common.{◌≡◌, map, take, drop}
 use Rattle.std.specs.List.{flat_map}
-use Rattle.lra_syntax.specs.declared.trees.Term.{out-Term}
-use Rattle.lra_syntax.specs.declared.trees.Expr.{out-Expr}
-use Rattle.lra_syntax.specs.Views.{unary_view, term_view, expr_view as tree_expr_view}
+use Rattle.lra_syntax.specs.{Views.unary_view, Views.term_view, Views.expr_view as tree_expr_view, declared.trees.Expr.out-Expr, declared.trees.Term.out-Term}
 use Rattle.lra_program.specs.ProgramViews.{expr_view, operation_view}
-use Rattle.lra_resolution_spec.specs.NameFaults.{term_faults, expr_faults}
-use Rattle.lra_resolution_spec.specs.Resolve.{resolve_unary, resolve_term}
+use Rattle.lra_resolution_spec.specs.{NameFaults.term_faults, NameFaults.expr_faults, Resolve.resolve_unary, Resolve.resolve_term}
 use Rattle.lra_scopes.proofs.ChainLaws.{faults_of_factor, factor_means, faults_of_summand, summand_means}
 use Rattle.lra_scopes.proofs.expressions.+expression.Given as goal
 

@@ -1,6 +1,5 @@
 -- Goals of `restore`: ends a declaration of the name.
-use Rattle.std.proofs.Common.{◌∙◌, ℕ, List, Option, Some, cond, bytes_eq, sym, ap, rules}
-use Rattle.std.proofs.lemmas.Map.Text.{hash_map_updates_text}
+use Rattle.std.proofs.{Common.◌∙◌, Common.ℕ, Common.List, Common.Option, Common.Some, Common.cond, Common.bytes_eq, Common.sym, Common.ap, Common.rules, lemmas.Map.Text.hash_map_updates_text}
 use Rattle.indexmap.specs.IndexMap.{get_by_text}
 use Rattle.lra_scopes.proofs.names.restore.Goals as goal
 

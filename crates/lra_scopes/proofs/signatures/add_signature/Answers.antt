@@ -1,6 +1,5 @@
 -- Goals of `add_signature`: adds a function's signature, unless there is one of its name.
-use Rattle.std.proofs.Common.{◌≡◌, ℕ, Bool, None, length, ap₂, rules, string_bytes, is_some}
-use Rattle.std.proofs.lemmas.Map.Text.{hash_map_updates_text}
+use Rattle.std.proofs.{Common.◌≡◌, Common.ℕ, Common.Bool, Common.None, Common.length, Common.ap₂, Common.rules, Common.string_bytes, Common.is_some, lemmas.Map.Text.hash_map_updates_text}
 use Rattle.indexmap.specs.IndexMap.{get_by_text}
 use Rattle.lra_syntax.specs.Views.{function_view}
 use Rattle.lra_scopes.specs.declared.signatures.Signature.{Signature}

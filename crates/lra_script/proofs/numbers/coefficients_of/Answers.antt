@@ -1,7 +1,6 @@
 -- Goals of `coefficients_of`: the numbers that the words write, where each writes one that has 64 bits.
-use Rattle.std.proofs.Common.{rules, ◌≡◌, ℕ, Bor, List, [], ◌∷◌, ◌++◌, get_or, refl, sym, FitsSigned}
+use Rattle.std.proofs.{Common.rules, Common.◌≡◌, Common.ℕ, Common.Bor, Common.List, Common.[], Common.◌∷◌, Common.◌++◌, Common.get_or, Common.refl, Common.sym, Common.FitsSigned, lemmas.Int.to_z-of_z}
 use Rattle.std.specs.Int.{w64}
-use Rattle.std.proofs.lemmas.Int.{to_z-of_z}
 use Rattle.lra_script.specs.LineForms.{coefficient_of}
 use Rattle.lra_script.proofs.AllOf.{all_later}
 use Rattle.lra_script.proofs.numbers.coefficients_of.Goals as goal

@@ -1,6 +1,5 @@
 use Rattle.std.proofs.Common.{◌≡◌, drop}
-use Rattle.lra_script.specs.LineForms.{all_of, coefficient_of}
-use Rattle.lra_script.specs.Views.{texts}
+use Rattle.lra_script.specs.{LineForms.all_of, LineForms.coefficient_of, Views.texts}
 use Rattle.lra_script.proofs.AllOf.{onto}
 use Rattle.lra_script.proofs.numbers.coefficients_of.Given as goal
 

@@ -1,8 +1,7 @@
 -- Goals of `numbers_of`: the numbers that the words write, where each writes one.
 use Rattle.std.proofs.Common.{rules, ◌≡◌, ℕ, Bor, List, [], ◌∷◌, ◌++◌, get_or, refl, sym, FitsSigned}
+use Rattle.std.proofs.{lemmas.Int.to_z-of_z, lemmas.List.Elements.All-append, lemmas.List.Elements.All-cons, lemmas.List.Elements.All-nil}
 use Rattle.std.specs.Int.{w128}
-use Rattle.std.proofs.lemmas.Int.{to_z-of_z}
-use Rattle.std.proofs.lemmas.List.Elements.{All-append, All-cons, All-nil}
 use Rattle.lra_linear_spec.specs.Range.{InRange}
 use Rattle.lra_script.specs.ScriptText.{number_of}
 use Rattle.lra_script.proofs.AllOf.{all_later}

@@ -1,9 +1,7 @@
 use Rattle.std.proofs.Common.{◌≡◌, drop}
 use Rattle.std.specs.List.{All}
 use Rattle.lra_linear_spec.specs.Range.{InRange}
-use Rattle.lra_script.specs.ScriptText.{number_of}
-use Rattle.lra_script.specs.LineForms.{all_of}
-use Rattle.lra_script.specs.Views.{texts}
+use Rattle.lra_script.specs.{LineForms.all_of, ScriptText.number_of, Views.texts}
 use Rattle.lra_script.proofs.AllOf.{onto}
 use Rattle.lra_script.proofs.numbers.numbers_of.Given as goal
 

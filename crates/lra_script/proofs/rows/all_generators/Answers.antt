@@ -1,8 +1,7 @@
 -- Goals of `all_generators`: the generator that each part says, where each says one.
 use Rattle.std.proofs.Common.{[], ◌∙◌, sym, ap, refl, map, get_or, option_map, List, ℕ, Bor, arith}
-use Rattle.lra_script.specs.LineForms.{generator_of}
+use Rattle.lra_script.specs.{LineForms.generator_of, Views.texts}
 use Rattle.lra_script.specs.Views as view
-use Rattle.lra_script.specs.Views.{texts}
 use Rattle.lra_script.proofs.AllOf.{all_done, none_here}
 use Rattle.lra_script.proofs.rows.all_generators.Goals as goal
 

@@ -1,8 +1,7 @@
 use Rattle.std.proofs.Common.{◌≡◌, drop, map}
 use Rattle.std.specs.List.{All}
-use Rattle.lra_script.specs.LineForms.{all_of, generator_of}
+use Rattle.lra_script.specs.{LineForms.all_of, LineForms.generator_of, Views.texts, Views.IsDivided}
 use Rattle.lra_script.specs.Views as view
-use Rattle.lra_script.specs.Views.{texts, IsDivided}
 use Rattle.lra_script.proofs.AllOf.{onto}
 use Rattle.lra_script.proofs.rows.all_generators.Given as goal
 

@@ -1,7 +1,6 @@
 -- Goals of `all_rows`: the row that each part says, where each says one.
 use Rattle.std.proofs.Common.{[], ◌∙◌, sym, ap, refl, map, get_or, option_map, List, ℕ, Bor, arith}
-use Rattle.lra_script.specs.LineForms.{row_of}
-use Rattle.lra_script.specs.Views.{texts, constraint_of}
+use Rattle.lra_script.specs.{LineForms.row_of, Views.texts, Views.constraint_of}
 use Rattle.lra_script.proofs.AllOf.{all_done, none_here}
 use Rattle.lra_script.proofs.rows.all_rows.Goals as goal
 

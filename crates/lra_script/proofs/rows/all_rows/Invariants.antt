@@ -1,6 +1,5 @@
 use Rattle.std.proofs.Common.{◌≡◌, drop, map}
-use Rattle.lra_script.specs.LineForms.{all_of, row_of}
-use Rattle.lra_script.specs.Views.{texts, constraint_of}
+use Rattle.lra_script.specs.{LineForms.all_of, LineForms.row_of, Views.texts, Views.constraint_of}
 use Rattle.lra_script.proofs.AllOf.{onto}
 use Rattle.lra_script.proofs.rows.all_rows.Given as goal
 

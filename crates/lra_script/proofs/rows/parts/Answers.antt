@@ -1,9 +1,7 @@
 -- Goals of `parts`: the words before, between and behind the semicolons.
-use Rattle.std.proofs.Common.{rules, bytes_eq}
+use Rattle.std.proofs.{Common.rules, Common.bytes_eq, lemmas.Iterator.Consumers.map_from_collect, lemmas.Iterator.Splits.YieldsList-from_slice_split}
 use Rattle.std.specs.Prelude.{codes}
 use borrow.Author.Tests.{tests}
-use Rattle.std.proofs.lemmas.Iterator.Consumers.{map_from_collect}
-use Rattle.std.proofs.lemmas.Iterator.Splits.{YieldsList-from_slice_split}
 use Rattle.lra_script.proofs.Parts.{parts_result}
 use Rattle.lra_script.proofs.rows.parts.Goals as goal
 

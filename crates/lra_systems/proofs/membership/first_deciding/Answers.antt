@@ -1,12 +1,9 @@
 -- Goals of `first_deciding`.
-use Rattle.std.proofs.Common.{rules, arith, FitsSigned, ◌∷◌, refl}
+use Rattle.std.proofs.{Common.rules, Common.arith, Common.FitsSigned, Common.◌∷◌, Common.refl, lemmas.Int.to_z-of_z}
 use Rattle.std.specs.Int.{w128}
-use Rattle.std.proofs.lemmas.Int.{to_z-of_z}
-use Rattle.lra_linear_spec.specs.declared.ConKind.TheVariants.{Ge}
-use Rattle.lra_linear_spec.specs.Kinds.{is_equality}
+use Rattle.lra_linear_spec.specs.{Kinds.is_equality, declared.ConKind.TheVariants.Ge}
 use Rattle.lra_systems.specs.Membership.{HoldsInRange, FailsInRange, IsWide}
-use Rattle.lra_systems.proofs.FirstMembers.{member, first_at, one_more, all_gone_through, err_of}
-use Rattle.lra_systems.proofs.Places.{holds_here, fails_here}
+use Rattle.lra_systems.proofs.{FirstMembers.member, FirstMembers.first_at, FirstMembers.one_more, FirstMembers.all_gone_through, FirstMembers.err_of, Places.holds_here, Places.fails_here}
 use Rattle.lra_systems.proofs.membership.first_deciding.Goals as goal
 
 pub returns-in-Err : goal.returns-in-Err

@@ -1,12 +1,8 @@
 -- Goals of `sample`: the tree and its points.
 use Rattle.std.proofs.Common.{◌∙◌, ap, map}
-use Rattle.lra_program.specs.declared.receivers.Receiver.{Receiver}
-use Rattle.lra_program.specs.Receivers.{variable_at}
-use Rattle.lra_program.specs.Step.{append, store_value}
-use Rattle.lra_operations.specs.Tree.{Node, point, act, check, seq, choose}
-use Rattle.lra_program.specs.declared.program.Expr.TheVariants.{Input}
 use Rattle.lra_program.specs.ProgramViews.{cond_view, expr_view}
-use Rattle.lra_operations.specs.TreeViews.{node_view, site_view}
+use Rattle.lra_program.specs.{Receivers.variable_at, Step.append, Step.store_value, declared.program.Expr.TheVariants.Input, declared.receivers.Receiver.Receiver}
+use Rattle.lra_operations.specs.{Tree.Node, Tree.point, Tree.act, Tree.check, Tree.seq, Tree.choose, TreeViews.node_view, TreeViews.site_view}
 use Rattle.lra_tests_analyses.proofs.SampleTree.{sample_numbered, asserts_seen}
 use Rattle.lra_tests_analyses.proofs.branches.sample.Goals as goal
 

@@ -1,6 +1,5 @@
 -- Goals of `accesses_nothing`.
-use Rattle.std.proofs.Common.{◌≡◌, ◌∙◌, length, map, ap, arith}
-use Rattle.std.proofs.lemmas.Grind.{common_steps}
+use Rattle.std.proofs.{Common.◌≡◌, Common.◌∙◌, Common.length, Common.map, Common.ap, Common.arith, lemmas.Grind.common_steps}
 use Rattle.lra_operations.specs.TreeViews.{node_view}
 use Rattle.lra_operations_list.specs.TreeOperations.{op_at_point_view}
 use Rattle.lra_tests_operations.proofs.Silent.{silent_more, silent_tree, none_listed}

@@ -2,9 +2,8 @@
 use Rattle.std.proofs.Common.{true, map, take, subst, sym, arith, ◌+◌, ◌<◌, length}
 use Rattle.lra_operations.specs.TreeViews.{site_view}
 use Rattle.lra_report_build.specs.AnalysisResults.{AreVerdicts}
-use Rattle.lra_tests_operations.proofs.Given.{verdicts_kept, verdicts_pushed}
+use Rattle.lra_tests_operations.proofs.{Given.verdicts_kept, Given.verdicts_pushed, listings.verdicts_on.Goals.then-site+in_ok-push, listings.verdicts_on.Goals.else-site}
 use Rattle.lra_tests_operations.proofs.listings.verdicts_on.Goals as goal
-use Rattle.lra_tests_operations.proofs.listings.verdicts_on.Goals.{then-site+in_ok-push, else-site}
 
 pub sites-preserved : goal.sites-preserved
 sites-preserved c =

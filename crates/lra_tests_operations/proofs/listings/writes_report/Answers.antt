@@ -2,8 +2,7 @@
 use Rattle.lra_syntax.specs.Views.{tree_view}
 use Rattle.lra_program.specs.ProgramViews.{program_view}
 use Rattle.lra_operations.specs.TreeViews.{node_view}
-use Rattle.lra_tests_operations.proofs.Given.{graph_there, sites_there}
-use Rattle.lra_tests_operations.proofs.Silent.{silent_trees}
+use Rattle.lra_tests_operations.proofs.{Given.graph_there, Given.sites_there, Silent.silent_trees}
 use Rattle.lra_tests_operations.proofs.listings.writes_report.Goals as goal
 
 pub report_of-requires-clause-sites : goal.report_of-requires-clause-sites

@@ -1,7 +1,6 @@
 -- Goals of `find_fixpoint`: round by round.
 use Rattle.std.proofs.Common.{◌∙◌, refl, subst, sym}
-use Rattle.lra_threads_fixpoint.specs.Intervals.{IntervalTable, TableWithin}
-use Rattle.lra_threads_fixpoint.specs.Rounds.{IsRound}
+use Rattle.lra_threads_fixpoint.specs.{Intervals.IntervalTable, Intervals.TableWithin, Rounds.IsRound}
 use Rattle.lra_threads_fixpoint.proofs.FallLemmas.{first_table, measure_falls, next_fits, next_is}
 use Rattle.lra_threads_fixpoint.proofs.RoundLemmas.{said, denied, round_wide, first_reaches, last_round, next_round}
 use Rattle.lra_threads_fixpoint.proofs.rounds.find_fixpoint.Goals as goal

@@ -1,8 +1,7 @@
 -- Goals of `fill`: an opened tree comes into the innermost place.
 use Rattle.std.proofs.Common.{refl, arith}
-use Rattle.lra_threads_instrument.specs.declared.stack.Next.TheVariants.{Selects}
 use Rattle.lra_threads_instrument.specs.declared.stack.Selection.{Selection}
-use Rattle.lra_threads_instrument.specs.declared.stack.InstrumentFrame.TheVariants.{Row, Arm}
+use Rattle.lra_threads_instrument.specs.{declared.stack.InstrumentFrame.TheVariants.Row, declared.stack.InstrumentFrame.TheVariants.Arm, declared.stack.Next.TheVariants.Selects}
 use Rattle.lra_threads_instrument.proofs.OpenFrames.{arm_filled, place_leads, place_stands, row_filled}
 use Rattle.lra_threads_instrument.proofs.trees.fill.Goals as goal
 

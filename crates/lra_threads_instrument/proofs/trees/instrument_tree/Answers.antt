@@ -2,8 +2,7 @@
 use Rattle.std.proofs.Common.{◌∙◌, ap, subst}
 use Rattle.lra_operations.specs.TreeViews.{node_view}
 use Rattle.lra_analysis_spec.specs.Instrumented.{instrumented}
-use Rattle.lra_threads_instrument.specs.Instrumented.{all_around}
-use Rattle.lra_threads_instrument.specs.StepsLeft.{InstrumentStepReaches}
+use Rattle.lra_threads_instrument.specs.{Instrumented.all_around, StepsLeft.InstrumentStepReaches}
 use Rattle.lra_threads_instrument.proofs.trees.instrument_tree.Goals as goal
 
 pub steps-init : goal.steps-init

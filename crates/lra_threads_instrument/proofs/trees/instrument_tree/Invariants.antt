@@ -1,8 +1,7 @@
 use Rattle.std.proofs.Common.{◌≡◌, ◌+◌}
 use Rattle.lra_operations.specs.TreeViews.{node_view}
 use Rattle.lra_analysis_spec.specs.Instrumented.{instrumented}
-use Rattle.lra_threads_instrument.specs.Instrumented.{all_around, standing}
-use Rattle.lra_threads_instrument.specs.StepsLeft.{all_left, next_left}
+use Rattle.lra_threads_instrument.specs.{Instrumented.all_around, Instrumented.standing, StepsLeft.all_left, StepsLeft.next_left}
 use Rattle.lra_threads_instrument.proofs.trees.instrument_tree.Given as goal
 
 -- what is next, in the places that are open, becomes the whole tree

@@ -1,8 +1,6 @@
 -- Goals of `take_step`: what is next becomes the same, in fewer steps.
 use Rattle.std.proofs.Common.{◌∙◌, subst, sym}
-use Rattle.lra_threads_instrument.specs.declared.stack.Next.{Next}
-use Rattle.lra_threads_instrument.specs.Instrumented.{standing}
-use Rattle.lra_threads_instrument.specs.StepsLeft.{next_left, InstrumentStepLeads}
+use Rattle.lra_threads_instrument.specs.{Instrumented.standing, StepsLeft.next_left, StepsLeft.InstrumentStepLeads, declared.stack.Next.Next}
 use Rattle.lra_threads_instrument.proofs.OpenFrames.{filled, nothing_open}
 use Rattle.lra_threads_instrument.proofs.trees.take_step.Goals as goal
 

@@ -1,6 +1,5 @@
 -- Goals of `threads_are_right`: the laws.
-use Rattle.lra_threads_source.proofs.Sound.{threads_sound}
-use Rattle.lra_threads_source.proofs.Strained.{flagged_strain, unflagged_defined}
+use Rattle.lra_threads_source.proofs.{Sound.threads_sound, Strained.flagged_strain, Strained.unflagged_defined}
 use Rattle.lra_threads_source.proofs.laws.threads_are_right.Goals as goal
 
 pub returns-clause-sound : goal.returns-clause-sound

@@ -1,6 +1,5 @@
 -- Goals of `list_threads`: the points of all threads.
-use Rattle.std.proofs.Common.{length, map, refl}
-use Rattle.std.proofs.lemmas.Option.{slice_get_read}
+use Rattle.std.proofs.{Common.length, Common.map, Common.refl, lemmas.Option.slice_get_read}
 use Rattle.lra_syntax.specs.Views.{tree_view}
 use Rattle.lra_report.specs.View.{point_report_of}
 use Rattle.lra_threads_source.proofs.Pushing.{shows_more}

@@ -1,7 +1,6 @@
 -- What is written so far and what is left are all.
 use Rattle.std.proofs.Common.{◌≡◌, ◌++◌, map, drop}
-use Rattle.lra_threads_source.specs.Listed.{one_by_one, reported_writes}
-use Rattle.lra_threads_source.specs.ThreadsView.{writes_of}
+use Rattle.lra_threads_source.specs.{Listed.one_by_one, Listed.reported_writes, ThreadsView.writes_of}
 use Rattle.lra_threads_source.proofs.listing.list_writes.Given as goal
 
 abbrev pub invariant-threads : goal.invariant-threads

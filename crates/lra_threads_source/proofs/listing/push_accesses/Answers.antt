@@ -1,6 +1,5 @@
 -- Goals of `push_accesses`: what is judged of the accesses of one thread more.
-use Rattle.std.proofs.Common.{length, refl, arith}
-use Rattle.std.proofs.lemmas.Option.{slice_get_read}
+use Rattle.std.proofs.{Common.length, Common.refl, Common.arith, lemmas.Option.slice_get_read}
 use Rattle.lra_threads_source.proofs.listing.push_accesses.Goals as goal
 
 pub push_judged-requires-clause-judged : goal.push_judged-requires-clause-judged

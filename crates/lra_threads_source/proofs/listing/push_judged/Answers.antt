@@ -1,16 +1,12 @@
 -- Goals of `push_judged`: what is judged of one thread more.
-use Rattle.std.proofs.Common.{◌≡◌, ◌∙◌, ◌++◌, ℕ, suc, length, map, refl, sym, ap, subst}
+use Rattle.std.proofs.{Common.◌≡◌, Common.◌∙◌, Common.◌++◌, Common.ℕ, Common.suc, Common.length, Common.map, Common.refl, Common.sym, Common.ap, Common.subst, lemmas.Option.slice_get_read}
 use Rattle.std.specs.List.{AllByRecursion}
-use Rattle.std.proofs.lemmas.Option.{slice_get_read}
 use Rattle.lra_syntax.specs.Views.{tree_view}
-use Rattle.lra_operations.specs.TreeViews.{site_view}
-use Rattle.lra_operations.specs.declared.tree.InlinedProgram.{InlinedProgram}
+use Rattle.lra_operations.specs.{TreeViews.site_view, declared.tree.InlinedProgram.InlinedProgram}
 use Rattle.lra_report.specs.Report as report
 use Rattle.lra_report.specs.View.{verdict_of}
-use Rattle.lra_threads_source.specs.Listed.{points_before, verdict_in_thread}
-use Rattle.lra_threads_source.specs.Stages.{CanFollow, judged_alone, points_in}
-use Rattle.lra_threads_source.proofs.Following.{all_viewed, judged_follow}
-use Rattle.lra_threads_source.proofs.Pushing.{if_ok, room, turned, verdicts_alone}
+use Rattle.lra_threads_source.specs.{Listed.points_before, Listed.verdict_in_thread, Stages.CanFollow, Stages.judged_alone, Stages.points_in}
+use Rattle.lra_threads_source.proofs.{Following.all_viewed, Following.judged_follow, Pushing.if_ok, Pushing.room, Pushing.turned, Pushing.verdicts_alone}
 use Rattle.lra_threads_source.proofs.listing.push_judged.Goals as goal
 
 pub push_verdicts-requires : goal.push_verdicts-requires

@@ -1,8 +1,7 @@
 -- What is written so far and what is left are all.
 use Rattle.std.proofs.Common.{◌≡◌, ◌++◌, ℕ, suc, map, drop, string_bytes}
 use Rattle.lra_threads_fixpoint.specs.Interference.{interval_at}
-use Rattle.lra_threads_source.specs.Listed.{one_by_one, reported_write, reported_writes}
-use Rattle.lra_threads_source.specs.ThreadsView.{writes_of}
+use Rattle.lra_threads_source.specs.{Listed.one_by_one, Listed.reported_write, Listed.reported_writes, ThreadsView.writes_of}
 use Rattle.lra_threads_source.proofs.listing.push_row.Given as goal
 
 abbrev pub invariant-globals : goal.invariant-globals

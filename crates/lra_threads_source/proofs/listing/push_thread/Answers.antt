@@ -1,17 +1,12 @@
 -- Goals of `push_thread`: the points of one thread more.
-use Rattle.std.proofs.Common.{◌∙◌, length, map, refl, sym, ap, arith}
-use Rattle.std.proofs.lemmas.List.{length-map}
-use Rattle.std.proofs.lemmas.Option.{slice_get_read}
+use Rattle.std.proofs.{Common.◌∙◌, Common.length, Common.map, Common.refl, Common.sym, Common.ap, Common.arith, lemmas.List.length-map, lemmas.Option.slice_get_read}
 use Rattle.lra_syntax.specs.Views.{tree_view}
-use Rattle.lra_operations.specs.TreeViews.{site_view}
-use Rattle.lra_operations.specs.declared.tree.InlinedProgram.{InlinedProgram}
+use Rattle.lra_operations.specs.{TreeViews.site_view, declared.tree.InlinedProgram.InlinedProgram}
 use Rattle.lra_report.specs.Report as report
 use Rattle.lra_report.specs.View.{point_report_of}
 use Rattle.lra_threads_analysis.specs.Found.{sites_in, thread_values}
-use Rattle.lra_threads_source.specs.Listed.{point_in_thread}
-use Rattle.lra_threads_source.specs.Stages.{CanFollow}
-use Rattle.lra_threads_source.proofs.Following.{all_viewed, points_follow}
-use Rattle.lra_threads_source.proofs.Pushing.{if_ok, listed_alone, room, states_listed, turned}
+use Rattle.lra_threads_source.specs.{Listed.point_in_thread, Stages.CanFollow}
+use Rattle.lra_threads_source.proofs.{Following.all_viewed, Following.points_follow, Pushing.if_ok, Pushing.listed_alone, Pushing.room, Pushing.states_listed, Pushing.turned}
 use Rattle.lra_threads_source.proofs.listing.push_thread.Goals as goal
 
 pub list_points-requires-clause-states : goal.list_points-requires-clause-states

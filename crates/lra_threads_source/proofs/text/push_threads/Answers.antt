@@ -1,7 +1,6 @@
 -- Goals of `push_threads`: the first line.
 use Rattle.std.proofs.Common.{◌≡◌, ◌∙◌, ◌++◌, ℕ, List, [], ◌∷◌, sym, ap, append_assoc, string_bytes}
-use Rattle.std.specs.Prelude.{Err, Ok, OnOk, Result, codes, if◌then◌else◌, is_ok}
-use Rattle.std.specs.Fmt.{decimal}
+use Rattle.std.specs.{Fmt.decimal, Prelude.Err, Prelude.Ok, Prelude.OnOk, Prelude.Result, Prelude.codes, Prelude.if◌then◌else◌, Prelude.is_ok}
 use Rattle.lra_threads_source.proofs.text.push_threads.Goals as goal
 
 -- words and a number more

@@ -1,7 +1,6 @@
 use Rattle.std.proofs.Common.{◌≡◌, ◌++◌, map, take, string_bytes}
 use Rattle.std.specs.List.{flat_map}
-use Rattle.lra_threads_source.specs.ThreadsText.{writes_line}
-use Rattle.lra_threads_source.specs.ThreadsView.{writes_of}
+use Rattle.lra_threads_source.specs.{ThreadsText.writes_line, ThreadsView.writes_of}
 use Rattle.lra_threads_source.proofs.text.push_writes.Given as goal
 
 abbrev pub invariant-loop-writes : goal.invariant-loop-writes

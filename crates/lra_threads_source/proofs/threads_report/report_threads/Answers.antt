@@ -6,8 +6,7 @@ use Rattle.lra_program.specs.declared.program.GlobalVariable.{GlobalVariable}
 use Rattle.lra_operations.specs.declared.tree.InlinedProgram.{InlinedProgram}
 use Rattle.lra_front_end.specs.declared.threads_front.AcceptedThreads.{AcceptedThreads}
 use Rattle.lra_threads_fixpoint.specs.Found.{fixpoint_view}
-use Rattle.lra_threads_source.specs.Stages.{AreThreadsInstrumented, IsInstrumented, IsReadOf}
-use Rattle.lra_threads_source.specs.ThreadsView.{threads_report_of}
+use Rattle.lra_threads_source.specs.{Stages.AreThreadsInstrumented, Stages.IsInstrumented, Stages.IsReadOf, ThreadsView.threads_report_of}
 use Rattle.lra_threads_source.proofs.Answered.{answered, flag_handed, found_handed, globals_seen, graphs_handed, ready}
 use Rattle.lra_threads_source.proofs.threads_report.report_threads.Goals as goal
 

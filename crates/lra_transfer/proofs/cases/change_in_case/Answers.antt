@@ -1,7 +1,6 @@
 -- Goals of `change_in_case`: it begins so, then comes the change, then the two variables go.
 use Rattle.std.proofs.Common.{◌≡◌, ◌+◌, ℕ, sym, ap, subst, ◌∙◌, arith}
-use Rattle.lra_domain.specs.Actions.{remove_last, dims_after}
-use Rattle.lra_domain.specs.Changes.{CanBeMade, action_of, actions_of}
+use Rattle.lra_domain.specs.{Actions.remove_last, Actions.dims_after, Changes.CanBeMade, Changes.action_of, Changes.actions_of}
 use Rattle.lra_transfer.proofs.ChangeSteps.{done_one, case_made}
 use Rattle.lra_transfer.proofs.cases.change_in_case.Goals as goal
 

@@ -1,7 +1,6 @@
 -- Goals of `append_any`: a new variable of this type, with any value.
 use Rattle.std.proofs.Common.{◌≡◌, ◌+◌, suc, ◌∙◌, arith}
-use Rattle.lra_domain.specs.Actions.{embed}
-use Rattle.lra_domain.specs.Moves.{make}
+use Rattle.lra_domain.specs.{Actions.embed, Moves.make}
 use Rattle.lra_transfer.proofs.ChangeSteps.{done_one, held_as}
 use Rattle.lra_transfer.proofs.changes.append_any.Goals as goal
 

@@ -1,7 +1,6 @@
 -- Goals of `give_any_value`: the target's variable gets any value of its type.
 use Rattle.std.proofs.Common.{refl}
-use Rattle.lra_domain.specs.Actions.{forget}
-use Rattle.lra_domain.specs.Moves.{make}
+use Rattle.lra_domain.specs.{Actions.forget, Moves.make}
 use Rattle.lra_program.specs.declared.receivers.Cell.TheVariants.{Variable, Waiting}
 use Rattle.lra_analysis_spec.specs.declared.linearization.Linearized.TheVariants.{Unseen}
 use Rattle.lra_transfer.proofs.ChangeSteps.{variable_below, cell_as, done_none, done_one, held_as}

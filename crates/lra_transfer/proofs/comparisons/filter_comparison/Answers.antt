@@ -2,10 +2,8 @@
 use Rattle.std.proofs.Common.{◌≡◌, sym, ap, ◌∙◌, ℕ}
 use Rattle.lra_program.specs.ProgramViews.{expr_view}
 use Rattle.lra_base.specs.OperatorViews.{comparison_view}
-use Rattle.lra_analysis_spec.specs.Linearization.{linearized_difference}
-use Rattle.lra_analysis_spec.specs.MovesOf.{comparison_moves}
-use Rattle.lra_transfer.proofs.ChangeSteps.{difference_fits}
-use Rattle.lra_transfer.proofs.SideSteps.{leaves_as}
+use Rattle.lra_analysis_spec.specs.{Linearization.linearized_difference, MovesOf.comparison_moves}
+use Rattle.lra_transfer.proofs.{ChangeSteps.difference_fits, SideSteps.leaves_as}
 use Rattle.lra_transfer.proofs.comparisons.filter_comparison.Goals as goal
 
 pub leave_difference-requires-clause-width : goal.leave_difference-requires-clause-width

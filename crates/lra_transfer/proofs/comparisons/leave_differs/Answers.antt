@@ -2,8 +2,7 @@
 use Rattle.std.proofs.Common.{refl, sym, ◌∙◌}
 use Rattle.lra_base.specs.Operators.{below, above}
 use Rattle.lra_domain.specs.Abstraction.{worse}
-use Rattle.lra_analysis_spec.specs.Operations.{lossy_operations}
-use Rattle.lra_analysis_spec.specs.MovesOf.{linearized_moves}
+use Rattle.lra_analysis_spec.specs.{MovesOf.linearized_moves, Operations.lossy_operations}
 use Rattle.lra_analysis_spec.proofs.Takes.{join_takes}
 use Rattle.lra_transfer.proofs.comparisons.leave_differs.Goals as goal
 

@@ -1,17 +1,13 @@
 -- Goals of the functions that call each other around `filter_condition`: `filter_condition`, `leave_all`, `leave_any`, `leave_in_turn`, `leave_either`.
 use Rattle.std.proofs.Common.{rules, arith, ◌≤◌, length, map, Bool, true, false, sym, ap, ◌∙◌}
 use Rattle.std.specs.Prelude.{not}
-use Rattle.lra_base.specs.OperatorViews.{comparison_view}
-use Rattle.lra_program.specs.Program.{nonzero}
-use Rattle.lra_program.specs.ProgramViews.{all_of, any_of, cond_view, expr_view}
-use Rattle.lra_base.specs.Operators.{Comparison}
-use Rattle.lra_analysis_spec.specs.Linearization.{linearized_difference}
-use Rattle.lra_analysis_spec.specs.MovesOf.{comparison_moves, guard}
+use Rattle.lra_base.specs.{OperatorViews.comparison_view, Operators.Comparison}
+use Rattle.lra_program.specs.{Program.nonzero, ProgramViews.all_of, ProgramViews.any_of, ProgramViews.cond_view, ProgramViews.expr_view}
+use Rattle.lra_analysis_spec.specs.{Linearization.linearized_difference, MovesOf.comparison_moves, MovesOf.guard}
 use Rattle.lra_linearize.specs.Conditions.{in_turn_of, either_of}
-use Rattle.lra_linearize.proofs.CondSteps.{all_true, any_false, all_false, any_true}
-use Rattle.lra_transfer.proofs.SideSteps.{compare_view, nonzero_view, opposite_shown, all_shown, any_shown, leaves_as}
-use Rattle.lra_linearize.proofs.CondSizes.{size_in}
+use Rattle.lra_linearize.proofs.{CondSizes.size_in, CondSteps.all_true, CondSteps.any_false, CondSteps.all_false, CondSteps.any_true}
 use Rattle.lra_transfer.proofs.ChainSteps.{turned_on, turned_all, either_all, size_among}
+use Rattle.lra_transfer.proofs.SideSteps.{compare_view, nonzero_view, opposite_shown, all_shown, any_shown, leaves_as}
 use Rattle.lra_transfer.proofs.conditions.+filter_condition.Goals as goal
 
 pub filter_condition-returns-in-Compare-clause-leaves : goal.filter_condition-returns-in-Compare-clause-leaves

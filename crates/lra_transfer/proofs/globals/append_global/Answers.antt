@@ -1,10 +1,7 @@
 -- Goals of `append_global`: a new variable, with the global's first value.
 use Rattle.std.proofs.Common.{◌≡◌, ◌+◌, suc, ◌∙◌, arith}
-use Rattle.lra_analysis_spec.specs.Linear.{constant_form}
-use Rattle.lra_analysis_spec.specs.declared.linearization.Linearized.TheVariants.{Linear}
-use Rattle.lra_analysis_spec.specs.MovesOf.{append_set}
-use Rattle.lra_transfer.proofs.ChangeSteps.{held_as}
-use Rattle.lra_transfer.proofs.GlobalSteps.{constant_wide, appended}
+use Rattle.lra_analysis_spec.specs.{Linear.constant_form, MovesOf.append_set, declared.linearization.Linearized.TheVariants.Linear}
+use Rattle.lra_transfer.proofs.{ChangeSteps.held_as, GlobalSteps.constant_wide, GlobalSteps.appended}
 use Rattle.lra_transfer.proofs.globals.append_global.Goals as goal
 
 pub assign-requires-clause-width : goal.assign-requires-clause-width

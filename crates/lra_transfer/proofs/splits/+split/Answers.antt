@@ -1,9 +1,9 @@
 -- Goals of the functions that call each other around `split`: `split`, `split_all`, `split_any`.
 use Rattle.std.proofs.Common.{rules, map, drop, ◌≤◌, length, true, false, arith}
 use Rattle.lra_program.specs.ProgramViews.{all_of, any_of, cond_view}
+use Rattle.lra_transfer.proofs.ChainSteps.{divided_first, divided_on, all_divided, any_divided, taken_have}
 use Rattle.lra_transfer.proofs.SideSteps.{all_shown, any_shown, sides_as}
 use Rattle.lra_linearize.proofs.CondSizes.{size_in}
-use Rattle.lra_transfer.proofs.ChainSteps.{divided_first, divided_on, all_divided, any_divided, taken_have}
 use Rattle.lra_transfer.proofs.splits.+split.Goals as goal
 
 pub split-returns-in-All : goal.split-returns-in-All

@@ -1,8 +1,7 @@
 -- Goals of `head_of`: the source of an input.
 use Rattle.std.proofs.Common.{◌≡◌, ◌-◌, ℤ, Vec, Option, length, take, drop, length-drop, refl, subst, arith, IfSome, option_map}
+use Rattle.std.proofs.{lemmas.List.take_all, lemmas.Option.slice_get_read}
 use Rattle.std.specs.Global.{Global}
-use Rattle.std.proofs.lemmas.List.{take_all}
-use Rattle.std.proofs.lemmas.Option.{slice_get_read}
 use Rattle.lra_verify.specs.HeadViews.{head_view}
 use Rattle.lra_verify.proofs.HeadSteps.{head_told}
 use Rattle.lra_verify.proofs.head.head_of.Goals as goal

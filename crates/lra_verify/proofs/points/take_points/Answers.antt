@@ -3,8 +3,7 @@ use Rattle.std.proofs.Common.{◌≡◌, ◌++◌, ◌∷◌, ◌+◌, [], ℕ, 
 use Rattle.lra_linear_spec.specs.declared.ConKind.{ConKind}
 use Rattle.lra_systems.specs.LinearSystems.{LinearSystem}
 use Rattle.lra_operations.specs.TreeViews.{site_view}
-use Rattle.lra_certificate_spec.specs.Judged.{judged_states}
-use Rattle.lra_certificate_spec.specs.Lines.{left_at}
+use Rattle.lra_certificate_spec.specs.{Judged.judged_states, Lines.left_at}
 use Rattle.lra_verify.specs.PointViews.{HaveDims, state_view}
 use Rattle.lra_certificate_lines.proofs.Told.{states_after}
 use Rattle.lra_verify.proofs.PointSteps.{dims_pushed, site_at, points_more}

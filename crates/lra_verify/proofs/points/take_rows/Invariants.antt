@@ -1,7 +1,6 @@
 use Rattle.std.proofs.Common.{◌≡◌, ◌≤◌, ◌-◌, length}
 use Rattle.lra_systems.specs.LinearSystems.{constraints}
-use Rattle.lra_certificate_spec.specs.Judged.{judged_rows}
-use Rattle.lra_certificate_spec.specs.Lines.{line_number_at, pieces_at}
+use Rattle.lra_certificate_spec.specs.{Judged.judged_rows, Lines.line_number_at, Lines.pieces_at}
 use Rattle.lra_certificate_lines.proofs.Told.{rows_after}
 use Rattle.lra_verify.proofs.points.take_rows.Given as goal
 

@@ -1,12 +1,9 @@
 use Rattle.std.proofs.Common.{◌≡◌, ◌≤◌, ◌<◌, ◌+◌, ℕ, length, map, slice_get}
 use Rattle.std.specs.List.{All}
-use Rattle.lra_operations.specs.Tree.{Node}
-use Rattle.lra_operations.specs.TreeViews.{site_view}
+use Rattle.lra_operations.specs.{Tree.Node, TreeViews.site_view}
 use Rattle.lra_paths.specs.Paths.{actions_between_in}
-use Rattle.lra_path_segments.specs.TreeSegments.{AreSegmentsOf}
-use Rattle.lra_path_segments.specs.TreeSegmentViews.{seen}
+use Rattle.lra_path_segments.specs.{Segments.Goal, TreeSegmentViews.seen, TreeSegments.AreSegmentsOf}
 use Rattle.lra_path_disjuncts.specs.Tables.{IsTable}
-use Rattle.lra_path_segments.specs.Segments.{Goal}
 use Rattle.lra_verify.specs.EdgeViews.{actions_out_of}
 use Rattle.lra_verify.proofs.verifying.all_sources.Given as goal
 

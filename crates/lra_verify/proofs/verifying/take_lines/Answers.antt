@@ -3,11 +3,8 @@ use Rattle.std.proofs.Common.{◌≡◌, List, Option, Ok, map, sym, subst}
 use Rattle.lra_linear_spec.specs.declared.ConKind.{ConKind}
 use Rattle.lra_systems.specs.LinearSystems.{LinearSystem}
 use Rattle.lra_operations.specs.TreeViews.{site_view}
-use Rattle.lra_certificate_spec.specs.Judged.{judged, judged_states}
-use Rattle.lra_certificate_spec.specs.Lines.{left_at}
-use Rattle.lra_verify.specs.PointViews.{state_view}
-use Rattle.lra_verify.specs.EdgeViews.{rest_by}
-use Rattle.lra_verify.specs.declared.annotated.AnnotatedProgram.{AnnotatedProgram}
+use Rattle.lra_certificate_spec.specs.{Judged.judged, Judged.judged_states, Lines.left_at}
+use Rattle.lra_verify.specs.{EdgeViews.rest_by, PointViews.state_view, declared.annotated.AnnotatedProgram.AnnotatedProgram}
 use Rattle.lra_certificate_lines.proofs.ShowSteps.{told_as}
 use Rattle.lra_verify.proofs.VerifySteps.{ways_ready, lines_are_judged}
 use Rattle.lra_verify.proofs.verifying.take_lines.Goals as goal

@@ -1,15 +1,9 @@
 -- Goals of `next`: the next value of the point.
-use Rattle.std.proofs.Common.{◌<◌, ◌≤◌, ◌^◌, None, Option, arith, get_or, length, subst, sym, ◌∙◌}
-use Rattle.std.proofs.lemmas.Option.{slice_get-get_or}
+use Rattle.std.proofs.{Common.◌<◌, Common.◌≤◌, Common.◌^◌, Common.None, Common.Option, Common.arith, Common.get_or, Common.length, Common.subst, Common.sym, Common.◌∙◌, lemmas.Option.slice_get-get_or}
 use Rattle.lra_analysis_spec.specs.Pass.{RunsFrom}
 use Rattle.lra_paths.specs.declared.sources.Source.{Source}
-use Rattle.lra_back.specs.Operations.{lossy_back_operations}
-use Rattle.lra_back.specs.Preconditions.{PreOfAllPoints}
-use Rattle.lra_back.specs.Rounds.{seed_at}
-use Rattle.lra_back.specs.BackwardCalls.{IfThereHas, paths_at, task_view}
-use Rattle.lra_back.proofs.PathSteps.{read_at}
-use Rattle.lra_back.proofs.JoinSteps.{next_value}
-use Rattle.lra_back.proofs.BackSteps.{heads_fit, seed_has}
+use Rattle.lra_back.specs.{BackwardCalls.IfThereHas, BackwardCalls.paths_at, BackwardCalls.task_view, Operations.lossy_back_operations, Preconditions.PreOfAllPoints, Rounds.seed_at}
+use Rattle.lra_back.proofs.{BackSteps.heads_fit, BackSteps.seed_has, JoinSteps.next_value, PathSteps.read_at}
 use Rattle.lra_back.proofs.tasks.Task.next.Goals as goal
 
 pub pre_of_all_points-requires-clause-writable : goal.pre_of_all_points-requires-clause-writable

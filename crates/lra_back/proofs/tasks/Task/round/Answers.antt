@@ -1,7 +1,6 @@
 -- Goals of `round`: all heads grow, from the last point to the first.
 use Rattle.std.proofs.Common.{◌≡◌, ◌-◌, ◌&&◌, Bool, true, false, arith, length, refl, subst, suc}
-use Rattle.lra_back.specs.Operations.{lossy_back_operations}
-use Rattle.lra_back.specs.BackwardCalls.{task_view}
+use Rattle.lra_back.specs.{BackwardCalls.task_view, Operations.lossy_back_operations}
 use Rattle.lra_back.proofs.RoundSteps.{StillTurns, last_turn, next_turn, ranks_next}
 use Rattle.lra_back.proofs.tasks.Task.round.Goals as goal
 

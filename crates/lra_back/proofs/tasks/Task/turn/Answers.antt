@@ -1,7 +1,6 @@
 -- Goals of `turn`: the point's head grows by the point's next value.
 use Rattle.std.proofs.Common.{◌<◌, length, arith}
-use Rattle.lra_back.proofs.PathSteps.{read_at}
-use Rattle.lra_back.proofs.HeadSteps.{heads_set}
+use Rattle.lra_back.proofs.{HeadSteps.heads_set, PathSteps.read_at}
 use Rattle.lra_back.proofs.tasks.Task.turn.Goals as goal
 
 pub returns-clause-heads : goal.returns-clause-heads

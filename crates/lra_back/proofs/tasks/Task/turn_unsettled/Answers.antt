@@ -1,8 +1,6 @@
 -- Goals of `turn_unsettled`: the point is turned, unless it is settled.
 use Rattle.std.proofs.Common.{◌≡◌, Bool, List, Some, ap, slice_get, subst, true}
-use Rattle.lra_back.specs.Operations.{lossy_back_operations}
-use Rattle.lra_back.specs.BackwardCalls.{task_view}
-use Rattle.lra_back.specs.Settled.{Settles}
+use Rattle.lra_back.specs.{BackwardCalls.task_view, Operations.lossy_back_operations, Settled.Settles}
 use Rattle.lra_back.proofs.SettledSteps.{skipped, turned_settled}
 use Rattle.lra_back.proofs.tasks.Task.turn_unsettled.Goals as goal
 

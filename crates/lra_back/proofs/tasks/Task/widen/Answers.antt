@@ -1,7 +1,6 @@
 -- Goals of `widen`: rounds that widen, until all heads are stable in one.
 use Rattle.std.proofs.Common.{length}
-use Rattle.lra_back.specs.Operations.{lossy_back_operations}
-use Rattle.lra_back.specs.BackwardCalls.{task_view}
+use Rattle.lra_back.specs.{BackwardCalls.task_view, Operations.lossy_back_operations}
 use Rattle.lra_back.proofs.RoundSteps.{last_round, next_round}
 use Rattle.lra_back.proofs.tasks.Task.widen.Goals as goal
 

@@ -1,7 +1,5 @@
 use Rattle.std.proofs.Common.{length}
-use Rattle.lra_back.specs.Operations.{lossy_back_operations}
-use Rattle.lra_back.specs.BackwardCalls.{ranks_of, task_view}
-use Rattle.lra_back.specs.Settled.{IsBackwardState}
+use Rattle.lra_back.specs.{BackwardCalls.ranks_of, BackwardCalls.task_view, Operations.lossy_back_operations, Settled.IsBackwardState}
 use Rattle.lra_back.proofs.RoundSteps.{StillWidens}
 use Rattle.lra_back.proofs.tasks.Task.widen.Given as goal
 

@@ -1,8 +1,7 @@
 -- Goals of `BitRow::common`: the list that is true where both are.
 use Rattle.std.proofs.Common.{sym, ◌∙◌, ap}
 use Rattle.lra_bits.specs.Words.{unpacked, words_needed}
-use Rattle.lra_bits.proofs.Packing.{same_width}
-use Rattle.lra_bits.proofs.Pairs.{common_is, common_unused}
+use Rattle.lra_bits.proofs.{Packing.same_width, Pairs.common_is, Pairs.common_unused}
 use Rattle.lra_bits.proofs.bit_row.BitRow.common.Goals as goal
 
 pub common-requires : goal.common-requires

@@ -2,8 +2,7 @@
 use Rattle.std.proofs.Common.{◌<◌, ◌^◌, sym, ◌∙◌, ap}
 use Rattle.std.specs.List.{All}
 use Rattle.lra_bits.specs.Words.{unpacked, words_needed}
-use Rattle.lra_bits.proofs.Packing.{same_width}
-use Rattle.lra_bits.proofs.Pairs.{common_subset}
+use Rattle.lra_bits.proofs.{Packing.same_width, Pairs.common_subset}
 use Rattle.lra_bits.proofs.bit_row.BitRow.common_within.Goals as goal
 
 pub are_common_within-requires-clause-second : goal.are_common_within-requires-clause-second

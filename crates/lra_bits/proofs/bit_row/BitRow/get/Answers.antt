@@ -1,7 +1,6 @@
 -- Goals of `BitRow::get`: the truth value at a place.
-use Rattle.std.proofs.Common.{arith, ◌≡◌, length}
+use Rattle.std.proofs.{Common.arith, Common.◌≡◌, Common.length, lemmas.Grind.common_steps}
 use Rattle.std.specs.Vec.{vec_len}
-use Rattle.std.proofs.lemmas.Grind.{common_steps}
 use Rattle.lra_bits.proofs.Packing.{bit_place, get_is}
 use Rattle.lra_bits.proofs.bit_row.BitRow.get.Goals as goal
 

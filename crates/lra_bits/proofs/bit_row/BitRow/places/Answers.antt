@@ -1,7 +1,6 @@
 -- Goals of `BitRow::places`: of the first so many places those with a value that is true.
 use Rattle.std.proofs.Common.{arith, sym}
-use Rattle.lra_bits.proofs.CommonPlaces.{packed_bit}
-use Rattle.lra_bits.proofs.Places.{next_word}
+use Rattle.lra_bits.proofs.{CommonPlaces.packed_bit, Places.next_word}
 use Rattle.lra_bits.proofs.bit_row.BitRow.places.Goals as goal
 
 pub bounds-words-at : goal.bounds-words-at

@@ -2,8 +2,7 @@
 use Rattle.std.proofs.Common.{◌<◌, ◌≤◌, ◌^◌, ℕ, sym, ◌∙◌, ap, subst}
 use Rattle.std.specs.List.{All}
 use Rattle.lra_bits.specs.Words.{unpacked, words_needed}
-use Rattle.lra_bits.proofs.Packing.{same_width}
-use Rattle.lra_bits.proofs.CommonBits.{common_count}
+use Rattle.lra_bits.proofs.{CommonBits.common_count, Packing.same_width}
 use Rattle.lra_bits.proofs.bit_row.BitRow.shares.Goals as goal
 
 pub share_bits-requires : goal.share_bits-requires

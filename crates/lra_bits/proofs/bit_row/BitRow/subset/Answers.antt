@@ -2,8 +2,7 @@
 use Rattle.std.proofs.Common.{◌<◌, ◌^◌, sym, ◌∙◌, ap}
 use Rattle.std.specs.List.{All}
 use Rattle.lra_bits.specs.Words.{unpacked, words_needed}
-use Rattle.lra_bits.proofs.Packing.{same_width}
-use Rattle.lra_bits.proofs.Pairs.{words_subset, subset_words}
+use Rattle.lra_bits.proofs.{Packing.same_width, Pairs.words_subset, Pairs.subset_words}
 use Rattle.lra_bits.proofs.bit_row.BitRow.subset.Goals as goal
 
 pub are_within-requires : goal.are_within-requires

@@ -1,7 +1,6 @@
 -- Goals of `BitRow::widen`: one more value, false, behind the others.
-use Rattle.lra_bits.proofs.Widening.{widened_word, widened_within}
+use Rattle.lra_bits.proofs.{Widening.widened_word, Widening.widened_within, bit_row.BitRow.widen.Goals.then-self-eq0+in_ok-push, bit_row.BitRow.widen.Goals.else-self-eq0}
 use Rattle.lra_bits.proofs.bit_row.BitRow.widen.Goals as goal
-use Rattle.lra_bits.proofs.bit_row.BitRow.widen.Goals.{then-self-eq0+in_ok-push, else-self-eq0}
 
 pub returns-clause-widened : goal.returns-clause-widened
 returns-clause-widened c =

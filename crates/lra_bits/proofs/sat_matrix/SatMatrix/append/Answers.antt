@@ -1,7 +1,6 @@
 -- Goals of `SatMatrix::append`: puts the rows of another matrix behind its own.
 use Rattle.std.proofs.Common.{◌≡◌, ◌∙◌, ◌++◌, List, Bool, ap, arith, cond, length, subst, sym}
-use Rattle.std.specs.Prelude.{IsOk}
-use Rattle.std.specs.List.{All}
+use Rattle.std.specs.{List.All, Prelude.IsOk}
 use Rattle.lra_bits.specs.Matrix.{Matrix}
 use Rattle.lra_bits.proofs.Lengthening.{append_widths}
 use Rattle.lra_bits.proofs.sat_matrix.SatMatrix.append.Goals as goal

@@ -1,11 +1,9 @@
 -- Goals of `SatMatrix::common_word`: the bits that are set in each of these rows that is marked.
-use Rattle.std.proofs.Common.{arith, ap, ◌∙◌, [], get_or, List, Bool}
+use Rattle.std.proofs.{Common.arith, Common.ap, Common.◌∙◌, Common.[], Common.get_or, Common.List, Common.Bool, lemmas.List.get_or_default, lemmas.Nat.Bits.bit_at_ones}
 use Rattle.lra_bits.specs.Matrix.{Matrix}
-use Rattle.std.proofs.lemmas.List.{get_or_default}
-use Rattle.std.proofs.lemmas.Nat.Bits.{bit_at_ones}
 use Rattle.lra_bits.proofs.CommonPlaces.{word_skip, word_meet, none_common}
-use Rattle.lra_bits.proofs.sat_matrix.SatMatrix.common_word.Goals as goal
 use Rattle.lra_bits.proofs.sat_matrix.SatMatrix.common_word.Goals.{then-get+else-word-eq0, else-get}
+use Rattle.lra_bits.proofs.sat_matrix.SatMatrix.common_word.Goals as goal
 
 pub loop-i-init : goal.loop-i-init
 loop-i-init c = λ j h. ((λ t i l. absurd (omega (arith, l))), (λ t. bit_at_ones 64 j h))

@@ -1,6 +1,5 @@
 use Rattle.std.proofs.Common.{◌≡◌, ℕ, ◌<◌, ◌+◌, ◌*◌}
-use Rattle.std.specs.Prelude.{◌↔◌}
-use Rattle.std.specs.Int.{bit_at}
+use Rattle.std.specs.{Int.bit_at, Prelude.◌↔◌}
 use Rattle.lra_bits.specs.Matrix.{IsCommon}
 use Rattle.lra_bits.proofs.sat_matrix.SatMatrix.common_word.Given as goal
 

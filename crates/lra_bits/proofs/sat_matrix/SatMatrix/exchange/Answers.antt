@@ -1,7 +1,6 @@
 -- Goals of `SatMatrix::exchange`: further rows and a value behind each, and those that are marked taken out.
-use Rattle.std.proofs.Common.{◌≡◌, ◌∙◌, ◌++◌, ap, arith, length, suc, sym, take}
+use Rattle.std.proofs.{Common.◌≡◌, Common.◌∙◌, Common.◌++◌, Common.ap, Common.arith, Common.length, Common.suc, Common.sym, Common.take, lemmas.Grind.common_steps}
 use Rattle.std.specs.Vec.{vec_len}
-use Rattle.std.proofs.lemmas.Grind.{common_steps}
 use Rattle.lra_bits.specs.Matrix.{Matrix, lengthened_rows, unmarked}
 use Rattle.lra_bits.proofs.Lengthening.{lengthened_length, taken_back}
 use Rattle.lra_bits.proofs.sat_matrix.SatMatrix.exchange.Goals as goal

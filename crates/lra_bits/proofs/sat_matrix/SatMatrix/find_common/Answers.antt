@@ -2,8 +2,8 @@
 use Rattle.std.proofs.Common.{arith, ap, ◌≡◌}
 use Rattle.lra_bits.specs.Matrix.{Matrix}
 use Rattle.lra_bits.proofs.CommonPlaces.{found, none_here, none_inside}
-use Rattle.lra_bits.proofs.sat_matrix.SatMatrix.find_common.Goals as goal
 use Rattle.lra_bits.proofs.sat_matrix.SatMatrix.find_common.Goals.{then-others-ne0+else-bit-self, else-others-ne0}
+use Rattle.lra_bits.proofs.sat_matrix.SatMatrix.find_common.Goals as goal
 
 pub returns-then-bit-self : goal.returns-then-bit-self
 returns-then-bit-self c =

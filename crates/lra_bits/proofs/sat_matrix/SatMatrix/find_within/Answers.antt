@@ -1,12 +1,11 @@
 -- Goals of `SatMatrix::find_within`: a row but two that is true wherever both are.
-use Rattle.std.proofs.Common.{◌≡◌, ◌<◌, arith, length, ap}
+use Rattle.std.proofs.{Common.◌≡◌, Common.◌<◌, Common.arith, Common.length, Common.ap, lemmas.Grind.common_steps}
 use Rattle.std.specs.Vec.{vec_len}
-use Rattle.std.proofs.lemmas.Grind.{common_steps}
 use Rattle.lra_bits.specs.Matrix.{Matrix}
 use Rattle.lra_bits.proofs.WithinRows.{row_known, within_packed, not_said, within_more}
-use Rattle.lra_bits.proofs.sat_matrix.SatMatrix.find_within.Goals as goal
 use Rattle.lra_bits.proofs.sat_matrix.SatMatrix.find_within.Goals.{then-place-first+then-place-second+else-are_common_within_from, else-place-first}
 use Rattle.lra_bits.proofs.sat_matrix.SatMatrix.find_within.Goals.{else-place-first-via-then-place-first+else-place-second, else-place-first-via-else-place-first}
+use Rattle.lra_bits.proofs.sat_matrix.SatMatrix.find_within.Goals as goal
 
 pub returns-then-are_common_within_from : goal.returns-then-are_common_within_from
 returns-then-are_common_within_from c =

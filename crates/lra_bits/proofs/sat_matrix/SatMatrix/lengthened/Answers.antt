@@ -1,8 +1,6 @@
 -- Goals of `SatMatrix::lengthened`: the rows with a value behind each.
-use Rattle.std.proofs.Common.{◌<◌, ◌≡◌, ◌∙◌, [], ap, arith, get_or, length}
+use Rattle.std.proofs.{Common.◌<◌, Common.◌≡◌, Common.◌∙◌, Common.[], Common.ap, Common.arith, Common.get_or, Common.length, lemmas.Grind.common_steps, lemmas.List.get_or_default}
 use Rattle.std.specs.Vec.{vec_len}
-use Rattle.std.proofs.lemmas.Grind.{common_steps}
-use Rattle.std.proofs.lemmas.List.{get_or_default}
 use Rattle.lra_bits.specs.Matrix.{Matrix}
 use Rattle.lra_bits.proofs.Lengthening.{copied_all, copied_more}
 use Rattle.lra_bits.proofs.sat_matrix.SatMatrix.lengthened.Goals as goal

@@ -1,12 +1,10 @@
 -- Goals of `SatMatrix::remove_rows`: takes out the rows that are marked as gone; the others keep their order.
-use Rattle.std.proofs.Common.{◌≡◌, ℕ, ◌<◌, List, Bool, length, sym, ◌∙◌, ap, subst, arith, []}
-use Rattle.std.specs.Vec.{vec_len}
-use Rattle.std.specs.List.{All}
-use Rattle.std.proofs.lemmas.Grind.{common_steps}
+use Rattle.std.proofs.{Common.◌≡◌, Common.ℕ, Common.◌<◌, Common.List, Common.Bool, Common.length, Common.sym, Common.◌∙◌, Common.ap, Common.subst, Common.arith, Common.[], lemmas.Grind.common_steps}
+use Rattle.std.specs.{List.All, Vec.vec_len}
 use Rattle.lra_bits.specs.Matrix.{Matrix, unmarked}
 use Rattle.lra_bits.proofs.Removal.{kept_gone, kept_stays, kept_end, ends_all}
-use Rattle.lra_bits.proofs.sat_matrix.SatMatrix.remove_rows.Goals as goal
 use Rattle.lra_bits.proofs.sat_matrix.SatMatrix.remove_rows.Goals.{then-not-get, else-not-get}
+use Rattle.lra_bits.proofs.sat_matrix.SatMatrix.remove_rows.Goals as goal
 
 pub loop-k-preserved : goal.loop-k-preserved
 loop-k-preserved c =

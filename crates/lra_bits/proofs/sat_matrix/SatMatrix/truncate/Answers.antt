@@ -1,7 +1,6 @@
 -- Goals of `SatMatrix::truncate`: keeps so many rows at the front.
-use Rattle.std.proofs.Common.{List, Bool, length, subst, sym, ◌≡◌}
+use Rattle.std.proofs.{Common.List, Common.Bool, Common.length, Common.subst, Common.sym, Common.◌≡◌, lemmas.List.Elements.All-take}
 use Rattle.std.specs.List.{All}
-use Rattle.std.proofs.lemmas.List.Elements.{All-take}
 use Rattle.lra_bits.proofs.sat_matrix.SatMatrix.truncate.Goals as goal
 
 pub invariant_of-self : goal.invariant_of-self

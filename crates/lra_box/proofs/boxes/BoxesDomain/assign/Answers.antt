@@ -1,6 +1,5 @@
 -- Goals of `BoxesDomain::assign`.
-use Rattle.std.proofs.Common.{rules, refl, ◌≡◌, ◌∙◌, ℤ, to_z, of_z}
-use Rattle.std.proofs.Math.ListN.{length-set}
+use Rattle.std.proofs.{Common.rules, Common.refl, Common.◌≡◌, Common.◌∙◌, Common.ℤ, Common.to_z, Common.of_z, Math.ListN.length-set}
 use Rattle.std.specs.Int.{w64, w128}
 use Rattle.lra_box.proofs.boxes.BoxesDomain.assign.Goals as goal
 

@@ -1,8 +1,7 @@
 -- Goals of `BoxesDomain::embed`.
 use Rattle.std.proofs.Common.{◌≡◌, ◌+◌, ℕ, refl, arith, ◌∙◌, length-append}
-use Rattle.lra_box.specs.Covering.{within_refl}
+use Rattle.lra_box.specs.{Content.bounds_view, Covering.within_refl}
 use Rattle.lra_box.proofs.StepLemmas.{embedded_fit, embedded_sound, has_embedded}
-use Rattle.lra_box.specs.Content.{bounds_view}
 use Rattle.lra_box.proofs.boxes.BoxesDomain.embed.Goals as goal
 
 pub invariant_of-self-2 : goal.invariant_of-self-2

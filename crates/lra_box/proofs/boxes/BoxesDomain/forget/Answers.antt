@@ -1,11 +1,7 @@
 -- Goals of `BoxesDomain::forget`.
-use Rattle.std.proofs.Common.{refl, ◌∙◌, ℤ}
-use Rattle.std.proofs.Math.ListN.{length-set}
-use Rattle.lra_box.specs.Covering.{within_refl}
-use Rattle.lra_box.specs.Bounds.{full_interval}
-use Rattle.lra_box.proofs.BoundLemmas.{has_forgotten}
-use Rattle.lra_box.proofs.StepLemmas.{set_fit, forgotten_sound}
-use Rattle.lra_box.specs.Content.{bounds_view}
+use Rattle.std.proofs.{Common.refl, Common.◌∙◌, Common.ℤ, Math.ListN.length-set}
+use Rattle.lra_box.specs.{Bounds.full_interval, Content.bounds_view, Covering.within_refl}
+use Rattle.lra_box.proofs.{BoundLemmas.has_forgotten, StepLemmas.set_fit, StepLemmas.forgotten_sound}
 use Rattle.lra_box.proofs.boxes.BoxesDomain.forget.Goals as goal
 
 pub invariant_of-self : goal.invariant_of-self

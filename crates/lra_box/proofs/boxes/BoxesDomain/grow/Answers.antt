@@ -1,10 +1,7 @@
 -- Goals of `BoxesDomain::grow`.
-use Rattle.std.proofs.Common.{◌≡◌, refl, ap, sym, ◌∙◌, inr}
-use Rattle.std.proofs.lemmas.Bool.{false≢true}
-use Rattle.lra_box.specs.Content.{BoxContent, BoundsFit, bounds_view}
-use Rattle.lra_box.proofs.BoundLemmas.{grown_fit, has_grown_old, has_grown_new, grown_falls, rank_fits}
-use Rattle.lra_box.specs.Covering.{within_refl}
-use Rattle.lra_box.proofs.SoundLemmas.{grown_sound}
+use Rattle.std.proofs.{Common.◌≡◌, Common.refl, Common.ap, Common.sym, Common.◌∙◌, Common.inr, lemmas.Bool.false≢true}
+use Rattle.lra_box.specs.{Content.BoxContent, Content.BoundsFit, Content.bounds_view, Covering.within_refl}
+use Rattle.lra_box.proofs.{BoundLemmas.grown_fit, BoundLemmas.has_grown_old, BoundLemmas.has_grown_new, BoundLemmas.grown_falls, BoundLemmas.rank_fits, SoundLemmas.grown_sound}
 use Rattle.lra_box.proofs.boxes.BoxesDomain.grow.Goals as goal
 
 pub returns-then-is_within-clause-stays : goal.returns-then-is_within-clause-stays

@@ -1,7 +1,6 @@
 -- Goals of `BoxesDomain::included`.
 use Rattle.std.proofs.Common.{◌≡◌, ap, sym, ◌∙◌}
-use Rattle.lra_box.specs.Content.{BoxContent}
-use Rattle.lra_box.specs.Laws.{box_wider}
+use Rattle.lra_box.specs.{Content.BoxContent, Laws.box_wider}
 use Rattle.lra_box.proofs.boxes.BoxesDomain.included.Goals as goal
 
 pub returns-then-is_within-clause-stores : goal.returns-then-is_within-clause-stores

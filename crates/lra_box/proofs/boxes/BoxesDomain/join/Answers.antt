@@ -1,10 +1,7 @@
 -- Goals of `BoxesDomain::join`.
 use Rattle.std.proofs.Common.{◌≡◌, refl, ap, sym, ◌∙◌}
-use Rattle.lra_box.specs.Content.{BoxContent, BoundsFit, bounds_view}
-use Rattle.lra_box.proofs.BoundLemmas.{joined_fit}
-use Rattle.lra_box.specs.Covering.{within_refl}
-use Rattle.lra_box.proofs.WithinLemmas.{left_within, right_within}
-use Rattle.lra_box.proofs.SoundLemmas.{joined_sound}
+use Rattle.lra_box.specs.{Content.BoxContent, Content.BoundsFit, Content.bounds_view, Covering.within_refl}
+use Rattle.lra_box.proofs.{BoundLemmas.joined_fit, SoundLemmas.joined_sound, WithinLemmas.left_within, WithinLemmas.right_within}
 use Rattle.lra_box.proofs.boxes.BoxesDomain.join.Goals as goal
 
 pub invariant_of-self : goal.invariant_of-self

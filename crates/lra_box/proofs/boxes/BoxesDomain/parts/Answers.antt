@@ -1,10 +1,8 @@
 -- Goals of `BoxesDomain::parts`.
 use Rattle.std.proofs.Common.{rules, ◌≡◌}
-use Rattle.lra_box.specs.Content.{bounds_view}
-use Rattle.lra_box.specs.Parts.{box_parts}
-use Rattle.lra_box.proofs.PartLemmas.{parts_mean}
+use Rattle.lra_box.specs.{Content.bounds_view, Parts.box_parts}
+use Rattle.lra_box.proofs.{PartLemmas.parts_mean, boxes.BoxesDomain.parts.Goals.in-Some+in_ok-system_of+in_ok-push, boxes.BoxesDomain.parts.Goals.in_default}
 use Rattle.lra_box.proofs.boxes.BoxesDomain.parts.Goals as goal
-use Rattle.lra_box.proofs.boxes.BoxesDomain.parts.Goals.{in-Some+in_ok-system_of+in_ok-push, in_default}
 
 pub returns-clause-hold : goal.returns-clause-hold
 returns-clause-hold c =

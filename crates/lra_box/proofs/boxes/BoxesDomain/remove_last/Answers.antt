@@ -1,8 +1,7 @@
 -- Goals of `BoxesDomain::remove_last`.
 use Rattle.std.proofs.Common.{refl, arith, ◌-◌}
-use Rattle.lra_box.specs.Covering.{within_refl}
+use Rattle.lra_box.specs.{Content.bounds_view, Covering.within_refl}
 use Rattle.lra_box.proofs.StepLemmas.{taken_length, taken_fit, taken_sound, has_taken}
-use Rattle.lra_box.specs.Content.{bounds_view}
 use Rattle.lra_box.proofs.boxes.BoxesDomain.remove_last.Goals as goal
 
 pub invariant_of-self : goal.invariant_of-self

@@ -1,6 +1,5 @@
 -- Goals of `BoxesDomain::universe`.
-use Rattle.lra_box.proofs.SoundLemmas.{open_all_sound}
-use Rattle.lra_box.proofs.StepLemmas.{length_copies}
+use Rattle.lra_box.proofs.{SoundLemmas.open_all_sound, StepLemmas.length_copies}
 use Rattle.lra_box.specs.Covering.{in_open}
 use Rattle.lra_box.proofs.boxes.BoxesDomain.universe.Goals as goal
 

@@ -1,13 +1,10 @@
 -- Goals of `show_rows`: the claims of the rows, in order.
-use Rattle.std.proofs.Common.{◌+◌, drop, arith}
-use Rattle.std.proofs.lemmas.List.{drop_all}
-use Rattle.lra_linear_spec.specs.Kinds.{is_equality}
-use Rattle.lra_linear_spec.specs.Descriptions.{LinearRow}
+use Rattle.std.proofs.{Common.◌+◌, Common.drop, Common.arith, lemmas.List.drop_all}
+use Rattle.lra_linear_spec.specs.{Descriptions.LinearRow, Kinds.is_equality}
 use Rattle.lra_systems.specs.LinearSystems.{constraints}
 use Rattle.lra_certificate_spec.specs.Lines.{judged_in_turn, left_at}
 use Rattle.lra_certificate_lines.specs.PathCheckViews.{row_by}
-use Rattle.lra_certificate_lines.proofs.TrackSteps.{constraints_few}
-use Rattle.lra_certificate_lines.proofs.ShowSteps.{turn_more, turn_fault, turn_done, constraint_from}
+use Rattle.lra_certificate_lines.proofs.{ShowSteps.turn_more, ShowSteps.turn_fault, ShowSteps.turn_done, ShowSteps.constraint_from, TrackSteps.constraints_few}
 use Rattle.lra_certificate_lines.proofs.path_checks.PathCheck.show_rows.Goals as goal
 
 pub loop-place-preserved : goal.loop-place-preserved

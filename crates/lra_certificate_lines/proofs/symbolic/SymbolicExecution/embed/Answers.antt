@@ -1,7 +1,6 @@
 -- Goals of `embed`: so many variables come last, each of a symbol of its own.
-use Rattle.std.proofs.Common.{◌≡◌, ◌+◌, List, ℕ, ℤ, arith, sym, subst, suc, length}
+use Rattle.std.proofs.{Common.◌≡◌, Common.◌+◌, Common.List, Common.ℕ, Common.ℤ, Common.arith, Common.sym, Common.subst, Common.suc, Common.length, lemmas.List.Elements.All-append}
 use Rattle.std.specs.List.{All}
-use Rattle.std.proofs.lemmas.List.Elements.{All-append}
 use Rattle.lra_multipliers.specs.Symbols.{symbols}
 use Rattle.lra_certificate_lines.proofs.WalkChanges.{symbols_wide}
 use Rattle.lra_certificate_lines.proofs.symbolic.SymbolicExecution.embed.Goals as goal

@@ -1,7 +1,6 @@
 -- Goals of `execute`: what a path does to so many variables.
 use Rattle.std.proofs.Common.{◌≡◌, ◌+◌, ◌∙◌, List, ℕ, arith, ap, sym, subst, drop}
-use Rattle.lra_domain.specs.Actions.{Action}
-use Rattle.lra_domain.specs.Changes.{action_of}
+use Rattle.lra_domain.specs.{Actions.Action, Changes.action_of}
 use Rattle.lra_multipliers.specs.Symbols.{SymbolicState, executed_path, executed, width_of}
 use Rattle.lra_certificate_lines.specs.SymbolicViews.{symbolic_view, HasWidth}
 use Rattle.lra_path_disjuncts.specs.TableDisjuncts.{all_done}

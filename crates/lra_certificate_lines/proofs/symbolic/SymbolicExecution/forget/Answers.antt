@@ -1,7 +1,6 @@
 -- Goals of `forget`: the variable gets a symbol of its own.
-use Rattle.std.proofs.Common.{◌≡◌, ◌∙◌, List, ℤ, ap, sym, subst, suc, length}
+use Rattle.std.proofs.{Common.◌≡◌, Common.◌∙◌, Common.List, Common.ℤ, Common.ap, Common.sym, Common.subst, Common.suc, Common.length, lemmas.List.Elements.All-set}
 use Rattle.std.specs.List.{All}
-use Rattle.std.proofs.lemmas.List.Elements.{All-set}
 use Rattle.lra_certificate_spec.proofs.WalkedRows.{symbol_width}
 use Rattle.lra_certificate_lines.proofs.symbolic.SymbolicExecution.forget.Goals as goal
 

@@ -1,12 +1,10 @@
 -- Goals of `Cone::add_row`: takes a row in.
 use Rattle.std.proofs.Common.{sym, ◌∙◌, ap, subst, map, length, suc, ◌≡◌, List, ℤ, Some}
-use Rattle.lra_linear_spec.specs.Kinds.{is_equality}
+use Rattle.lra_linear_spec.specs.{Kinds.is_equality, Vectors.product}
 use Rattle.lra_double_description.specs.Steps.{IsLastAcross}
-use Rattle.lra_linear_spec.specs.Vectors.{product}
 use Rattle.lra_systems.specs.LinearSystems.{constraints}
 use Rattle.lra_cone.specs.Cones.{ConeContent}
-use Rattle.lra_cone.proofs.Stepped.{lines_have_width, rays_have_width, none_across}
-use Rattle.lra_cone.proofs.TakenIn.{dims_then, taken_then, met_then}
+use Rattle.lra_cone.proofs.{Stepped.lines_have_width, Stepped.rays_have_width, Stepped.none_across, TakenIn.dims_then, TakenIn.taken_then, TakenIn.met_then}
 use Rattle.lra_cone.proofs.cone.Cone.add_row.Goals as goal
 
 pub multiply_all-requires : goal.multiply_all-requires

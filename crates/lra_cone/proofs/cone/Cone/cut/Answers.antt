@@ -1,22 +1,13 @@
 -- Goals of `Cone::cut`: takes a row in where its product with each line is 0.
 use Rattle.std.proofs.Common.{sym, ◌∙◌, ap, length, subst, ◌≡◌, List, ℤ, pos, map, suc}
+use Rattle.std.proofs.{lemmas.List.length-map, lemmas.List.Elements.All-contains, lemmas.Result.err_from_is_err_and}
 use Rattle.std.specs.List.{All, Contains}
-use Rattle.std.proofs.lemmas.Result.{err_from_is_err_and}
-use Rattle.std.proofs.lemmas.List.{length-map}
-use Rattle.std.proofs.lemmas.List.Elements.{All-contains}
 use Rattle.lra_bits.specs.Matrix.{Matrix}
-use Rattle.lra_linear_spec.specs.Vectors.{product}
-use Rattle.lra_linear_spec.specs.Descriptions.{LinearRow}
+use Rattle.lra_linear_spec.specs.{Descriptions.LinearRow, Kinds.is_equality, Vectors.product}
 use Rattle.lra_systems.specs.LinearSystems.{constraints}
-use Rattle.lra_linear_spec.specs.Kinds.{is_equality}
-use Rattle.lra_cone.specs.Cones.{ConeContent, IsCone, cone_saturation, saturation_rows}
-use Rattle.lra_double_description.specs.Pairs.{IsCut}
-use Rattle.lra_double_description.specs.Thirds.{FewHaveThird}
-use Rattle.lra_double_description.specs.Strains.{IsCutError}
-use Rattle.lra_cone.specs.Strains.{IsConeError}
-use Rattle.lra_cone.proofs.StrainLemmas.{cut_cone_error}
-use Rattle.lra_cone.proofs.TightRows.{rows_length}
-use Rattle.lra_cone.proofs.Stepped.{rays_have_one_width, saturation_equal}
+use Rattle.lra_cone.specs.{Cones.ConeContent, Cones.IsCone, Cones.cone_saturation, Cones.saturation_rows, Strains.IsConeError}
+use Rattle.lra_double_description.specs.{Pairs.IsCut, Strains.IsCutError, Thirds.FewHaveThird}
+use Rattle.lra_cone.proofs.{Stepped.rays_have_one_width, Stepped.saturation_equal, StrainLemmas.cut_cone_error, TightRows.rows_length}
 use Rattle.lra_cone.proofs.cone.Cone.cut.Goals as goal
 
 pub cut_rays-requires-clause-matrix : goal.cut_rays-requires-clause-matrix

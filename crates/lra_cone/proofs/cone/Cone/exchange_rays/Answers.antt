@@ -1,24 +1,15 @@
 -- Goals of `Cone::exchange_rays`: takes a row in by what it makes of the rays.
 use Rattle.std.proofs.Common.{arith, refl, sym, ◌∙◌, ap, length, subst, ◌≡◌, ◌++◌, ◌∷◌, List, ℤ, [], pos, map, suc, Bool, cond}
-use Rattle.std.specs.Prelude.{IsOk}
-use Rattle.std.specs.List.{All, Contains}
-use Rattle.std.proofs.lemmas.Grind.{common_steps}
-use Rattle.std.proofs.lemmas.List.{length-map}
-use Rattle.std.proofs.lemmas.List.Elements.{All-contains}
+use Rattle.std.proofs.{lemmas.Grind.common_steps, lemmas.List.length-map, lemmas.List.Elements.All-contains}
+use Rattle.std.specs.{List.All, List.Contains, Prelude.IsOk}
 use Rattle.lra_bits.specs.Matrix.{Matrix, unmarked}
-use Rattle.lra_linear_spec.specs.Vectors.{product}
-use Rattle.lra_linear_spec.specs.Cones.{all_rows}
-use Rattle.lra_linear_spec.specs.ConeStrain.{IsIntersection}
-use Rattle.lra_linear_spec.specs.Descriptions.{LinearRow}
+use Rattle.lra_linear_spec.specs.{ConeStrain.IsIntersection, Cones.all_rows, Descriptions.LinearRow, Kinds.is_equality, Vectors.product, declared.ConKind.ConKind}
 use Rattle.lra_systems.specs.LinearSystems.{constraints, rows_by_kind}
-use Rattle.lra_linear_spec.specs.Kinds.{is_equality}
-use Rattle.lra_linear_spec.specs.declared.ConKind.{ConKind}
 use Rattle.lra_cone.specs.Cones.{ConeContent, IsCone, IsTakenIn, cone_saturation}
 use Rattle.lra_double_description.specs.Pairs.{IsCut}
 use Rattle.lra_double_description.proofs.Cuts.{exchanged_matrix, marks_many, tight_many}
-use Rattle.lra_cone.proofs.TakenBack.{kept_again, taken_again}
-use Rattle.lra_cone.proofs.TightRows.{rows_length}
 use Rattle.lra_cone.proofs.Stepped.{cut_marks, cut_few, cut_taken, cut_matrix, ray_met, ray_canonical, cone_again, cone_of}
+use Rattle.lra_cone.proofs.{TakenBack.kept_again, TakenBack.taken_again, TightRows.rows_length}
 use Rattle.lra_systems.proofs.LinearRows.{constraints_push}
 use Rattle.lra_cone.proofs.cone.Cone.exchange_rays.Goals as goal
 

@@ -1,14 +1,11 @@
 -- Goals of `Cone::find_flat`: what comes of its lists with the line at the place across.
 use Rattle.std.proofs.Common.{sym, ◌∙◌, ap, length, subst, get_or, ◌<◌, List, ℤ, [], pos, rules, FitsSigned}
+use Rattle.std.proofs.{lemmas.Int.to_z-of_z, lemmas.List.Elements.Contains-get_or, lemmas.Result.err_from_is_err_and}
 use Rattle.std.specs.Int.{w128}
-use Rattle.std.proofs.lemmas.Int.{to_z-of_z}
-use Rattle.std.proofs.lemmas.Result.{err_from_is_err_and}
-use Rattle.std.proofs.lemmas.List.Elements.{Contains-get_or}
 use Rattle.lra_systems.specs.LinearSystems.{constraints}
 use Rattle.lra_linear_spec.specs.Kinds.{is_equality}
-use Rattle.lra_cone.specs.Cones.{ConeContent}
+use Rattle.lra_cone.specs.{Cones.ConeContent, Flat.AreFlat, Flat.IsFlatError}
 use Rattle.lra_double_description.specs.Steps.{IsTurned, AreFlatLines, AreFlatRays, flat_matrix}
-use Rattle.lra_cone.specs.Flat.{AreFlat, IsFlatError}
 use Rattle.lra_cone.proofs.FlatCones.{flat_lines_told, flat_rays_told}
 use Rattle.lra_cone.proofs.Stepped.{turned_down, turned_up_width, turned_down_width, line_width, all_lines_width, all_rays_width}
 use Rattle.lra_cone.proofs.cone.Cone.find_flat.Goals as goal

@@ -1,19 +1,11 @@
 -- Goals of `Cone::flatten`: takes a row in where its product with the line at the place, and with none behind it,
 -- isn't 0.
 use Rattle.std.proofs.Common.{arith, sym, ◌∙◌, ap, length, subst, ◌<◌, ◌≤◌, ◌≡◌, ◌++◌, ◌∷◌, List, ℤ, [], map, suc}
-use Rattle.std.proofs.lemmas.Grind.{common_steps}
-use Rattle.std.proofs.lemmas.Result.{err_from_is_err_and}
-use Rattle.std.proofs.lemmas.List.{length-map}
-use Rattle.lra_linear_spec.specs.Vectors.{product}
-use Rattle.lra_linear_spec.specs.Descriptions.{LinearRow}
+use Rattle.std.proofs.{lemmas.Grind.common_steps, lemmas.List.length-map, lemmas.Result.err_from_is_err_and}
+use Rattle.lra_linear_spec.specs.{ConeStrain.row_limit, Descriptions.LinearRow, Kinds.is_equality, Vectors.product, declared.ConKind.ConKind}
 use Rattle.lra_systems.specs.LinearSystems.{constraints, rows_by_kind}
-use Rattle.lra_linear_spec.specs.Kinds.{is_equality}
-use Rattle.lra_linear_spec.specs.declared.ConKind.{ConKind}
-use Rattle.lra_linear_spec.specs.ConeStrain.{row_limit}
-use Rattle.lra_cone.specs.Cones.{ConeContent, IsCone, IsTakenIn, cone_saturation}
-use Rattle.lra_cone.specs.Flat.{AreFlat}
-use Rattle.lra_cone.proofs.FlatCones.{flat_error}
-use Rattle.lra_cone.proofs.Stepped.{flatten_case, too_many_rays, cone_again, cone_of, line_met, line_canonical, line_matrix}
+use Rattle.lra_cone.specs.{Cones.ConeContent, Cones.IsCone, Cones.IsTakenIn, Cones.cone_saturation, Flat.AreFlat}
+use Rattle.lra_cone.proofs.{FlatCones.flat_error, Stepped.flatten_case, Stepped.too_many_rays, Stepped.cone_again, Stepped.cone_of, Stepped.line_met, Stepped.line_canonical, Stepped.line_matrix}
 use Rattle.lra_systems.proofs.LinearRows.{constraints_push}
 use Rattle.lra_cone.proofs.cone.Cone.flatten.Goals as goal
 

@@ -1,6 +1,5 @@
 -- Goals of `Cone::least_shared`: how many rows are tight at both of two adjacent rays at least.
-use Rattle.std.proofs.Common.{◌≡◌, ◌-◌, arith, length, subst}
-use Rattle.std.proofs.lemmas.Grind.{common_steps}
+use Rattle.std.proofs.{Common.◌≡◌, Common.◌-◌, Common.arith, Common.length, Common.subst, lemmas.Grind.common_steps}
 use Rattle.lra_systems.specs.LinearSystems.{constraints}
 use Rattle.lra_double_description.specs.Thirds.{FewHaveThird}
 use Rattle.lra_cone.specs.Cones.{ConeContent, IsCone, saturation_rows}

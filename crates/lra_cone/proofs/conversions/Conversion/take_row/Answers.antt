@@ -1,8 +1,7 @@
 -- Goals of `Conversion::take_row`: takes a row in, or leaves it out where it strains the cone.
 use Rattle.std.proofs.Common.{length, ◌∙◌, ap, sym, subst}
-use Rattle.lra_linear_spec.specs.Descriptions.{LinearRow}
+use Rattle.lra_linear_spec.specs.{Descriptions.LinearRow, Kinds.is_equality}
 use Rattle.lra_systems.specs.LinearSystems.{constraints}
-use Rattle.lra_linear_spec.specs.Kinds.{is_equality}
 use Rattle.lra_cone.specs.Strains.{IsConeError}
 use Rattle.lra_cone.proofs.RowsTaken.{conversion_more, conversion_left_out}
 use Rattle.lra_systems.proofs.LinearRows.{constraints_pushed}

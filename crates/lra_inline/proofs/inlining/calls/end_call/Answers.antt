@@ -1,14 +1,10 @@
 -- Goals of `end_call`: the point of the callee's end, and the whole call.
 use Rattle.std.proofs.Common.{◌∷◌, [], ◌≡◌}
-use Rattle.lra_program.specs.Sites.{plain_site}
-use Rattle.lra_program.specs.Step.{push, push_for}
-use Rattle.lra_program.specs.ProgramViews.{element_view, call_view, function_view}
+use Rattle.lra_program.specs.{ProgramViews.element_view, ProgramViews.call_view, ProgramViews.function_view, Sites.plain_site, Step.push, Step.push_for}
 use Rattle.lra_operations.specs.TreeViews.{node_view}
-use Rattle.lra_inline_steps.specs.Limits.{add_points, stopped}
-use Rattle.lra_inline_steps.specs.Inlining.{points_in, program_around, StopsBehind}
+use Rattle.lra_inline_steps.specs.{Inlining.points_in, Inlining.program_around, Inlining.StopsBehind, Limits.add_points, Limits.stopped}
 use Rattle.lra_inline_steps.proofs.Stopping.{err_stopped, made_ok, made_limit}
-use Rattle.lra_inline.proofs.Calling.{end_stopped, end_written}
-use Rattle.lra_inline.proofs.Programs.{called_fits, called_few}
+use Rattle.lra_inline.proofs.{Calling.end_stopped, Calling.end_written, Programs.called_fits, Programs.called_few}
 use Rattle.lra_inline.proofs.inlining.calls.end_call.Goals as goal
 
 pub returns-in_err-end-clause-limit : goal.returns-in_err-end-clause-limit

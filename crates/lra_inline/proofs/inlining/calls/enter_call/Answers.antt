@@ -1,11 +1,8 @@
 -- Goals of `enter_call`: a limit on calls, or the path and the frame of the callee's body.
-use Rattle.std.proofs.Common.{◌∙◌, ap, sym, arith}
-use Rattle.std.proofs.lemmas.List.{length-map}
+use Rattle.std.proofs.{Common.◌∙◌, Common.ap, Common.sym, Common.arith, lemmas.List.length-map}
 use Rattle.lra_program.specs.ProgramViews.{expr_view, call_view}
-use Rattle.lra_inline_steps.specs.Building.{callee_frame}
-use Rattle.lra_inline_steps.specs.Inlining.{program_around}
-use Rattle.lra_inline.proofs.Calling.{no_call_more}
-use Rattle.lra_inline.proofs.Programs.{arguments_fit}
+use Rattle.lra_inline_steps.specs.{Building.callee_frame, Inlining.program_around}
+use Rattle.lra_inline.proofs.{Calling.no_call_more, Programs.arguments_fit}
 use Rattle.lra_inline.proofs.inlining.calls.enter_call.Goals as goal
 
 pub returns-then-frame-eq0-clause-limit : goal.returns-then-frame-eq0-clause-limit

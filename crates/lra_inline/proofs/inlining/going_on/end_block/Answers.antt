@@ -2,11 +2,8 @@
 use Rattle.std.proofs.Common.{[], ◌∷◌, ◌≡◌}
 use Rattle.lra_program.specs.Sites.{plain_site}
 use Rattle.lra_operations.specs.TreeViews.{node_view}
-use Rattle.lra_inline_steps.specs.Limits.{add_points, stopped}
-use Rattle.lra_inline_steps.specs.Inlining.{points_in}
-use Rattle.lra_inline_steps.specs.Stack.{Stops}
-use Rattle.lra_inline_steps.proofs.OpenFrames.{block_closes, block_stops, closed_ok}
-use Rattle.lra_inline_steps.proofs.Stopping.{err_stopped}
+use Rattle.lra_inline_steps.specs.{Inlining.points_in, Limits.add_points, Limits.stopped, Stack.Stops}
+use Rattle.lra_inline_steps.proofs.{OpenFrames.block_closes, OpenFrames.block_stops, OpenFrames.closed_ok, Stopping.err_stopped}
 use Rattle.lra_inline.proofs.inlining.going_on.end_block.Goals as goal
 
 pub returns-in_err-point-clause-limit : goal.returns-in_err-point-clause-limit

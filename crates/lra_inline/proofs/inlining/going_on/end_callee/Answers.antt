@@ -2,10 +2,8 @@
 use Rattle.std.proofs.Common.{◌∷◌, ap, sym, ◌∙◌}
 use Rattle.lra_program.specs.ProgramViews.{program_view}
 use Rattle.lra_operations.specs.TreeViews.{node_view}
-use Rattle.lra_inline_steps.specs.Inlining.{points_in}
-use Rattle.lra_inline_steps.specs.Stack.{Stops}
-use Rattle.lra_inline_steps.proofs.OpenFrames.{callee_few, callee_stands, callee_within, callee_closes, callee_stops}
-use Rattle.lra_inline_steps.proofs.Stopping.{err_stopped}
+use Rattle.lra_inline_steps.specs.{Inlining.points_in, Stack.Stops}
+use Rattle.lra_inline_steps.proofs.{OpenFrames.callee_few, OpenFrames.callee_stands, OpenFrames.callee_within, OpenFrames.callee_closes, OpenFrames.callee_stops, Stopping.err_stopped}
 use Rattle.lra_inline.proofs.inlining.going_on.end_callee.Goals as goal
 
 pub end_call-requires : goal.end_call-requires

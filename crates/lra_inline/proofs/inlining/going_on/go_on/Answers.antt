@@ -1,12 +1,8 @@
 -- Goals of `go_on`: whichever place it is.
 use Rattle.std.proofs.Common.{◌∙◌}
-use Rattle.lra_program.specs.Step.{truncate_to}
-use Rattle.lra_program.specs.ProgramViews.{program_view}
-use Rattle.lra_operations.specs.Tree.{point, act, seq}
-use Rattle.lra_operations.specs.TreeViews.{node_view}
-use Rattle.lra_inline_steps.specs.declared.frame.Frame.{Frame}
-use Rattle.lra_inline_steps.specs.Building.{call_left}
-use Rattle.lra_inline_steps.specs.Inlining.{points_in}
+use Rattle.lra_program.specs.{ProgramViews.program_view, Step.truncate_to}
+use Rattle.lra_operations.specs.{Tree.point, Tree.act, Tree.seq, TreeViews.node_view}
+use Rattle.lra_inline_steps.specs.{Building.call_left, Inlining.points_in, declared.frame.Frame.Frame}
 use Rattle.lra_inline_steps.proofs.OpenFrames.{opened, rounds_next, closed, closed_ok}
 use Rattle.lra_inline.proofs.inlining.going_on.go_on.Goals as goal
 

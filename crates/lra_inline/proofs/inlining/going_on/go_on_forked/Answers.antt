@@ -1,8 +1,6 @@
 -- Goals of `go_on_forked`: behind a part of a choice or a loop.
 use Rattle.lra_program.specs.ProgramViews.{cond_view}
-use Rattle.lra_operations.specs.Tree.{point, seq, choose}
-use Rattle.lra_operations.specs.Inlined.{loop_node}
-use Rattle.lra_operations.specs.TreeViews.{node_view}
+use Rattle.lra_operations.specs.{Inlined.loop_node, Tree.point, Tree.seq, Tree.choose, TreeViews.node_view}
 use Rattle.lra_inline_steps.specs.declared.frame.Frame.{Frame}
 use Rattle.lra_inline_steps.proofs.OpenFrames.{forked_seen, false_next, body_next, closed, closed_ok}
 use Rattle.lra_inline.proofs.inlining.going_on.go_on_forked.Goals as goal

@@ -1,11 +1,9 @@
 -- Goals of `next_item`: the next of some items, or all of them in a row.
-use Rattle.std.proofs.Common.{rules, ◌≡◌, [], ◌∷◌, map, refl, ap, ◌∙◌}
-use Rattle.std.proofs.lemmas.List.{nil_from_length}
+use Rattle.std.proofs.{Common.rules, Common.◌≡◌, Common.[], Common.◌∷◌, Common.map, Common.refl, Common.ap, Common.◌∙◌, lemmas.List.nil_from_length}
 use Rattle.lra_program.specs.Program.{no_more, declaration, array, statement}
 use Rattle.lra_program.specs.ProgramViews.{declarator_view, stmt_view, item_view, items_of}
 use Rattle.lra_inline_steps.proofs.ItemRows.{items_last, items_end, declaration_next, array_next, statement_next}
-use Rattle.lra_inline_steps.proofs.OpenFrames.{closed_ok}
-use Rattle.lra_inline_steps.proofs.Shown.{shown_declaration, shown_array, shown_statement}
+use Rattle.lra_inline_steps.proofs.{OpenFrames.closed_ok, Shown.shown_declaration, Shown.shown_array, Shown.shown_statement}
 use Rattle.lra_inline.proofs.inlining.parts.next_item.Goals as goal
 
 pub returns-in_default-clause-leads : goal.returns-in_default-clause-leads

@@ -1,8 +1,7 @@
 -- Goals of `open_call`: the body of the function that a call names.
 use Rattle.std.proofs.Common.{map, ◌∙◌}
 use Rattle.lra_program.specs.ProgramViews.{call_view, item_view, items_of, program_view}
-use Rattle.lra_inline.proofs.Calling.{callee_falls, body_opens}
-use Rattle.lra_inline.proofs.Programs.{callee_is}
+use Rattle.lra_inline.proofs.{Calling.callee_falls, Calling.body_opens, Programs.callee_is}
 use Rattle.lra_inline.proofs.inlining.parts.open_call.Goals as goal
 
 pub callee-function-requires : goal.callee-function-requires

@@ -2,9 +2,7 @@
 use Rattle.std.proofs.Common.{map}
 use Rattle.lra_program.specs.ProgramViews.{item_view, items_of, program_view}
 use Rattle.lra_inline_steps.specs.Inlining.{points_in}
-use Rattle.lra_inline_steps.proofs.ItemRows.{items_begin}
-use Rattle.lra_inline_steps.proofs.FirstSteps.{rounds_open}
-use Rattle.lra_inline_steps.proofs.Stopping.{ok_through, limit_through}
+use Rattle.lra_inline_steps.proofs.{FirstSteps.rounds_open, ItemRows.items_begin, Stopping.ok_through, Stopping.limit_through}
 use Rattle.lra_inline.proofs.inlining.parts.open_part.Goals as goal
 
 pub returns-in-Stmt-clause-leads : goal.returns-in-Stmt-clause-leads

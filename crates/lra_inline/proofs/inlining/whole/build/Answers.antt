@@ -2,12 +2,9 @@
 use Rattle.std.proofs.Common.{◌≡◌, List, map, length, Some, None, ap, subst}
 use Rattle.lra_syntax.specs.Labels.{Labelled}
 use Rattle.lra_resolution_spec.specs.Refuse.{limit_fault}
-use Rattle.lra_program.specs.Sites.{events_of}
-use Rattle.lra_program.specs.ProgramViews.{program_view}
+use Rattle.lra_program.specs.{ProgramViews.program_view, Sites.events_of}
 use Rattle.lra_operations.specs.TreeViews.{node_view, site_view}
-use Rattle.lra_inline_sound.proofs.Agreement.{trees_agree}
-use Rattle.lra_inline_sound.proofs.CheckedOperations.{trees_agree_on_accesses}
-use Rattle.lra_inline_sound.proofs.DistinctSites.{distinct_sites}
+use Rattle.lra_inline_sound.proofs.{Agreement.trees_agree, CheckedOperations.trees_agree_on_accesses, DistinctSites.distinct_sites}
 use Rattle.lra_inline_steps.specs.Limits.{add_points, stopped, refusal_of}
 use Rattle.lra_inline_steps.proofs.Stopping.{err_stopped}
 use Rattle.lra_inline.proofs.Totals.{made_sites, made_few, made_within, made_refused}

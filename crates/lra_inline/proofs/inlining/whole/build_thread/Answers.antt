@@ -1,12 +1,9 @@
 -- Goals of `build_thread`: the program's points behind others, and its own tree.
-use Rattle.std.proofs.Common.{◌≡◌, ◌++◌, List, map, length, Some, None, sym, ◌∙◌, arith}
-use Rattle.std.proofs.lemmas.Option.{none-some}
+use Rattle.std.proofs.{Common.◌≡◌, Common.◌++◌, Common.List, Common.map, Common.length, Common.Some, Common.None, Common.sym, Common.◌∙◌, Common.arith, lemmas.Option.none-some}
 use Rattle.lra_syntax.specs.Labels.{Labelled}
 use Rattle.lra_resolution_spec.specs.Refuse.{limit_fault}
-use Rattle.lra_program.specs.Sites.{events_of, sites_of}
-use Rattle.lra_program.specs.ProgramViews.{program_view}
-use Rattle.lra_operations.specs.Agree.{IsInlinedTree}
-use Rattle.lra_operations.specs.TreeViews.{node_view, site_view}
+use Rattle.lra_program.specs.{ProgramViews.program_view, Sites.events_of, Sites.sites_of}
+use Rattle.lra_operations.specs.{Agree.IsInlinedTree, TreeViews.node_view, TreeViews.site_view}
 use Rattle.lra_inline_steps.specs.Limits.{add_points, stopped, refusal_of}
 use Rattle.lra_inline_steps.proofs.Stopping.{err_stopped, ok_through, limit_through}
 use Rattle.lra_inline.proofs.Totals.{walk_sites, made_within, made_refused, fewer_within}

@@ -1,15 +1,9 @@
 -- Goals of `write_program`: the items of `main` and the point of its end are the whole program's.
-use Rattle.std.proofs.Common.{◌≡◌, [], ◌∷◌, map, refl, sym, ap, ◌∙◌, arith}
-use Rattle.std.proofs.lemmas.Result.{err_from_is_err_and}
-use Rattle.lra_operations.specs.Tree.{seq}
-use Rattle.lra_program.specs.Sites.{plain_site, items_events, call_events, events_of}
-use Rattle.lra_program.specs.ProgramViews.{item_view, items_of, program_view}
-use Rattle.lra_operations.specs.TreeViews.{node_view, site_view}
+use Rattle.std.proofs.{Common.◌≡◌, Common.[], Common.◌∷◌, Common.map, Common.refl, Common.sym, Common.ap, Common.◌∙◌, Common.arith, lemmas.Result.err_from_is_err_and}
+use Rattle.lra_operations.specs.{Tree.seq, TreeViews.node_view, TreeViews.site_view}
+use Rattle.lra_program.specs.{ProgramViews.item_view, ProgramViews.items_of, ProgramViews.program_view, Sites.plain_site, Sites.items_events, Sites.call_events, Sites.events_of}
 use Rattle.lra_inline_steps.specs.Limits.{add_points, stopped}
-use Rattle.lra_inline_steps.proofs.Items.{items_stand_as}
-use Rattle.lra_inline_steps.proofs.Shown.{shown_point}
-use Rattle.lra_inline_steps.proofs.Standing.{main_stands}
-use Rattle.lra_inline_steps.proofs.Stopping.{limit_to}
+use Rattle.lra_inline_steps.proofs.{Items.items_stand_as, Shown.shown_point, Standing.main_stands, Stopping.limit_to}
 use Rattle.lra_inline.proofs.Programs.{main_below, main_read, begun_at, frame_first, main_body, main_end, main_receives}
 use Rattle.lra_inline.proofs.Totals.{made_graph, made_walk, stopped_in_items, stopped_at_end}
 use Rattle.lra_inline.proofs.inlining.whole.write_program.Goals as goal

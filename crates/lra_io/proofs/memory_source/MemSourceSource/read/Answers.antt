@@ -1,6 +1,5 @@
 -- Goals of `MemSourceSource::read`.
-use Rattle.std.proofs.Common.{◌≡◌, ◌-◌, ℕ, List, length, take, drop, sym, ap, ◌∙◌, add-zero}
-use Rattle.std.proofs.lemmas.List.{take_rest}
+use Rattle.std.proofs.{Common.◌≡◌, Common.◌-◌, Common.ℕ, Common.List, Common.length, Common.take, Common.drop, Common.sym, Common.ap, Common.◌∙◌, Common.add-zero, lemmas.List.take_rest}
 use Rattle.lra_io.proofs.Bytes.{piece_and_rest}
 use Rattle.lra_io.proofs.memory_source.MemSourceSource.read.Goals as goal
 

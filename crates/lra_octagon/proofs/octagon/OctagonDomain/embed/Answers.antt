@@ -1,7 +1,6 @@
 -- Goals of `OctagonDomain::embed`.
 use Rattle.lra_octagon.specs.Content.{matrix_view}
-use Rattle.lra_octagon.proofs.TransferLemmas.{meets_embed}
-use Rattle.lra_octagon.proofs.TightLemmas.{embedded_tight}
+use Rattle.lra_octagon.proofs.{TightLemmas.embedded_tight, TransferLemmas.meets_embed}
 use Rattle.lra_octagon.proofs.octagon.OctagonDomain.embed.Goals as goal
 
 pub returns-clause-meets : goal.returns-clause-meets

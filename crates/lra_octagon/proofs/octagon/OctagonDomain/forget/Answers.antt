@@ -1,7 +1,6 @@
 -- Goals of `OctagonDomain::forget`.
 use Rattle.lra_octagon.specs.Content.{matrix_view}
-use Rattle.lra_octagon.proofs.TransferLemmas.{meets_forget}
-use Rattle.lra_octagon.proofs.TightLemmas.{forgotten_tight}
+use Rattle.lra_octagon.proofs.{TightLemmas.forgotten_tight, TransferLemmas.meets_forget}
 use Rattle.lra_octagon.proofs.octagon.OctagonDomain.forget.Goals as goal
 
 pub returns-clause-meets : goal.returns-clause-meets

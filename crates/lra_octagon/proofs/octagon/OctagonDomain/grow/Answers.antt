@@ -1,6 +1,5 @@
 -- Goals of `OctagonDomain::grow`.
-use Rattle.std.proofs.Common.{◌≡◌, ap, sym, ◌∙◌, false, true}
-use Rattle.std.proofs.lemmas.Bool.{false≢true}
+use Rattle.std.proofs.{Common.◌≡◌, Common.ap, Common.sym, Common.◌∙◌, Common.false, Common.true, lemmas.Bool.false≢true}
 use Rattle.lra_octagon.specs.Content.{OctagonContent, CellsFit, matrix_view}
 use Rattle.lra_octagon.proofs.TransferLemmas.{rank_fits, grown_fit, grows, grows_lower}
 use Rattle.lra_octagon.proofs.octagon.OctagonDomain.grow.Goals as goal

@@ -1,10 +1,8 @@
 -- Goals of `OctagonDomain::included`: entry by entry; of a tight octagon, No only where a store lies beyond the
 -- other.
-use Rattle.std.proofs.Common.{◌≡◌, ap, sym, ◌∙◌}
-use Rattle.std.proofs.lemmas.Bool.{false≢true}
-use Rattle.lra_octagon.specs.Content.{OctagonContent, CellsFit, matrix_view}
+use Rattle.std.proofs.{Common.◌≡◌, Common.ap, Common.sym, Common.◌∙◌, lemmas.Bool.false≢true}
+use Rattle.lra_octagon.specs.{Content.OctagonContent, Content.CellsFit, Content.matrix_view, Laws.octagon_wider}
 use Rattle.lra_octagon.proofs.LeastLemmas.{not_within}
-use Rattle.lra_octagon.specs.Laws.{octagon_wider}
 use Rattle.lra_octagon.proofs.octagon.OctagonDomain.included.Goals as goal
 
 pub returns-then-is_within-clause-stores : goal.returns-then-is_within-clause-stores

@@ -1,12 +1,9 @@
 -- Goals of `OctagonDomain::join`: of tight octagons, the least with the stores of both.
 use Rattle.std.proofs.Common.{◌≡◌, ap, sym, ◌∙◌, false, true, IsTrue}
-use Rattle.lra_octagon.specs.Content.{OctagonContent, CellsFit, matrix_view}
-use Rattle.lra_octagon.specs.Least.{IsTightOrNone}
-use Rattle.lra_octagon.proofs.LeastLemmas.{least_octagon}
-use Rattle.lra_octagon.proofs.TransferLemmas.{joined_fit, joins}
-use Rattle.lra_octagon.proofs.TightLemmas.{joined_tight}
-use Rattle.lra_octagon.proofs.octagon.OctagonDomain.join.Goals as goal
+use Rattle.lra_octagon.specs.{Content.OctagonContent, Content.CellsFit, Content.matrix_view, Least.IsTightOrNone}
 use Rattle.lra_octagon.proofs.octagon.OctagonDomain.join.Goals.{then-self, else-self}
+use Rattle.lra_octagon.proofs.{LeastLemmas.least_octagon, TightLemmas.joined_tight, TransferLemmas.joined_fit, TransferLemmas.joins}
+use Rattle.lra_octagon.proofs.octagon.OctagonDomain.join.Goals as goal
 
 pub invariant_of-self : goal.invariant_of-self
 invariant_of-self c =

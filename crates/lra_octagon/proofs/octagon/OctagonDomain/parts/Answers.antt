@@ -1,6 +1,5 @@
 -- Goals of `OctagonDomain::parts`.
-use Rattle.lra_octagon.specs.Content.{matrix_view}
-use Rattle.lra_octagon.specs.Laws.{sized_stores}
+use Rattle.lra_octagon.specs.{Content.matrix_view, Laws.sized_stores}
 use Rattle.lra_octagon.proofs.MeanLemmas.{stores_hold, parts_dims}
 use Rattle.lra_octagon.proofs.octagon.OctagonDomain.parts.Goals as goal
 

@@ -1,8 +1,7 @@
 -- Goals of `OctagonDomain::remove_last`.
 use Rattle.std.proofs.Common.{◌-◌, arith}
 use Rattle.lra_octagon.specs.Content.{matrix_view}
-use Rattle.lra_octagon.proofs.TransferLemmas.{meets_remove}
-use Rattle.lra_octagon.proofs.TightLemmas.{first_tight}
+use Rattle.lra_octagon.proofs.{TightLemmas.first_tight, TransferLemmas.meets_remove}
 use Rattle.lra_octagon.proofs.octagon.OctagonDomain.remove_last.Goals as goal
 
 pub returns-clause-meets : goal.returns-clause-meets

@@ -2,8 +2,7 @@
 use Rattle.std.proofs.Common.{sym, subst, arith}
 use Rattle.std.specs.List.{All}
 use Rattle.lra_analysis_spec.specs.Pass.{PassResult}
-use Rattle.lra_pass_results.specs.LoopCache.{IsRecalled}
-use Rattle.lra_pass_results.specs.Outcome.{IsKept}
+use Rattle.lra_pass_results.specs.{LoopCache.IsRecalled, Outcome.IsKept}
 use Rattle.lra_pass_results.proofs.loop_cache.LoopCache.end.Goals as goal
 
 pub returns-then-self-eq0 : goal.returns-then-self-eq0

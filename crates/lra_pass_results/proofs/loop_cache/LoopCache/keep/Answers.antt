@@ -1,7 +1,6 @@
 -- Goals of `Memory::keep`: this pass takes the place of the same loop's last one.
-use Rattle.std.proofs.Common.{◌<◌, sym, subst}
+use Rattle.std.proofs.{Common.◌<◌, Common.sym, Common.subst, lemmas.List.Elements.All-set, lemmas.List.Elements.All-push}
 use Rattle.std.specs.List.{All}
-use Rattle.std.proofs.lemmas.List.Elements.{All-set, All-push}
 use Rattle.lra_pass_results.specs.LoopCache.{IsRecalled}
 use Rattle.lra_pass_results.proofs.loop_cache.LoopCache.keep.Goals as goal
 

@@ -1,8 +1,6 @@
 -- Goals of `Poly::add_rows`: takes these constraints in.
 use Rattle.std.proofs.Common.{refl, subst, sym, ◌++◌, inl, inr}
-use Rattle.lra_linear_spec.specs.Descriptions.{Con}
-use Rattle.lra_linear_spec.specs.OperationStrain.{FromRowsStrains}
-use Rattle.lra_linear_spec.specs.Polyhedra.{Polyhedron}
+use Rattle.lra_linear_spec.specs.{Descriptions.Con, OperationStrain.FromRowsStrains, Polyhedra.Polyhedron}
 use Rattle.lra_systems.specs.LinearSystems.{constraints}
 use Rattle.lra_poly.specs.Outcomes.{IsOfRows}
 use Rattle.lra_poly.proofs.MetRows.{never, settled_exact, settled_made, settled_old}

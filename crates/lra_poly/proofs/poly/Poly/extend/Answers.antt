@@ -1,13 +1,11 @@
 -- Goals of `Poly::extend`: the polyhedron of its generators and of these, which are taken in after them, by the lists at
 -- hand.
 use Rattle.std.proofs.Common.{ap, subst, sym}
-use Rattle.lra_linear_spec.specs.Descriptions.{AreGenerators}
-use Rattle.lra_linear_spec.specs.Polyhedra.{IsPolyhedron, Polyhedron}
+use Rattle.lra_linear_spec.specs.{Descriptions.AreGenerators, Polyhedra.IsPolyhedron, Polyhedra.Polyhedron}
 use Rattle.lra_systems.specs.LinearSystems.{constraints, generators}
 use Rattle.lra_systems.proofs.Generators.{fitting_are_generators}
-use Rattle.lra_poly.proofs.PolyLemmas.{some_more}
+use Rattle.lra_poly.proofs.{PolyLemmas.some_more, UnitedLists.no_cone, UnitedLists.strains_behind}
 use Rattle.lra_description_pair.proofs.PairLosses.{if_none}
-use Rattle.lra_poly.proofs.UnitedLists.{no_cone, strains_behind}
 use Rattle.lra_poly.proofs.poly.Poly.extend.Goals as goal
 
 pub of_facets-requires-clause-columns : goal.of_facets-requires-clause-columns

@@ -1,9 +1,7 @@
 -- Goals of `Poly::from_generators`: the polyhedron of the generators.
-use Rattle.lra_linear_spec.specs.Descriptions.{Gen}
-use Rattle.lra_linear_spec.specs.OperationStrain.{FromGeneratorsStrains}
+use Rattle.lra_linear_spec.specs.{Descriptions.Gen, OperationStrain.FromGeneratorsStrains}
 use Rattle.lra_systems.specs.LinearSystems.{generators}
-use Rattle.lra_poly.proofs.PolyLemmas.{becomes_told}
-use Rattle.lra_poly.proofs.UnitedLists.{tried_points}
+use Rattle.lra_poly.proofs.{PolyLemmas.becomes_told, UnitedLists.tried_points}
 use Rattle.lra_poly.proofs.poly.Poly.from_generators.Goals as goal
 
 pub returns-clause-becomes : goal.returns-clause-becomes

@@ -1,10 +1,8 @@
 -- Goals of `Poly::from_rows`: the polyhedron of the constraints.
 use Rattle.std.proofs.Common.{[]}
-use Rattle.lra_linear_spec.specs.Descriptions.{Con}
-use Rattle.lra_linear_spec.specs.OperationStrain.{FromRowsStrains, with_positivity}
+use Rattle.lra_linear_spec.specs.{Descriptions.Con, OperationStrain.FromRowsStrains, OperationStrain.with_positivity}
 use Rattle.lra_systems.specs.LinearSystems.{constraints}
-use Rattle.lra_poly.proofs.MetRows.{tried_of}
-use Rattle.lra_poly.proofs.PolyLemmas.{becomes_told}
+use Rattle.lra_poly.proofs.{MetRows.tried_of, PolyLemmas.becomes_told}
 use Rattle.lra_poly.proofs.poly.Poly.from_rows.Goals as goal
 
 pub returns-clause-becomes : goal.returns-clause-becomes

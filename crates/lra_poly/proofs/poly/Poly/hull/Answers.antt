@@ -1,13 +1,9 @@
 -- Goals of `Poly::hull`: becomes the hull with the other.
 use Rattle.std.proofs.Common.{◌≡◌, ◌++◌, List, ap, refl, subst}
-use Rattle.lra_linear_spec.specs.Descriptions.{Con, LinearRow}
-use Rattle.lra_linear_spec.specs.OperationStrain.{HullStrains}
-use Rattle.lra_linear_spec.specs.SetOperations.{Union, Hull}
+use Rattle.lra_linear_spec.specs.{Descriptions.Con, Descriptions.LinearRow, OperationStrain.HullStrains, SetOperations.Union, SetOperations.Hull}
 use Rattle.lra_systems.specs.LinearSystems.{generators}
-use Rattle.lra_poly.specs.Outcomes.{IfFlagged}
-use Rattle.lra_poly.specs.United.{UnitesAnew}
-use Rattle.lra_poly.proofs.MetRows.{never}
-use Rattle.lra_poly.proofs.PolyLemmas.{exactly, hull_becomes, hull_inside}
+use Rattle.lra_poly.specs.{Outcomes.IfFlagged, United.UnitesAnew}
+use Rattle.lra_poly.proofs.{MetRows.never, PolyLemmas.exactly, PolyLemmas.hull_becomes, PolyLemmas.hull_inside}
 use Rattle.lra_poly.proofs.poly.Poly.hull.Goals as goal
 
 pub returns-then-lies_in-clause-becomes : goal.returns-then-lies_in-clause-becomes

@@ -1,7 +1,6 @@
 -- Goals of `Poly::maximise_opposite`: the greatest value of the form's opposite.
 use Rattle.std.proofs.Common.{◌≡◌, ◌∙◌, ap, length, refl, suc, sym}
-use Rattle.lra_linear_spec.specs.Polyhedra.{Polyhedron}
-use Rattle.lra_linear_spec.specs.Vectors.{negated}
+use Rattle.lra_linear_spec.specs.{Polyhedra.Polyhedron, Vectors.negated}
 use Rattle.lra_linear_spec.proofs.Products.{negated_length}
 use Rattle.lra_systems.specs.LinearSystems.{constraints, generators}
 use Rattle.lra_linear_forms.specs.Form.{form_row}

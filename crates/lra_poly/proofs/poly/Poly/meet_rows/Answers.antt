@@ -3,8 +3,7 @@ use Rattle.std.proofs.Common.{◌∙◌, ap, sym}
 use Rattle.lra_linear_spec.specs.Polyhedra.{Polyhedron}
 use Rattle.lra_systems.specs.LinearSystems.{constraints, generators}
 use Rattle.lra_poly.specs.Restricted.{IsMetWith}
-use Rattle.lra_poly.proofs.MetRows.{met_anew, met_becomes, met_onward}
-use Rattle.lra_poly.proofs.PolyLemmas.{kept_positive}
+use Rattle.lra_poly.proofs.{MetRows.met_anew, MetRows.met_becomes, MetRows.met_onward, PolyLemmas.kept_positive}
 use Rattle.lra_poly.proofs.poly.Poly.meet_rows.Goals as goal
 
 pub of_cone-requires-clause-positive : goal.of_cone-requires-clause-positive

@@ -1,10 +1,8 @@
 -- Goals of `Poly::unite`: the polyhedron of its generators and of these.
 use Rattle.std.proofs.Common.{◌++◌}
-use Rattle.lra_linear_spec.specs.Descriptions.{Gen}
-use Rattle.lra_linear_spec.specs.OperationStrain.{FromGeneratorsStrains}
+use Rattle.lra_linear_spec.specs.{Descriptions.Gen, OperationStrain.FromGeneratorsStrains}
 use Rattle.lra_systems.specs.LinearSystems.{generators}
-use Rattle.lra_poly.proofs.PolyLemmas.{exactly}
-use Rattle.lra_poly.proofs.UnitedLists.{unites_anew}
+use Rattle.lra_poly.proofs.{PolyLemmas.exactly, UnitedLists.unites_anew}
 use Rattle.lra_poly.proofs.poly.Poly.unite.Goals as goal
 
 pub returns-in-Some-clause-becomes : goal.returns-in-Some-clause-becomes

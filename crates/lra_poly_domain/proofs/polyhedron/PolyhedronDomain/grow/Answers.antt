@@ -1,7 +1,6 @@
 -- Goals of `PolyhedronDomain::grow`: grows by the join with next, or by the widening with that join; is given up
 -- where the inclusion is wide.
-use Rattle.lra_domain.specs.declared.Exactness.{Exactness}
-use Rattle.lra_domain.specs.Abstraction.{Grew}
+use Rattle.lra_domain.specs.{Abstraction.Grew, declared.Exactness.Exactness}
 use Rattle.lra_poly_domain.specs.Abstraction.{polyhedron_abstraction}
 use Rattle.lra_poly_domain.proofs.GrowthLemmas.{flagged_alone}
 use Rattle.lra_poly_domain.proofs.polyhedron.PolyhedronDomain.grow.Goals as goal

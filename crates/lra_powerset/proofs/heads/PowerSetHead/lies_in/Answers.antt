@@ -1,8 +1,7 @@
 -- Goals of `PowerSetHead::lies_in`: in joining, whether next lies in it, whose value has these parts.
 use Rattle.std.proofs.Common.{◌≡◌, refl}
 use Rattle.lra_powerset.specs.Content.{one}
-use Rattle.lra_powerset.proofs.AnswerLemmas.{alike, fits_dims, refit}
-use Rattle.lra_powerset.proofs.HeadLemmas.{lies_one}
+use Rattle.lra_powerset.proofs.{AnswerLemmas.alike, AnswerLemmas.fits_dims, AnswerLemmas.refit, HeadLemmas.lies_one}
 use Rattle.lra_powerset.proofs.heads.PowerSetHead.lies_in.Goals as goal
 
 pub all_lie_in-requires : goal.all_lie_in-requires

@@ -1,8 +1,7 @@
 -- Goals of `PowerSetHead::start`: the head that starts with the set.
 use Rattle.std.proofs.Common.{◌∙◌}
 use Rattle.lra_powerset.specs.Forms.{form_of}
-use Rattle.lra_powerset.proofs.HeadSteps.{fits_starts, starts_as}
-use Rattle.lra_powerset.proofs.ValueLemmas.{set_starts}
+use Rattle.lra_powerset.proofs.{HeadSteps.fits_starts, HeadSteps.starts_as, ValueLemmas.set_starts}
 use Rattle.lra_powerset.proofs.heads.PowerSetHead.start.Goals as goal
 
 pub returns-clause-starts : goal.returns-clause-starts

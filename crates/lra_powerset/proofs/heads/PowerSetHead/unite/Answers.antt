@@ -1,9 +1,7 @@
 -- Goals of `PowerSetHead::unite`: its parts, in which next doesn't lie, become one, which grows.
 use Rattle.std.proofs.Common.{◌≡◌, refl, sym, ◌∙◌}
 use Rattle.lra_powerset.specs.Forms.{form_of}
-use Rattle.lra_powerset.proofs.AnswerLemmas.{refit}
-use Rattle.lra_powerset.proofs.HeadLemmas.{many_fit, not_united, united}
-use Rattle.lra_powerset.proofs.HeadSteps.{fits_one}
+use Rattle.lra_powerset.proofs.{AnswerLemmas.refit, HeadLemmas.many_fit, HeadLemmas.not_united, HeadLemmas.united, HeadSteps.fits_one}
 use Rattle.lra_powerset.proofs.heads.PowerSetHead.unite.Goals as goal
 
 pub become_one-requires-clause-fit : goal.become_one-requires-clause-fit

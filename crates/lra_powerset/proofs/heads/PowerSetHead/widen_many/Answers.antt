@@ -1,6 +1,5 @@
 -- Goals of `PowerSetHead::widen_many`: its parts become one, which grows, unless next lies in them.
-use Rattle.lra_powerset.proofs.AnswerLemmas.{alike}
-use Rattle.lra_powerset.proofs.HeadLemmas.{many_alike}
+use Rattle.lra_powerset.proofs.{AnswerLemmas.alike, HeadLemmas.many_alike}
 use Rattle.lra_powerset.proofs.heads.PowerSetHead.widen_many.Goals as goal
 
 pub all_lie_in-requires : goal.all_lie_in-requires

@@ -1,9 +1,7 @@
 -- Goals of `PowerSetHead::widen_one`: the head of its single part grows, unless next lies in it.
 use Rattle.std.proofs.Common.{◌≡◌, refl, sym, ◌∙◌}
-use Rattle.lra_powerset.specs.Content.{whole}
-use Rattle.lra_powerset.specs.Forms.{form_of}
-use Rattle.lra_powerset.proofs.HeadLemmas.{single_given_up, single_grown}
-use Rattle.lra_powerset.proofs.HeadSteps.{fits_whole_as}
+use Rattle.lra_powerset.specs.{Content.whole, Forms.form_of}
+use Rattle.lra_powerset.proofs.{HeadLemmas.single_given_up, HeadLemmas.single_grown, HeadSteps.fits_whole_as}
 use Rattle.lra_powerset.proofs.heads.PowerSetHead.widen_one.Goals as goal
 
 pub invariant_of-self : goal.invariant_of-self

@@ -1,11 +1,9 @@
 -- Goals of `PowerSet::change_each`: each part is changed; those that became empty are left out, and the others are
 -- reduced.
-use Rattle.std.proofs.Common.{◌≡◌, [], refl, arith}
-use Rattle.std.proofs.lemmas.Grind.{common_steps}
+use Rattle.std.proofs.{Common.◌≡◌, Common.[], Common.refl, Common.arith, lemmas.Grind.common_steps}
 use Rattle.lra_domain.specs.Actions.{dims_after}
 use Rattle.lra_powerset.specs.Changes.{borrowed_action}
-use Rattle.lra_powerset.proofs.AnswerLemmas.{alike}
-use Rattle.lra_powerset.proofs.SetLemmas.{appended_fit, change_fits, change_meets, dims_small, settled_few, settled_fit}
+use Rattle.lra_powerset.proofs.{AnswerLemmas.alike, SetLemmas.appended_fit, SetLemmas.change_fits, SetLemmas.change_meets, SetLemmas.dims_small, SetLemmas.settled_few, SetLemmas.settled_fit}
 use Rattle.lra_powerset.proofs.set.PowerSet.change_each.Goals as goal
 
 pub append_changed-requires : goal.append_changed-requires

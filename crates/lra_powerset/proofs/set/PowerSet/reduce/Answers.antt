@@ -1,7 +1,6 @@
 -- Goals of `PowerSet::reduce`: the parts are reduced.
 use Rattle.std.proofs.Common.{◌≡◌, refl}
-use Rattle.lra_powerset.proofs.AnswerLemmas.{fits_dims}
-use Rattle.lra_powerset.proofs.ReduceSteps.{still_fits, still_covers, reduces_exactly, reduces_flagged, same_items}
+use Rattle.lra_powerset.proofs.{AnswerLemmas.fits_dims, ReduceSteps.still_fits, ReduceSteps.still_covers, ReduceSteps.reduces_exactly, ReduceSteps.reduces_flagged, ReduceSteps.same_items}
 use Rattle.lra_powerset.proofs.set.PowerSet.reduce.Goals as goal
 
 pub reduce-requires : goal.reduce-requires

@@ -1,7 +1,6 @@
 -- Goals of `PowerSetDomain::grow`: in joining it becomes the set's join with next.
 use Rattle.std.proofs.Common.{sym, ◌∙◌}
-use Rattle.lra_powerset.proofs.AnswerLemmas.{refit}
-use Rattle.lra_powerset.proofs.ValueLemmas.{head_capped, head_rank_fits}
+use Rattle.lra_powerset.proofs.{AnswerLemmas.refit, ValueLemmas.head_capped, ValueLemmas.head_rank_fits}
 use Rattle.lra_powerset.proofs.set.PowerSetDomain.grow.Goals as goal
 
 pub returns-clause-capped : goal.returns-clause-capped

@@ -2,9 +2,7 @@
 use Rattle.std.proofs.Common.{◌≡◌, refl, sym, ◌∙◌}
 use Rattle.lra_domain.specs.declared.Included.TheVariants.{Yes}
 use Rattle.lra_powerset.specs.Laws.{fits_formed}
-use Rattle.lra_powerset.proofs.AnswerLemmas.{alike}
-use Rattle.lra_powerset.proofs.HeadSteps.{told_lists}
-use Rattle.lra_powerset.proofs.SetLemmas.{inside_stores, others_fit}
+use Rattle.lra_powerset.proofs.{AnswerLemmas.alike, HeadSteps.told_lists, SetLemmas.inside_stores, SetLemmas.others_fit}
 use Rattle.lra_powerset.proofs.set.PowerSetDomain.included.Goals as goal
 
 pub all_lie_in-requires : goal.all_lie_in-requires

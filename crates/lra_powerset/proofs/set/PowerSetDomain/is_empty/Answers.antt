@@ -1,7 +1,6 @@
 -- Goals of `PowerSetDomain::is_empty`: yes exactly where there is no part.
-use Rattle.std.proofs.Common.{◌≡◌, [], refl, sym, ◌∙◌, arith}
+use Rattle.std.proofs.{Common.◌≡◌, Common.[], Common.refl, Common.sym, Common.◌∙◌, Common.arith, lemmas.Grind.common_steps}
 use Rattle.std.specs.Prelude.{IsTrue}
-use Rattle.std.proofs.lemmas.Grind.{common_steps}
 use Rattle.lra_powerset.proofs.SetLemmas.{none_rows, rows_none}
 use Rattle.lra_powerset.proofs.set.PowerSetDomain.is_empty.Goals as goal
 

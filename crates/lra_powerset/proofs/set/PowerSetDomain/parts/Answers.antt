@@ -1,7 +1,6 @@
 -- Goals of `PowerSetDomain::parts`.
 use Rattle.std.proofs.Common.{◌≡◌, refl, ◌∙◌}
-use Rattle.lra_powerset.proofs.AnswerLemmas.{alike}
-use Rattle.lra_powerset.proofs.SetLemmas.{set_hold, set_rows_fit}
+use Rattle.lra_powerset.proofs.{AnswerLemmas.alike, SetLemmas.set_hold, SetLemmas.set_rows_fit}
 use Rattle.lra_powerset.proofs.set.PowerSetDomain.parts.Goals as goal
 
 pub returns-clause-dims : goal.returns-clause-dims

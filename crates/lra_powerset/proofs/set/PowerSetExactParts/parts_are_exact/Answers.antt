@@ -1,7 +1,6 @@
 -- Goals of `PowerSetTold::parts_are_exact`: what the rows of its parts tell is all of a set.
 use Rattle.std.proofs.Common.{◌≡◌, refl, ◌∙◌}
-use Rattle.lra_powerset.proofs.AnswerLemmas.{alike}
-use Rattle.lra_powerset.proofs.SetLemmas.{set_tell}
+use Rattle.lra_powerset.proofs.{AnswerLemmas.alike, SetLemmas.set_tell}
 use Rattle.lra_powerset.proofs.set.PowerSetExactParts.parts_are_exact.Goals as goal
 
 pub returns : goal.returns

@@ -1,6 +1,5 @@
 -- Goals of `Search::visit_all`: meets places.
-use Rattle.std.proofs.Common.{subst, sym}
-use Rattle.std.proofs.lemmas.List.{take_more}
+use Rattle.std.proofs.{Common.subst, Common.sym, lemmas.List.take_more}
 use Rattle.lra_recursion.specs.Search.{MarksVisited}
 use Rattle.lra_recursion.proofs.Visiting.{grows_then}
 use Rattle.lra_recursion.proofs.search.Search.visit_all.Goals as goal

@@ -1,8 +1,7 @@
 -- Goals of `BoxesShow::show`.
 use Rattle.lra_options.specs.declared.options.Domain.TheVariants.{Box}
 use Rattle.lra_box.specs.Abstraction.{box_abstraction}
-use Rattle.lra_report_build.proofs.BoxShown.{boxes_are_shown}
-use Rattle.lra_report_build.proofs.RowsSpelled.{told, spelled}
+use Rattle.lra_report_build.proofs.{BoxShown.boxes_are_shown, RowsSpelled.told, RowsSpelled.spelled}
 use Rattle.lra_report_build.proofs.rows.BoxesShow.show.Goals as goal
 
 pub returns-clause-told : goal.returns-clause-told

@@ -1,8 +1,7 @@
 -- Goals of `OctagonShow::show`.
 use Rattle.lra_options.specs.declared.options.Domain.TheVariants.{Oct}
 use Rattle.lra_octagon.specs.Abstraction.{octagon_abstraction}
-use Rattle.lra_report_build.proofs.OctShown.{octagons_are_shown}
-use Rattle.lra_report_build.proofs.RowsSpelled.{told, spelled}
+use Rattle.lra_report_build.proofs.{OctShown.octagons_are_shown, RowsSpelled.told, RowsSpelled.spelled}
 use Rattle.lra_report_build.proofs.rows.OctagonShow.show.Goals as goal
 
 pub returns-clause-told : goal.returns-clause-told

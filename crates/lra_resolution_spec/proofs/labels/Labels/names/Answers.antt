@@ -1,8 +1,7 @@
 -- Goals of `Labels::names`: the names of a list, oldest first.
 use Rattle.std.proofs.Common.{◌<◌, ap, length, subst, sym, arith}
-use Rattle.lra_resolution_spec.specs.declared.labels.SymbolEntry.{SymbolEntry}
+use Rattle.lra_resolution_spec.specs.{LabelTable.LabelLists, declared.labels.SymbolEntry.SymbolEntry}
 use Rattle.std.specs.Prelude.{List}
-use Rattle.lra_resolution_spec.specs.LabelTable.{LabelLists}
 use Rattle.lra_resolution_spec.proofs.NameLists.{lists_length}
 use Rattle.lra_resolution_spec.proofs.labels.Labels.names.Goals as goal
 

@@ -1,10 +1,7 @@
 -- Goals of `LoopHead::into_loop`: the whole `for`.
 use Rattle.std.proofs.Common.{ap, sym, ◌∙◌}
-use Rattle.lra_program.specs.Program.{Stmt}
-use Rattle.lra_program.specs.ProgramViews.{cond_view, stmt_view}
-use Rattle.lra_resolve_simple.specs.declared.heads.LoopHead.{LoopHead}
-use Rattle.lra_resolve_simple.specs.Statements.{loop_of}
-use Rattle.lra_resolve_simple.specs.LoopHeads.{loop_with}
+use Rattle.lra_program.specs.{Program.Stmt, ProgramViews.cond_view, ProgramViews.stmt_view}
+use Rattle.lra_resolve_simple.specs.{LoopHeads.loop_with, Statements.loop_of, declared.heads.LoopHead.LoopHead}
 use Rattle.lra_scopes.proofs.Loops.{found_so}
 use Rattle.lra_resolve_simple.proofs.StatementLaws.{absent_is}
 use Rattle.lra_resolve_simple.proofs.heads.LoopHead.into_loop.Goals as goal

@@ -1,9 +1,7 @@
 -- Goals of `Row::blend`: `a` times this row and `b` times the other, or the first product or sum that passes.
-use Rattle.std.proofs.lemmas.Int.{to_z-of_z}
-use Rattle.std.proofs.lemmas.Result.{err_from_is_err_and}
+use Rattle.std.proofs.{lemmas.Int.to_z-of_z, lemmas.Result.err_from_is_err_and}
 use Rattle.lra_linear_spec.specs.CheckedArithmetic.{checked_blend}
-use Rattle.lra_row.specs.Operations.{blend_operations}
-use Rattle.lra_row.specs.Rows.{IsExcessOf}
+use Rattle.lra_row.specs.{Operations.blend_operations, Rows.IsExcessOf}
 use Rattle.lra_row.proofs.FirstPassing.{names_blend, names_error, names_made}
 use Rattle.lra_row.proofs.row.Row.blend.Goals as goal
 

@@ -1,15 +1,11 @@
 -- Goals of `Row::combine`: `(-c.v) u + (c.u) v` in lowest terms, for `c.u` above 0 and `c.v` below.
-use Rattle.std.proofs.Common.{◌∙◌, List, ℤ, sym, rules, FitsSigned, subst, Result}
+use Rattle.std.proofs.{Common.◌∙◌, Common.List, Common.ℤ, Common.sym, Common.rules, Common.FitsSigned, Common.subst, Common.Result, lemmas.Int.to_z-of_z, lemmas.Result.err_from_is_err_and}
 use Rattle.std.specs.Int.{w128}
-use Rattle.std.proofs.lemmas.Int.{to_z-of_z}
-use Rattle.std.proofs.lemmas.Result.{err_from_is_err_and}
-use Rattle.lra_linear_spec.specs.LowestTerms.{IsLowest}
-use Rattle.lra_linear_spec.specs.declared.Excess.{Excess}
+use Rattle.lra_linear_spec.specs.{CheckedArithmetic.checked_combination, LowestTerms.IsLowest, declared.Excess.Excess}
 use Rattle.lra_row.specs.declared.error.RowError.TheVariants as of_row
-use Rattle.lra_linear_spec.specs.CheckedArithmetic.{checked_combination}
 use Rattle.lra_row.specs.Rows.{combination_operations, IsExcessOf}
-use Rattle.lra_row.proofs.FirstPassing.{names_combination, combination_passes, names_error, names_made}
 use Rattle.lra_row.proofs.Combination.{combined_flat, combined_positive, combined_read, checked_read}
+use Rattle.lra_row.proofs.FirstPassing.{names_combination, combination_passes, names_error, names_made}
 use Rattle.lra_row.proofs.row.Row.combine.Goals as goal
 
 pub returns-in_err-below-clause-first : goal.returns-in_err-below-clause-first

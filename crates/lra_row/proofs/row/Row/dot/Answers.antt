@@ -1,7 +1,6 @@
 -- Goals of `Row::dot`: the product with a row of the same width, or the first product or partial sum that passes.
-use Rattle.std.proofs.Common.{rules, FitsSigned, Ok, sym}
+use Rattle.std.proofs.{Common.rules, Common.FitsSigned, Common.Ok, Common.sym, lemmas.Int.to_z-of_z}
 use Rattle.std.specs.Int.{w128}
-use Rattle.std.proofs.lemmas.Int.{to_z-of_z}
 use Rattle.lra_linear_spec.proofs.CheckedArithmetic.{checked_product_in_range}
 use Rattle.lra_row.proofs.FirstPassing.{product_names_first}
 use Rattle.lra_row.proofs.row.Row.dot.Goals as goal

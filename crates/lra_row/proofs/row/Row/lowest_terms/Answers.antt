@@ -1,11 +1,9 @@
 -- Goals of `Row::lowest_terms`: divides the row by the greatest number that divides each entry, that of column 0
 -- among them.
 use Rattle.std.proofs.Common.{rules, arith, ap, ◌∙◌, sym, subst, ℤ, List, FitsSigned, ◌≡◌, unsigned_abs, length}
-use Rattle.std.specs.Int.{w128}
-use Rattle.std.specs.List.{All, refill}
 use Rattle.std.proofs.lemmas.Int.{ints, to_z-of_z}
-use Rattle.lra_linear_spec.specs.Range.{InRange}
-use Rattle.lra_linear_spec.specs.LowestTerms.{IsLowest}
+use Rattle.std.specs.{Int.w128, List.All, List.refill}
+use Rattle.lra_linear_spec.specs.{LowestTerms.IsLowest, Range.InRange}
 use Rattle.lra_row.proofs.RowLemmas.{refilled, divided, divided_in_range, lowest_divided}
 use Rattle.lra_row.specs.Rows.{IsRowGcd}
 use Rattle.lra_row.proofs.row.Row.lowest_terms.Goals as goal

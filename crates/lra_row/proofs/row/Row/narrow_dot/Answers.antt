@@ -1,7 +1,6 @@
 -- Goals of `Row::narrow_dot`: the product with a row where both are narrow.
-use Rattle.std.proofs.Common.{rules, FitsSigned, ◌≡◌, Ok, sym}
+use Rattle.std.proofs.{Common.rules, Common.FitsSigned, Common.◌≡◌, Common.Ok, Common.sym, lemmas.Int.to_z-of_z}
 use Rattle.std.specs.Int.{w128}
-use Rattle.std.proofs.lemmas.Int.{to_z-of_z}
 use Rattle.lra_linear_spec.specs.CheckedArithmetic.{checked_product}
 use Rattle.lra_linear_spec.proofs.CheckedArithmetic.{checked_product_value}
 use Rattle.lra_row.proofs.row.Row.narrow_dot.Goals as goal

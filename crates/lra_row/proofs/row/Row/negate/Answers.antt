@@ -1,11 +1,9 @@
 -- Goals of `Row::negate`: the row times -1.
 use Rattle.std.proofs.Common.{rules, ◌≡◌, sym, subst}
 use Rattle.std.specs.List.{All}
-use Rattle.lra_linear_spec.specs.Range.{InRange}
-use Rattle.lra_linear_spec.specs.Vectors.{negated}
+use Rattle.lra_linear_spec.specs.{Range.InRange, Vectors.negated}
 use Rattle.lra_row.specs.Words.{IsNarrow}
-use Rattle.lra_row.proofs.RowLemmas.{negated_in_range}
-use Rattle.lra_row.proofs.Narrow.{narrow_negated}
+use Rattle.lra_row.proofs.{Narrow.narrow_negated, RowLemmas.negated_in_range}
 use Rattle.lra_row.proofs.row.Row.negate.Goals as goal
 
 pub invariant_of-result : goal.invariant_of-result

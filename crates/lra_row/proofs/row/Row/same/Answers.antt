@@ -1,7 +1,6 @@
 -- Goals of `Row::same`: rows of the same numbers.
-use Rattle.std.proofs.Common.{rules}
+use Rattle.std.proofs.{Common.rules, lemmas.Slice.Eq.slice_eq-Decides}
 use Rattle.std.specs.Cmp.{signed_Decides}
-use Rattle.std.proofs.lemmas.Slice.Eq.{slice_eq-Decides}
 use Rattle.lra_row.proofs.row.Row.same.Goals as goal
 
 pub returns : goal.returns

@@ -1,14 +1,10 @@
 -- Goals of `Row::substitute`: the row with the entry of column `x` times the form in place of `x`.
 use Rattle.std.proofs.Common.{arith, ◌≡◌, ◌∙◌, ap, List, ℤ, sym, rules, FitsSigned, subst, Result}
+use Rattle.std.proofs.{lemmas.Int.to_z-of_z, lemmas.Result.IfOk-weaker, lemmas.Result.IfErr-weaker}
 use Rattle.std.specs.Int.{w128}
-use Rattle.std.proofs.lemmas.Int.{to_z-of_z}
-use Rattle.std.proofs.lemmas.Result.{IfOk-weaker, IfErr-weaker}
-use Rattle.lra_linear_spec.specs.Vectors.{entry, product, cleared}
-use Rattle.lra_linear_spec.specs.declared.Excess.{Excess}
-use Rattle.lra_linear_spec.specs.CheckedArithmetic.{checked_substitution}
+use Rattle.lra_linear_spec.specs.{CheckedArithmetic.checked_substitution, Vectors.entry, Vectors.product, Vectors.cleared, declared.Excess.Excess}
 use Rattle.lra_row.specs.Rows.{substitution_operations, IsExcessOf}
-use Rattle.lra_row.proofs.FirstPassing.{names_added, names_result}
-use Rattle.lra_row.proofs.Combination.{substitution_read, substitution_checked}
+use Rattle.lra_row.proofs.{Combination.substitution_read, Combination.substitution_checked, FirstPassing.names_added, FirstPassing.names_result}
 use Rattle.lra_linear_spec.proofs.SetOperations.{substituted_product}
 use Rattle.lra_row.proofs.row.Row.substitute.Goals as goal
 

@@ -1,9 +1,6 @@
 -- Goals of `Row::unit`: the row of n + 1 columns with the factor in one of them and 0 elsewhere.
-use Rattle.std.proofs.Common.{◌∙◌, ◌+◌, ap, subst, sym, pos, List, ℤ}
-use Rattle.std.specs.Prelude.{replicate, slice_set}
-use Rattle.std.specs.Int.{w128}
-use Rattle.std.specs.List.{All}
-use Rattle.std.proofs.lemmas.Int.{to_z-of_z}
+use Rattle.std.proofs.{Common.◌∙◌, Common.◌+◌, Common.ap, Common.subst, Common.sym, Common.pos, Common.List, Common.ℤ, lemmas.Int.to_z-of_z}
+use Rattle.std.specs.{Int.w128, List.All, Prelude.replicate, Prelude.slice_set}
 use Rattle.lra_linear_spec.specs.Range.{InRange}
 use Rattle.lra_linear_spec.proofs.UnitRows.{set_in_range, zeros_in_range, zeros_more}
 use Rattle.lra_row.proofs.row.Row.unit.Goals as goal

@@ -1,7 +1,6 @@
 -- Goals of `Row::value_at`: the product with the vector whose column 0 is `divisor` and whose further columns are
 -- `numerators`.
-use Rattle.std.proofs.Common.{◌∷◌, ◌∙◌, ap, List, ℤ}
-use Rattle.std.proofs.lemmas.Int.{to_z-of_z}
+use Rattle.std.proofs.{Common.◌∷◌, Common.◌∙◌, Common.ap, Common.List, Common.ℤ, lemmas.Int.to_z-of_z}
 use Rattle.lra_linear_spec.specs.CheckedArithmetic.{checked_product}
 use Rattle.lra_linear_spec.proofs.CheckedArithmetic.{checked_product_value}
 use Rattle.lra_row.proofs.row.Row.value_at.Goals as goal

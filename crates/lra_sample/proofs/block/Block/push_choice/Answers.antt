@@ -1,6 +1,5 @@
 -- Goals of `Block::push_choice`.
-use Rattle.std.proofs.Common.{decimal}
-use Rattle.std.proofs.lemmas.Result.{on_ok_weaker}
+use Rattle.std.proofs.{Common.decimal, lemmas.Result.on_ok_weaker}
 use Rattle.lra_sample.proofs.Blocks.{choice_line}
 use Rattle.lra_sample.proofs.block.Block.push_choice.Goals as goal
 

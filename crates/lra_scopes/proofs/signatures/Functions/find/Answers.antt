@@ -2,11 +2,9 @@
 use Rattle.std.proofs.Common.{List, ap, ◌∙◌}
 use Rattle.std.specs.Prelude.{option_map}
 use Rattle.indexmap.specs.IndexMap.{get_by_text}
-use Rattle.lra_syntax.specs.declared.trees.ExternalDeclaration.{ExternalDeclaration}
-use Rattle.lra_syntax.specs.Functions.{function_named}
+use Rattle.lra_syntax.specs.{Functions.function_named, declared.trees.ExternalDeclaration.ExternalDeclaration}
 use Rattle.lra_resolution_spec.specs.Resolve.{function_place}
-use Rattle.lra_scopes.specs.Calls.{functions_at}
-use Rattle.lra_scopes.specs.Signatures.{signature_at}
+use Rattle.lra_scopes.specs.{Calls.functions_at, Signatures.signature_at}
 use Rattle.lra_scopes.proofs.SignatureLaws.{first_is}
 use Rattle.lra_scopes.proofs.signatures.Functions.find.Goals as goal
 

@@ -2,8 +2,7 @@
 use Rattle.std.proofs.Common.{◌≡◌, ◌≤◌, ℕ, List, drop}
 use Rattle.std.specs.Option.{option_or}
 use Rattle.indexmap.specs.IndexMap.{get_by_text}
-use Rattle.lra_scopes.specs.Calls.{functions_at}
-use Rattle.lra_scopes.specs.Signatures.{first_signature}
+use Rattle.lra_scopes.specs.{Calls.functions_at, Signatures.first_signature}
 use Rattle.lra_scopes.proofs.signatures.Functions.new.Given as goal
 
 abbrev pub invariant-parts : goal.invariant-parts

@@ -3,8 +3,7 @@ use Rattle.std.proofs.Common.{◌≡◌, ◌∙◌, ℕ, List, Some, None, sym, 
 use Rattle.std.specs.Prelude.{option_map, slice_get}
 use Rattle.lra_program.specs.Program.{Slot}
 use Rattle.lra_resolution_spec.specs.Scope.{SymbolEntry, names_in, newest, found_at, found_among}
-use Rattle.lra_scopes.specs.declared.variables.Placed.{Placed}
-use Rattle.lra_scopes.specs.Variables.{entries_of, placed_view}
+use Rattle.lra_scopes.specs.{Variables.entries_of, Variables.placed_view, declared.variables.Placed.Placed}
 use Rattle.lra_scopes.proofs.VariableLaws.{entries_named, lent_item, entry_found}
 use Rattle.lra_scopes.proofs.variables.Variables.find.Goals as goal
 

@@ -1,9 +1,7 @@
 -- Goals of `Variables::push`: one more.
 use Rattle.std.proofs.Common.{◌≡◌, ◌++◌, ◌∷◌, [], List, ◌+◌, ap, arith, subst, rules}
 use Rattle.lra_resolution_spec.specs.Scope.{SymbolEntry, width_of_all}
-use Rattle.lra_scopes.specs.declared.variables.Placed.{Placed}
-use Rattle.lra_scopes.specs.Bindings.{binding_view}
-use Rattle.lra_scopes.specs.Variables.{entries_of}
+use Rattle.lra_scopes.specs.{Bindings.binding_view, Variables.entries_of, declared.variables.Placed.Placed}
 use Rattle.lra_scopes.proofs.VariableLaws.{entries_push, pushed_length, counted_push}
 use Rattle.lra_scopes.proofs.variables.Variables.push.Goals as goal
 

@@ -1,9 +1,6 @@
 -- Goals of `System::pop`: takes the last row out, if there is one.
-use Rattle.std.proofs.Common.{◌≡◌, List, arith, length, suc, ℤ}
-use Rattle.std.specs.List.{All}
-use Rattle.std.specs.Vec.{vec_len}
-use Rattle.std.proofs.lemmas.Grind.{common_steps}
-use Rattle.std.proofs.lemmas.List.Elements.{All-pop}
+use Rattle.std.proofs.{Common.◌≡◌, Common.List, Common.arith, Common.length, Common.suc, Common.ℤ, lemmas.Grind.common_steps, lemmas.List.Elements.All-pop}
+use Rattle.std.specs.{List.All, Vec.vec_len}
 use Rattle.lra_linear_spec.specs.Range.{InRange}
 use Rattle.lra_systems.proofs.Popped.{as_many_left, popped}
 use Rattle.lra_systems.proofs.system.System.pop.Goals as goal

@@ -1,7 +1,6 @@
 -- Goals of `Intervals::take`: bounds stay in range.
 use Rattle.std.proofs.Common.{subst, sym}
-use Rattle.lra_threads_fixpoint.specs.declared.growth.Growth.TheVariants.{Join}
-use Rattle.lra_threads_fixpoint.specs.Intervals.{RowFits}
+use Rattle.lra_threads_fixpoint.specs.{Intervals.RowFits, declared.growth.Growth.TheVariants.Join}
 use Rattle.lra_threads_fixpoint.proofs.FitLemmas.{updated_fits}
 use Rattle.lra_threads_fixpoint.proofs.intervals.Intervals.take.Goals as goal
 

@@ -1,11 +1,9 @@
 -- Goals of `take_denial`: the paths from a source to where an assertion is false.
-use Rattle.std.proofs.Common.{Some, length, ap, sym, ◌∙◌, refl, arith}
-use Rattle.std.proofs.lemmas.Option.{slice_get_read}
+use Rattle.std.proofs.{Common.Some, Common.length, Common.ap, Common.sym, Common.◌∙◌, Common.refl, Common.arith, lemmas.Option.slice_get_read}
 use Rattle.lra_systems.specs.LinearSystems.{constraints}
 use Rattle.lra_path_segments.specs.Segments.{violates}
-use Rattle.lra_paths.specs.Sources.{to_goal}
+use Rattle.lra_paths.specs.{Sources.to_goal, declared.sources.Source.Source}
 use Rattle.lra_path_disjuncts.specs.TableDisjuncts.{lists_done}
-use Rattle.lra_paths.specs.declared.sources.Source.{Source}
 use Rattle.lra_certificate_spec.specs.Lines.{judged_in_turn, left_at}
 use Rattle.lra_verify.specs.EdgeViews.{dead_by, violation_by}
 use Rattle.lra_certificate_lines.proofs.ShowSteps.{told_as}

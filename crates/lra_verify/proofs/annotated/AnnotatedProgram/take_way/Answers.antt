@@ -1,13 +1,10 @@
 -- Goals of `take_way`: the paths from a source to a point.
-use Rattle.std.proofs.Common.{length, ap, sym, ◌∙◌, refl, arith}
-use Rattle.std.proofs.lemmas.Option.{slice_get_read}
+use Rattle.std.proofs.{Common.length, Common.ap, Common.sym, Common.◌∙◌, Common.refl, Common.arith, lemmas.Option.slice_get_read}
 use Rattle.lra_path_segments.specs.Segments.{comes_to}
-use Rattle.lra_paths.specs.Sources.{to_goal}
+use Rattle.lra_paths.specs.{Sources.to_goal, declared.sources.Source.Source}
 use Rattle.lra_path_disjuncts.specs.TableDisjuncts.{lists_done}
-use Rattle.lra_paths.specs.declared.sources.Source.{Source}
 use Rattle.lra_certificate_spec.specs.Lines.{judged_in_turn, left_at}
-use Rattle.lra_verify.specs.EdgeViews.{path_of, paths_to_by}
-use Rattle.lra_verify.specs.declared.edges.Edge.{Edge}
+use Rattle.lra_verify.specs.{EdgeViews.path_of, EdgeViews.paths_to_by, declared.edges.Edge.Edge}
 use Rattle.lra_certificate_lines.proofs.ShowSteps.{told_as}
 use Rattle.lra_verify.proofs.EdgeSteps.{way_same}
 use Rattle.lra_verify.proofs.annotated.AnnotatedProgram.take_way.Goals as goal

@@ -1,10 +1,7 @@
 use Rattle.std.proofs.Common.{rules, ◌≡◌}
-use Rattle.guzhtarel.specs.Domains.Exactness.TheVariants.{Exact}
-use Rattle.guzhtarel.specs.EntryDomains.{of_entries}
-use Rattle.guzhtarel.proofs.Calls.ExactCalls.{grew}
-use Rattle.guzhtarel.proofs.EntryDomains.{rank_falls}
-use Rattle.use_signs.specs.Signs.{sign}
-use Rattle.use_signs.specs.Laws.{sign_facts, signs_facts}
+use Rattle.guzhtarel.specs.{Domains.Exactness.TheVariants.Exact, EntryDomains.of_entries}
+use Rattle.guzhtarel.proofs.{Calls.ExactCalls.grew, EntryDomains.rank_falls}
+use Rattle.use_signs.specs.{Laws.sign_facts, Laws.signs_facts, Signs.sign}
 use Rattle.use_signs.proofs.signs.SignsDomain.grow.Goals as goal
 
 pub returns-clause-grew : goal.returns-clause-grew

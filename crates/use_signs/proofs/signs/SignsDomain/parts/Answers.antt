@@ -1,8 +1,7 @@
 use Rattle.std.proofs.Common.{rules, ◌≡◌}
 use Rattle.guzhtarel.specs.EntryDomains.{parts_of}
 use Rattle.guzhtarel.proofs.EntryDomains.{parts_hold}
-use Rattle.use_signs.specs.Signs.{sign}
-use Rattle.use_signs.specs.Laws.{sign_facts}
+use Rattle.use_signs.specs.{Laws.sign_facts, Signs.sign}
 use Rattle.use_signs.proofs.signs.SignsDomain.parts.Goals as goal
 
 pub returns-clause-hold : goal.returns-clause-hold

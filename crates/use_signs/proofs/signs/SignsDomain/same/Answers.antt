@@ -1,6 +1,5 @@
-use Rattle.std.proofs.Common.{rules, ap, Bool}
+use Rattle.std.proofs.{Common.rules, Common.ap, Common.Bool, lemmas.Slice.Eq.slice_eq-Decides}
 use Rattle.std.specs.Cmp.{booleans_Decides}
-use Rattle.std.proofs.lemmas.Slice.Eq.{slice_eq-Decides}
 use Rattle.guzhtarel.specs.EntryDomains.{EntriesContent}
 use Rattle.guzhtarel.proofs.EntryDomains.{content_same}
 use Rattle.use_signs.proofs.signs.SignsDomain.same.Goals as goal
