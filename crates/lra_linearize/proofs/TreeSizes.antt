@@ -12,7 +12,7 @@ arm_step (Arm-F.Tree g) = 1 + g
 abbrev pub tree_step : Node-F ℕ ℕ → ℕ
 tree_step Node-F.Empty = 0
 tree_step (Node-F.Point q) = 0
-tree_step (Node-F.Aside q what) = 0
+tree_step (Node-F.Probe q what) = 0
 tree_step (Node-F.Act q o) = 0
 tree_step (Node-F.Check q base c) = 0
 tree_step (Node-F.Seq gs last) = 3 + (row_size gs.items + last.value)

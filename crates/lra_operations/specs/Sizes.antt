@@ -26,7 +26,7 @@ hung_arms_size (a ∷ b ∷ arms) = (1 + a.0) + hung_arms_size (b ∷ arms)
 abbrev pub size_step : Node-F (ℕ × ℕ) (ℕ × ℕ) → ℕ × ℕ
 size_step Node-F.Empty = (1, 0)
 size_step (Node-F.Point q) = (1, 0)
-size_step (Node-F.Aside q what) = (1, 0)
+size_step (Node-F.Probe q what) = (1, 0)
 size_step (Node-F.Act q o) = (1, 0)
 size_step (Node-F.Check q base c) = (1, 0)
 size_step (Node-F.Seq gs last) =

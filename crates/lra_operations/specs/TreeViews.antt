@@ -51,7 +51,7 @@ arm_step (Arm-F.Tree g) = graph.arm g
 abbrev pub node_step : Node-F ArmPart graph.Node → graph.Node
 node_step Node-F.Empty = graph.empty
 node_step (Node-F.Point q) = graph.point q
-node_step (Node-F.Aside q what) = graph.probe q what
+node_step (Node-F.Probe q what) = graph.probe q what
 node_step (Node-F.Act q o) = graph.act q (op_view o)
 node_step (Node-F.Check q base c) = graph.check q base (cond_view c)
 node_step (Node-F.Seq gs last) = row gs.items last.value

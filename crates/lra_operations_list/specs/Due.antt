@@ -50,7 +50,7 @@ own_arm a = ([], None)
 abbrev pub own_step : Option NumberType → Node-F Own Own → Own
 own_step fresh Node-F.Empty = ([], fresh)
 own_step fresh (Node-F.Point q) = ([], None)
-own_step fresh (Node-F.Aside q what) = ([], fresh)
+own_step fresh (Node-F.Probe q what) = ([], fresh)
 own_step fresh (Node-F.Act q o) = (done_of q fresh (op_view o), fresh_of (op_view o))
 own_step fresh (Node-F.Check q base c) = (done_of q None (test base (cond_view c) true), None)
 own_step fresh (Node-F.Seq gs last) = ([], fresh)

@@ -13,7 +13,7 @@ arm_pass_step (Arm-F.Tree g) = suc g
 abbrev pub steps_step : ℕ → Node-F ℕ ℕ → ℕ
 steps_step n Node-F.Empty = 1
 steps_step n (Node-F.Point q) = 1
-steps_step n (Node-F.Aside q what) = 2
+steps_step n (Node-F.Probe q what) = 2
 steps_step n (Node-F.Act q o) = 1
 steps_step n (Node-F.Check q base c) = 1
 steps_step n (Node-F.Seq gs last) = 1 + (sum_by suc gs.items + suc last.value)

@@ -140,7 +140,7 @@ module _ (n : declared.Node)
   unfolding roll-Node denote.Hole.Carrier.roll
   opened_is_leaf Node-F.Empty e = ap steps_of e ∙ steps_empty
   opened_is_leaf (Node-F.Point q) e = ap steps_of e ∙ steps_point q
-  opened_is_leaf (Node-F.Aside q what) e = ap steps_of e ∙ steps_aside q what
+  opened_is_leaf (Node-F.Probe q what) e = ap steps_of e ∙ steps_aside q what
   opened_is_leaf (Node-F.Act q o) e = ap steps_of e ∙ steps_act q o
   opened_is_leaf (Node-F.Check q base c) e = ap steps_of e ∙ steps_check q base c
   opened_is_leaf (Node-F.Seq gs b) e = absurd (no_seq gs b e)
@@ -168,7 +168,7 @@ module _ (n : declared.Node) (leaf : steps_of n ≡ 1) (no_empty : n ≡ at.Empt
   unfolding roll-Node denote.Hole.Carrier.roll
   opened_is_none Node-F.Empty e = no_empty e
   opened_is_none (Node-F.Point q) e = no_point q e
-  opened_is_none (Node-F.Aside q what) e = no_aside q what e
+  opened_is_none (Node-F.Probe q what) e = no_aside q what e
   opened_is_none (Node-F.Act q o) e = no_act q o e
   opened_is_none (Node-F.Check q base c) e = no_check q base c e
   opened_is_none (Node-F.Seq gs b) e = more_steps (steps_of n) _ leaf (ap steps_of e ∙ steps_seq gs b)

@@ -77,7 +77,7 @@ arm_task_step (Arm-F.Tree g) = g
 abbrev pub steps_step : Node-F ℕ ℕ → ℕ
 steps_step Node-F.Empty = 1
 steps_step (Node-F.Point q) = 1
-steps_step (Node-F.Aside q what) = 1
+steps_step (Node-F.Probe q what) = 1
 steps_step (Node-F.Act q o) = 1
 steps_step (Node-F.Check q base c) = 1
 steps_step (Node-F.Seq gs last) = 2 + (steps_in_row gs.items + last.value)
