@@ -118,7 +118,8 @@ module _ (V H : Type 0) (ops : Operations V H) (admission : Absorption V) (n : �
     round_below f v r (w, e, s, on, turn, is) b =
         subst (λ (x : PassResult V). IsBelow n x.flag) (sym is) (inside (noted q e f) w s turn (noted_below n q e f l b))
 
-    grows_below : (widening : Widening) (left : ℕ) (f : Option ℕ) (h : H) (later : List H) (v : V) (r : PassResult V) → AscendingIteration V H ops q base c body widening left f h later v r → IsBelow n f → IsBelow n r.flag
+    grows_below : (widening : Widening) (left : ℕ) (f : Option ℕ) (h : H) (later : List H) (v : V) (r : PassResult V) → AscendingIteration V H ops q base c body widening left f h later v r →
+        IsBelow n f → IsBelow n r.flag
     grows_below widening left f h [] v r ((e, valued, turn), stays) b = round_below (noted q e f) v r turn (noted_below n q e f l b)
     grows_below widening left f h (next ∷ later) v r (u, s, e, (d, valued, turn), grown, rest) b =
         grows_below widening (left - 1) (noted q e s.flag) next later v r rest

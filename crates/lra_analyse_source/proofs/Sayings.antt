@@ -69,9 +69,12 @@ module _ (d : Domain) (o : Options) (source : List ℕ) {V H : Type 0} (m : Abst
   tells constants P h = subst (λ (e : Domain). ForDomain e (Analyses o.parts constants P)) (sym is) (names (Analyses o.parts constants P) h)
 
   answers : (n : ℕ) → Answers n → ((constants : List ℤ) (P : Program) → Analyses n constants P V H m shown → ReportsAnalysis o constants P r) → IsAnalysisReport o source r
-  answers zero a told = record { report = a.report; constants = a.constants; own = a.own; analysed = told a.constants (resolve a.report.tree) a.analysed; canonical = a.canonical; readable = a.readable }
-  answers (suc zero) a told = record { report = a.report; constants = a.constants; own = a.own; analysed = told a.constants (resolve a.report.tree) a.analysed; canonical = a.canonical; readable = a.readable }
-  answers (suc (suc n)) a told = record { report = a.report; constants = a.constants; own = a.own; analysed = told a.constants (resolve a.report.tree) a.analysed; canonical = a.canonical; readable = a.readable }
+  answers zero a told =
+      record { report = a.report; constants = a.constants; own = a.own; analysed = told a.constants (resolve a.report.tree) a.analysed; canonical = a.canonical; readable = a.readable }
+  answers (suc zero) a told =
+      record { report = a.report; constants = a.constants; own = a.own; analysed = told a.constants (resolve a.report.tree) a.analysed; canonical = a.canonical; readable = a.readable }
+  answers (suc (suc n)) a told =
+      record { report = a.report; constants = a.constants; own = a.own; analysed = told a.constants (resolve a.report.tree) a.analysed; canonical = a.canonical; readable = a.readable }
 
   pub over_domain : Answers o.parts → IsAnalysisReport o source r
   over_domain a = answers o.parts a tells

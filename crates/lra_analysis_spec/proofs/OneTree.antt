@@ -158,7 +158,8 @@ module _ (P : Program) (T : List Site) where
         → gives ≡ others → InlineCall P T s i x gives c g q → InlineCall P T t j y others c h r → Same g h q r
     one_call z n k p (is_call {s = s} {r = i} {x = x} {c = c} {fn = fn} f a d l) (is_call {s = t} {r = j} {x = y} {fn = fn'} {g = g'} {n = n'} {q = q'} f' a' e l') =
         let m : fn ≡ fn' = same_Some _ _ (sym f ∙ f') in
-        let (o, v, w) = one_list (called s t x y i j c fn fn' z k n m) d (subst (λ (u : Function). InlineItems P T (into_callee t (result_receiver fn'.result_type y) c (length fn'.parameters) j) u.body g' n' q') (sym m) e) in
+        let (o, v, w) = one_list (called s t x y i j c fn fn' z k n m) d
+        (subst (λ (u : Function). InlineItems P T (into_callee t (result_receiver fn'.result_type y) c (length fn'.parameters) j) u.body g' n' q') (sym m) e) in
         rw (z, k, p, m, o, w) (refl, refl)
 
 pub one_tree : (P : Program) (g h : Node) → IsInlinedTree P g → IsInlinedTree P h → g ≡ h

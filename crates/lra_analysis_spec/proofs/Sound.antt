@@ -101,7 +101,8 @@ module _ (V H : Type 0) (m : Abstraction V H) (laws : Laws m) (keeps : ChangesKe
       ((inside (noted q e f) w x pass u (keeps (test base c true) v e w on s u k passes)).ends t ends)
 
   -- a head that has all that its first one had, and is closed under rounds; its value and its last pass
-  grows_keeps : (widening : Widening) (left : ℕ) (f : Option ℕ) (h : H) (later : List H) (v : V) (r : PassResult V) → AscendingIteration V H (lossy_operations m) q base c (Pass V H (lossy_operations m) set a) widening left f h later v r
+  grows_keeps : (widening : Widening) (left : ℕ) (f : Option ℕ) (h : H) (later : List H) (v : V) (r : PassResult V) →
+      AscendingIteration V H (lossy_operations m) q base c (Pass V H (lossy_operations m) set a) widening left f h later v r
       → (last : H) × Within (HeadHas m h) (HeadHas m last) × Within (HeadHas m last) (Has m v)
       × ((s t : State) → HeadHas m last s.store → Round base c a s t → HeadHas m last t.store)
       × ((g : Option ℕ) × LoopRoundFrom V H (lossy_operations m) q base c (Pass V H (lossy_operations m) set a) g v r)

@@ -61,7 +61,8 @@ task_of globals sites g forward p seed = record {
 -- From forward values, with the first flagged point so far, to what is so at each point, by the operations: the seed is
 -- what the forward value at the assertion leaves where its condition is false, and is made once; then come the rounds,
 -- and last the meets, from the first point to the last.
-pub record BackwardAnalysis {V H : Type 0} (ops : BackwardOperations V H) (globals : List GlobalVariable) (sites : List Site) (g : Node)
+pub record BackwardAnalysis {V H : Type 0} (ops : BackwardOperations V H) (globals : List GlobalVariable)
+    (sites : List Site) (g : Node)
     (forward : List V) (f : Option ℕ) (p : ℕ) (values : List V) (flag : Option ℕ) : Type 0 where
   pub base : ℕ
   pub condition : Cond
@@ -81,7 +82,8 @@ pub record BackwardAnalysis {V H : Type 0} (ops : BackwardOperations V H) (globa
 
 -- what is found, flagged or not: without a flag it is what is defined; where the forward values have none, the first
 -- flag stands where the definition strains
-pub record IsBackwardAnalysis {V H : Type 0} (m : Abstraction V H) (b : BackwardAbstraction V) (globals : List GlobalVariable) (sites : List Site)
+pub record IsBackwardAnalysis {V H : Type 0} (m : Abstraction V H) (b : BackwardAbstraction V)
+    (globals : List GlobalVariable) (sites : List Site)
     (g : Node) (forward : List V) (f : Option ℕ) (p : ℕ) (values : List V) (flag : Option ℕ) : Type 0 where
   pub drops : BackwardAnalysis (lossy_back_operations m b) globals sites g forward f p values flag
   pub written : flag ≡ None → BackwardAnalysis (exact_back_operations m b) globals sites g forward f p values flag

@@ -43,7 +43,8 @@ module _ {V H : Type 0} (ops : BackwardOperations V H) where
     -- at one point: over these heads its own becomes the last one
     abbrev pub IsUpdated : Mode → ℕ → Option ℕ → List H → Option ℕ → Bool → H → Type 0
     IsUpdated mode p f heads g stable k =
-        (x next : V) × (h : H) × (d e : Exactness) × (slice_get task.forward p ≡ Some x) × (slice_get heads p ≡ Some h) ×
+        (x next : V) × (h : H) × (d e : Exactness) × (slice_get task.forward p ≡ Some x)
+        × (slice_get heads p ≡ Some h) ×
         IsNext ops (task.paths p) x (seed_at task p) heads d next × StaysOrGrows mode h next e stable k ×
         (g ≡ noted p e (noted p d f))
 

@@ -1,5 +1,5 @@
-//! Lines of an input that is to be a certificate: where they begin, their numbers, why one is refused, and what those of
-//! one path show, over the path's premises and the rows of its variables.
+//! Lines of an input that is to be a certificate: where they begin, their numbers, why one is refused, and what those
+//! of one path show, over the path's premises and the rows of its variables.
 //!
 //! Nothing here stands on a domain's values, on conversions or on an iteration.
 #![tactic(auto)]

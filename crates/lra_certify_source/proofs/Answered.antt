@@ -152,5 +152,6 @@ module _ (source : List ℕ) (t : FileTree) (g : Node) (sites : List Site) (read
       → IfRefusal HasSmallPoint (error_by e)
   counts states proved (of_paths.TooMany p) listable many = tt
   counts states proved (of_paths.Strained at) listable (few, stops) =
-      counted at (length (sites_of (resolve t))) (let n = few_points t g sites has in let points = ap length has.points in omega (arith, n, points)) (stops_there (resolve t) g states proved at listable stops)
+      counted at (length (sites_of (resolve t))) (let n = few_points t g sites has in let points = ap length has.points in omega (arith, n, points))
+      (stops_there (resolve t) g states proved at listable stops)
   counts states proved of_paths.Memory listable none = tt

@@ -438,7 +438,8 @@ level_parts s names words has_subcommand below e =
     (one.0, two.0, three.0, four.0, four.1)
 
 -- the rows of a level without a fault fit
-pub level_rows : (s : Shape) → s.args_override_self ≡ false → AllOwn s.rules s.rules → (words : List Text) → level_fault s [] nothing_held words false [] ≡ [] → RowsFit s.rules (rows_after s.rules [] words)
+pub level_rows : (s : Shape) → s.args_override_self ≡ false → AllOwn s.rules s.rules → (words : List Text) → level_fault s [] nothing_held words false [] ≡ [] →
+    RowsFit s.rules (rows_after s.rules [] words)
 level_rows s once own words e =
     let parts = level_parts s [] words false [] e in
     let end = (walk s.rules [] nothing_held words).held in

@@ -199,7 +199,8 @@ EachList = (words : List Text)
 
 -- words that ask for a command do so over one file, or over standard input
 abbrev pub OneFile : Type 0
-OneFile = (words : List Text) (c d : Command) (file other : Option Text) → AsksOver words c file → AsksOver words d other
+OneFile = (words : List Text) (c d : Command) (file other : Option Text) → AsksOver words c file →
+    AsksOver words d other
     → file ≡ other
 
 -- the command that the words ask for, or none

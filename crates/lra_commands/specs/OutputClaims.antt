@@ -171,8 +171,8 @@ pub record WritesVerified (left held_old held_new : Option (List ℕ)) : Type 0 
       (verified_text (length (sites_of (resolve is.program.tree))) (length is.certificate.asserted))
 
 -- The certificate of a report that the input deserves, in which nothing is narrowed, is written whole: it has the rows,
--- the empty points and the proved assertions of that report, of which all is claimed that is claimed of reports, and the
--- status is that of its assertions alone. It is a certificate that meets its program, so it deserves to be verified
+-- the empty points and the proved assertions of that report, of which all is claimed that is claimed of reports, and
+-- the status is that of its assertions alone. It is a certificate that meets its program, so it deserves to be verified
 -- where it isn't too long.
 pub record WritesCertificate (left held_old held_new : Option (List ℕ)) (status : Status) : Type 0 where
   pub bytes : List ℕ
@@ -195,9 +195,9 @@ pub record WritesCertificate (left held_old held_new : Option (List ℕ)) (statu
 -- At each point of the input's program, whose forward analysis is gone back over, what is left of the stores from which
 -- the assertion of this number may fail is written whole. A point's state holds at each store with which a run comes
 -- there that goes on to fail at the assertion, flagged or not; rows and generators tell the same points. No run fails
--- where the assertion is proved, and the status says whether it is: exactly where the point to which paths from the start
--- lead is shown as unreachable. Without a flag all that is shown is as it is defined, over the values of the written
--- iteration; the number of a flag is that of a point of which an operation strains, and all before it is exact.
+-- where the assertion is proved, and the status says whether it is: exactly where the point to which paths from the
+-- start lead is shown as unreachable. Without a flag all that is shown is as it is defined, over the values of the
+-- written iteration; the number of a flag is that of a point of which an operation strains, and all before it is exact.
 pub record WritesBack (number : ℕ) (left held_old held_new : Option (List ℕ)) (status : Status) : Type 0 where
   pub bytes : List ℕ
   pub input : IsInput left bytes

@@ -32,8 +32,8 @@ is_negative (Some v) = int_lt v (pos 0)
 abbrev pub negative_diagonal : Cells → ℕ → Bool
 negative_diagonal cells = any_below (λ i. is_negative (cell cells i i))
 
--- 1. Shortest paths: for every k, then i, then j, the entry becomes the lesser of itself and of the sum by way of k. Once
--- an entry of the diagonal is below 0 there is no store, and no further k is taken.
+-- 1. Shortest paths: for every k, then i, then j, the entry becomes the lesser of itself and of the sum by way of k.
+-- Once an entry of the diagonal is below 0 there is no store, and no further k is taken.
 
 abbrev pub relaxed : ℕ → ℕ → ℕ → Progress → Progress
 relaxed k i j p = lowered i j (cell p.cells i k ⊞ cell p.cells k j) p

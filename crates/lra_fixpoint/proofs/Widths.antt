@@ -106,7 +106,8 @@ module _ (V H : Type 0) (m : Abstraction V H) where
         pub top : m.dims v ≡ n
         pub result : Wide n r
 
-      grows_wide : (widening : Widening) (left : ℕ) (f : Option ℕ) (h : H) (later : List H) (v : V) (r : PassResult V) → AscendingIteration V H (lossy_operations m) q base c body widening left f h later v r → m.head_dims h ≡ n →
+      grows_wide : (widening : Widening) (left : ℕ) (f : Option ℕ) (h : H) (later : List H) (v : V) (r : PassResult V) →
+          AscendingIteration V H (lossy_operations m) q base c body widening left f h later v r → m.head_dims h ≡ n →
           Turned v r
       grows_wide widening left f h [] v r ((e, valued, turn), stays) k =
           let top : m.dims v ≡ n = valued.1 ∙ k in

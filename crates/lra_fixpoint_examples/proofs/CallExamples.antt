@@ -259,7 +259,14 @@ call_pass = (
   (
     at_first,
     Exact,
-    (at_first, Exact, Exact, (two full_interval full_interval, Exact, Exact, (refl, record { table = refl; extremes = tt }), (refl, gets_x full_interval full_interval (constant 0) open_sound open_sound refl), refl), (refl, refl), refl),
+    (
+      at_first,
+      Exact,
+      Exact,
+      (two full_interval full_interval, Exact, Exact, (refl, record { table = refl; extremes = tt }), (refl, gets_x full_interval full_interval (constant 0) open_sound open_sound refl), refl),
+      (refl, refl),
+      refl,
+    ),
     refl,
   ),
   (

@@ -317,7 +317,8 @@ inner_loop_pass a sound order low_joined high_joined low_widened high_widened = 
 
 -- the outer loop's body: its point is 2, and the points inside are 3 to 12
 abbrev outer_body : Node
-outer_body = seq (seq (seq (point 3) (act 3 (store_value 0 (variable_at 1 Long) (literal Int 0)))) (seq inner_loop (seq (seq (point 11) (act 11 (store_value 0 (variable_at 0 Long) (binary plus a_is (literal Int 1))))) empty)))
+outer_body = seq (seq (seq (point 3) (act 3 (store_value 0 (variable_at 1 Long) (literal Int 0))))
+    (seq inner_loop (seq (seq (point 11) (act 11 (store_value 0 (variable_at 0 Long) (binary plus a_is (literal Int 1))))) empty)))
     (seq (point 12) (act 12 (truncate_to 2)))
 
 abbrev outer_condition : Cond

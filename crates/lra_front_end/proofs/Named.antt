@@ -345,7 +345,8 @@ module _ (outside : List (List ℕ)) (ls : List Labelled) where
       calls_have zero path live c h = tt
       calls_have (suc more) path live c h = callee_has more (calls_have more) (c.label ∷ path) live P.functions c.function labelled h
 
-      no_main : (more live : ℕ) → width_of [] ≡ live → EachPoint HasAsMany (function_events (call_events P more) [] live (Some (record { result_type = None; parameters = []; body = no_more; end = 0 })))
+      no_main : (more live : ℕ) → width_of [] ≡ live →
+          EachPoint HasAsMany (function_events (call_events P more) [] live (Some (record { result_type = None; parameters = []; body = no_more; end = 0 })))
       no_main more live h = let a = length-append (outside ++ []) [] in let b : length (outside ++ [] ++ []) ≡ live + 0 = omega (arith, h) in (b, tt)
 
       one_of : (more live : ℕ) (b : Bool) (g x : Function) → EachPoint HasAsMany (function_events (call_events P more) [] live (Some g)) →

@@ -74,7 +74,8 @@ module _ (P : Program) (F : List tree.FunctionTree) (callees : AreCallees P F) w
   good_function n outside f few small e =
       let s = function_scope outside f.parameters in
       let body = resolve_items F s n f.body in
-      subst (λ (k : ℕ). AreGoodItems P no_jumps k body) (sym (types_length f.parameters)) (good_items P F callees (is_some f.result_type) no_jumps n (length f.parameters) (function_scope outside f.parameters) f.body
+      subst (λ (k : ℕ). AreGoodItems P no_jumps k body) (sym (types_length f.parameters))
+      (good_items P F callees (is_some f.result_type) no_jumps n (length f.parameters) (function_scope outside f.parameters) f.body
       (record { globals = few; locals = parameters_width f.parameters }) small (none_right (parameters_faults [] f.parameters) _ e))
 
   good_functions : (n : ℕ) (names : List (List ℕ)) (outside : List SymbolEntry) (ps : List tree.ExternalTree)
@@ -115,7 +116,8 @@ callees_in F n outside (tree.prototype ∷ ps) name f e = callees_in F n outside
 callees_in F n outside (tree.globals g ∷ ps) name f e = callees_in F n _ ps name f e
 callees_in F n outside (tree.function h ∷ ps) name f e =
     let k = n + suc (items_count h.body) in
-    callee_case (is_named name h) h f (function_named (functions_in ps) name) (resolve_function F outside n h) (resolve_parts F outside k ps) (function_place (functions_in ps) name) (types_length h.parameters)
+    callee_case (is_named name h) h f (function_named (functions_in ps) name) (resolve_function F outside n h) (resolve_parts F outside k ps) (function_place (functions_in ps) name)
+    (types_length h.parameters)
     (λ found. callees_in F k outside ps name f found) e
 
 -- `main` -----------------------------------------------------------------------------------------------------------

@@ -24,7 +24,8 @@ Item = program.BlockItems → program.BlockItems
 
 module _ (P : program.Program) (path : List ℕ) (r : Frame) (S : List Site) where
   module _ (d : program.Declarator) where
-    pub declared_item : (V W : List Site) (q n : ℕ) (h g : Node) → q ≡ length S → n ≡ suc r.live → Pointed S (site P path r d.label r.live false) V → WritesDeclared P path r q V d.number_type d.rvalue h W
+    pub declared_item : (V W : List Site) (q n : ℕ) (h g : Node) → q ≡ length S → n ≡ suc r.live → Pointed S (site P path r d.label r.live false) V →
+        WritesDeclared P path r q V d.number_type d.rvalue h W
         → g ≡ seq (point q) h → WritesItem P path r S (declaration d) g n W
     declared_item V W q n h g number same at given form = record {
       live = λ b. ap (λ z. live_after_items z b) same;

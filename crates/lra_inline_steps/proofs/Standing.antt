@@ -181,7 +181,8 @@ module _ (P : Program) (r : Frame) where
       false_true e = cc
 
   -- a callee's body in its own frame
-  pub callee_stands : (n more k : ℕ) (x : Receiver) (c : Call) (fn : Function) → IsWellFormed P → CallStands P r c → slice_get P.functions c.function ≡ Some fn → n ≡ r.live → k ≡ n + length fn.parameters
+  pub callee_stands : (n more k : ℕ) (x : Receiver) (c : Call) (fn : Function) → IsWellFormed P → CallStands P r c → slice_get P.functions c.function ≡ Some fn → n ≡ r.live →
+      k ≡ n + length fn.parameters
       → ItemsStand P (record { base = n; live = k; calls_left = more; breaks = None; continues = None; receiver = x; back = Some n }) fn.body
   callee_stands n more k x c fn well stands found same wide = record {
     jumps = no_jumps;

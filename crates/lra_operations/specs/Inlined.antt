@@ -16,8 +16,8 @@ use Rattle.lra_base.specs.{declared.case_labels.CaseLabel.CaseLabel, declared.nu
 use Rattle.lra_operations.specs.Tree.{broken, continued, returned, Node, empty, point, act, check, seq, choose, iterate}
 use Rattle.lra_operations.specs.Tree.{catch, leave, select, Arms, no_arms, entry, arm}
 
--- where a statement stands: its call, how long the store is where `break` comes out - the nearest loop or `switch` - and
--- where `continue` goes on, and what its return goes back to; `main` has no such
+-- where a statement stands: its call, how long the store is where `break` comes out - the nearest loop or `switch` -
+-- and where `continue` goes on, and what its return goes back to; `main` has no such
 pub record Frame : Type 0 where
   pub here : CallContext
   pub breaks : Option ℕ

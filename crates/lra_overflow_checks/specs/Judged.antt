@@ -51,7 +51,8 @@ module _ {V H : Type 0} (m : Abstraction V H) where
 
 module _ {V H : Type 0} (ops : Operations V H) {A : Type 0} where
   -- what is told of a condition, by what is told of its leaves
-  abbrev pub IsCondJudged : (ℕ → Expr → Expr → V → List A → Exactness → Type 0) → (ℕ → Expr → V → List A → Exactness → Type 0) →
+  abbrev pub IsCondJudged : (ℕ → Expr → Expr → V → List A → Exactness → Type 0) →
+      (ℕ → Expr → V → List A → Exactness → Type 0) →
       ℕ → Cond → V → List A → Exactness → List A → Type 0
   IsCondJudged Both One base c v old e new = HasAnswers (λ xs. CondAnswers ops Both One base c v xs e) old new
 

@@ -80,7 +80,8 @@ named_value = text_fault (ended_at by_name 10) (record { cause = Syntax; left = 
 
 -- long g=- -1;: with one sign at most
 abbrev two_signs : Text
-two_signs = mark_token mark.Long 1 ∷ word_at (codes "g") 6 ∷ mark_token mark.Assign 7 ∷ mark_token mark.Minus 8 ∷ mark_token mark.Minus 10 ∷ token_at (Number Int 1) 11 ∷ mark_token mark.Semicolon 12 ∷ []
+two_signs = mark_token mark.Long 1 ∷ word_at (codes "g") 6 ∷ mark_token mark.Assign 7 ∷ mark_token mark.Minus 8 ∷ mark_token mark.Minus 10 ∷ token_at (Number Int 1) 11 ∷ mark_token mark.Semicolon 12
+    ∷ []
 
 two_signs_stop : file_at 63 (ended_at two_signs 13) ≡ Err (record { cause = Syntax; left = 4 })
 unfolding loop unary_at tests levels

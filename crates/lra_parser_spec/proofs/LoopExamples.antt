@@ -74,7 +74,8 @@ unfinished_declaration = text_fault (ended_at declares 37) (record { cause = Syn
 
 -- int main(void){ if(1) long i; }: a branch is a statement, and a declaration is none
 abbrev declared_branch : Text
-declared_branch = main_head (mark_token mark.If 17 ∷ mark_token mark.OpenParen 19 ∷ token_at (Number Int 1) 20 ∷ mark_token mark.CloseParen 21 ∷ mark_token mark.Long 23 ∷ token_at (Name (codes "i")) 28 ∷
+declared_branch = main_head
+    (mark_token mark.If 17 ∷ mark_token mark.OpenParen 19 ∷ token_at (Number Int 1) 20 ∷ mark_token mark.CloseParen 21 ∷ mark_token mark.Long 23 ∷ token_at (Name (codes "i")) 28 ∷
     mark_token mark.Semicolon 29 ∷ mark_token mark.CloseBrace 31 ∷ [])
 
 declared_branch_stops : file_at 63 (ended_at declared_branch 32) ≡ Err (record { cause = Syntax; left = 5 })

@@ -195,14 +195,16 @@ right_of_both : OpOutOfBounds (test 0 (both_of (compare above (element single (a
     (holding (pos 7 ∷ [])) 1
 right_of_both = inr (0, refl, [], refl, inl (inr ((pos 1, []), refl, refl, refl)))
 
-right_of_either : OpOutOfBounds (test 0 (either_of (compare above (element single (at 53) (number 0)) (number 0)) (compare above (element single (at 61) (number 1)) (number 0))) false) (holding (pos 0 ∷ [])) 1
+right_of_either : OpOutOfBounds (test 0 (either_of (compare above (element single (at 53) (number 0)) (number 0)) (compare above (element single (at 61) (number 1)) (number 0))) false)
+    (holding (pos 0 ∷ [])) 1
 right_of_either = inr (0, refl, [], refl, inl (inr ((pos 1, []), refl, refl, refl)))
 
 -- `long s=b[1];` and `switch (b[1]) {}`; catches accesses of a declarator's value, or of a value that is looked for, that are not told
 abbrev here : CallContext
 here = record { path = []; base = 0 }
 
-declared_strays : IsOutOfBounds outside 0 (declare (record { label = 2; number_type = Long; rvalue = Some (value (element single (at 53) (number 1))) }) ∷ []) here (record (holding (pos 7 ∷ [])) { draws = pos 1 ∷ [] })
+declared_strays : IsOutOfBounds outside 0 (declare (record { label = 2; number_type = Long; rvalue = Some (value (element single (at 53) (number 1))) }) ∷ []) here
+    (record (holding (pos 7 ∷ [])) { draws = pos 1 ∷ [] })
 declared_strays = (_, refl, inr ((pos 1, []), refl, refl, refl))
 
 selected_strays : IsOutOfBounds outside 0 (run (switch 2 (element single (at 53) (number 1)) no_cases) ∷ []) here (holding (pos 7 ∷ []))

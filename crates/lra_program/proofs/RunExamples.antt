@@ -74,7 +74,8 @@ assertion_fails = (
 -- int main(void){ long i=0; while(i<2) i=i+1; }
 -- the loop's point comes at each round, before the test
 abbrev counting : Program
-counting = main_alone (declaration (set_to 1 (literal Int 0)) (statement (loop 2 (compare below x (literal Int 2)) (assign 3 (long_variable (local 0)) (value (binary plus x (literal Int 1)))) absent) no_more)) 4
+counting = main_alone
+    (declaration (set_to 1 (literal Int 0)) (statement (loop 2 (compare below x (literal Int 2)) (assign 3 (long_variable (local 0)) (value (binary plus x (literal Int 1)))) absent) no_more)) 4
 
 counting_run : visited counting (pos 9 ∷ []) ≡ ([], 1, []) ∷ ([], 2, pos 0 ∷ []) ∷ ([], 3, pos 0 ∷ []) ∷ ([], 2, pos 1 ∷ []) ∷ ([], 3, pos 1 ∷ []) ∷ ([], 2, pos 2 ∷ []) ∷ ([], 4, pos 2 ∷ []) ∷ []
 counting_run = refl
@@ -101,7 +102,8 @@ inner_loop = loop 5 (nonzero (literal Int 1)) (block (statement (if 6 (compare a
 
 abbrev nested : ℕ → Program
 nested rounds = main_alone (declaration (set_to 1 (literal Int 0)) (declaration (set_to 2 (literal Int 0)) (statement (loop 3 (compare below x (literal Int rounds))
-    (block (statement (assign 4 (long_variable (local 1)) (value (literal Int 0))) (statement inner_loop (statement (assign 12 (long_variable (local 0)) (value (binary plus x (literal Int 1)))) no_more))) 13) absent)
+    (block (statement (assign 4 (long_variable (local 1)) (value (literal Int 0)))
+    (statement inner_loop (statement (assign 12 (long_variable (local 0)) (value (binary plus x (literal Int 1)))) no_more))) 13) absent)
     (statement (assert 14 (compare equal x (literal Int rounds))) no_more)))) 15
 
 -- a `return` inside two loops ends main's run: catches one that only leaves the loop
@@ -123,7 +125,13 @@ break_in_loop = refl
 -- catches a callee's variable that shares its caller's place, and a store that isn't cut back behind the call;
 -- the function's `}` (3) isn't passed by `return`
 abbrev pub inc : Function
-inc = record { result_type = Some Long; parameters = Long ∷ []; body = statement (assign 1 (long_variable (local 0)) (value (binary plus x (literal Int 1)))) (statement (return 2 (Some (value x))) no_more); end = 3 }
+inc = record {
+  result_type = Some Long;
+  parameters = Long ∷ [];
+  body =
+      statement (assign 1 (long_variable (local 0)) (value (binary plus x (literal Int 1)))) (statement (return 2 (Some (value x))) no_more);
+  end = 3;
+}
 
 abbrev pub called_twice : Program
 called_twice = record {
@@ -149,7 +157,13 @@ abbrev pub counted : Program
 counted = record {
   globals = record { number_type = Long; value = pos 2 } ∷ [];
   arrays = [];
-  functions = record { result_type = None; parameters = []; body = statement (assign 1 (long_variable (global 0)) (value (binary plus (read (long_variable (global 0))) (literal Int 1)))) no_more; end = 2 } ∷ [];
+  functions = record {
+    result_type = None;
+    parameters = [];
+    body =
+        statement (assign 1 (long_variable (global 0)) (value (binary plus (read (long_variable (global 0))) (literal Int 1)))) no_more;
+    end = 2;
+  } ∷ [];
   main = record {
     result_type = Some Int;
     parameters = [];
@@ -171,7 +185,13 @@ handed_on = record {
   arrays = [];
   functions = record { result_type = Some Long; parameters = []; body = statement (return 1 (Some (result (record { label = 1; function = 1; arguments = [] })))) no_more; end = 2 }
       ∷ record { result_type = Some Long; parameters = []; body = no_more; end = 3 } ∷ [];
-  main = record { result_type = Some Int; parameters = []; body = declaration (record { label = 4; number_type = Long; rvalue = Some (result (record { label = 4; function = 0; arguments = [] })) }) no_more; end = 5 };
+  main = record {
+    result_type = Some Int;
+    parameters = [];
+    body =
+        declaration (record { label = 4; number_type = Long; rvalue = Some (result (record { label = 4; function = 0; arguments = [] })) }) no_more;
+    end = 5;
+  };
 }
 
 handed_on_run : visited handed_on (pos 1 ∷ pos 2 ∷ pos 3 ∷ []) ≡ ([], 4, []) ∷ (4 ∷ [], 1, pos 1 ∷ []) ∷ (1 ∷ 4 ∷ [], 3, pos 1 ∷ []) ∷ ([], 5, pos 2 ∷ []) ∷ []
@@ -183,7 +203,13 @@ bare_return = record {
   globals = [];
   arrays = [];
   functions = record { result_type = Some Long; parameters = []; body = statement (return 1 None) no_more; end = 2 } ∷ [];
-  main = record { result_type = Some Int; parameters = []; body = declaration (record { label = 3; number_type = Long; rvalue = Some (result (record { label = 3; function = 0; arguments = [] })) }) no_more; end = 4 };
+  main = record {
+    result_type = Some Int;
+    parameters = [];
+    body =
+        declaration (record { label = 3; number_type = Long; rvalue = Some (result (record { label = 3; function = 0; arguments = [] })) }) no_more;
+    end = 4;
+  };
 }
 
 bare_return_run : visited bare_return (pos 1 ∷ pos 2 ∷ []) ≡ ([], 3, []) ∷ (3 ∷ [], 1, pos 1 ∷ []) ∷ ([], 4, pos 2 ∷ []) ∷ []
@@ -209,7 +235,8 @@ inner_block_run = refl
 
 -- int main(void){ long x; x = input()/0; x = 1; } : the run ends at the zero divisor
 abbrev divided : Program
-divided = main_alone (declaration (fresh 1) (statement (assign 2 (long_variable (local 0)) (value (binary over input (literal Int 0)))) (statement (assign 3 (long_variable (local 0)) (value (literal Int 1))) no_more))) 4
+divided = main_alone (declaration (fresh 1)
+    (statement (assign 2 (long_variable (local 0)) (value (binary over input (literal Int 0)))) (statement (assign 3 (long_variable (local 0)) (value (literal Int 1))) no_more))) 4
 
 divided_run : visited divided (pos 1 ∷ pos 2 ∷ []) ≡ ([], 1, []) ∷ ([], 2, pos 1 ∷ []) ∷ []
 divided_run = refl

@@ -81,7 +81,8 @@ no_draw_left : value_of input nowhere [] ≡ None
 no_draw_left = refl
 
 -- catches one numbering for the variables of the program and of the call
-global_and_local : value_of (binary minus (read (long_variable (global 0))) (read (long_variable (local 0)))) (record { base = 2; store = pos 1 ∷ pos 2 ∷ pos 5 ∷ []; arrays = [] }) [] ≡ Some (negsuc 3, [])
+global_and_local : value_of (binary minus (read (long_variable (global 0))) (read (long_variable (local 0)))) (record { base = 2; store = pos 1 ∷ pos 2 ∷ pos 5 ∷ []; arrays = [] }) []
+    ≡ Some (negsuc 3, [])
 global_and_local = refl
 
 -- catches `&&` that evaluates both sides: the draw stays

@@ -1,6 +1,6 @@
--- What a value meets on its way to a variable or an element: the types of the functions that pass it on as their result,
--- and its own. A number of 64 bits that one of them doesn't have ends the run (in C, ISO/IEC 9899:2011, 6.3.1.3, the
--- compiler says what becomes of it).
+-- What a value meets on its way to a variable or an element: the types of the functions that pass it on as their
+-- result, and its own. A number of 64 bits that one of them doesn't have ends the run (in C, ISO/IEC 9899:2011,
+-- 6.3.1.3, the compiler says what becomes of it).
 use Rattle.std.specs.Prelude.{ℕ, ℤ, Bool, true, false, ◌&&◌, ◌||◌, Option, None, Some}
 use Rattle.lra_base.specs.NumberTypes.{fits}
 use Rattle.lra_base.specs.declared.number_types.NumberType.{NumberType}

@@ -1,8 +1,8 @@
 -- The value of an expression, a number of its type, and of a condition, with the draws that are left; none where the
 -- run stops: at a number that doesn't fit the type in which it is computed, at a divisor 0, at that type's least number
 -- divided by -1 (also for `%`), at an argument that doesn't fit its parameter, at an index outside its array, and where
--- a draw is needed and none is left (ISO/IEC 9899:2011, 6.5; overflow and an index outside, undefined there, end the run
--- here).
+-- a draw is needed and none is left (ISO/IEC 9899:2011, 6.5; overflow and an index outside, undefined there, end the
+-- run here).
 use Rattle.std.specs.Prelude.{◌≡◌, ℕ, zero, suc, ℤ, pos, negsuc, ◌+ℤ◌, ◌-ℤ◌, ◌*ℤ◌, ◌+◌, List, [], ◌∷◌, Option, Some}
 use Rattle.std.specs.Prelude.{None, Bool, true, false, not, if◌then◌else◌, slice_get, int_div, int_rem, int_lt, int_le}
 use Rattle.std.specs.Prelude.{IsTrue}

@@ -51,9 +51,11 @@ abbrev one_for : FileTree
 one_for = main_of (statement (for (at 17) (declared (declared_as (x_at 26) (Some (expression (literal_text 0))))) (Some (tested (compare (use_of (x_at 31)) operators.below (literal_text 3))))
     (Some (after (x_at 36) increment)) (nothing (at 41))) no_items) 43
 
-one_for_body : (resolve one_for).main.body ≡ program.statement (program.for 1 (program.declaration (record { label = 2; number_type = Long; rvalue = Some (program.value (program.literal Int 0)) }) program.no_more)
+one_for_body : (resolve one_for).main.body
+    ≡ program.statement (program.for 1 (program.declaration (record { label = 2; number_type = Long; rvalue = Some (program.value (program.literal Int 0)) }) program.no_more)
     (program.compare operators.below (program.read (run.long_variable (program.local 0))) (program.literal Int 3)) (program.nothing 4)
-    (program.assign 3 (run.long_variable (program.local 0)) (program.value (program.binary operators.plus (program.read (run.long_variable (program.local 0))) (program.literal Int 1))))) program.no_more
+    (program.assign 3 (run.long_variable (program.local 0)) (program.value (program.binary operators.plus (program.read (run.long_variable (program.local 0))) (program.literal Int 1)))))
+    program.no_more
 one_for_body = refl
 
 one_for_places : (map (λ l. l.place.column) (labels_of one_for) ≡ 17 ∷ 26 ∷ 36 ∷ 41 ∷ 43 ∷ []) ×

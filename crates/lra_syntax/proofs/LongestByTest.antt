@@ -28,7 +28,8 @@ no_gap before rest other gap after e g = let h = gap_begins before gap after g i
 -- lexemes other than unclosed comments
 abbrev operators : List (List ℕ)
 operators = codes "+" ∷ codes "-" ∷ codes "*" ∷ codes "/" ∷ codes "%" ∷ codes "=" ∷ codes "==" ∷ codes "!=" ∷ codes "<" ∷ codes "<=" ∷ codes ">" ∷ codes ">=" ∷ codes "&&" ∷ codes "||" ∷ codes "!"
-    ∷ codes "++" ∷ codes "--" ∷ codes "+=" ∷ codes "-=" ∷ codes "*=" ∷ codes "/=" ∷ codes "%=" ∷ codes "(" ∷ codes ")" ∷ codes "{" ∷ codes "}" ∷ codes "[" ∷ codes "]" ∷ codes ";" ∷ codes "," ∷ codes ":" ∷ []
+    ∷ codes "++" ∷ codes "--" ∷ codes "+=" ∷ codes "-=" ∷ codes "*=" ∷ codes "/=" ∷ codes "%=" ∷ codes "(" ∷ codes ")" ∷ codes "{" ∷ codes "}" ∷ codes "[" ∷ codes "]" ∷ codes ";" ∷ codes ","
+    ∷ codes ":" ∷ []
 
 abbrev pub is_lexeme : List ℕ → Bool
 is_lexeme s = is_name_word s || is_number_word s || is_among s operators

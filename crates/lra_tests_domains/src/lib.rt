@@ -1,5 +1,5 @@
-//! Tests of domains, which are boxes, octagons, polyhedra and sets of parts: each public call that allocates, and values
-//! from outside.
+//! Tests of domains, which are boxes, octagons, polyhedra and sets of parts: each public call that allocates, and
+//! values from outside.
 //!
 //! They stand apart from what they try, since a crate that has tests in it is proved twice.
 #![tactic(auto)]

@@ -61,7 +61,8 @@ live_by sites (suc q) = live_of (slice_get sites q)
 
 -- from a source to a point, and to all of them
 abbrev pub step_by : AnnotatedProgram → ℕ → ℕ → List Action → Left → Judged Left
-step_by w p q steps l = edge_by (live_by (sites_in w) p) (state_from (states_in w) p) (state_to (states_in w) (comes_to q))
+step_by w p q steps l =
+    edge_by (live_by (sites_in w) p) (state_from (states_in w) p) (state_to (states_in w) (comes_to q))
     (path_by p (comes_to q) steps) l
 
 abbrev pub paths_to_by : AnnotatedProgram → ℕ → ℕ → Left → Judged Left

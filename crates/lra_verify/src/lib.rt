@@ -1,5 +1,5 @@
-//! The check of a certificate: from the bytes of an input to the numbers of its points and of its listed assertions, or why
-//! it is no certificate that meets its program.
+//! The check of a certificate: from the bytes of an input to the numbers of its points and of its listed assertions, or
+//! why it is no certificate that meets its program.
 //!
 //! Nothing here stands on a domain's values, on conversions or on an iteration.
 #![tactic(auto)]

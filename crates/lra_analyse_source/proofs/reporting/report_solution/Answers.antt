@@ -103,7 +103,8 @@ returns-clause-told g c =
     let judged = c.in_ok-judged.judged in
     let shown : map (λ x. x.items) c.in_ok-states.states.items ≡ map g.D.Show.shown values = c.in_ok-states.ensures.shown ∙ ap (map _) c.deref.ensures.value
     in
-    is_told g.D.Domain.abstraction g.D.Show.shown o c.args.front.now.constants.items (tree_view c.args.front.now.tree) (node_view c.args.front.now.graph.tree) (map site_view c.args.front.now.graph.sites.items)
+    is_told g.D.Domain.abstraction g.D.Show.shown o c.args.front.now.constants.items (tree_view c.args.front.now.tree) (node_view c.args.front.now.graph.tree)
+    (map site_view c.args.front.now.graph.sites.items)
     values c.args.solution.now.verdicts.items c.args.solution.now.flagged judged.fitting.verdicts.items judged.fitting.flagged
     (map reported_view judged.inside.verdicts.items) judged.inside.flagged
     (map (λ x. x.items) c.in_ok-states.states.items) (report_of c.in_ok-report.report) c.requires.graph

@@ -13,7 +13,8 @@ returns-in_ok-value-in-Value-clause-leads c =
     (λ g a. (
       (
         value_assigned (program_around here) here.path.now here.frame (points_in c.args.sites.now) (points_in c.open_point.new.sites) c.args.label c.in_ok-point.point
-            c.in_ok-point.ensures.number c.in_ok-point.ensures.walked (variable_view c.args.variable) (expr_view c.in-Value.value) c.store_index-place.result c.variable-receiver.result c.store_index-place.ensures
+            c.in_ok-point.ensures.number c.in_ok-point.ensures.walked (variable_view c.args.variable) (expr_view c.in-Value.value) c.store_index-place.result c.variable-receiver.result
+            c.store_index-place.ensures
             c.variable-receiver.ensures _ (node_view g)
             (shown_act c.in_ok-point.point _ ∙ ap (λ z. act c.in_ok-point.point (store_value here.frame.base c.variable-receiver.result z)) c.in_ok-value-in-Value.ensures) a,
         refl,
@@ -25,6 +26,7 @@ pub returns-in-Result-clause-leads : goal.returns-in-Result-clause-leads
 returns-in-Result-clause-leads c =
     let here = c.args.here.now in
     rw c.in-Result.is (assign_opens (program_around here) here.path.now here.frame (points_in c.args.sites.now) (points_in c.open_point.new.sites) c.args.label c.in_ok-point.point
-    c.in_ok-point.ensures.number c.in_ok-point.ensures.walked (variable_view c.args.variable) (call_view c.in-Result.call) c.store_index-place.result c.variable-receiver.result c.store_index-place.ensures
+    c.in_ok-point.ensures.number c.in_ok-point.ensures.walked (variable_view c.args.variable) (call_view c.in-Result.call) c.store_index-place.result c.variable-receiver.result
+    c.store_index-place.ensures
     c.variable-receiver.ensures (rw c.in-Result.is at c.requires)
     c.in_ok-point.ensures.few)

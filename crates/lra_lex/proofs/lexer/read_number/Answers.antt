@@ -9,7 +9,8 @@ split_at-requires c = rw c.word_length-length.ensures (prefix_len-le-length is_w
 
 pub returns-in-Some-clause-found : goal.returns-in-Some-clause-found
 returns-in-Some-clause-found c =
-    number_token_is c.args.rest.now c.split_at.result.0.now c.word_length-length.result c.in-Some.literal.value c.in-Some.literal.number_type c.requires.some c.requires.begins c.word_length-length.ensures c.split_at.ensures.front
+    number_token_is c.args.rest.now c.split_at.result.0.now c.word_length-length.result c.in-Some.literal.value c.in-Some.literal.number_type c.requires.some c.requires.begins
+    c.word_length-length.ensures c.split_at.ensures.front
     c.in-Some.ensures.value.0 c.in-Some.ensures.value.1 c.in-Some.ensures.bounded
 
 pub returns-in-None-clause-none : goal.returns-in-None-clause-none

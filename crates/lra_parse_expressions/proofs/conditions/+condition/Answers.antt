@@ -36,7 +36,8 @@ read_negation-returns-then-next_is-2-clause-shorter t c =
 pub read_negation-returns-then-next_is-2-clause-gives : goal.read_negation-returns-then-next_is-2-clause-gives
 read_negation-returns-then-next_is-2-clause-gives t c =
     negation_handed c.oppose_group.result (negation_of (cond_view c.in_ok-cond.cond.value)) c.in_ok-cond.closed.now (negation_at c.args.depth c.args.rest.now)
-    (strict_gives c.args.depth c.args.rest.now c.in_ok-cond.closed.now (cond_view c.in_ok-cond.cond.value) c.if-next_is.ensures c.if-next_is-2.ensures c.in_ok-cond.ensures.gives) c.oppose_group.ensures
+    (strict_gives c.args.depth c.args.rest.now c.in_ok-cond.closed.now (cond_view c.in_ok-cond.cond.value) c.if-next_is.ensures c.if-next_is-2.ensures c.in_ok-cond.ensures.gives)
+    c.oppose_group.ensures
 
 pub read_negation-returns-clause-gives : goal.read_negation-returns-clause-gives
 read_negation-returns-clause-gives t c =
@@ -87,7 +88,8 @@ read_disjunction-conjunctions-preserved t c = record {
       (map conjunction_view c.conjunctions.conjunctions.items))
       (any_conjunction (conjunction (conjunction_view c.in_ok-first.first.value)) (map conjunction_view c.push_boxed.new.list.items))
       (tt {0}) (conjunction_view c.in_ok-conjunction.conjunction.value) c.conjunctions.left.now c.tail.result.now c.in_ok-conjunction.after.now (cond_at c.args.depth c.args.rest.now)
-      (list_grown (any_conjunction (conjunction (conjunction_view c.in_ok-first.first.value))) conjunction_view c.conjunctions.conjunctions.items c.push_boxed.new.list.items c.in_ok-conjunction.conjunction.value
+      (list_grown (any_conjunction (conjunction (conjunction_view c.in_ok-first.first.value))) conjunction_view c.conjunctions.conjunctions.items c.push_boxed.new.list.items
+      c.in_ok-conjunction.conjunction.value
       c.in_ok-push_boxed.ensures
       ∙ or_push (conjunction (conjunction_view c.in_ok-first.first.value)) (map conjunction_view c.conjunctions.conjunctions.items) (conjunction_view c.in_ok-conjunction.conjunction.value))
       c.conjunctions.invariant.same (one_on mark.Or (first c.conjunctions.left.now) c.conjunctions-test.ensures) c.tail.ensures.value c.in_ok-conjunction.ensures.gives
@@ -172,13 +174,15 @@ pub read_closed-returns-in_err-closed-clause-gives : goal.read_closed-returns-in
 read_closed-returns-in_err-closed-clause-gives t c =
     exit_gives _ c.from_residual-in_err-closed.result _ _ c.from_residual-in_err-closed.ensures.1
     (err_same _ _ _ (closed_some c.args.depth c.args.rest.now c.if-depth-eq0.false)
-    (parens_exit (cond_at (c.args.depth - 1)) c.args.rest.now c.in_ok-opened.opened.now c.in_ok-cond.after.now (cond_view c.in_ok-cond.cond.value) c.in_err-closed.field-0.0 c.in_ok-opened.ensures.gives
+    (parens_exit (cond_at (c.args.depth - 1)) c.args.rest.now c.in_ok-opened.opened.now c.in_ok-cond.after.now (cond_view c.in_ok-cond.cond.value) c.in_err-closed.field-0.0
+    c.in_ok-opened.ensures.gives
     c.in_ok-cond.ensures.gives c.in_err-closed.ensures.gives))
 
 pub read_closed-returns-clause-gives : goal.read_closed-returns-clause-gives
 read_closed-returns-clause-gives t c =
     closed_some c.args.depth c.args.rest.now c.if-depth-eq0.false
-    ∙ parens_give (cond_at (c.args.depth - 1)) c.args.rest.now c.in_ok-opened.opened.now c.in_ok-cond.after.now c.in_ok-closed.closed.now (cond_view c.in_ok-cond.cond.value) c.in_ok-opened.ensures.gives
+    ∙ parens_give (cond_at (c.args.depth - 1)) c.args.rest.now c.in_ok-opened.opened.now c.in_ok-cond.after.now c.in_ok-closed.closed.now (cond_view c.in_ok-cond.cond.value)
+    c.in_ok-opened.ensures.gives
     c.in_ok-cond.ensures.gives c.in_ok-closed.ensures.gives
 
 pub read_conjunction-returns-in_err-first-clause-gives : goal.read_conjunction-returns-in_err-first-clause-gives

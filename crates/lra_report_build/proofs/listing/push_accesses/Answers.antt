@@ -37,5 +37,6 @@ points-preserved c =
     points_more ls (map site_view sites) (map verdict_of c.args.listed.now.items) (map verdict_of c.points.listed.items)
     (map verdict_of c.push_told.new.listed.items) c.args.inside.now c.points.point-index point c.points-test.true c.point-item.is c.points.invariant
     (c.in_ok-push_told.ensures ∙ ap (λ xs. map verdict_of c.points.listed.items ++ xs)
-    (ap (λ js. access_verdicts ls c.number_of.result (site_view c.index-sites-index.result) 0 js) c.as_slice.ensures.value ∙ told_at ls sites c.number_of.result point.0 c.index-sites-index.result point.1.items
+    (ap (λ js. access_verdicts ls c.number_of.result (site_view c.index-sites-index.result) 0 js) c.as_slice.ensures.value
+    ∙ told_at ls sites c.number_of.result point.0 c.index-sites-index.result point.1.items
     c.number_of.ensures c.index-sites-index.is inside))

@@ -15,7 +15,8 @@ list_points-requires-clause-states c =
     let graph = c.index-outline-k.result in
     let there = slice_get_read graphs (length graphs) c.args.k graph refl c.requires.there c.index-outline-k.is in
     let of = c.requires.found graph there in
-    rw (c.as_slice-sites.ensures.value ∙ ap (λ (g : InlinedProgram). g.sites.items) (sym c.index-outline-k.is)) (states_listed (sites_in graph) (thread_values c.args.found.now) (map (λ x. x.items) c.in_ok-states.states.items) of.wide of.points
+    rw (c.as_slice-sites.ensures.value ∙ ap (λ (g : InlinedProgram). g.sites.items) (sym c.index-outline-k.is))
+    (states_listed (sites_in graph) (thread_values c.args.found.now) (map (λ x. x.items) c.in_ok-states.states.items) of.wide of.points
     (rw c.deref.ensures.value at c.in_ok-states.ensures.told) (rw c.deref.ensures.value at c.in_ok-states.ensures.shown))
 
 pub push_points-requires : goal.push_points-requires
@@ -38,7 +39,8 @@ returns c =
     let there = slice_get_read graphs (length graphs) c.args.k graph refl c.requires.there c.index-outline-k.is in
     let points = map point_report_of c.in_ok-points.points.items in
     let alone = listed_alone t graphs c.requires.graphs c.args.k graph there c.args.found.now _ _ (map site_view c.as_slice-sites.result.now) points _
-    c.requires.globals c.requires.labels (ap (map site_view) (c.as_slice-sites.ensures.value ∙ ap (λ (g : InlinedProgram). g.sites.items) (sym c.index-outline-k.is))) c.in_ok-points.ensures.listed c.in_ok-points.ensures.states
+    c.requires.globals c.requires.labels (ap (map site_view) (c.as_slice-sites.ensures.value ∙ ap (λ (g : InlinedProgram). g.sites.items) (sym c.index-outline-k.is))) c.in_ok-points.ensures.listed
+    c.in_ok-points.ensures.states
     (rw c.deref.ensures.value at c.in_ok-states.ensures.shown) (rw c.deref.ensures.value at c.in_ok-states.ensures.told) in
     if_ok _ _ (λ x all. (
       points,

@@ -20,7 +20,8 @@ loop-path-preserved c =
     lists_next paths i path c.loop-path-test.true c.path-item.is ∙
     ap (λ (xs : List (Bor Change)). all_done xs ∷ lists_done (drop (i + 1) paths)) (sym c.as_slice.ensures.value) in
     record {
-      so_far = turn_more (dead_by c.args.rows.now.dims (Some (constraints c.args.rows.now))) (all_done item) (lists_done (drop (i + 1) paths)) (lists_done (drop i paths)) (left_at c.args.bytes.now c.loop-path.next)
+      so_far = turn_more (dead_by c.args.rows.now.dims (Some (constraints c.args.rows.now))) (all_done item) (lists_done (drop (i + 1) paths)) (lists_done (drop i paths))
+          (left_at c.args.bytes.now c.loop-path.next)
           (judged_in_turn (dead_by c.args.rows.now.dims (Some (constraints c.args.rows.now))) (lists_done paths) (left_at c.args.bytes.now c.args.at)) first
           c.loop-path.invariant.so_far (left_at c.args.bytes.now c.in-Ok.behind) c.in-Ok.ensures.told;
       within = c.in-Ok.ensures.within;
@@ -35,7 +36,8 @@ returns-in-Err-clause-told c =
     let first =
     lists_next paths i path c.loop-path-test.true c.path-item.is ∙
     ap (λ (xs : List (Bor Change)). all_done xs ∷ lists_done (drop (i + 1) paths)) (sym c.as_slice.ensures.value) in
-    turn_fault (dead_by c.args.rows.now.dims (Some (constraints c.args.rows.now))) (all_done item) (lists_done (drop (i + 1) paths)) (lists_done (drop i paths)) (left_at c.args.bytes.now c.loop-path.next)
+    turn_fault (dead_by c.args.rows.now.dims (Some (constraints c.args.rows.now))) (all_done item) (lists_done (drop (i + 1) paths)) (lists_done (drop i paths))
+    (left_at c.args.bytes.now c.loop-path.next)
     (judged_in_turn (dead_by c.args.rows.now.dims (Some (constraints c.args.rows.now))) (lists_done paths) (left_at c.args.bytes.now c.args.at)) first
     c.loop-path.invariant.so_far c.in-Err.error c.in-Err.ensures.told
 
@@ -45,4 +47,5 @@ returns-clause-told c =
     let paths = c.args.paths.now in
     let h = c.loop-path-test.false in
     turn_done (dead_by c.args.rows.now.dims (Some (constraints c.args.rows.now))) (lists_done (drop i paths)) (left_at c.args.bytes.now c.loop-path.next)
-    (judged_in_turn (dead_by c.args.rows.now.dims (Some (constraints c.args.rows.now))) (lists_done paths) (left_at c.args.bytes.now c.args.at)) (lists_end paths i (omega (arith, h))) c.loop-path.invariant.so_far
+    (judged_in_turn (dead_by c.args.rows.now.dims (Some (constraints c.args.rows.now))) (lists_done paths) (left_at c.args.bytes.now c.args.at)) (lists_end paths i (omega (arith, h)))
+    c.loop-path.invariant.so_far

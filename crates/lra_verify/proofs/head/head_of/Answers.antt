@@ -15,5 +15,6 @@ returns-clause-head c =
     let b = c.split_at.result.1.now in
     let l = length-drop 1 b in
     head_told c.args.bytes.now c.split_at.result.0.now b (take (length b - 1) (drop 1 b)) c.place_of.result read.field-0 v z
-    (option_map head_view c.source_by.result) c.place_of.ensures.place c.split_at.ensures.front c.split_at.ensures.back (take_all (length b - 1) (drop 1 b) (omega (arith, l))) read.ensures.numbers c.in-Some.is one
+    (option_map head_view c.source_by.result) c.place_of.ensures.place c.split_at.ensures.front c.split_at.ensures.back (take_all (length b - 1) (drop 1 b) (omega (arith, l))) read.ensures.numbers
+    c.in-Some.is one
     (slice_get_read v.items (length v.items) 0 z refl (omega (arith, one)) c.index.ensures) c.source_by.ensures.head

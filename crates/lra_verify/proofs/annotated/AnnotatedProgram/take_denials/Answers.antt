@@ -32,5 +32,6 @@ returns-clause-told c =
     let i = c.loop-source.source in
     let n = length c.args.self.now.sources.now in
     let h = c.loop-source-test.false in
-    turn_done (violation_by c.args.self.now c.args.point) (range_with_len i (n - i)) (left_at c.args.bytes.now c.loop-source.next) (violations_by c.args.self.now c.args.point (left_at c.args.bytes.now c.args.at))
+    turn_done (violation_by c.args.self.now c.args.point) (range_with_len i (n - i)) (left_at c.args.bytes.now c.loop-source.next)
+    (violations_by c.args.self.now c.args.point (left_at c.args.bytes.now c.args.at))
     (numbers_end i n (omega (arith, h))) c.loop-source.invariant.so_far

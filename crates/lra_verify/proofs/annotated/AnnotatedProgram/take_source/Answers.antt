@@ -32,5 +32,6 @@ returns-clause-told c =
     let i = c.loop-point.point in
     let n = length c.args.self.now.sites.now in
     let h = c.loop-point-test.false in
-    turn_done (paths_to_by c.args.self.now c.args.source) (range_with_len i (n - i)) (left_at c.args.bytes.now c.loop-point.next) (source_by c.args.self.now c.args.source (left_at c.args.bytes.now c.args.at))
+    turn_done (paths_to_by c.args.self.now c.args.source) (range_with_len i (n - i)) (left_at c.args.bytes.now c.loop-point.next)
+    (source_by c.args.self.now c.args.source (left_at c.args.bytes.now c.args.at))
     (numbers_end i n (omega (arith, h))) c.loop-point.invariant.so_far
