@@ -46,7 +46,7 @@ fn find_kept<D: Drop>(kept: &[CachedLoop<D>], point: usize) -> Option<usize>
     ensures point { (place : ℕ) (none : CachedLoop D) → result ≡ Some place →
         (slice_index_or kept.now place none).point ≡ point }
 {
-    'kept: for (place, one) in kept.iter().enumerate() {
+    for (place, one) in kept.iter().enumerate() {
         if one.point == point {
             return Some(place);
         }

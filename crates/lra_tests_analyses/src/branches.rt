@@ -33,7 +33,7 @@ fn at_least(number_type: NumberType, bound: u64) -> Cond {
 /// `x >= 1`, behind which so many levels of parentheses say `|| x >= 1` and `&& x >= 1` in turn.
 fn nested(alloc: Global, number_type: NumberType, levels: u32) -> Result<Cond, AllocError> {
     let mut condition = at_least(number_type, 1);
-    'levels: for level in 0..levels {
+    for level in 0..levels {
         let mut others = Vec::new(alloc);
         others.push(at_least(number_type, 1))?;
         let first = Box::new(alloc, condition)?;
@@ -163,7 +163,7 @@ fn tells<D: Domain>(
     want: &[&[[i128; 2]]],
 ) -> Result<bool, AllocError> {
     let mut found = Vec::new(alloc);
-    'points: for value in &solution.values {
+    for value in &solution.values {
         found.push(rows_of(alloc, value)?)?;
     }
     let same = found
@@ -180,7 +180,7 @@ fn tells<D: Domain>(
 fn levels_of_conditions(rt: HostRuntime) -> Result<(), AllocError> {
     let alloc = rt.alloc();
     let want: [&[[i128; 2]]; 5] = [&[], &[], &[[-1, 1]], &[[0, -1]], &[[0, 1]]];
-    'levels: for levels in &[0, 1, 63] {
+    for levels in &[0, 1, 63] {
         let solution = solve::<Boxes>(alloc, NumberType::Long, *levels)?;
         assert!(rt;
             tells(alloc, &solution, want.as_slice())?,
