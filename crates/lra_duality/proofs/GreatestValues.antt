@@ -195,7 +195,7 @@ greatest_value p form num den place (inr h) e a =
       greatest = λ x i c. most num den (product form x) (entry x 0)
           (subst (λ (z : ℤ). pos 0 ≤ℤ z) (at_most_product p.dims form num den x e)
           (generated_nonneg (at_most_row p.dims form num den) (system_of p.generators) (entry x)
-          (least_on_rows p form num den (inr h) e a.2.positive a.1 a.2.interference)
+          (least_on_rows p form num den (inr h) e a.2.positive a.1 a.2.others)
           (gen_generated p.generators (entry x) ((con_gen p (inr h)).0 x i c))));
       positive = a.2.positive;
       lowest = a.3;

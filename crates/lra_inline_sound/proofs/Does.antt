@@ -395,8 +395,8 @@ module _ (may : State → State → Type 0) (keeps : KeepsWidth may) (P : Progra
           (rw l (go_is (all fn.body ∷ call_behind spot fn x k) (callee spot.frame spot.live (inner fn x) c).here
           (run_op (gives (given fn c)) a.state) w.state o.0))
 
-      moved : (k : List Item) (u : RunExtent) (b a w : Trace Point) → w.met ≡ a.events →
-          Fulfils spot.frame.here k u b (config (all fn.body ∷ call_behind spot fn x k) (callee spot.frame spot.live (inner fn x) c).here w.state) w.met
+      moved : (k : List Item) (u : RunExtent) (b a w : Trace Point) → w.events ≡ a.events →
+          Fulfils spot.frame.here k u b (config (all fn.body ∷ call_behind spot fn x k) (callee spot.frame spot.live (inner fn x) c).here w.state) w.events
           → Fulfils spot.frame.here k u b (config (all fn.body ∷ call_behind spot fn x k) (callee spot.frame spot.live (inner fn x) c).here w.state) a.events
       moved k u b a w e z = subst (λ xs. Fulfils spot.frame.here k u b (config (all fn.body ∷ call_behind spot fn x k)
           (callee spot.frame spot.live (inner fn x) c).here w.state) xs) e z
@@ -411,7 +411,7 @@ module _ (may : State → State → Type 0) (keeps : KeepsWidth may) (P : Progra
 
       through_end : (k : List Item) (w b : Trace Point) → EndsBody (point_at T) may r' spot.live (inner fn x) (width fn) g w b → length w.state.store ≡
           spot.live + width fn
-          → RunsTo (config (all fn.body ∷ call_behind spot fn x k) (callee spot.frame spot.live (inner fn x) c).here w.state) w.met
+          → RunsTo (config (all fn.body ∷ call_behind spot fn x k) (callee spot.frame spot.live (inner fn x) c).here w.state) w.events
           (config k spot.frame.here b.state) b.events
       through_end k w b z l =
           let marked : List Item = return_frame (record { receiver = inner fn x; here = spot.frame.here; length = spot.live }) ∷ k in
@@ -426,7 +426,7 @@ module _ (may : State → State → Type 0) (keeps : KeepsWidth may) (P : Progra
           (run_op (truncate_to spot.live) z.set.state) b.state
           z.back.0) in
           join (config (all fn.body ∷ call_behind spot fn x k) there w.state) (config (call_behind spot fn x k) there z.before.state)
-          (config k spot.frame.here b.state) w.met z.before.events b.events one
+          (config k spot.frame.here b.state) w.events z.before.events b.events one
           (join (config (call_behind spot fn x k) there z.before.state) (config marked there z.cut.state) (config k spot.frame.here b.state) z.before.events
           z.past.events b.events two
           (met_same (config marked there z.cut.state) (config k spot.frame.here b.state) z.past.events z.past.events b.events (z.back.1 ∙ (z.sets.1 ∙ z.cuts.1))
@@ -434,16 +434,16 @@ module _ (may : State → State → Type 0) (keeps : KeepsWidth may) (P : Progra
 
       by : (k : List Item) (w : Trace Point) (u : RunExtent) (b : Trace Point) → length w.state.store ≡ spot.live + width fn → GoesCall (point_at T) may spot r'
           (inner fn x) (width fn) g w b u
-          → Fulfils spot.frame.here k u b (config (all fn.body ∷ call_behind spot fn x k) (callee spot.frame spot.live (inner fn x) c).here w.state) w.met
+          → Fulfils spot.frame.here k u b (config (all fn.body ∷ call_behind spot fn x k) (callee spot.frame spot.live (inner fn x) c).here w.state) w.events
       by k w _ b l (call_returned z) = y.runs (call_behind spot fn x k) w (stopped (by_jump returned)) b (matches k) l z (config k spot.frame.here b.state) refl
       by k w _ b l (call_ended z) = through_end k w b z l
       by k w _ b l (call_stopped v d z) =
           across (callee spot.frame spot.live (inner fn x) c).here spot.frame.here (call_behind spot fn x k) k v b
-          (config (all fn.body ∷ call_behind spot fn x k) (callee spot.frame spot.live (inner fn x) c).here w.state) w.met
+          (config (all fn.body ∷ call_behind spot fn x k) (callee spot.frame spot.live (inner fn x) c).here w.state) w.events
           (no_jump v w b d (len.ends w b (stopped v) l z)) (y.runs (call_behind spot fn x k) w (stopped v) b (matches k) l z)
       by k w _ b l (call_at_end z) = later spot.frame.here k (stopped (to_point r')) b
           (config (all fn.body ∷ call_behind spot fn x k) (callee spot.frame spot.live (inner fn x) c).here w.state)
-          (config (call_behind spot fn x k) (callee spot.frame spot.live (inner fn x) c).here b.state) w.met b.events
+          (config (call_behind spot fn x k) (callee spot.frame spot.live (inner fn x) c).here b.state) w.events b.events
           (y.runs (call_behind spot fn x k) w to_end b (matches k) l z)
           (stands_here (spot_of (callee spot.frame spot.live (inner fn x) c) n' r') fn.end false (call_behind spot fn x k) b b has refl
           (len.ends w b to_end l z) refl)

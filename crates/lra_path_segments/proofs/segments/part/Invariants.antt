@@ -4,6 +4,6 @@ use Rattle.lra_path_segments.proofs.segments.part.Given as goal
 
 abbrev pub invariant-each : goal.invariant-each
 invariant-each l = record {
-  those : seen l.parts.those.items ≡ those (kind_view l.kind) (seen l.yielded);
-  segments_not_of_kind : seen l.parts.others.items ≡ segments_not_of_kind (kind_view l.kind) (seen l.yielded);
+  those : seen l.parts.those.items ≡ segments_of_kind (kind_view l.kind) (seen l.yielded);
+  others : seen l.parts.others.items ≡ segments_not_of_kind (kind_view l.kind) (seen l.yielded);
 }
