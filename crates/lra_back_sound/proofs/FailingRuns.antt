@@ -118,7 +118,7 @@ module _ (P : Program) (g : Node) (well : IsWellFormed P) (is : IsInlinedTree P 
     ahead_on label on =
         let point : Point = record { path = c.here.path; label = label } in
         let top : IsOn c point = record { label = on; path = refl } in
-        let (q, s, at, same) = (trees_agree P g (distinct_sites P well) is).interference point c.state.store (c, run, top, refl) in
+        let (q, s, at, same) = (trees_agree P g (distinct_sites P well) is).others point c.state.store (c, run, top, refl) in
         let here : IsOn c (point_of s) = subst (λ (r : Point). IsOn c r) same top in
         ahead_at c q s at run here (before c q ahead.number s ahead.site ahead.there.state.store at ahead.at run here
         (cover.goes c ahead.there q ahead.number s ahead.site at ahead.at run (piece_on label (point_of s) on same) ahead.on) ahead.holds)
