@@ -111,7 +111,7 @@ formed_pushed k form n rows kinds i all more o r t h ed er ek et m low is = reco
   is_lost = h.is_lost;
   formed =
       let pushed = one_pushed all more t (substituted k form r) (get_or kinds i Ge) h.many er ek et in
-      let new : Given = substituted_given k form (member is_equality kinds i r Ge) in
+      let new : LinearRow = substituted_given k form (member is_equality kinds i r Ge) in
       formed_more k form rows kinds i r (constraints all) (constraints more) m low is h.formed
       (λ g c. subst (λ (l : List LinearRow). Contains l g) (sym pushed) (Contains-append_left (constraints all) (new ∷ []) g c))
       (inl (subst (λ (l : List LinearRow). Contains l new) (sym pushed)

@@ -247,7 +247,7 @@ told p (inl none) wide_rows wide_generators small =
       wide = tt;
       tell = tt;
       holds = λ s long c.
-          let never : Given = record { row = falsity p.dims; equal = false } in
+          let never : LinearRow = record { row = falsity p.dims; equal = false } in
           absurd (falsity_never p.dims (pos 1 ∷ s) (store_point p.dims s long) (c never (subst (λ l. Contains l never) (sym none.0) (contains_head never []))));
       only = λ s long h. absurd h;
     })

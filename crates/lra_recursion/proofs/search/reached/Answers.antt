@@ -32,4 +32,4 @@ left-preserved c =
     (mapped_at (λ row. row.items) c.args.rows.now c.in-Some.place c.index-rows-place.result is ∙ ap Some (sym c.deref.ensures.value)) c.in_ok-visit_all.ensures
 
 pub returns : goal.returns
-returns c = ended_search (map (λ row. row.items) c.args.rows.now) c.args.start c.left.search.met.items c.left.search.left.items (search rules) c.left.invariant
+returns c = ended_search (map (λ row. row.items) c.args.rows.now) c.args.start c.left.search.visited.items c.left.search.left.items (search rules) c.left.invariant
