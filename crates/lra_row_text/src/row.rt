@@ -54,7 +54,7 @@ fn push_coefficient(
 /// The number, or its opposite.
 fn negated_if(is_negated: bool, number: i128) -> i128
     requires { InRange number }
-    ensures value { result ≡ texts.negated_if is_turned number }
+    ensures value { result ≡ texts.negated_if is_negated number }
     ensures in_range { InRange result }
 {
     if is_negated { -number } else { number }
@@ -71,10 +71,10 @@ fn push_column(
 ) -> Result<bool, AllocError>
     requires { column < length row.now }
     ensures written { OnOk result (string_bytes text.new ≡
-        string_bytes text.old ++ rest_text is_first (texts.negated_if is_turned (entry row.now column) ∷ [])
+        string_bytes text.old ++ rest_text is_first (texts.negated_if is_negated (entry row.now column) ∷ [])
         (name.now ∷ [])) }
     ensures next { IfOk result (λ next. next ≡
-        is_first_after is_first (texts.negated_if is_turned (entry row.now column))) }
+        is_first_after is_first (texts.negated_if is_negated (entry row.now column))) }
 {
     let coefficient = negated_if(is_negated, row.get(column));
     push_coefficient(text, is_first, coefficient, name)
@@ -103,7 +103,7 @@ fn push_form(
     names: &[String],
 ) -> Result<(), AllocError>
     ensures { OnOk result (string_bytes text.new ≡ string_bytes text.old ++
-        texts.form_text (map (texts.negated_if is_turned) (drop 1 row.now)) (map string_bytes names.now)) }
+        texts.form_text (map (texts.negated_if is_negated) (drop 1 row.now)) (map string_bytes names.now)) }
 {
     let mut is_first = true;
     let columns = names.len().min(row.width().saturating_sub(1));
