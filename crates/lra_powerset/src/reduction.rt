@@ -47,7 +47,7 @@ pub fn all_lie_in<D: BaseDomain>(parts: &[D], others: &[D]) -> Included
 fn lies_below<D: BaseDomain>(part: &D, other: &D) -> Included
     requires { D.abstraction.dims part.now ≡ D.abstraction.dims other.now }
     ensures { let m = D.abstraction in let p = part.now in let q = other.now in
-        AnswersWhether (m.inside p q × ¬ m.inside q p) (BelowStrains m p q) result }
+        AnswersWhether (m.included p q × ¬ m.included q p) (BelowStrains m p q) result }
 {
     match part.included(other) {
         Included::No => Included::No,
@@ -64,9 +64,9 @@ fn lies_below<D: BaseDomain>(part: &D, other: &D) -> Included
 fn lies_below_some<D: BaseDomain>(part: &D, others: &[D]) -> Included
     requires { HaveDims D.abstraction (D.abstraction.dims part.now) others.now }
     ensures { let m = D.abstraction in let p = part.now in
-        AnswersWhether (SomePart (λ q. m.inside p q × ¬ m.inside q p) others.now)
+        AnswersWhether (SomePart (λ q. m.included p q × ¬ m.included q p) others.now)
         (SomePart (BelowStrains m p) others.now ×
-        EachPart (λ q. BelowStrains m p q ⊎ ¬ (m.inside p q × ¬ m.inside q p)) others.now) result }
+        EachPart (λ q. BelowStrains m p q ⊎ ¬ (m.included p q × ¬ m.included q p)) others.now) result }
 {
     let Some((first, later)) = others.split_first() else {
         return Included::No;
