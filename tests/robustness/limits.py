@@ -1,7 +1,7 @@
 #!/usr/bin/env python3
 """Each limit from both sides: the last source that is taken, and the first that isn't, each within a second.
 
-    hostile/limits.py [PROGRAM]
+    tests/robustness/limits.py [PROGRAM]
 """
 from trial import case, ended, refused
 

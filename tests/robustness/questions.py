@@ -2,7 +2,7 @@
 """Each allocation of the tests of `lra_tests_queries` refused in turn: calls of the library that make polyhedra, boxes and
 lists answer that memory is wanting, so the test ends at an assertion of its own, and in no other way.
 
-    hostile/questions.py [PROGRAM]
+    tests/robustness/questions.py [PROGRAM]
 
 PROGRAM is that of the tests, which the gate builds. Wants `cc`. Prints for each test how many allocations it has.
 """
@@ -13,7 +13,7 @@ import sys
 from shim import made
 
 HERE = os.path.dirname(os.path.abspath(__file__))
-BUILT = os.path.join(HERE, '../crates/lra_tests_queries/out/lra_tests_queries_tests')
+BUILT = os.path.join(HERE, '../../crates/lra_tests_queries/out/lra_tests_queries_tests')
 PROGRAM = os.path.abspath(sys.argv[1] if len(sys.argv) > 1 else BUILT)
 LIBRARY = made()
 

@@ -1,7 +1,7 @@
 #!/usr/bin/env python3
 """Depth: sources as deep as they may be, in each domain, alone and in sets of parts, and what is one past each limit.
 
-    hostile/depth.py [PROGRAM]
+    tests/robustness/depth.py [PROGRAM]
 
 Each run has a stack of 1 MB and ten seconds of processor time. A function nests 63 levels in its body; 32 calls may stand
 on a path, 2,048 points in a program, 32 variables live at a point. Wants `cc` for its last row.

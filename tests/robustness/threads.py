@@ -2,7 +2,7 @@
 """Programs of several threads that are meant to break it: each limit from both sides, names that are nearly those of
 threads, as many rounds as there are bounds to lose, deep threads, numbers past the range.
 
-    hostile/threads.py [PROGRAM]
+    tests/robustness/threads.py [PROGRAM]
 
 Wants `cc` for its last rows, in which each allocation of a run is refused, and a hundred of those of others.
 """

@@ -2,7 +2,7 @@
 """Certificates: every front of one, inputs at the limit and past it, long lines and many of them, conditions with as many sides as are
 taken and with one more, numbers at the ends of their range; and certificates that are written: wide, deep, with many points.
 
-    hostile/certificates.py [PROGRAM]
+    tests/robustness/certificates.py [PROGRAM]
 """
 from levels import IF, SINGLE, stacked
 from trial import answer, case, ended, tell

@@ -1,7 +1,7 @@
 #!/usr/bin/env python3
 """What strains: programs that would double without end, deep loops and conditions, numbers and lists past their range.
 
-    hostile/strains.py [PROGRAM]
+    tests/robustness/strains.py [PROGRAM]
 
 Where nothing else is said a run has one second of processor time.
 """

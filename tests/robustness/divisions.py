@@ -1,7 +1,7 @@
 #!/usr/bin/env python3
 """Divisions by constants: of a sum of 20,000 terms, and by divisors at the ends of their range.
 
-    hostile/divisions.py [PROGRAM]
+    tests/robustness/divisions.py [PROGRAM]
 """
 from trial import case, ended
 

@@ -2,7 +2,7 @@
 """Going back from assertions: as many points, paths, variables and conditions as there may be, and one more; depth;
 numbers past the range; words.
 
-    hostile/back.py [PROGRAM]
+    tests/robustness/back.py [PROGRAM]
 
 Wants `cc` for the last rows.
 """

@@ -1,7 +1,7 @@
 #!/usr/bin/env python3
 """Thresholds: many of them, large ones, deep loops, loops with many comparisons; and words that can't stand together.
 
-    hostile/thresholds.py [PROGRAM]
+    tests/robustness/thresholds.py [PROGRAM]
 """
 from trial import case, ended
 

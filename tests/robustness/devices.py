@@ -1,7 +1,7 @@
 #!/usr/bin/env python3
 """Each read and each write of a run failing in turn, ten bytes a call, and devices that always fail.
 
-    hostile/devices.py [PROGRAM]
+    tests/robustness/devices.py [PROGRAM]
 
 Wants `cc`, and Linux's /dev/full.
 """

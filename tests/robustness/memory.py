@@ -1,7 +1,7 @@
 #!/usr/bin/env python3
 """Each allocation of some runs refused in turn: the status is 6 and nothing is written, or the answer is the run's own.
 
-    hostile/memory.py [PROGRAM]
+    tests/robustness/memory.py [PROGRAM]
 
 Wants `cc`. Prints for each run how many allocations it has, and how often each of the two came.
 """

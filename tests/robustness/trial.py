@@ -9,7 +9,7 @@ import subprocess
 import sys
 
 HERE = os.path.dirname(os.path.abspath(__file__))
-PROGRAM = os.path.abspath(sys.argv[1] if len(sys.argv) > 1 else os.path.join(HERE, '../crates/lra/out/lra'))
+PROGRAM = os.path.abspath(sys.argv[1] if len(sys.argv) > 1 else os.path.join(HERE, '../../crates/lra/out/lra'))
 if not os.access(PROGRAM, os.X_OK):
     sys.exit(f"{sys.argv[0]}: {PROGRAM} isn't there; ./prove builds it")
 STACK = 1 << 20

@@ -10,7 +10,7 @@ from collections.abc import Callable
 from dataclasses import dataclass
 from functools import lru_cache
 
-sys.path.append(os.path.join(os.path.dirname(os.path.realpath(__file__)), '../tools'))
+sys.path.append(os.path.join(os.path.dirname(os.path.realpath(__file__)), '../../tools'))
 
 from looking.paths import printed  # noqa: E402
 from looking.programs import (  # noqa: E402

@@ -2,7 +2,7 @@
 """What can overflow, asked of what is meant to break it: deep expressions and conditions, long sums, deep programs, long
 reports.
 
-    hostile/fits.py [PROGRAM [large]]
+    tests/robustness/fits.py [PROGRAM [large]]
 
 `large` runs the last row, too, whose report has 1.4 GB.
 """

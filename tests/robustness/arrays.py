@@ -1,7 +1,7 @@
 #!/usr/bin/env python3
 """Arrays: indexes within one another up to the limit and past it, many of them side by side, long arrays, many arrays.
 
-    hostile/arrays.py [PROGRAM [large]]
+    tests/robustness/arrays.py [PROGRAM [large]]
 
 `large` runs the last row, too, whose report has hundreds of megabytes. Wants `cc` for the rows before it.
 """

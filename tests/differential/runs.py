@@ -1,7 +1,7 @@
 #!/usr/bin/env python3
 """Reports against runs: programs drawn from seeds are analysed, and run by an interpreter of docs/DEFINITIONS.md.
 
-    hostile/runs.py [PROGRAM] [--seed N] [--count N] [--threads N] [--runs N] [--guided] [FILE..]
+    tests/differential/runs.py [PROGRAM] [--seed N] [--count N] [--threads N] [--runs N] [--guided] [FILE..]
 
 Whenever a run is at a point, the rows printed there have to hold; no run comes to a point that is marked unreachable,
 fails an assertion that is marked proved, ends by a number where all is marked as fitting, or has an index outside an
@@ -29,7 +29,7 @@ from looking.programs import read_program
 from looking.sources import Source
 
 HERE = os.path.dirname(os.path.realpath(__file__))
-PROGRAM = os.path.join(HERE, '../crates/lra/out/lra')
+PROGRAM = os.path.join(HERE, '../../crates/lra/out/lra')
 WAYS = ('--domain box --fits', '--domain oct --fits', '--fits', '--best --fits', '--domain box --parts 4 --fits')
 BESIDE = ('', '--delay 0 --narrow 0', '--delay 3 --narrow 2')
 # What ends a run is broken by a verdict of this kind.
@@ -260,7 +260,7 @@ def command():
     words.add_argument('--guided', action='store_true')
     asked = words.parse_args()
     if not os.access(asked.program, os.X_OK):
-        sys.exit(f"hostile/runs.py: {os.path.normpath(asked.program)} isn't there; ./prove builds it")
+        sys.exit(f"tests/differential/runs.py: {os.path.normpath(asked.program)} isn't there; ./prove builds it")
     faults = [*known_reports(), *known_backs(), *known_threads(), *known_ends()]
     alone, beside = drawn(asked.seed, asked.count, program_of), drawn(asked.seed, asked.threads, threads_of)
     sources = [read(name) for name in asked.files] or alone + beside
@@ -272,8 +272,8 @@ def command():
         except Wrong as wrong:
             faults.append(str(wrong))
     for fault in faults:
-        print(f'hostile/runs.py: {fault}')
-    print(f'hostile/runs.py: {len(sources)} programs, {asked.runs} runs of each, {len(faults)} faults')
+        print(f'tests/differential/runs.py: {fault}')
+    print(f'tests/differential/runs.py: {len(sources)} programs, {asked.runs} runs of each, {len(faults)} faults')
     return 1 if faults else 0
 
 

@@ -2,7 +2,7 @@
 """The fronts of a source: each that isn't empty is refused as Syntax, some at known places; of several threads' those
 that end behind a definition are whole, and have too few threads.
 
-    hostile/fronts.py [PROGRAM]
+    tests/robustness/fronts.py [PROGRAM]
 """
 from trial import answer, ended, refused, tell
 
