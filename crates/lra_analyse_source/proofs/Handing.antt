@@ -13,7 +13,8 @@ use Rattle.lra_report.specs.{Listing.HasWidth, Report.Invariant, declared.verdic
 use Rattle.lra_analysis_spec.specs.{Analysis.LossyIteration, Analysis.IsSolution, Operations.lossy_operations, Pass.PassResult, Plan.Plan}
 use Rattle.lra_fixpoint.specs.Numbers.{values_in, checks_in, asserts_of, IsNumbered}
 use Rattle.lra_fixpoint.proofs.{Counting.Found, Counting.iteration_found, Counting.value_counted, Counting.failing_counted, Counting.counted_value, Counting.counted_failing, Widths.values_wide}
-use Rattle.lra_report_build.specs.AnalysisResults.{IsAssertion, ReportedVerdict, reported_verdict, reported_from, reported_accesses}
+use Rattle.lra_program.specs.Assertions.{IsAssertion}
+use Rattle.lra_report_build.specs.AnalysisResults.{ReportedVerdict, reported_verdict, reported_from, reported_accesses}
 use Rattle.lra_report_build.specs.{Canonical.AreCanonicallyShown, Canonical.IsCanonicalState, Shown.AreShown}
 use Rattle.lra_analyse_source.proofs.{Flags.IsBelow, Flags.graph_below, Flags.iteration_below, Numbering.numbered, Widths.graph_lives}
 

@@ -10,7 +10,7 @@ ghost use Rattle.lra_analysis_spec.specs.Operations.{lossy_operations};
 ghost use Rattle.lra_analysis_spec.specs.{Accesses.JudgesAccesses, Fits.JudgesIf, LiveLimit.most_live, Plan.plan_of};
 ghost use Rattle.lra_overflow_checks.specs.Judged.{AreBelow};
 ghost use Rattle.lra_fixpoint.specs.Solved.{IsSolved};
-ghost use Rattle.lra_report_build.specs.Views.{reported_view};
+ghost use Rattle.lra_base.specs.AccessVerdicts.{reported_view};
 ghost use Rattle.lra_report.specs.View.{report_of};
 ghost use Rattle.lra_front_end.specs.Stages.{HasInlinedTree};
 ghost use Rattle.lra_analyse_source.specs.Stages.{IsReportOfTree, ReportsSolution};

@@ -9,7 +9,8 @@ use Rattle.lra_analysis_spec.proofs.Keeping.{some_is}
 use Rattle.lra_path_segments.specs.{Segments.Goal, Segments.comes_to, TreeSegments.TreeSegment}
 use Rattle.lra_path_disjuncts.specs.{Disjuncts.greatest_paths, Tables.IsTable}
 use Rattle.lra_paths.specs.{Paths.AreFewIn, Paths.actions_between_in, Sources.to_goal, declared.paths.PathsFailure.PathsFailure, declared.sources.Source.Source}
-use Rattle.lra_back.specs.BackwardAnalysis.{AreAsserted, BackwardAnalysis, IsAsserted, IsAssertion, NothingLeftAtStart, task_of}
+use Rattle.lra_program.specs.Assertions.{IsAssertion}
+use Rattle.lra_back.specs.BackwardAnalysis.{AreAsserted, BackwardAnalysis, IsAsserted, NothingLeftAtStart, task_of}
 use Rattle.lra_back.specs.BackwardCalls.{AreHeads, AreSources, BackNeeds, FitHeads, IsBackwardSolution, IsPrepared, IsSourceOf, IsTask, asserts_at, asserts_of, failed_by, paths_at, paths_from}
 use Rattle.lra_back.specs.declared.analysis.BackFailure.TheVariants.{Memory, TooMany}
 use Rattle.lra_back.specs.{BackwardCalls.task_view, Operations.lossy_back_operations, Rounds.Rounds, declared.analysis.BackFailure.BackFailure, declared.tasks.Task.Task}

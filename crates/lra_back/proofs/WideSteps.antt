@@ -4,7 +4,8 @@ use Rattle.std.proofs.lemmas.Option.{slice_get_within}
 use Rattle.lra_domain.specs.Abstraction.{Abstraction}
 use Rattle.lra_program.specs.Sites.{Site}
 use Rattle.lra_analysis_spec.specs.LiveLimit.{most_live}
-use Rattle.lra_back.specs.BackwardAnalysis.{AreWide, IsAssertion}
+use Rattle.lra_program.specs.Assertions.{IsAssertion}
+use Rattle.lra_back.specs.BackwardAnalysis.{AreWide}
 use Rattle.lra_back.proofs.BackSteps.{also_there}
 
 few_enough : (n : ℕ) → n ≤ most_live → n ≤ 2 ^ 30

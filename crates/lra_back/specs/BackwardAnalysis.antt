@@ -1,9 +1,10 @@
 -- Going back from an assertion of a program: what is found, and what is claimed of it.
-use Rattle.std.specs.Prelude.{◌≡◌, ◌≢◌, ◌≤◌, ℕ, suc, ℤ, List, [], ◌∷◌, length, Option, Some, None, true, false}
+use Rattle.std.specs.Prelude.{◌≡◌, ◌≢◌, ◌≤◌, ℕ, suc, ℤ, List, [], ◌∷◌, length, Option, Some, None, false}
 use Rattle.std.specs.Prelude.{Contains, slice_get}
 use Rattle.lra_domain.specs.{Abstraction.Abstraction, Actions.Action, Backward.BackwardAbstraction}
 use Rattle.lra_domain.specs.{Changes.AllCanBeMade, Changes.dims_after_actions, declared.Exactness.Exactness}
 use Rattle.lra_analysis_spec.specs.{Analysis.IsUnreachable, LiveLimit.most_live, Pass.Filters, Pass.noted}
+use Rattle.lra_program.specs.Assertions.{IsAssertion}
 use Rattle.lra_program.specs.{Program.Program, Program.Cond, Run.Point, Run.IsOn, Run.IsFailing, Run.Reaches, Run.Steps}
 use Rattle.lra_program.specs.{Sites.Site, Step.Config, Step.test, declared.program.GlobalVariable.GlobalVariable}
 use Rattle.lra_operations.specs.Tree.{Node}
@@ -25,9 +26,6 @@ abbrev pub IsAsserted : Node → ℕ → ℕ → Cond → Type 0
 IsAsserted g p base c = next_segments g p (violates p) ≡ violation_segment p base c ∷ []
 
 -- each site that asserts has one
-abbrev pub IsAssertion : List Site → ℕ → Type 0
-IsAssertion sites p = (s : Site) × (slice_get sites p ≡ Some s) × (s.asserts ≡ true)
-
 abbrev pub AreAsserted : List Site → Node → Type 0
 AreAsserted sites g = (p : ℕ) → IsAssertion sites p → (base : ℕ) × (c : Cond) × IsAsserted g p base c
 

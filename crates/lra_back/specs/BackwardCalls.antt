@@ -16,7 +16,8 @@ use Rattle.lra_path_disjuncts.specs.{Disjuncts.greatest_paths, Tables.IsTable}
 use Rattle.lra_paths.specs.Paths.{AreFewIn, actions_between_in, same_goal}
 use Rattle.lra_paths.specs.{Sources.to_goal, declared.paths.PathsFailure.PathsFailure, declared.sources.Source.Source}
 use Rattle.lra_paths.specs.declared.paths.PathsFailure.TheVariants as paths_failure
-use Rattle.lra_back.specs.BackwardAnalysis.{AreAsserted, AreWide, IsAsserted, IsAssertion, PathsFit}
+use Rattle.lra_program.specs.Assertions.{IsAssertion}
+use Rattle.lra_back.specs.BackwardAnalysis.{AreAsserted, AreWide, IsAsserted, PathsFit}
 use Rattle.lra_back.specs.Operations.{BackwardOperations, lossy_back_operations}
 use Rattle.lra_back.specs.Preconditions.{PreAlong, IsNext}
 use Rattle.lra_back.specs.Rounds.{AreBackwardValues, AreStarted, Rounds, seed_at}

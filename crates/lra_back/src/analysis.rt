@@ -8,7 +8,8 @@ ghost use Rattle.lra_paths.specs.{Paths.AreFewIn, Paths.HasTooManyIn, Sources.to
 ghost use Rattle.lra_path_segments.specs.{Segments.comes_to, TreeSegmentViews.seen, TreeSegments.AreSegmentsOf};
 ghost use Rattle.lra_back.specs.Operations as operations;
 ghost use Rattle.lra_back.specs.BackwardAnalysis as traced;
-ghost use Rattle.lra_back.specs.BackwardAnalysis.{AreAsserted, AreWide, IsAssertion, IsBackwardAnalysis};
+ghost use Rattle.lra_program.specs.Assertions.{IsAssertion};
+ghost use Rattle.lra_back.specs.BackwardAnalysis.{AreAsserted, AreWide, IsBackwardAnalysis};
 ghost use Rattle.lra_back.specs.BackwardAnalysis.{NothingLeftAtStart, PathsFit};
 ghost use Rattle.lra_back.specs.BackwardCalls.{AreSources, BackNeeds, IsPrepared, IsTask, asserts_at};
 ghost use Rattle.lra_back.specs.declared.analysis.BackFailure.TheVariants.{NoAssertion, TooMany};

@@ -15,7 +15,8 @@ use Rattle.lra_operations.specs.Tree.{Exit, normal, Node, empty, point, act, che
 use Rattle.lra_path_segments.specs.Segments.{SegmentStep, Suffix, Goal, comes_to, violates, GoalSegment, Segment, goes_in, prepend_step_to_goal, then_way, tested_way, segment_by, into_body}
 use Rattle.lra_path_segments.specs.Segments.{out_of_body, segment_to, segments_by, then_ways, through, exit_suffixes, enter, enter_arms, enter_labels, inside, inside_arms}
 use Rattle.lra_paths.specs.Paths.{same_goal}
-use Rattle.lra_back.specs.BackwardAnalysis.{violation_segment, IsAssertion, AreAsserted}
+use Rattle.lra_program.specs.Assertions.{IsAssertion}
+use Rattle.lra_back.specs.BackwardAnalysis.{violation_segment, AreAsserted}
 use Rattle.lra_back_sound.proofs.MadeLists.{all_flat, all_made}
 
 -- two points are apart

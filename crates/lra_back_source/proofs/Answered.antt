@@ -14,7 +14,8 @@ use Rattle.lra_paths.specs.Paths.{AreFewIn, HasTooManyIn}
 use Rattle.lra_certificate_spec.specs.Claims.{IsProgram}
 use Rattle.lra_poly_domain.specs.{Abstraction.polyhedron_abstraction, Backward.polyhedron_backward}
 use Rattle.lra_analyse_source.proofs.ReportSteps.{few_points}
-use Rattle.lra_back.specs.BackwardAnalysis.{AreWide, IsAssertion, IsBackwardAnalysis, NothingLeftAtStart}
+use Rattle.lra_program.specs.Assertions.{IsAssertion}
+use Rattle.lra_back.specs.BackwardAnalysis.{AreWide, IsBackwardAnalysis, NothingLeftAtStart}
 use Rattle.lra_back.specs.{Operations.lossy_back_operations, declared.analysis.BackFailure.BackFailure}
 use Rattle.lra_back.specs.declared.analysis.BackFailure.TheVariants as of_back
 use Rattle.lra_back_source.specs.BackReports.{IsBackReportOf, IsBackRefusalOf, IsBackwardFinding, ShowsAtPoints}

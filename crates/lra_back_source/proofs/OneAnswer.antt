@@ -9,7 +9,7 @@ use Rattle.lra_paths.specs.Paths.{AreFewPaths}
 use Rattle.lra_paths.proofs.ManyPaths.{not_both}
 use Rattle.lra_certificate_spec.specs.Claims.{IsProgram, program_of}
 use Rattle.lra_certificate_spec.proofs.OneProgram.{accepted_of, as_said}
-use Rattle.lra_back.specs.BackwardAnalysis.{IsAssertion}
+use Rattle.lra_program.specs.Assertions.{IsAssertion}
 use Rattle.lra_back_source.specs.declared.refusals.BackRefusal.TheVariants.{Source, NoAssertion, Paths}
 use Rattle.lra_back_source.specs.{BackReports.BackOrRefused, BackReports.CanGoBack, BackReports.IsBackRefusalOf, declared.refusals.BackRefusal.BackRefusal}
 

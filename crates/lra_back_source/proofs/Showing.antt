@@ -15,7 +15,8 @@ use Rattle.lra_report_build.specs.{AnalysisResults.AreInvariants, AnalysisResult
 use Rattle.lra_poly_domain.specs.Abstraction.{polyhedron_abstraction}
 use Rattle.lra_analyse_source.proofs.{Handing.contained, Handing.image_of, Sound.listed_all}
 use Rattle.lra_back.specs.BackwardAnalysis.{AreWide}
-use Rattle.lra_back_source.specs.BackReports.{BacksHaveSamePoints, HasSamePointsAt, ShowsAtPoints}
+use Rattle.lra_report.specs.Report.{HasSamePointsAt}
+use Rattle.lra_back_source.specs.BackReports.{BacksHaveSamePoints, ShowsAtPoints}
 
 -- the states that are listed
 pub states_listed : (sites : List Site) (values : List Polyhedron) (states : List Invariant) → AreWide polyhedron_abstraction sites values

@@ -1,7 +1,7 @@
 -- What a source deserves that is gone back over from one of its assertions: what is left at each point of the stores
 -- from which it may fail, and whether it is proved; or why there is no such answer. Points are counted from 0 here; a
 -- report's numbers are one more.
-use Rattle.std.specs.Prelude.{◌≡◌, ◌↔◌, ◌⊎◌, ℕ, suc, ℤ, List, [], length, map, Bool, true, Option, None, Some}
+use Rattle.std.specs.Prelude.{◌≡◌, ◌↔◌, ◌⊎◌, ℕ, suc, ℤ, List, [], map, Bool, true, Option, None, Some}
 use Rattle.std.specs.{List.AllByRecursion, Prelude.option_map, Prelude.slice_get}
 use Rattle.lra_base.specs.declared.refusals.Place.{Place}
 use Rattle.lra_linear_spec.specs.Polyhedra.{Polyhedron}
@@ -10,8 +10,8 @@ use Rattle.lra_resolution_spec.specs.{LiveNames.globals_named, Refuse.Refuse, Re
 use Rattle.lra_program.specs.{Program.Program, Run.Point, Run.Fails, Sites.Site, Sites.sites_of}
 use Rattle.lra_operations.specs.{Agree.point_of, Tree.Node}
 use Rattle.lra_options.specs.declared.options.Domain.TheVariants.{Poly}
-use Rattle.lra_report.specs.Report.{PointReport, InvariantHolds}
-use Rattle.lra_report.specs.{BackText.BackReport, Listing.AreListed, Parts.HasSamePoints}
+use Rattle.lra_report.specs.Report.{PointReport, HasSamePointsAt, InvariantHolds}
+use Rattle.lra_report.specs.{BackText.BackReport, Listing.AreListed}
 use Rattle.lra_report_build.specs.{Polyhedra.shown_polyhedron, Shown.AreShown}
 use Rattle.lra_front_end.specs.Stages.{HasConstants}
 use Rattle.lra_analysis_spec.specs.Analysis.{ExactIteration, IsSolution, StrainsAtPoint}
@@ -20,7 +20,8 @@ use Rattle.lra_analysis_spec.specs.Operations as iteration
 use Rattle.lra_paths.specs.Paths.{AreFewPaths, HasTooManyPaths}
 use Rattle.lra_certificate_spec.specs.Claims.{IsProgram, program_of}
 use Rattle.lra_poly_domain.specs.{Abstraction.polyhedron_abstraction, Backward.polyhedron_backward}
-use Rattle.lra_back.specs.BackwardAnalysis.{AreWide, BackwardAnalysis, FailsFrom, IsAssertion, IsBackwardAnalysis}
+use Rattle.lra_program.specs.Assertions.{IsAssertion}
+use Rattle.lra_back.specs.BackwardAnalysis.{AreWide, BackwardAnalysis, FailsFrom, IsBackwardAnalysis}
 use Rattle.lra_back.specs.BackwardAnalysis.{NothingLeftAtStart}
 use Rattle.lra_back.specs.Operations.{exact_back_operations, straining_back_operations}
 use Rattle.lra_back_sound.specs.Fitting.{IsFirst}
@@ -119,10 +120,6 @@ pub record StrainsBack (constants : List ℤ) (P : Program) (g : Node) (p q : �
 abbrev pub StrainsAt : List ℤ → Program → Node → ℕ → ℕ → Type 0
 StrainsAt constants P g p q = StrainsAtPoint polyhedron_abstraction (forward_plan constants) P g q ⊎
     (StrainsInAccess constants P g q ⊎ StrainsBack constants P g p q)
-
--- rows and generators of each state tell the same points
-abbrev pub HasSamePointsAt : PointReport → Type 0
-HasSamePointsAt x = AllByRecursion (HasSamePoints (length x.names)) x.state
 
 abbrev pub BacksAreSound : Type 0
 BacksAreSound = (source : List ℕ) (p : ℕ) (r : BackReport) → (x : IsBackReportOf source p r) →

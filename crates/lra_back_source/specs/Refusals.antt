@@ -5,7 +5,8 @@ use Rattle.lra_base.specs.declared.error.SourceError.TheVariants as of_source
 use Rattle.lra_program.specs.{Program.Program, Sites.sites_of}
 use Rattle.lra_operations.specs.Tree.{Node}
 use Rattle.lra_paths.specs.Paths.{HasTooManyPaths}
-use Rattle.lra_back.specs.{BackwardAnalysis.IsAssertion, declared.analysis.BackFailure.BackFailure}
+use Rattle.lra_program.specs.Assertions.{IsAssertion}
+use Rattle.lra_back.specs.declared.analysis.BackFailure.{BackFailure}
 use Rattle.lra_back.specs.declared.analysis.BackFailure.TheVariants as of_back
 use Rattle.lra_back_source.specs.declared.refusals.BackError.TheVariants.{Refused, Memory}
 use Rattle.lra_back_source.specs.declared.refusals.BackRefusal.TheVariants.{Source, NoAssertion, Paths}

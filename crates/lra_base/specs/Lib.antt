@@ -1,5 +1,6 @@
 pub mod Limits
 pub mod Places
+pub mod AccessVerdicts
 pub mod TextOrder
 pub mod NumberTypes
 pub mod Operators

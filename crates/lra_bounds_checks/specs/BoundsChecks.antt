@@ -1,16 +1,11 @@
 -- What is told of accesses behind others, as the definitions have it.
-use Rattle.std.specs.Prelude.{◌≡◌, ℕ, List, Bool, Option, None, Some, Vec, length, ⊤}
-use Rattle.std.specs.declared.alloc.Global.{Global}
+use Rattle.std.specs.Prelude.{◌≡◌, ℕ, List, Bool, Option, None, Some, length, ⊤}
 use Rattle.lra_linear_forms.specs.declared.test.Test.{Test}
 use Rattle.lra_domain.specs.{Abstraction.Abstraction, declared.Exactness.Exactness}
 use Rattle.lra_base.specs.declared.refusals.Place.{Place}
 use Rattle.lra_program.specs.{Program.Element, Step.Op}
 use Rattle.lra_analysis_spec.specs.{Accesses.EachJudged, Accesses.OpInside, Operations.lossy_operations}
 use Rattle.lra_overflow_checks.specs.Judged.{HasAnswers}
-
--- a point with what is told of its accesses
-abbrev pub reported_view : ℕ × Vec (Place × Bool) Global → ℕ × List (Place × Bool)
-reported_view v = (v.0, v.1.items)
 
 -- a coefficient for each of so many variables
 abbrev pub AreWide : ℕ → Option (Test × Test) → Type 0

@@ -4,7 +4,7 @@ ghost use Rattle.std.specs.Prelude.{◌<◌, None, length, map, All, IfOk};
 ghost use Rattle.lra_operations.specs.{CheckedOperations.accessing_ops, TreeViews.node_view};
 ghost use Rattle.lra_analysis_spec.specs.{Accesses.JudgesAccesses, LiveLimit.most_live, Operations.lossy_operations};
 ghost use Rattle.lra_overflow_checks.specs.Judged.{AreBelow};
-ghost use Rattle.lra_bounds_checks.specs.BoundsChecks.{reported_view};
+ghost use Rattle.lra_base.specs.AccessVerdicts.{reported_view};
 
 use crate::accesses::BoundsCheck;
 use lra_base::Place;

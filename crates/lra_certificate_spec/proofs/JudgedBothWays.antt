@@ -9,7 +9,8 @@ use Rattle.lra_resolution_spec.specs.Refuse.{greatest_live, greatest_points, lim
 use Rattle.lra_program.specs.Sites.{Event, comes, one_call_more, event_sites, sites_of, events_of}
 use Rattle.lra_paths.specs.Paths.{paths_of}
 use Rattle.lra_certificate_spec.specs.Claims.{IsProgram, program_of, IsVerified, JudgedSo, JudgedExactly}
-use Rattle.lra_certificate_spec.specs.{CertificateText.text_line, CertificateText.numbered_text, CertificateText.head_text, CertificateText.body_text, Judged.Head}
+use Rattle.lra_row_text.specs.Texts.{text_line}
+use Rattle.lra_certificate_spec.specs.{CertificateText.numbered_text, CertificateText.head_text, CertificateText.body_text, Judged.Head}
 use Rattle.lra_certificate_spec.proofs.{ReadCertificate.verified_of, WriteCertificate.judged_written, WriteCertificate.head_read}
 
 -- ---- a program that is read has few points

@@ -6,7 +6,8 @@ use Rattle.std.proofs.{Math.Seq.drop-append_seam, lemmas.Bool.cases_lt, lemmas.B
 use Rattle.std.proofs.{lemmas.Option.same_Some, lemmas.Option.none-some, lemmas.Slice.Eq.bytes_eq-Decides, lemmas.Slice.Eq.starts_is}
 use Rattle.std.specs.List.{All, slice_split, starts_with, join_with_byte, position_or_len, count_by}
 use Rattle.lra_certificate_spec.specs.Lines.{is_feed, pieces_at, line_number_at, left_at, IsLineAt}
-use Rattle.lra_certificate_spec.specs.{CertificateText.text_line, Judged.line_on, Judged.after_line, Judged.is_next_line}
+use Rattle.lra_row_text.specs.Texts.{text_line}
+use Rattle.lra_certificate_spec.specs.{Judged.line_on, Judged.after_line, Judged.is_next_line}
 
 some_parts : (parts : List (List ℕ)) (line : List ℕ) → 0 < length parts → line_on (line ∷ parts) ≡ Some line
 some_parts [] line h = absurd (omega (arith, h))

@@ -8,7 +8,8 @@ use Rattle.lra_program.specs.{Program.Program, Sites.sites_of}
 use Rattle.lra_operations.specs.Tree.{Node}
 use Rattle.lra_paths.specs.Paths.{Path, paths_of, violations_of}
 use Rattle.lra_multipliers.specs.Multipliers.{Multipliers}
-use Rattle.lra_certificate_spec.specs.CertificateText.{text_line, numbers_text, multipliers_text, evidence_text, edge_text, edges_text, assert_text, body_text}
+use Rattle.lra_row_text.specs.Texts.{text_line}
+use Rattle.lra_certificate_spec.specs.CertificateText.{numbers_text, multipliers_text, evidence_text, edge_text, edges_text, assert_text, body_text}
 use Rattle.lra_certificate_spec.specs.Certificates.{Evidence, none, infeasible, implies, ListedAssertion, Certificate, PathPremises, state_from, state_to, live_at_source, CertifiesByEvidence}
 use Rattle.lra_certificate_spec.specs.Certificates.{CertifiesFrom, CertifiesPath, CertifiesPaths, CertifiesAssertion, ShowsNoClaim, AreNumbers, IsWritable, Certifies}
 use Rattle.lra_certificate_spec.specs.Judged.{words_of, spaced_numbers, multipliers_of, Left, Judged, RowsAtPoint, judged_from, violation_from, lines_left}

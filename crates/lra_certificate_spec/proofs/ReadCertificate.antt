@@ -6,7 +6,8 @@ use Rattle.std.specs.{Fmt.decimal, List.flat_map, List.before_first, List.after_
 use Rattle.lra_program.specs.{Program.Program, Sites.sites_of}
 use Rattle.lra_operations.specs.Tree.{Node}
 use Rattle.lra_paths.specs.Paths.{paths_of}
-use Rattle.lra_certificate_spec.specs.CertificateText.{text_line, numbered_text, head_text, body_text, states_text, edges_text, listed_text, end_text}
+use Rattle.lra_row_text.specs.Texts.{text_line}
+use Rattle.lra_certificate_spec.specs.CertificateText.{numbered_text, head_text, body_text, states_text, edges_text, listed_text, end_text}
 use Rattle.lra_certificate_spec.specs.Certificates.{Evidence, ListedAssertion, Certificate, Certifies}
 use Rattle.lra_certificate_spec.specs.Judged.{Left, Judged, then_judged, RowsAtPoint, judged_states, judged_paths, judged_listed, judged_end, counted, lines_left, judged, Head, has_feed, headed}
 use Rattle.lra_certificate_spec.specs.{Claims.IsProgram, Claims.program_of, Claims.IsCertificate, Claims.IsVerified, Claims.JudgedSo, Judged.head_of, Judged.numbers_after}

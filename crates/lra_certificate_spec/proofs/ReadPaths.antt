@@ -8,7 +8,8 @@ use Rattle.lra_operations.specs.Tree.{Node}
 use Rattle.lra_paths.specs.Paths.{Path, violations_of}
 use Rattle.lra_multipliers.specs.Multipliers.{Multipliers, Answer, yes, no, wide, IsAnswer, checked}
 use Rattle.lra_multipliers.specs.Symbols.{SymbolicState, executed_path}
-use Rattle.lra_certificate_spec.specs.CertificateText.{text_line, multipliers_text, evidence_text, edge_text, edges_text, assert_text, listed_text, end_text}
+use Rattle.lra_row_text.specs.Texts.{text_line}
+use Rattle.lra_certificate_spec.specs.CertificateText.{multipliers_text, evidence_text, edge_text, edges_text, assert_text, listed_text, end_text}
 use Rattle.lra_certificate_spec.specs.Certificates.{PathPremises, premises_of, contradiction, IsPointRow, IsShownInfeasible, IsClaimImplied, AreImplied, CertifiesByEvidence, CertifiesFrom, Evidence}
 use Rattle.lra_certificate_spec.specs.Certificates.{none, infeasible, implies, ListedAssertion, state_from, state_to, live_at_source, CertifiesPath, CertifiesPaths, ShowsNoClaim, CertifiesAssertion}
 use Rattle.lra_certificate_spec.specs.Certificates.{Ascend, AreNumbers, IsWritable}

@@ -6,7 +6,8 @@ use Rattle.std.specs.{Fmt.signed_decimal, List.AllByRecursion, List.starts_with,
 use Rattle.lra_linear_spec.specs.{Descriptions.LinearRow, Range.InRange}
 use Rattle.lra_program.specs.Sites.{Site}
 use Rattle.lra_multipliers.specs.Multipliers.{Multipliers}
-use Rattle.lra_certificate_spec.specs.CertificateText.{text_line, numbers_text, relation_text, row_text, point_text, state_text, states_text, multipliers_text}
+use Rattle.lra_row_text.specs.Texts.{text_line}
+use Rattle.lra_certificate_spec.specs.CertificateText.{numbers_text, relation_text, row_text, point_text, state_text, states_text, multipliers_text}
 use Rattle.lra_certificate_spec.specs.Certificates.{IsPointRow, IsState, AreStates, AreNumbers}
 use Rattle.lra_certificate_spec.specs.Judged.{number_in, then_number, numbers_in, words_of, so_many, spaced_numbers, numbers_after, Refused, Left, Judged, then_judged, refuses, line_on, after_line}
 use Rattle.lra_certificate_spec.specs.Judged.{is_next_line, takes, bad_line, constraint_row, or_else, row_in, judged_with_row, judged_rows, RowsAtPoint, some_rows, judged_state, state_before}

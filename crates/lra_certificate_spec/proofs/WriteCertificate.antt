@@ -9,7 +9,8 @@ use Rattle.lra_linear_spec.specs.Range.{InRange}
 use Rattle.lra_program.specs.{Program.Program, Sites.Site, Sites.sites_of}
 use Rattle.lra_operations.specs.Tree.{Node}
 use Rattle.lra_paths.specs.Paths.{Path, paths_of, violations_of}
-use Rattle.lra_certificate_spec.specs.CertificateText.{text_line, numbers_text, numbered_text, edge_text, edges_text, evidence_text, assert_text, listed_text, end_text, head_text, states_text}
+use Rattle.lra_row_text.specs.Texts.{text_line}
+use Rattle.lra_certificate_spec.specs.CertificateText.{numbers_text, numbered_text, edge_text, edges_text, evidence_text, assert_text, listed_text, end_text, head_text, states_text}
 use Rattle.lra_certificate_spec.specs.Certificates.{Evidence, ListedAssertion, Certificate, state_from, state_to, live_at_source, CertifiesAssertion, Ascend, IsWritable, Certifies}
 use Rattle.lra_certificate_spec.specs.Judged.{Left, Judged, then_judged, line_on, after_line, is_next_line, RowsAtPoint, judged_paths, judged_violations, one_more, judged_listed, counted, lines_left}
 use Rattle.lra_certificate_spec.specs.Judged.{judged, Head, has_feed, headed, head_of, is_dead_line, numbers_after}

@@ -7,7 +7,8 @@ use Rattle.lra_operations.specs.Tree.{Node}
 use Rattle.lra_paths.specs.Paths.{Path}
 use Rattle.lra_multipliers.specs.Multipliers.{Multipliers, Answer, yes, no, wide, IsAnswer, AreSigned, checked}
 use Rattle.lra_multipliers.specs.Symbols.{SymbolicState, executed_path}
-use Rattle.lra_certificate_spec.specs.CertificateText.{text_line, numbers_text, multipliers_text, evidence_text, numbered_text, goal_number, edge_text, edges_text, end_text}
+use Rattle.lra_row_text.specs.Texts.{text_line}
+use Rattle.lra_certificate_spec.specs.CertificateText.{numbers_text, multipliers_text, evidence_text, numbered_text, goal_number, edge_text, edges_text, end_text}
 use Rattle.lra_certificate_spec.specs.Certificates.{PathPremises, premises_of, contradiction, IsPointRow, IsShownInfeasible, IsClaimImplied, AreImplied, CertifiesClaims, CertifiesByEvidence}
 use Rattle.lra_certificate_spec.specs.Certificates.{CertifiesFrom, Evidence, none, infeasible, implies, state_from, state_to, live_at_source, CertifiesPath, CertifiesPaths, ShowsNoClaim, AreNumbers}
 use Rattle.lra_certificate_spec.specs.Certificates.{IsWritable}

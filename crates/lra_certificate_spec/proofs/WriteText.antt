@@ -8,7 +8,8 @@ use Rattle.std.specs.List.{All, AllByRecursion, starts_with, slice_split, positi
 use Rattle.std.specs.{Fmt.decimal, Fmt.digits, Fmt.digit_glyph, Fmt.digits_onto, Fmt.signed_decimal, Prelude.if◌then◌else◌, Prelude.◌==◌, Prelude.nat_le}
 use Rattle.lra_linear_spec.specs.{Descriptions.LinearRow, Range.InRange}
 use Rattle.lra_multipliers.specs.Multipliers.{Multipliers}
-use Rattle.lra_certificate_spec.specs.CertificateText.{text_line, numbers_text, relation_text, row_text, multipliers_text}
+use Rattle.lra_row_text.specs.Texts.{text_line}
+use Rattle.lra_certificate_spec.specs.CertificateText.{numbers_text, relation_text, row_text, multipliers_text}
 use Rattle.lra_certificate_spec.specs.Certificates.{IsPointRow, AreNumbers}
 use Rattle.lra_certificate_spec.specs.Judged.{number_in, then_number, numbers_in, words_of, so_many, spaced_numbers, numbers_after, Left, Judged, then_judged, line_on, after_line, is_next_line, takes}
 use Rattle.lra_certificate_spec.specs.Judged.{constraint_row, or_else, row_in, judged_rows, RowsAtPoint, judged_state, judged_states, multipliers_in}

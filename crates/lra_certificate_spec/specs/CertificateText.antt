@@ -2,13 +2,11 @@
 use Rattle.std.specs.Prelude.{ℕ, suc, ℤ, Bool, true, false, List, [], ◌∷◌, ◌++◌, length, Option, None, Some, codes}
 use Rattle.std.specs.{Fmt.decimal, Fmt.signed_decimal, List.flat_map}
 use Rattle.lra_linear_spec.specs.Descriptions.{LinearRow}
+use Rattle.lra_row_text.specs.Texts.{text_line}
 use Rattle.lra_path_segments.specs.Segments.{Goal, comes_to, violates}
 use Rattle.lra_paths.specs.Paths.{Path}
 use Rattle.lra_multipliers.specs.Multipliers.{Multipliers}
 use Rattle.lra_certificate_spec.specs.Certificates.{Evidence, none, infeasible, implies, ListedAssertion, Certificate}
-
-abbrev pub text_line : List ℕ → List ℕ
-text_line bytes = bytes ++ 10 ∷ []
 
 -- each behind a space
 abbrev pub numbers_text : List ℤ → List ℕ

@@ -1,10 +1,6 @@
 -- The numbers of a line as the code reads them, word by word.
-use Rattle.std.specs.Prelude.{◌≡◌, ◌≤◌, ◌⊎◌, ℕ, ◌+◌, List, [], length, drop, Option, None, Some, option_map, Vec}
-use Rattle.std.specs.declared.alloc.Global.{Global}
+use Rattle.std.specs.Prelude.{◌≡◌, ◌≤◌, ◌⊎◌, ℕ, ◌+◌, List, [], length, drop, None, Some}
 use Rattle.lra_certificate_spec.specs.Judged.{number_in, then_number, spaced_numbers, words_of}
-
-abbrev pub option_items : {A : Type 0} → Option (Vec A Global) → Option (List A)
-option_items r = option_map (λ v. v.items) r
 
 -- no word stands there: nothing does, or something else than a space does first
 abbrev pub HasNoWord : List ℕ → Type 0

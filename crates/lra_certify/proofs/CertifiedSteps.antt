@@ -16,7 +16,8 @@ use Rattle.lra_verify.specs.{SourceViews.LeadAs, declared.annotated.AnnotatedPro
 use Rattle.lra_certify.specs.Certified.{AscendStrictly, AreListable, IsListedFound, IsCertified, AssertionStops, StopsAt, IsFailure}
 use Rattle.lra_certify.specs.WrittenPaths.{paths_to, paths_from, all_paths, violating_paths, AllAreInductive, AllAssertionsInductive, edge_lines, SomeStops, IfStopped, IsListed, ListStops, AddsBody}
 use Rattle.lra_certify.specs.WrittenPaths.{StopsListing, BodyStops, AddsPaths, AddsListed}
-use Rattle.lra_certify.specs.{Each.Each, Each.Stops, Each.each_text, InductiveRows.IsInductiveAlong, InductiveRows.MustBeShown, InductiveRows.AreInductiveRows, Lines.HasPointRows}
+use Rattle.std.specs.List.{AllZip}
+use Rattle.lra_certify.specs.{Each.Stops, Each.each_text, InductiveRows.IsInductiveAlong, InductiveRows.MustBeShown, InductiveRows.AreInductiveRows, Lines.HasPointRows}
 use Rattle.lra_certify.specs.{PathEvidence.IsEvidenceFrom, PathEvidence.IsEvidenceFor, PathEvidence.StrainsAlong, PathEvidence.StopsIn, declared.failures.CertifyFailure.CertifyFailure}
 use Rattle.lra_certify.specs.{declared.failures.StrainedAt.StrainedAt, declared.failures.StrainedAt.TheVariants.Edge, declared.failures.StrainedAt.TheVariants.Assertion}
 use Rattle.lra_certify.specs.declared.failures.CertifyFailure.TheVariants as of_program
@@ -81,7 +82,7 @@ module _ (P : Program) (g : Node) (states : List RowsAtPoint) where
   abbrev Meant : Path → Evidence → Type 0
   Meant = IsEvidenceFor (sites_of P) states
 
-  meets_all : (paths : List Path) (found : List Evidence) → Each Meant paths found → CertifiesPaths P g states paths found
+  meets_all : (paths : List Path) (found : List Evidence) → AllZip Meant paths found → CertifiesPaths P g states paths found
   meets_all [] [] h = tt
   meets_all [] (e ∷ es) h = absurd h
   meets_all (path ∷ paths) [] h = absurd h
@@ -90,7 +91,7 @@ module _ (P : Program) (g : Node) (states : List RowsAtPoint) where
     meets_all paths es h.1,
   )
 
-  writable_all : (paths : List Path) (found : List Evidence) → Each Meant paths found → AllByRecursion IsWritable found
+  writable_all : (paths : List Path) (found : List Evidence) → AllZip Meant paths found → AllByRecursion IsWritable found
   writable_all [] [] h = tt
   writable_all [] (e ∷ es) h = absurd h
   writable_all (path ∷ paths) [] h = absurd h
@@ -100,7 +101,7 @@ module _ (P : Program) (g : Node) (states : List RowsAtPoint) where
   )
 
   claimless_all : (q : ℕ) (paths : List Path) (found : List Evidence) → ((path : Path) → Contains paths path → path.goal ≡ violates q) →
-      Each Meant paths found →
+      AllZip Meant paths found →
       AllByRecursion ShowsNoClaim found
   claimless_all q [] [] goals h = tt
   claimless_all q [] (e ∷ es) goals h = absurd h
@@ -133,7 +134,7 @@ module _ (P : Program) (g : Node) (states : List RowsAtPoint) where
       }
 
   all_listed : (proved : List ℕ) (listed : List ListedAssertion) →
-      ((q : ℕ) → Contains proved q → (s : Site) × (slice_get (sites_of P) q ≡ Some s) × (s.asserts ≡ true)) → Each Listing proved listed →
+      ((q : ℕ) → Contains proved q → (s : Site) × (slice_get (sites_of P) q ≡ Some s) × (s.asserts ≡ true)) → AllZip Listing proved listed →
       AllByRecursion (CertifiesAssertion P g states) listed × AllByRecursion (λ one. AllByRecursion IsWritable one.evidence) listed
   all_listed [] [] assert h = (tt, tt)
   all_listed [] (one ∷ more) assert h = absurd h
@@ -143,7 +144,7 @@ module _ (P : Program) (g : Node) (states : List RowsAtPoint) where
       let rest = all_listed proved more (λ n k. assert n (contains_tail q n proved k)) h.1 in
       ((listed_meets q one site.0 site.1 site.2 h.0, rest.0), (writable_all (violations_of P g q) one.evidence h.0.1, rest.1))
 
-  ascend_all : (proved : List ℕ) (listed : List ListedAssertion) → AscendStrictly proved → Each Listing proved listed → Ascend listed
+  ascend_all : (proved : List ℕ) (listed : List ListedAssertion) → AscendStrictly proved → AllZip Listing proved listed → Ascend listed
   ascend_all [] [] a h = tt
   ascend_all [] (one ∷ more) a h = absurd h
   ascend_all (q ∷ proved) [] a h = absurd h
@@ -160,7 +161,7 @@ edges_same [] found = refl
 edges_same (path ∷ paths) [] = refl
 edges_same (path ∷ paths) (e ∷ es) = ap (λ (t : List ℕ). edge_lines path e ++ t) (edges_same paths es)
 
-listed_same : (Is : ℕ → ListedAssertion → Type 0) (proved : List ℕ) (listed : List ListedAssertion) → Each Is proved listed →
+listed_same : (Is : ℕ → ListedAssertion → Type 0) (proved : List ℕ) (listed : List ListedAssertion) → AllZip Is proved listed →
     each_text (λ q one. listed_text one) proved listed ≡
     flat_map listed_text listed
 listed_same Is [] [] h = refl
@@ -200,14 +201,14 @@ module _ (P : Program) (g : Node) (w : AnnotatedProgram) (ways : IsAnnotatedProg
       ap (λ (n : ℕ). flat_map (λ p. paths_between P g p (violates q)) (range_with_len 0 n)) sources_many
 
   -- found and strained of the program
-  found_is : (paths : List Path) (found : List Evidence) → Each (IsEvidenceFor (sites_in w) states) paths found →
-      Each (IsEvidenceFor (sites_of P) states) paths found
-  found_is paths found h = subst (λ (s : List Site). Each (IsEvidenceFor s states) paths found) sites h
+  found_is : (paths : List Path) (found : List Evidence) → AllZip (IsEvidenceFor (sites_in w) states) paths found →
+      AllZip (IsEvidenceFor (sites_of P) states) paths found
+  found_is paths found h = subst (λ (s : List Site). AllZip (IsEvidenceFor s states) paths found) sites h
 
   listed_is : (q : ℕ) (one : ListedAssertion) → IsListed w q one → IsListedFound P g states q one
   listed_is q one (number, found) = (
     number,
-    subst (λ (l : List Path). Each (IsEvidenceFor (sites_of P) states) l one.evidence) (denied_is q)
+    subst (λ (l : List Path). AllZip (IsEvidenceFor (sites_of P) states) l one.evidence) (denied_is q)
         (found_is (violating_paths w q) one.evidence found),
   )
 
@@ -215,9 +216,9 @@ module _ (P : Program) (g : Node) (w : AnnotatedProgram) (ways : IsAnnotatedProg
   stops_is paths all path e h = subst (λ (l : List Path). StopsIn (sites_of P) states l path) e
       (subst (λ (s : List Site). StopsIn s states paths path) sites h)
 
-  edges_is : (found : List Evidence) → Each (IsEvidenceFor (sites_in w) states) (all_paths w) found →
-      Each (IsEvidenceFor (sites_of P) states) (paths_of P g) found
-  edges_is found h = subst (λ (l : List Path). Each (IsEvidenceFor (sites_of P) states) l found) all_is (found_is (all_paths w) found h)
+  edges_is : (found : List Evidence) → AllZip (IsEvidenceFor (sites_in w) states) (all_paths w) found →
+      AllZip (IsEvidenceFor (sites_of P) states) (paths_of P g) found
+  edges_is found h = subst (λ (l : List Path). AllZip (IsEvidenceFor (sites_of P) states) l found) all_is (found_is (all_paths w) found h)
 
   -- the text
   all_certified : (proved bytes : List ℕ) → AreListable (sites_of P) proved → AddsBody w proved [] bytes → IsCertified P g states proved bytes

@@ -7,14 +7,16 @@ use Rattle.lra_linear_spec.proofs.{Membership.contains_head, Membership.contains
 use Rattle.lra_systems.specs.LinearSystems.{constraints}
 use Rattle.lra_multipliers.specs.declared.multipliers.Multipliers as made
 use Rattle.lra_multipliers.specs.{MultiplierViews.multipliers_view, Multipliers.Multipliers, Multipliers.yes, Multipliers.IsAnswer}
-use Rattle.lra_certificate_spec.specs.CertificateText.{text_line, multipliers_text, evidence_text}
+use Rattle.lra_row_text.specs.Texts.{text_line}
+use Rattle.lra_certificate_spec.specs.CertificateText.{multipliers_text, evidence_text}
 use Rattle.lra_certificate_spec.specs.{Certificates.infeasible, Certificates.implies, Certificates.AreNumbers, Judged.RowsAtPoint}
 use Rattle.lra_certificate_lines.specs.declared.path_checks.PathFacts.{PathFacts}
 use Rattle.lra_farkas.specs.FirstMultipliers.{AreFirst, MultipliersInRange, IsMultipliersFailure}
 use Rattle.lra_farkas.specs.declared.first.MultipliersFailure.TheVariants.{NotImplied, Strained, Memory}
 use Rattle.lra_farkas.specs.{MultiplierRows.AreAsWide, declared.first.MultipliersFailure.MultipliersFailure}
 use Rattle.lra_certify.specs.PathFactViews.{claim_on, IsLine, IsNotShown, LineStrains, IsLineFailure, by_line, IsClaimLine, ClaimStrained, AddsLines, SomeStrains, IsEvidence, AddsEvidence, AllHold}
-use Rattle.lra_certify.specs.{Each.Each, Each.Stops, Each.each_text, PathFactViews.HoldsOn, PathFactViews.TargetStrains, PathFactViews.IfStrained, declared.failures.PathFailure.PathFailure}
+use Rattle.std.specs.List.{AllZip}
+use Rattle.lra_certify.specs.{Each.Stops, Each.each_text, PathFactViews.HoldsOn, PathFactViews.TargetStrains, PathFactViews.IfStrained, declared.failures.PathFailure.PathFailure}
 use Rattle.lra_certify.proofs.{EachSteps.adds_one, EachSteps.adds_both, EachSteps.stops_one, EachSteps.stops_first, EachSteps.stops_later, PathSteps.strained_weaker, TextSteps.every_number}
 
 -- ---- found
@@ -66,7 +68,7 @@ claim_added g claim m old new h e = adds_one (IsClaimLine g) by_line claim m old
 pub claim_stops : (g : PathFacts) (claim : List ℤ) → LineStrains g (Some claim) → SomeStrains g (claim ∷ [])
 claim_stops g claim h = (claim, stops_one (IsClaimLine g) by_line (ClaimStrained g) claim h)
 
-by_texts : (g : PathFacts) (claims : List (List ℤ)) (ms : List Multipliers) → Each (IsClaimLine g) claims ms →
+by_texts : (g : PathFacts) (claims : List (List ℤ)) (ms : List Multipliers) → AllZip (IsClaimLine g) claims ms →
     each_text by_line claims ms ≡ evidence_text (implies ms)
 by_texts g [] [] h = refl
 by_texts g [] (m ∷ ms) h = absurd h

@@ -1,19 +1,19 @@
 -- Lists of which something is found for each, joined, and written one after the other.
 use Rattle.std.proofs.Common.{◌≡◌, ℕ, List, [], ◌∷◌, ◌++◌, refl, ap, sym, ◌∙◌, subst, append_assoc, append-nil}
 use Rattle.std.proofs.lemmas.List.Elements.{Contains-append_right}
-use Rattle.std.specs.List.{Contains}
+use Rattle.std.specs.List.{Contains, AllZip}
 use Rattle.lra_linear_spec.proofs.Membership.{contains_head}
-use Rattle.lra_certify.specs.Each.{Each, Stops, each_text, AddsEach, IsLeft}
+use Rattle.lra_certify.specs.Each.{Stops, each_text, AddsEach, IsLeft}
 
 module _ {A B : Type 0} (Is : A → B → Type 0) where
-  pub each_joined : (xs us : List A) (ys vs : List B) → Each Is xs ys → Each Is us vs → Each Is (xs ++ us) (ys ++ vs)
+  pub each_joined : (xs us : List A) (ys vs : List B) → AllZip Is xs ys → AllZip Is us vs → AllZip Is (xs ++ us) (ys ++ vs)
   each_joined [] us [] vs h k = k
   each_joined [] us (y ∷ ys) vs h k = absurd h
   each_joined (x ∷ xs) us [] vs h k = absurd h
   each_joined (x ∷ xs) us (y ∷ ys) vs h k = (h.0, each_joined xs us ys vs h.1 k)
 
   module _ (show : A → B → List ℕ) where
-    pub text_joined : (xs us : List A) (ys vs : List B) → Each Is xs ys → each_text show (xs ++ us) (ys ++ vs) ≡
+    pub text_joined : (xs us : List A) (ys vs : List B) → AllZip Is xs ys → each_text show (xs ++ us) (ys ++ vs) ≡
         each_text show xs ys ++ each_text show us vs
     text_joined [] us [] vs h = refl
     text_joined [] us (y ∷ ys) vs h = absurd h
@@ -80,7 +80,7 @@ module _ {A B : Type 0} (Is : A → B → Type 0) where
       left_end rest all now start none left = left.adds now (subst (λ (l : List A). AddsEach Is show l now now) (sym none) (adds_none now))
 
 -- another relation that the first gives
-pub each_weaker : {A B : Type 0} (Is Are : A → B → Type 0) → ((x : A) (y : B) → Is x y → Are x y) → (xs : List A) (ys : List B) → Each Is xs ys → Each Are xs ys
+pub each_weaker : {A B : Type 0} (Is Are : A → B → Type 0) → ((x : A) (y : B) → Is x y → Are x y) → (xs : List A) (ys : List B) → AllZip Is xs ys → AllZip Are xs ys
 each_weaker Is Are f [] [] h = tt
 each_weaker Is Are f [] (y ∷ ys) h = absurd h
 each_weaker Is Are f (x ∷ xs) [] h = absurd h

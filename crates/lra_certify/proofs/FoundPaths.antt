@@ -1,7 +1,7 @@
 -- What is found over the grounds of a path is what has to be said of it; and points of its premises lead to its target.
 use Rattle.std.proofs.Common.{◌≡◌, inl, inr, ◌-◌, ℕ, suc, ℤ, pos, ◌≤ℤ◌, ◌<ℤ◌, ◌<◌, List, [], ◌∷◌, length, map, take, Option, None, Some, Result, Ok, Err, refl, ap, sym, ◌∙◌, subst, arith}
 use Rattle.std.proofs.{lemmas.List.length-take-le, lemmas.List.Elements.All-contains, lemmas.List.Elements.Contains-append_left, lemmas.List.Elements.Contains-append_right}
-use Rattle.std.specs.List.{Contains, AllByRecursion}
+use Rattle.std.specs.List.{Contains, AllByRecursion, AllZip}
 use Rattle.lra_linear_spec.specs.Descriptions.{LinearRow, Con, system_of}
 use Rattle.lra_linear_spec.specs.{Points.IsPoint, Points.IsEmptySet, Polyhedra.falsity, Vectors.entry, Vectors.product, declared.Excess.Excess}
 use Rattle.lra_linear_spec.proofs.{Descriptions.con_solves, Membership.contains_head, Membership.contains_tail, Membership.map_has}
@@ -15,7 +15,7 @@ use Rattle.lra_certificate_lines.specs.{PathCheckViews.ArePathFacts, PathCheckVi
 use Rattle.lra_farkas.specs.{FirstMultipliers.AreFirst, FirstMultipliers.MultipliersStrain, MultiplierRows.multiplier_dims, MultiplierRows.multiplier_rows, MultiplierRows.AreAsWide}
 use Rattle.lra_certify.specs.PathEvidence.{IsFirstInfeasible, IsNotShownInfeasible, IsFirstShown, IsEvidenceAlong, ClaimStrains, EvidenceStrains, PathStrains}
 use Rattle.lra_certify.specs.PathFactViews.{claim_on, led_to, AllLead, HoldsOn, AllHold, IsLine, IsNotShown, LineStrains, IsClaimLine, ClaimStrained, IsEvidence, TargetStrains}
-use Rattle.lra_certify.specs.{Each.Each, InductiveRows.IsIn, InductiveRows.IsInductiveFrom}
+use Rattle.lra_certify.specs.{InductiveRows.IsIn, InductiveRows.IsInductiveFrom}
 use Rattle.lra_certify.proofs.WalkedBack.{composed_at, point_at, walked_back, padded_holds}
 use Rattle.lra_certify.proofs.{EachSteps.stops_has, NeverUnshown.AreLaws, NeverUnshown.none_show, NeverUnshown.never_unshown, NeverUnshown.never_alive}
 
@@ -125,8 +125,8 @@ module _ (live : ℕ) (rows : List LinearRow) (path : Path) (g : PathFacts) (of 
       let made = claim_is claim line.row line.made in
       ((of.walk, line.row, of.walks, made, both.0), (of.walk, line.row, of.walks, made, both.1))
 
-  shown_lines : (claims : List (List ℤ)) (ms : List Multipliers) → Each (IsClaimLine g) claims ms →
-      AreImplied along claims ms × Each (IsFirstShown along) claims ms × AllByRecursion AreNumbers ms
+  shown_lines : (claims : List (List ℤ)) (ms : List Multipliers) → AllZip (IsClaimLine g) claims ms →
+      AreImplied along claims ms × AllZip (IsFirstShown along) claims ms × AllByRecursion AreNumbers ms
   shown_lines [] [] h = (tt, tt, tt)
   shown_lines [] (m ∷ ms) h = absurd h
   shown_lines (claim ∷ claims) [] h = absurd h

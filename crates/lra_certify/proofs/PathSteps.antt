@@ -10,7 +10,8 @@ use Rattle.lra_path_segments.specs.Segments.{Goal, comes_to, violates}
 use Rattle.lra_paths.specs.{Paths.Path, Paths.path_by, Sources.to_goal, declared.sources.Source.Source}
 use Rattle.lra_path_disjuncts.specs.TableDisjuncts.{all_done, lists_done}
 use Rattle.lra_path_segments.proofs.Lists.{flat_map_has}
-use Rattle.lra_certificate_spec.specs.CertificateText.{text_line, edge_text, assert_text, evidence_text, listed_text}
+use Rattle.lra_row_text.specs.Texts.{text_line}
+use Rattle.lra_certificate_spec.specs.CertificateText.{edge_text, assert_text, evidence_text, listed_text}
 use Rattle.lra_certificate_spec.specs.{Certificates.Evidence, Certificates.none, Certificates.ListedAssertion, Certificates.state_from, Certificates.state_to, Judged.RowsAtPoint}
 use Rattle.lra_verify.specs.{EdgeViews.sites_in, EdgeViews.states_in, EdgeViews.actions_out_of, EdgeViews.actions_by, EdgeViews.live_by, declared.annotated.AnnotatedProgram.AnnotatedProgram}
 use Rattle.lra_verify.proofs.EdgeSteps.{lists_next, lists_end, numbers_next, numbers_end}
@@ -18,7 +19,8 @@ use Rattle.lra_certify.specs.PathEvidence.{IsEvidenceFrom, IsEvidenceFor, Strain
 use Rattle.lra_certify.specs.WrittenPaths.{paths_to, paths_from, all_paths, violating_paths, AllAreInductive, edge_lines, violation_lines, AddsPaths, FoundOn, StrainsOn, IsInfeasibleEvidence}
 use Rattle.lra_certify.specs.WrittenPaths.{StrainsDead, AddsDead, AllDead, DeadLeft, SomeDeadStops, SomePathStops, SomeStops, IfStopped, PathsLeft, IsListed, AddsListed, AssertionStops, ListedLeft}
 use Rattle.lra_certify.specs.declared.failures.StrainedAt.TheVariants.{Edge, Assertion}
-use Rattle.lra_certify.specs.{Each.Each, Each.each_text, Failures.failed_at, InductiveRows.IsInductiveAlong, InductiveRows.IsInductiveFrom, PathFactViews.AddsEvidence, PathFactViews.IfStrained}
+use Rattle.std.specs.List.{AllZip}
+use Rattle.lra_certify.specs.{Each.each_text, Failures.failed_at, InductiveRows.IsInductiveAlong, InductiveRows.IsInductiveFrom, PathFactViews.AddsEvidence, PathFactViews.IfStrained}
 use Rattle.lra_certify.specs.{WrittenPaths.ListStops, declared.failures.CertifyFailure.CertifyFailure, declared.failures.PathFailure.PathFailure, declared.failures.StrainedAt.StrainedAt}
 use Rattle.lra_certify.specs.declared.failures.PathFailure.TheVariants as of_path
 use Rattle.lra_certify.specs.declared.failures.CertifyFailure.TheVariants as of_program
@@ -121,8 +123,8 @@ none_denied w p q text e =
     record { found = all.found; are = all.are; text = sym (append-nil text) ∙ ap (λ (t : List ℕ). text ++ t) all.text }
 
 module _ (w : AnnotatedProgram) (p q n : ℕ) (rows : List LinearRow) (is : n ≡ live_by (sites_in w) p) (from : Some rows ≡ state_from (states_in w) p) where
-  denied_each : (lists : List (List Action)) (found : List Evidence) → Each (IsInfeasibleEvidence n rows) lists found →
-      Each (IsEvidenceFor (sites_in w) (states_in w)) (map (path_by p (violates q)) lists) found
+  denied_each : (lists : List (List Action)) (found : List Evidence) → AllZip (IsInfeasibleEvidence n rows) lists found →
+      AllZip (IsEvidenceFor (sites_in w) (states_in w)) (map (path_by p (violates q)) lists) found
   denied_each [] [] h = tt
   denied_each [] (e ∷ es) h = absurd h
   denied_each (steps ∷ lists) [] h = absurd h
@@ -285,7 +287,7 @@ module _ (n : ℕ) (rows : List LinearRow) where
         )) h)
 
 -- ---- assertions
-denial_texts : (Is : Path → Evidence → Type 0) (paths : List Path) (found : List Evidence) → Each Is paths found → each_text violation_lines paths found ≡
+denial_texts : (Is : Path → Evidence → Type 0) (paths : List Path) (found : List Evidence) → AllZip Is paths found → each_text violation_lines paths found ≡
     flat_map evidence_text found
 denial_texts Is [] [] h = refl
 denial_texts Is [] (e ∷ es) h = absurd h

@@ -10,7 +10,8 @@ use Rattle.lra_program.specs.Sites.{Site}
 use Rattle.lra_paths.specs.Paths.{path_by}
 use Rattle.lra_path_segments.specs.Segments.{comes_to}
 use Rattle.lra_multipliers.specs.Multipliers.{Multipliers}
-use Rattle.lra_certificate_spec.specs.CertificateText.{text_line, numbers_text, relation_text, row_text, point_text, state_text, states_text, multipliers_text, edge_text}
+use Rattle.lra_row_text.specs.Texts.{text_line}
+use Rattle.lra_certificate_spec.specs.CertificateText.{numbers_text, relation_text, row_text, point_text, state_text, states_text, multipliers_text, edge_text}
 use Rattle.lra_certificate_spec.specs.{Certificates.IsPointRow, Certificates.IsState, Certificates.AreStates, Judged.RowsAtPoint}
 use Rattle.lra_certificate_lines.specs.PathCheckViews.{target_rows}
 use Rattle.lra_verify.specs.PointViews.{state_view, HaveDims}

@@ -11,7 +11,8 @@ use Rattle.lra_certify.specs.PathEvidence.{IsEvidenceFor, StopsIn}
 use Rattle.lra_certify.specs.declared.failures.CertifyFailure.{CertifyFailure}
 use Rattle.lra_certify.specs.declared.failures.CertifyFailure.TheVariants.{TooMany, Strained, Memory}
 use Rattle.lra_certify.specs.declared.failures.StrainedAt.TheVariants.{Edge, Assertion}
-use Rattle.lra_certify.specs.{Each.Each, Each.Stops, declared.failures.StrainedAt.StrainedAt}
+use Rattle.std.specs.List.{AllZip}
+use Rattle.lra_certify.specs.{Each.Stops, declared.failures.StrainedAt.StrainedAt}
 
 -- the numbers of assertions, in ascending order
 abbrev pub AscendStrictly : List ℕ → Type 0
@@ -30,7 +31,7 @@ certificate_by states paths asserted source =
 -- an assertion with evidence for each path to where it is false
 abbrev pub IsListedFound : Program → Node → List RowsAtPoint → ℕ → ListedAssertion → Type 0
 IsListedFound P g states q one =
-    (one.number ≡ q) × Each (IsEvidenceFor (sites_of P) states) (violations_of P g q) one.evidence
+    (one.number ≡ q) × AllZip (IsEvidenceFor (sites_of P) states) (violations_of P g q) one.evidence
 
 -- of whichever source it is said to be
 pub record IsCertified (P : Program) (g : Node) (states : List RowsAtPoint) (proved bytes : List ℕ) : Type 0 where
@@ -39,8 +40,8 @@ pub record IsCertified (P : Program) (g : Node) (states : List RowsAtPoint) (pro
   pub meets : (source : List ℕ) → Certifies P g (certificate_by states paths asserted source)
   pub text : (source : List ℕ) → bytes ≡ body_text (paths_of P g) (certificate_by states paths asserted source)
   -- all of its evidence is first
-  pub paths_first : Each (IsEvidenceFor (sites_of P) states) (paths_of P g) paths
-  pub asserted_first : Each (IsListedFound P g states) proved asserted
+  pub paths_first : AllZip (IsEvidenceFor (sites_of P) states) (paths_of P g) paths
+  pub asserted_first : AllZip (IsListedFound P g states) proved asserted
 
 -- a path that strains, to all before which there is evidence: edges before assertions
 pub record StopsAtEdge (P : Program) (g : Node) (states : List RowsAtPoint) (p q : ℕ) : Type 0 where
@@ -55,7 +56,7 @@ AssertionStops P g states q = (path : Path) × StopsIn (sites_of P) states (viol
 pub record StopsAtAssertion (P : Program) (g : Node) (states : List RowsAtPoint) (proved : List ℕ) (q : ℕ) : Type 0
   where
     pub evidence : List Evidence
-    pub edges : Each (IsEvidenceFor (sites_of P) states) (paths_of P g) evidence
+    pub edges : AllZip (IsEvidenceFor (sites_of P) states) (paths_of P g) evidence
     pub stops : Stops (IsListedFound P g states) (AssertionStops P g states) proved q
 
 abbrev pub StopsAt : Program → Node → List RowsAtPoint → List ℕ → StrainedAt → Type 0

@@ -1,12 +1,6 @@
 -- Lists of which something is found for each, and written.
-use Rattle.std.specs.Prelude.{◌≡◌, ◌++◌, ℕ, ⊤, List, [], ◌∷◌}
-
--- one of the second list for each of the first
-abbrev pub Each : {A B : Type 0} → (A → B → Type 0) → List A → List B → Type 0
-Each R [] [] = ⊤
-Each R [] (y ∷ ys) = ⊥
-Each R (x ∷ xs) [] = ⊥
-Each R (x ∷ xs) (y ∷ ys) = R x y × Each R xs ys
+use Rattle.std.specs.Prelude.{◌≡◌, ◌++◌, ℕ, List, [], ◌∷◌}
+use Rattle.std.specs.List.{AllZip}
 
 -- this is so of one of the list, and to each before it there is one of the second
 pub record Stops {A B : Type 0} (Is : A → B → Type 0) (Bad : A → Type 0) (xs : List A) (x : A) : Type 0 where
@@ -14,7 +8,7 @@ pub record Stops {A B : Type 0} (Is : A → B → Type 0) (Bad : A → Type 0) (
   pub behind : List A
   pub is : xs ≡ before ++ x ∷ behind
   pub found : List B
-  pub are : Each Is before found
+  pub are : AllZip Is before found
   pub bad : Bad x
 
 -- text of each, and what was found of it
@@ -27,7 +21,7 @@ each_text show (x ∷ xs) (y ∷ ys) = show x y ++ each_text show xs ys
 pub record AddsEach {A B : Type 0} (Is : A → B → Type 0) (show : A → B → List ℕ) (xs : List A) (old new : List ℕ)
     : Type 0 where
   pub found : List B
-  pub are : Each Is xs found
+  pub are : AllZip Is xs found
   pub text : new ≡ old ++ each_text show xs found
 
 -- from here on what is left of the list is still to be written

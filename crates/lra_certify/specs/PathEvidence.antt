@@ -11,7 +11,8 @@ use Rattle.lra_certificate_spec.specs.Certificates.{contradiction, CertifiesByEv
 use Rattle.lra_certificate_spec.specs.{Certificates.state_to, Judged.RowsAtPoint, Judged.claim_of}
 use Rattle.lra_verify.specs.EdgeViews.{live_by}
 use Rattle.lra_farkas.specs.FirstMultipliers.{AreFirst, MultipliersStrain}
-use Rattle.lra_certify.specs.Each.{Each, Stops}
+use Rattle.std.specs.List.{AllZip}
+use Rattle.lra_certify.specs.Each.{Stops}
 
 -- lines --------------------------------------------------------------------------------------------------------------
 
@@ -34,7 +35,7 @@ abbrev pub IsFirstEvidence : PathPremises → RowsAtPoint → Evidence → Type 
 IsFirstEvidence a target none = ⊥
 IsFirstEvidence a target (infeasible m) = IsFirstInfeasible a m
 IsFirstEvidence a None (implies ms) = ⊥
-IsFirstEvidence a (Some rows) (implies ms) = IsNotShownInfeasible a × Each (IsFirstShown a) (system_of rows) ms
+IsFirstEvidence a (Some rows) (implies ms) = IsNotShownInfeasible a × AllZip (IsFirstShown a) (system_of rows) ms
 
 -- it shows what has to be shown, by the first multipliers, whose numbers can be written
 pub record IsEvidenceAlong (a : PathPremises) (target : RowsAtPoint) (evidence : Evidence) : Type 0 where

@@ -5,7 +5,8 @@ use Rattle.lra_linear_spec.specs.{Descriptions.Con, Descriptions.system_of, Poin
 use Rattle.lra_linear_spec.specs.{Vectors.entry, Vectors.product, declared.Excess.Excess}
 use Rattle.lra_systems.specs.LinearSystems.{constraints}
 use Rattle.lra_multipliers.specs.Multipliers.{Multipliers, yes, IsAnswer}
-use Rattle.lra_certificate_spec.specs.CertificateText.{text_line, multipliers_text, evidence_text}
+use Rattle.lra_row_text.specs.Texts.{text_line}
+use Rattle.lra_certificate_spec.specs.CertificateText.{multipliers_text, evidence_text}
 use Rattle.lra_certificate_spec.specs.Certificates.{Evidence, none, infeasible, implies, AreNumbers}
 use Rattle.lra_certificate_spec.specs.Judged.{RowsAtPoint}
 use Rattle.lra_certificate_lines.specs.{PathCheckViews.claimed, declared.path_checks.PathFacts.PathFacts}
@@ -13,7 +14,8 @@ use Rattle.lra_farkas.specs.FirstMultipliers.{AreFirst, MultipliersStrain}
 use Rattle.lra_farkas.specs.MultiplierRows.{multiplier_dims, multiplier_rows, AreAsWide}
 use Rattle.lra_farkas.specs.declared.first.MultipliersFailure.{MultipliersFailure}
 use Rattle.lra_farkas.specs.declared.first.MultipliersFailure.TheVariants.{NotImplied, Strained, Memory}
-use Rattle.lra_certify.specs.Each.{Each, Stops, AddsEach, IsLeft}
+use Rattle.std.specs.List.{AllZip}
+use Rattle.lra_certify.specs.Each.{Stops, AddsEach, IsLeft}
 use Rattle.lra_certify.specs.{InductiveRows.IsIn, declared.failures.PathFailure.PathFailure}
 use Rattle.lra_certify.specs.declared.failures.PathFailure.TheVariants as of_path
 
@@ -94,7 +96,7 @@ IsEvidence g target none = ⊥
 IsEvidence g target (infeasible m) = IsLine g None m
 IsEvidence g None (implies ms) = ⊥
 IsEvidence g (Some rows) (implies ms) =
-    IsNotShown g None × Each (IsClaimLine g) (system_of rows) ms
+    IsNotShown g None × AllZip (IsClaimLine g) (system_of rows) ms
 
 -- what is said has come behind a text
 pub record AddsEvidence (Is : Evidence → Type 0) (old new : List ℕ) : Type 0 where

@@ -1,16 +1,17 @@
 -- Paths as the code writes their lines, from one source after the other.
-use Rattle.std.specs.List.{flat_map, range_with_len}
+use Rattle.std.specs.List.{flat_map, range_with_len, AllZip}
 use Rattle.std.specs.Prelude.{◌≡◌, ◌⊎◌, ◌++◌, ℕ, List, map, length, Some, None, Contains}
 use Rattle.lra_path_segments.specs.Segments.{Goal, comes_to, violates}
 use Rattle.lra_paths.specs.Paths.{Path, path_by}
 use Rattle.lra_linear_spec.specs.Descriptions.{LinearRow}
 use Rattle.lra_domain.specs.Actions.{Action}
-use Rattle.lra_certificate_spec.specs.CertificateText.{text_line, edge_text, evidence_text, listed_text, states_text}
+use Rattle.lra_row_text.specs.Texts.{text_line}
+use Rattle.lra_certificate_spec.specs.CertificateText.{edge_text, evidence_text, listed_text, states_text}
 use Rattle.lra_certificate_spec.specs.Certificates.{Evidence, ListedAssertion, AreStates}
 use Rattle.lra_certificate_spec.specs.{CertificateText.end_text, Judged.RowsAtPoint}
 use Rattle.lra_verify.specs.EdgeViews.{sites_in, states_in, actions_by}
 use Rattle.lra_verify.specs.declared.annotated.AnnotatedProgram.{AnnotatedProgram}
-use Rattle.lra_certify.specs.Each.{Each, Stops, AddsEach, IsLeft}
+use Rattle.lra_certify.specs.Each.{Stops, AddsEach, IsLeft}
 use Rattle.lra_certify.specs.InductiveRows.{IsInductiveAlong, IsInductiveFrom}
 use Rattle.lra_certify.specs.PathEvidence.{IsEvidenceFor, IsEvidenceFrom, StrainsAlong, StrainsFrom, StopsIn}
 use Rattle.lra_certify.specs.declared.failures.StrainedAt.TheVariants.{Edge, Assertion}
@@ -100,7 +101,7 @@ PathsLeft w show rest all now start =
 -- assertions ---------------------------------------------------------------------------------------------------------
 
 abbrev pub IsListed : AnnotatedProgram → ℕ → ListedAssertion → Type 0
-IsListed w q one = (one.number ≡ q) × Each (IsEvidenceFor (sites_in w) (states_in w)) (violating_paths w q) one.evidence
+IsListed w q one = (one.number ≡ q) × AllZip (IsEvidenceFor (sites_in w) (states_in w)) (violating_paths w q) one.evidence
 
 abbrev pub AddsListed : AnnotatedProgram → List ℕ → List ℕ → List ℕ → Type 0
 AddsListed w proved old new = AddsEach (IsListed w) (λ q one. listed_text one) proved old new
@@ -131,7 +132,7 @@ pub record AddsBody (w : AnnotatedProgram) (proved old new : List ℕ) : Type 0 
 
 pub record StopsListing (w : AnnotatedProgram) (proved : List ℕ) (at : StrainedAt) : Type 0 where
   pub evidence : List Evidence
-  pub edges : Each (IsEvidenceFor (sites_in w) (states_in w)) (all_paths w) evidence
+  pub edges : AllZip (IsEvidenceFor (sites_in w) (states_in w)) (all_paths w) evidence
   pub stops : ListStops w proved at
 
 abbrev pub BodyStops : AnnotatedProgram → List ℕ → StrainedAt → Type 0

@@ -5,7 +5,8 @@ ghost use Rattle.std.specs.Prelude.{◌≡◌, ◌<◌, ◌^◌, ◌++◌, [], O
 ghost use Rattle.lra_linear_spec.specs.Kinds.{is_equality};
 ghost use Rattle.lra_systems.specs.LinearSystems.{constraints};
 ghost use Rattle.lra_multipliers.specs.MultiplierViews.{multipliers_view};
-ghost use Rattle.lra_certificate_spec.specs.CertificateText.{text_line, numbers_text, row_text, multipliers_text};
+ghost use Rattle.lra_row_text.specs.Texts.{text_line};
+ghost use Rattle.lra_certificate_spec.specs.CertificateText.{numbers_text, row_text, multipliers_text};
 ghost use Rattle.lra_certificate_spec.specs.CertificateText.{state_text, states_text, relation_text, edge_text};
 ghost use Rattle.lra_certificate_spec.specs.CertificateText.{assert_text, end_text};
 ghost use Rattle.lra_paths.specs.Paths.{path_by};

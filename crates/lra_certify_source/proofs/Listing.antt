@@ -8,7 +8,8 @@ use Rattle.lra_base.specs.declared.refusals.Place.{Place}
 use Rattle.lra_program.specs.Sites.{Site}
 use Rattle.lra_row_text.specs.{Part.ReportGenerator, Rows.ReportRow, ShownDescriptions.shown_constraint, ShownDescriptions.shown_generator}
 use Rattle.lra_report.specs.{Report.PointReport, Report.Verdict, Report.Report, declared.verdict_kinds.VerdictKind.TheVariants.Assertion}
-use Rattle.lra_report_build.specs.AnalysisResults.{IsAssertion, ReportedVerdict, reported_verdict, reported_from, reported_accesses, reported_of, reported_all}
+use Rattle.lra_program.specs.Assertions.{IsAssertion}
+use Rattle.lra_report_build.specs.AnalysisResults.{ReportedVerdict, reported_verdict, reported_from, reported_accesses, reported_of, reported_all}
 use Rattle.lra_report_build.specs.Polyhedra.{part_if_any, shown_polyhedron}
 use Rattle.lra_analyse_source.specs.Stages.{ReportsSolution}
 use Rattle.lra_certify.specs.Certified.{AscendStrictly, AreListable}

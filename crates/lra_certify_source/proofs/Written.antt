@@ -9,13 +9,14 @@ use Rattle.lra_path_segments.specs.Segments.{comes_to}
 use Rattle.lra_paths.specs.Paths.{Path, path_by, actions_between, paths_between, points_of, sources_of, paths_of}
 use Rattle.lra_certificate_spec.specs.{CertificateText.head_text, Certificates.ListedAssertion, Claims.program_of, Judged.RowsAtPoint}
 use Rattle.lra_certify.specs.Certified.{AreListable, IsListedFound, certificate_by, StopsAt}
-use Rattle.lra_certify.specs.{Each.Each, declared.failures.StrainedAt.StrainedAt, declared.failures.StrainedAt.TheVariants.Edge, declared.failures.StrainedAt.TheVariants.Assertion}
+use Rattle.std.specs.List.{AllZip}
+use Rattle.lra_certify.specs.{declared.failures.StrainedAt.StrainedAt, declared.failures.StrainedAt.TheVariants.Edge, declared.failures.StrainedAt.TheVariants.Assertion}
 use Rattle.lra_certify.proofs.CertifiedSteps.{flat_from, in_range_below}
 use Rattle.lra_certify_source.specs.{Certified.CertifiedAreCertificates, Certified.HasSmallPoint, declared.refusals.CertifyRefusal.TheVariants.Strained}
 
 -- ---- certificates
 numbers_found : (P : Program) (g : Node) (states : List RowsAtPoint) (proved : List ℕ) (asserted : List ListedAssertion) →
-    Each (IsListedFound P g states) proved asserted
+    AllZip (IsListedFound P g states) proved asserted
     → map (λ (one : ListedAssertion). one.number) asserted ≡ proved
 numbers_found P g states [] [] each = refl
 numbers_found P g states [] (one ∷ more) each = absurd each

@@ -18,7 +18,8 @@ use Rattle.lra_command_line.specs.ParsedCommand.{Asks, default_options}
 use Rattle.lra_command_line.specs.{declared.commands.Command.TheVariants.Analyse, declared.commands.Command.TheVariants.Sample, declared.commands.Format.Format}
 use Rattle.lra_command_answers.specs.{Statuses.Ends, Statuses.reported, declared.status.Status.Status, declared.status.Status.TheVariants.Refused}
 use Rattle.lra_commands.specs.OutputClaims.{WritesReport, IsNeverReached, HoldsInAllRuns, ReportsWritten, IsWrittenUnlessFlagged, ReportsAccessing, ReportsAccesses, ReportsFitting, ReportsFits}
-use Rattle.lra_commands.specs.OutputClaims.{HasSamePointsAt, ReportsSamePoints, WritesSummary}
+use Rattle.lra_report.specs.Report.{HasSamePointsAt}
+use Rattle.lra_commands.specs.OutputClaims.{ReportsSamePoints, WritesSummary}
 use Rattle.lra_commands.specs.{Run.IsInput, Run.WritesAnswer, SourceAnswer.AnswersSource, SourceAnswer.written_report}
 use Rattle.lra_commands.proofs.Ways.{asked_input}
 

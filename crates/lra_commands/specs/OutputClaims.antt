@@ -15,8 +15,8 @@ use Rattle.lra_analysis_spec.specs.Analysis.{ExactIteration, IsSolution}
 use Rattle.lra_analysis_spec.specs.Operations.{exact_operations, lossy_operations}
 use Rattle.lra_analysis_spec.specs.{Accesses.JudgesAccesses, Fits.Judges, Fits.JudgesIf, Pass.PassResult, Plan.plan_of}
 use Rattle.lra_report.specs.BackText.{BackReport, back_text}
-use Rattle.lra_report.specs.Report.{Invariant, PointReport, Report, IsRight, IsSound}
-use Rattle.lra_report.specs.{Listing.Lists, Parts.HasSamePoints, ReportText.unknown_count}
+use Rattle.lra_report.specs.Report.{HasSamePointsAt, Invariant, PointReport, Report, IsRight, IsSound}
+use Rattle.lra_report.specs.{Listing.Lists, ReportText.unknown_count}
 use Rattle.lra_report_build.specs.{AnalysisResults.reported_all, AnalysisResults.reported_of, Shown.AreShown}
 use Rattle.lra_sample.specs.{Sample.sample_source, Summary.summary_text}
 use Rattle.lra_analyse_source.specs.SourceReports.{ForOptions, IsAnalysisReport}
@@ -133,9 +133,6 @@ pub record ReportsFits (o : Options) (bytes : List ℕ) (r : Report) : Type 0 wh
   pub tells : IsTrue o.fits → ForOptions o (λ V H m shown. ReportsFitting m shown o (resolve tree) r)
   pub silent : o.fits ≡ false → (verdicts : List (ℕ × Bool)) × (inside : List (ℕ × List (Place × Bool))) ×
       (map reported_of r.verdicts ≡ reported_all verdicts [] inside)
-
-abbrev pub HasSamePointsAt : PointReport → Type 0
-HasSamePointsAt p = AllByRecursion (HasSamePoints (length p.names)) p.state
 
 -- over polyhedra the rows and the generators of each part tell the same points, flagged or not
 abbrev pub ReportsSamePoints : Options → List ℕ → Report → Type 0

@@ -1,12 +1,12 @@
 -- A report: what it has, and what it claims of a program.
 -- a line and a byte in it, both from 1
 use Rattle.std.specs.List.{AllByRecursion}
-use Rattle.std.specs.Prelude.{◌⊎◌, ℕ, ℤ, List, [], ◌∷◌, Bool, Option, IsTrue}
+use Rattle.std.specs.Prelude.{◌⊎◌, ℕ, ℤ, List, [], ◌∷◌, length, Bool, Option, IsTrue}
 pub use Rattle.lra_base.specs.declared.refusals.Place.{Place}
 use Rattle.lra_options.specs.declared.options.Options.{Options}
 use Rattle.lra_program.specs.{Program.Program, Run.Point, Run.At}
 use Rattle.lra_row_text.specs.{Part.Part, Rows.RowHolds}
-use Rattle.lra_report.specs.{VerdictKinds.Breaks, declared.verdict_kinds.VerdictKind.VerdictKind}
+use Rattle.lra_report.specs.{Parts.HasSamePoints, VerdictKinds.Breaks, declared.verdict_kinds.VerdictKind.VerdictKind}
 
 -- what is known at a point: one of the parts holds; no part says that no run comes here
 abbrev pub Invariant : Type 0
@@ -49,6 +49,10 @@ InvariantHolds (part ∷ parts) store = AllByRecursion (λ r. RowHolds r store) 
 -- the state holds whenever a run is at the point; a state without parts then says that no run comes there
 abbrev pub IsInvariant : Program → PointReport → Type 0
 IsInvariant P p = (store : List ℤ) → At P p.point store → InvariantHolds p.state store
+
+-- the rows and the generators of each part of the state have the same points
+abbrev pub HasSamePointsAt : PointReport → Type 0
+HasSamePointsAt p = AllByRecursion (HasSamePoints (length p.names)) p.state
 
 -- what holds is broken in no run: an assertion that is marked proved doesn't fail, an access that is marked in bounds
 -- isn't evaluated outside its array

@@ -9,8 +9,9 @@ use Rattle.lra_program.specs.Sites.{Site, sites_of}
 use Rattle.lra_operations.specs.declared.tree.Site as code_site
 use Rattle.lra_operations.specs.{Agree.IsInlinedTree, Tree.Node, TreeViews.site_view}
 use Rattle.lra_report.specs.{Listing.AreJudged, Listing.AreListed, Listing.Lists, Listing.subjects, Report.Report, Report.Verdict}
-use Rattle.lra_report_build.specs.AnalysisResults.{IsAssertion, IsComputing, IsAccessing, AreVerdicts, AreFitting, AreAccessVerdicts}
-use Rattle.lra_report_build.specs.Views.{reported_view}
+use Rattle.lra_program.specs.Assertions.{IsAssertion}
+use Rattle.lra_report_build.specs.AnalysisResults.{IsComputing, IsAccessing, AreVerdicts, AreFitting, AreAccessVerdicts}
+use Rattle.lra_base.specs.AccessVerdicts.{reported_view}
 use Rattle.lra_report_build.proofs.Verdicts.{are_there}
 
 -- `found` is what is listed of what was found, by labels and sites

@@ -16,7 +16,7 @@ use Rattle.lra_operations.specs.declared.tree.Site as code_site
 use Rattle.lra_operations.specs.{Tree.Node, TreeViews.site_view}
 use Rattle.lra_report_build.specs.AnalysisResults.{IsComputing, IsAccessing, AreVerdictsOn, AreVerdicts, AreFitting, AreAccessVerdicts, ReportedVerdict, reported_all, reported_of, reported_verdict}
 use Rattle.lra_report_build.specs.AnalysisResults.{reported_from, reported_accesses, site_at, verdict_at, access_verdicts, access_verdicts_at}
-use Rattle.lra_report_build.specs.Views.{reported_view}
+use Rattle.lra_base.specs.AccessVerdicts.{reported_view}
 
 abbrev Verdicts : Type 0 → Type 0
 Verdicts A = List (ℕ × A)

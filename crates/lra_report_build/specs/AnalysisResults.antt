@@ -9,13 +9,9 @@ use Rattle.lra_report.specs.Report.{Invariant, PointReport, Verdict}
 use Rattle.lra_report.specs.declared.verdict_kinds.VerdictKind.{VerdictKind}
 use Rattle.lra_report.specs.declared.verdict_kinds.VerdictKind.TheVariants.{Assertion, Fit, Access}
 use Rattle.lra_base.specs.declared.refusals.Place.{Place}
-use Rattle.lra_program.specs.{Program.Element, Sites.Site}
+use Rattle.lra_program.specs.{Assertions.IsAssertion, Program.Element, Sites.Site}
 use Rattle.lra_syntax.specs.Labels.{Labelled}
 use Rattle.lra_operations.specs.Tree.{Node}
-
--- the point of this number is an assertion
-abbrev pub IsAssertion : List Site → ℕ → Type 0
-IsAssertion sites q = (s : Site) × (slice_get sites q ≡ Some s) × IsTrue s.asserts
 
 -- as many states as points, each part with a number for each variable that lives there
 pub record AreInvariants (sites : List Site) (states : List Invariant) : Type 0 where

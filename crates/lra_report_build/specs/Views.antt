@@ -1,6 +1,4 @@
--- What is judged, and what is told of accesses, as reports list it.
-use Rattle.std.specs.{Prelude.ℕ, Prelude.List, Prelude.Bool, Prelude.Vec, declared.alloc.Global.Global}
-use Rattle.lra_base.specs.declared.refusals.Place.{Place}
+-- What is judged, as reports list it.
 use Rattle.lra_operations.specs.TreeViews.{site_view}
 use Rattle.lra_report.specs.Listing as report
 use Rattle.lra_report_build.specs.declared.listing.Subject.{Subject}
@@ -13,7 +11,3 @@ subject_view x = record {
   which = x.which;
   place = x.place;
 }
-
--- of the accesses of a point
-abbrev pub reported_view : ℕ × Vec (Place × Bool) Global → ℕ × List (Place × Bool)
-reported_view v = (v.0, v.1.items)

@@ -16,7 +16,8 @@ ghost use Rattle.lra_report.specs.declared.verdict_kinds.VerdictKind.TheVariants
 ghost use Rattle.lra_report_build.specs.AnalysisResults.{AreFitting, AreInvariants, AreVerdicts, state_of};
 ghost use Rattle.lra_report_build.specs.AnalysisResults.{reported_all, reported_of, access_verdicts};
 ghost use Rattle.lra_report_build.specs.AnalysisResults.{access_verdicts_at, verdict_at, AreAccessVerdicts};
-ghost use Rattle.lra_report_build.specs.Views.{subject_view, reported_view};
+ghost use Rattle.lra_base.specs.AccessVerdicts.{reported_view};
+ghost use Rattle.lra_report_build.specs.Views.{subject_view};
 
 use lra_base::Place;
 use lra_operations::Site;

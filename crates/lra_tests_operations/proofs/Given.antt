@@ -12,7 +12,8 @@ use Rattle.lra_row_text.specs.Part.{Part}
 use Rattle.lra_report.specs.{Listing.HasWidth, Report.Invariant}
 use Rattle.lra_operations.specs.{Agree.IsInlinedTree, Tree.Node, TreeViews.site_view}
 use Rattle.lra_operations.specs.declared.tree.Site as code_site
-use Rattle.lra_report_build.specs.AnalysisResults.{IsAssertion, AreInvariants, AreVerdicts}
+use Rattle.lra_program.specs.Assertions.{IsAssertion}
+use Rattle.lra_report_build.specs.AnalysisResults.{AreInvariants, AreVerdicts}
 
 -- a place of a list with one element more is a place of the list, or the last
 at_more : {A : Type 0} (xs : List A) (x : A) (q : ℕ) (y : A) → slice_get (xs ++ x ∷ []) q ≡ Some y → (slice_get xs q ≡ Some y) ⊎ ((q ≡ length xs) × (x ≡ y))

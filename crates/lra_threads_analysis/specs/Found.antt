@@ -16,7 +16,7 @@ use Rattle.lra_pass_results.specs.Dimensions.{TreeFits}
 use Rattle.lra_fixpoint.specs.{Lives.PointsHave, Numbers.IsNumbered, Solved.IsSolvedUnder, Tables.note_view}
 use Rattle.lra_fixpoint.specs.{UnderInterference.HoldsUnder, declared.tables.Note.Note}
 use Rattle.lra_overflow_checks.specs.Judged.{AreBelow}
-use Rattle.lra_bounds_checks.specs.BoundsChecks.{reported_view}
+use Rattle.lra_base.specs.AccessVerdicts.{reported_view}
 use Rattle.lra_threads_fixpoint.specs.Rounds.{ResultReadings}
 use Rattle.lra_threads_analysis.specs.declared.found.ThreadResult.{ThreadResult}
 

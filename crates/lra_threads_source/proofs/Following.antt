@@ -7,7 +7,8 @@ use Rattle.lra_program.specs.Sites.{Site}
 use Rattle.lra_report.specs.declared.verdict_kinds.VerdictKind.TheVariants.{Assertion, Fit}
 use Rattle.lra_report.specs.{Listing.AreListed, Report.PointReport, Report.Verdict, declared.verdict_kinds.VerdictKind.VerdictKind}
 use Rattle.lra_report.proofs.Every.{every_append}
-use Rattle.lra_report_build.specs.{AnalysisResults.access_verdicts, AnalysisResults.access_verdicts_at, AnalysisResults.site_at, AnalysisResults.verdict_at, Views.reported_view}
+use Rattle.lra_base.specs.AccessVerdicts.{reported_view}
+use Rattle.lra_report_build.specs.{AnalysisResults.access_verdicts, AnalysisResults.access_verdicts_at, AnalysisResults.site_at, AnalysisResults.verdict_at}
 use Rattle.lra_report_build.proofs.PolyhedronShown.{each_of}
 use Rattle.lra_threads_source.specs.Stages.{CanFollow}
 

@@ -7,7 +7,7 @@ use Rattle.lra_program.specs.{Assertions.assertions_from, Program.Program, Sites
 use Rattle.lra_operations.specs.{Tree.Node, TreeViews.node_view, TreeViews.site_view, declared.tree.InlinedProgram.InlinedProgram}
 use Rattle.lra_linear_spec.proofs.Membership.{contains_head, contains_tail}
 use Rattle.lra_analysis_spec.specs.Instrumented.{instrumented}
-use Rattle.lra_bounds_checks.specs.BoundsChecks.{reported_view}
+use Rattle.lra_base.specs.AccessVerdicts.{reported_view}
 use Rattle.lra_threads_fixpoint.specs.Rounds.{ThreadsFixpoint}
 use Rattle.lra_threads_analysis.specs.Found.{sites_in, access_verdicts_of, thread_values, verdicts_of}
 use Rattle.lra_threads_analysis.specs.{Holding.AllHold, Holding.HoldsInRound, declared.found.ThreadResult.ThreadResult}

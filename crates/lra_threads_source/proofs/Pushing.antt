@@ -13,7 +13,8 @@ use Rattle.lra_resolution_spec.specs.LiveNames.{globals_named}
 use Rattle.lra_operations.specs.declared.tree.InlinedProgram.{InlinedProgram}
 use Rattle.lra_fixpoint.specs.Lives.{AreWide}
 use Rattle.lra_report_build.specs.AnalysisResults.{AreInvariants, access_verdicts_at, state_of, verdict_at}
-use Rattle.lra_report_build.specs.{Shown.AreShown, Shown.shown_state, Views.reported_view, declared.listing.Findings.Findings}
+use Rattle.lra_base.specs.AccessVerdicts.{reported_view}
+use Rattle.lra_report_build.specs.{Shown.AreShown, Shown.shown_state, declared.listing.Findings.Findings}
 use Rattle.lra_analyse_source.proofs.Handing.{image_of}
 use Rattle.lra_threads_analysis.specs.{Found.sites_in, Found.thread_values, declared.found.ThreadResult.ThreadResult}
 use Rattle.lra_threads_source.specs.Listed.{AreListedAlone, ShowsPoints, one_by_one, points_before, reported_points}

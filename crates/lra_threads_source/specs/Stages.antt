@@ -12,7 +12,8 @@ use Rattle.lra_report.specs.declared.verdict_kinds.VerdictKind.TheVariants.{Asse
 use Rattle.lra_front_end.specs.declared.threads_front.AcceptedThreads.{AcceptedThreads}
 use Rattle.lra_front_end.specs.{Stages.HasConstants, ThreadsStages.IsThreadInlined}
 use Rattle.lra_report_build.specs.AnalysisResults.{access_verdicts_at, verdict_at}
-use Rattle.lra_report_build.specs.{Views.reported_view, declared.listing.Findings.Findings}
+use Rattle.lra_base.specs.AccessVerdicts.{reported_view}
+use Rattle.lra_report_build.specs.declared.listing.Findings.{Findings}
 use Rattle.lra_analysis_spec.specs.Instrumented.{instrumented}
 use Rattle.lra_fixpoint.specs.Lives.{AreWide}
 use Rattle.lra_threads_analysis.specs.Found.{sites_in, thread_values, verdicts_of}

@@ -9,7 +9,7 @@ ghost use Rattle.lra_report.specs.Report as report;
 ghost use Rattle.lra_report.specs.View.{point_report_of, verdict_of};
 ghost use Rattle.lra_report.specs.declared.verdict_kinds.VerdictKind.TheVariants.{Assertion, Fit};
 ghost use Rattle.lra_report_build.specs.AnalysisResults.{access_verdicts_at, verdict_at};
-ghost use Rattle.lra_report_build.specs.Views.{reported_view};
+ghost use Rattle.lra_base.specs.AccessVerdicts.{reported_view};
 ghost use Rattle.lra_threads_fixpoint.specs.{Found.fixpoint_view, Interference.interval_at};
 ghost use Rattle.lra_threads_source.specs.Listed.{accesses_alone, all_verdicts, all_writes, assertions_alone};
 ghost use Rattle.lra_threads_source.specs.Listed.{number_in, point_in_thread, points_before, reported_points};

@@ -2,7 +2,7 @@
 use Rattle.std.proofs.Common.{map}
 use Rattle.lra_syntax.specs.Views.{tree_view}
 use Rattle.lra_operations.specs.TreeViews.{node_view, site_view}
-use Rattle.lra_bounds_checks.specs.BoundsChecks.{reported_view}
+use Rattle.lra_base.specs.AccessVerdicts.{reported_view}
 use Rattle.lra_poly_domain.specs.{Abstraction.polyhedron_abstraction, Laws.polyhedron_laws}
 use Rattle.lra_analyse_source.proofs.ReportSteps.{accessed_handed, few_dims}
 use Rattle.lra_back_source.specs.Forward.{forward_plan}

@@ -8,7 +8,7 @@ use Rattle.lra_program.specs.{Assertions.assertions_from, Sites.Site, Sites.site
 use Rattle.lra_report.specs.Listing.{fits_asked, subjects_of, accesses_at, accesses_from}
 use Rattle.lra_report.specs.{View.verdict_of, View.report_of, declared.verdict_kinds.VerdictKind.TheVariants.Assertion, declared.verdict_kinds.VerdictKind.TheVariants.Fit}
 use Rattle.lra_report_build.specs.AnalysisResults.{AreFitting, AreAccessVerdicts, AreVerdicts, access_verdicts_at, verdict_at}
-use Rattle.lra_report_build.specs.Views.{reported_view}
+use Rattle.lra_base.specs.AccessVerdicts.{reported_view}
 use Rattle.lra_report_build.proofs.Reports.{fitting_there, inside_there, lists_by_parts, verdicts_there}
 use Rattle.lra_report_build.proofs.Verdicts.{all_told, are_fitting, are_inside, are_judged, judged_append}
 use Rattle.lra_report_build.proofs.listing.list.Goals as goal
