@@ -1,6 +1,7 @@
 -- What changes and joins keep of contents with an entry for each dimension, and how their ranks fall.
-use Rattle.std.proofs.Common.{◌≡◌, ℕ, zero, suc, ◌*◌, ◌^◌, ◌<◌, ◌≤◌, ℤ, Bool, true, false, ◌&&◌, List, [], ◌∷◌, ◌++◌, length, replicate, take, refl, ap, arith}
+use Rattle.std.proofs.Common.{◌≡◌, ℕ, zero, suc, ◌*◌, ◌^◌, ◌<◌, ◌≤◌, ℤ, Bool, true, false, List, [], ◌∷◌, ◌++◌, length, replicate, take, refl, ap, arith}
 use Rattle.std.specs.{Cmp.Lexicographic.pointwise, Prelude.slice_set}
+use Rattle.std.proofs.lemmas.Bool.{and_parts}
 use Rattle.guzhtarel.specs.Entries.{AllHave, join_each, total}
 
 -- ---- changes
@@ -38,10 +39,6 @@ have_take has (suc n) (e ∷ es) [] a = absurd a
 have_take has (suc n) (e ∷ es) (x ∷ s) a = (a.0, have_take has n es s a.1)
 
 -- ---- what is covered
-pub both_true : (a b : Bool) → (a && b) ≡ true → (a ≡ true) × (b ≡ true)
-both_true true b t = (refl, t)
-both_true false b t = cc
-
 pub have_within : {E : Type 0} (has : E → ℤ → Type 0) (test : E → E → Bool) → ((e d : E) (x : ℤ) → test e d ≡ true → has e x → has d x)
     → (es ds : List E) → pointwise test es ds ≡ true → (s : List ℤ) → AllHave has es s → AllHave has ds s
 have_within has test one [] [] t s a = a
@@ -49,7 +46,7 @@ have_within has test one [] (d ∷ ds) t s a = cc
 have_within has test one (e ∷ es) [] t s a = cc
 have_within has test one (e ∷ es) (d ∷ ds) t [] a = absurd a
 have_within has test one (e ∷ es) (d ∷ ds) t (x ∷ s) a =
-    let p = both_true (test e d) (pointwise test es ds) t in
+    let p = and_parts (test e d) (pointwise test es ds) t in
     (one e d x p.0 a.0, have_within has test one es ds p.1 s a.1)
 
 pub each_covers : {E : Type 0} (test : E → E → Bool) → ((e : E) → test e e ≡ true) → (es : List E) → pointwise test es es ≡ true

@@ -2,6 +2,7 @@
 use Rattle.std.proofs.Common.{◌≡◌, zero, suc, ℤ, pos, negsuc, List, Option, Some, None, Bool, true, false, length, refl, ap, subst, ◌∙◌, arith, inl, inr}
 use Rattle.std.proofs.lemmas.Int.{ints}
 use Rattle.std.specs.Prelude.{not, if◌then◌else◌, IsTrue, ◌⊎◌, int_le, ◌-ℤ◌}
+use Rattle.std.proofs.lemmas.Bool.{not-false}
 use Rattle.lra_base.specs.Operators.{Comparison, below, at_most, above, at_least, equal, differs}
 use Rattle.lra_base.specs.declared.number_types.NumberType.TheVariants.{Int}
 use Rattle.lra_program.specs.Program.{Expr, literal, Cond, compare, nonzero, opposite, both_of, either_of}
@@ -23,11 +24,7 @@ opposite_is at_most x y e = grind (arith, ints)
 opposite_is above x y e = grind (arith, ints)
 opposite_is at_least x y e = grind (arith, ints)
 opposite_is equal x y e = ap not e
-opposite_is differs x y e = back (if int_le x y then int_le y x else false) e
-  where
-    back : (b : Bool) → not b ≡ false → b ≡ true
-    back true h = refl
-    back false h = cc
+opposite_is differs x y e = not-false (if int_le x y then int_le y x else false) e
 
 -- `e` is `e != 0`
 zero_differs : (x : ℤ) → compares differs x (pos 0) ≡ not (is_zero x)

@@ -17,7 +17,8 @@ use Rattle.lra_analysis_spec.specs.Linearization.{Divides, LinearizedFits, with_
 use Rattle.lra_analysis_spec.specs.Linearization.{left_over, share_form, share_of, linearized_from, linearized, linear_if, divided_if, subtracted}
 use Rattle.lra_analysis_spec.specs.declared.linearization.Linearized.TheVariants.{Linear, Divided, Unseen}
 use Rattle.lra_analysis_spec.specs.{LiveLimit.most_live, MovesOf.in_cases, MovesOf.set_to, declared.linearization.Division.Division, declared.linearization.Linearized.Linearized}
-use Rattle.lra_analysis_spec.proofs.FormLemmas.{some_first, fitting_same, number_same, set_length, Wide, combined_wide, map_length, copies_length, form_wide, constant_form_value, constant_value}
+use Rattle.std.proofs.lemmas.List.{length-set}
+use Rattle.lra_analysis_spec.proofs.FormLemmas.{some_first, fitting_same, number_same, Wide, combined_wide, map_length, copies_length, form_wide, constant_form_value, constant_value}
 use Rattle.lra_analysis_spec.proofs.FormLemmas.{difference_value, forms_are_right}
 
 -- the quotient and what it leaves ---------------------------------------------------------------------------------------
@@ -101,7 +102,7 @@ two_gone s t r =
 
 set_gone : (s : List ℤ) (x : ℕ) (z t r : ℤ) → slice_set s x z ≡ take (length (slice_set (s ++ t ∷ r ∷ []) x z) - 2) (slice_set (s ++ t ∷ r ∷ []) x z)
 set_gone s x z t r =
-    let long : length (slice_set (s ++ t ∷ r ∷ []) x z) ≡ length s + 2 = set_length (s ++ t ∷ r ∷ []) x z ∙ length-append s (t ∷ r ∷ []) in
+    let long : length (slice_set (s ++ t ∷ r ∷ []) x z) ≡ length s + 2 = length-set (s ++ t ∷ r ∷ []) x z ∙ length-append s (t ∷ r ∷ []) in
     let left : length (slice_set (s ++ t ∷ r ∷ []) x z) - 2 ≡ length s = omega (arith, long) in
     sym (ap (λ (n : ℕ). take n (slice_set (s ++ t ∷ r ∷ []) x z)) left ∙ front_set s x z t r)
 

@@ -4,6 +4,8 @@ use Rattle.std.proofs.Common.{◌≡◌, ℕ, zero, suc, ℤ, pos, negsuc, ◌+�
 use Rattle.std.proofs.lemmas.Int.{ints}
 use Rattle.std.specs.List.{list_all}
 use Rattle.std.specs.Prelude.{◌-ℤ◌, ◌≤ℤ◌, map, replicate, slice_set, slice_get, if◌then◌else◌, ◌&&◌, IsTrue, ◌↔◌, ◌⊎◌, int_lt, int_le, nat_lt, not, neg_ℤ}
+use Rattle.std.proofs.lemmas.Bool.{and_parts}
+use Rattle.std.proofs.lemmas.List.{length-set}
 use Rattle.lra_linear_spec.specs.{Vectors.product, declared.ConKind.TheVariants.Ge, declared.ConKind.TheVariants.Eq}
 use Rattle.lra_linear_spec.proofs.{Products.product_none, Ring.ring, Ring.v, Ring.⊖, Ring.◌⊕◌, Ring.◌⊗◌}
 use Rattle.lra_linear_forms.specs.{Form.Form, Form.form_value, Form.opposite_form, declared.test.Test.Test}
@@ -109,10 +111,6 @@ product_scaled k (f ∷ fs) [] =
 product_scaled k (f ∷ fs) (x ∷ xs) =
     ap (λ (y : ℤ). ((k *ℤ f) *ℤ x) +ℤ y) (product_scaled k fs xs) ∙ ring (v k ⊗ v f ⊗ v x ⊕ v k ⊗ v (product fs xs)) (v k ⊗ (v f ⊗ v x ⊕ v (product fs xs))) (omega arith)
 
-and_both : (a b : Bool) → (a && b) ≡ true → (a ≡ true) × (b ≡ true)
-and_both true b e = (refl, e)
-and_both false b e = cc
-
 zero_is : (z : ℤ) → is_zero z ≡ true → z ≡ pos 0
 zero_is (pos zero) e = refl
 zero_is (pos (suc n)) e = cc
@@ -122,7 +120,7 @@ product_constant : (fs xs : List ℤ) → list_all is_zero fs ≡ true → produ
 product_constant [] xs e = refl
 product_constant (f ∷ fs) [] e = product_none (f ∷ fs)
 product_constant (f ∷ fs) (x ∷ xs) e =
-    let both = and_both (is_zero f) (list_all is_zero fs) e in
+    let both = and_parts (is_zero f) (list_all is_zero fs) e in
     ap (λ (y : ℤ). (y *ℤ x) +ℤ product fs xs) (zero_is f both.0) ∙ ring (v (pos 0) ⊗ v x ⊕ v (product fs xs)) (v (product fs xs)) (omega arith) ∙ product_constant fs xs both.1
 
 -- lengths --------------------------------------------------------------------------------------------------------------
@@ -139,11 +137,6 @@ map_length f (x ∷ xs) = ap suc (map_length f xs)
 pub copies_length : (n : ℕ) (z : ℤ) → length (replicate n z) ≡ n
 copies_length zero z = refl
 copies_length (suc n) z = ap suc (copies_length n z)
-
-pub set_length : (xs : List ℤ) (k : ℕ) (z : ℤ) → length (slice_set xs k z) ≡ length xs
-set_length [] k z = refl
-set_length (x ∷ xs) zero z = refl
-set_length (x ∷ xs) (suc k) z = ap suc (set_length xs k z)
 
 -- the form has a coefficient for each live variable
 pub record Wide (live : ℕ) (f : Form) : Type 0 where
@@ -183,7 +176,7 @@ pub form_wide : (live base : ℕ) (e : Expr) (f : Form) → form_of live base e 
 form_wide live base (literal t n) f is = wide_same live _ f (fitting_same (constant_form live (pos n)) f is) (record { width = copies_length live (pos 0) })
 form_wide live base (read x) f is =
     let same = live_same live (index_of base x.slot) f is in
-    wide_same live _ f same (record { width = set_length (replicate live (pos 0)) (index_of base x.slot) (pos 1) ∙ copies_length live (pos 0) })
+    wide_same live _ f same (record { width = length-set (replicate live (pos 0)) (index_of base x.slot) (pos 1) ∙ copies_length live (pos 0) })
 form_wide live base input f is = cc
 form_wide live base (negate e) f is =
     let (g, of, to) = bind_some (form_of live base e) (λ h. scaled (negsuc 0) h) f is in

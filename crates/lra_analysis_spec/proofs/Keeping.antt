@@ -20,7 +20,9 @@ use Rattle.lra_analysis_spec.specs.MovesOf.{above_least, below_greatest, within_
 use Rattle.lra_analysis_spec.specs.declared.linearization.Linearized.TheVariants.{Linear, Unseen}
 use Rattle.lra_analysis_spec.specs.{Linearization.linearized, declared.linearization.Linearized.Linearized}
 use Rattle.lra_linear_spec.proofs.Ring.{ring, v, ◌⊗◌}
-use Rattle.lra_analysis_spec.proofs.FormLemmas.{number_same, pair_first, product_at, product_out, minus_is, set_length, constant_form_value}
+use Rattle.std.proofs.lemmas.List.{length-set}
+use Rattle.std.proofs.lemmas.Option.{same_Some}
+use Rattle.lra_analysis_spec.proofs.FormLemmas.{number_same, pair_first, product_at, product_out, minus_is, constant_form_value}
 use Rattle.lra_analysis_spec.proofs.{CondKeeping.cond_leads, DivisionLemmas.seen_set, DivisionLemmas.seen_right}
 
 -- values with more variables -------------------------------------------------------------------------------------------
@@ -59,12 +61,8 @@ value_longer (element a at e) s more draws r is =
     let (p, got, to) = bind_some (value_of e s draws) found r is in
     then_is (value_of e (longer s more) draws) found p (Some r) (value_longer e s more draws p got) to
 
--- a state that is there
-pub some_is : {A : Type 0} (x y : A) → Some x ≡ Some y → x ≡ y
-some_is x y e = cc
-
 pub store_is : (s t : State) → Some s ≡ Some t → s.store ≡ t.store
-store_is s t e = ap (λ (x : State). x.store) (some_is s t e)
+store_is s t e = ap (λ (x : State). x.store) (same_Some s t e)
 
 -- types -----------------------------------------------------------------------------------------------------------------
 
@@ -188,7 +186,7 @@ cell_leads : (t : NumberType) (c : Cell) (w : Linearized) (s : State) (z : ℤ) 
     → MayLead (set_cell (length s.store) t c w) s.store (put_in c z s).store
 cell_leads t (Variable x) w s z ok led =
     within_type_keeps t (set_to (length s.store) x w) (length s.store) s.store (slice_set s.store x z) x z
-    (sym (set_length s.store x z)) (get_set s.store x z) ok (led x)
+    (sym (length-set s.store x z)) (get_set s.store x z) ok (led x)
 cell_leads t (Waiting p) w s z ok led = store_waiting p z s.waiting s
 
 -- the target, where there is one, gets a number of its type

@@ -2,6 +2,7 @@
 use Rattle.std.proofs.Common.{◌≡◌, ◌≢◌, inl, inr, ℕ, zero, suc, ◌-◌, ◌++◌, ℤ, List, [], ◌∷◌, Option, None, Some, Bool, true, false, refl, subst, sym, ◌∙◌, ap, arith}
 use Rattle.std.proofs.{lemmas.Bool.Decides.Decides-int_eq, lemmas.Int.ints, lemmas.List.Elements.Contains-append_left, lemmas.List.Elements.Contains-append_right}
 use Rattle.std.specs.{List.Contains, List.list_any, Ordering.int_eq, Prelude.◌||◌, Prelude.if◌then◌else◌}
+use Rattle.std.proofs.lemmas.Bool.{or_parts, or_from}
 use Rattle.lra_linear_spec.proofs.Membership.{contains_cases, contains_head, contains_tail}
 use Rattle.lra_domain.specs.{Abstraction.Abstraction, Actions.Within, Laws.Laws, declared.Exactness.Exactness}
 use Rattle.lra_program.specs.{Program.Expr, Program.Cond, Step.State, Step.environment_at, Step.run_op, Step.test, Value.value_of, Value.compares}
@@ -156,14 +157,6 @@ unequal z y e = by (compares equal z y) refl
     by false i = refl
     by true i = absurd (let same : z ≡ y = grind (arith, ints, i) in let no : true ≡ false = sym ((Decides-int_eq z y).1 same) ∙ e in cc)
 
-neither : (a b : Bool) → (a || b) ≡ false → (a ≡ false) × (b ≡ false)
-neither true b e = absurd cc
-neither false b e = (refl, e)
-
-either : (a b : Bool) → a ≡ false → b ≡ false → (a || b) ≡ false
-either true b e f = absurd cc
-either false b e f = f
-
 module _ (V H : Type 0) (m : Abstraction V H) (laws : Laws m) (keeps : ChangesKeep m) (holds : ValuesKeep m) where
   -- what comes in at a label that is the value's, and what has no match
   module _ (base : ℕ) (e : Expr) (s : State) (z : ℤ) (left : List ℤ) (got : value_of e (environment_at base s) s.draws ≡ Some (z, left)) where
@@ -171,7 +164,7 @@ module _ (V H : Type 0) (m : Abstraction V H) (laws : Laws m) (keeps : ChangesKe
         → list_any (is_same_case (Case z)) labels ≡ false → Has m v s.store → Has m w s.store
     no_match [] v x w (same, exact) none h = subst (λ (y : V). Has m y s.store) (sym same) h
     no_match (Case y ∷ labels) v x w (u, c, d, one, rest, worst) none h =
-        let (here, later) = neither (int_eq z y) (list_any (is_same_case (Case z)) labels) none in
+        let (here, later) = or_parts (int_eq z y) (list_any (is_same_case (Case z)) labels) none in
         no_match labels u d w rest later (holds base e y false v c u one s z left h got (unequal z y here))
     no_match (Default ∷ labels) v x w rest none h = no_match labels v x w rest none h
 
@@ -245,7 +238,7 @@ module _ (V H : Type 0) (m : Abstraction V H) (laws : Laws m) (keeps : ChangesKe
       → Waits base e d v other l met (k ∷ labels) st → Waits base e d v other l (met || alike) labels st
   waits_on base e d v other l k labels st true alike i waits = tt
   waits_on base e d v other l k labels st false true i waits = tt
-  waits_on base e d v other l k labels st false false i waits = (waits.0, λ none. waits.1 (either (is_same_case l k) (list_any (is_same_case l) labels) i none))
+  waits_on base e d v other l k labels st false false i waits = (waits.0, λ none. waits.1 (or_from (is_same_case l k) (list_any (is_same_case l) labels) i none))
 
   mutual
     pub covers : (set : Plan) (g : Node) (f : Option ℕ) (v : V) (r : PassResult V) → Pass V H (lossy_operations m) set g f v r → (s : State) → Has m v s.store

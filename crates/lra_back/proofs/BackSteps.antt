@@ -5,7 +5,7 @@ use Rattle.lra_domain.specs.{Abstraction.Abstraction, Actions.Action, Backward.B
 use Rattle.lra_program.specs.{Program.Cond, Sites.Site, declared.program.GlobalVariable.GlobalVariable}
 use Rattle.lra_operations.specs.Tree.{Node}
 use Rattle.lra_analysis_spec.specs.{Analysis.IsUnreachable, LiveLimit.most_live, Pass.noted}
-use Rattle.lra_analysis_spec.proofs.Keeping.{some_is}
+use Rattle.std.proofs.lemmas.Option.{same_Some}
 use Rattle.lra_path_segments.specs.{Segments.Goal, Segments.comes_to, TreeSegments.TreeSegment}
 use Rattle.lra_path_disjuncts.specs.{Disjuncts.greatest_paths, Tables.IsTable}
 use Rattle.lra_paths.specs.{Paths.AreFewIn, Paths.actions_between_in, Sources.to_goal, declared.paths.PathsFailure.PathsFailure, declared.sources.Source.Source}
@@ -140,7 +140,7 @@ pub asserted_found : (g : Node) (p : ℕ) (sites : List Site) → AreAsserted si
     → ((base : ℕ) (c : Cond) → IsAsserted g p base c → Some found ≡ Some (base, c)) → IsAsserted g p found.0 found.1
 asserted_found g p sites asserted asserts found are =
     let asks = asserted p asserts in
-    subst (λ (z : ℕ × Cond). IsAsserted g p z.0 z.1) (sym (some_is found (asks.0, asks.1) (are asks.0 asks.1 asks.2))) asks.2
+    subst (λ (z : ℕ × Cond). IsAsserted g p z.0 z.1) (sym (same_Some found (asks.0, asks.1) (are asks.0 asks.1 asks.2))) asks.2
 
 -- what is left at the start --------------------------------------------------------------------------------------------
 

@@ -1,10 +1,10 @@
 -- Going back over the changes of a path, from the last one.
 use Rattle.std.proofs.Common.{◌≡◌, ◌≤◌, ◌<◌, ◌^◌, ℕ, zero, suc, List, [], ◌∷◌, length, map, get_or, drop, take, Some, refl, sym, ap, subst, ◌∙◌, arith, slice_get, option_map, Contains}
-use Rattle.std.proofs.lemmas.Option.{slice_get_within, slice_get_read, slice_get-map, get_or_from_slice_get, none-some}
+use Rattle.std.proofs.lemmas.Option.{slice_get_within, slice_get_read, slice_get-map, get_or_from_slice_get, none-some, same_Some}
 use Rattle.std.proofs.{Math.Seq.drop-cons, lemmas.List.length-map}
 use Rattle.lra_domain.specs.Actions.{Action, assign, forget, test, embed, remove_last, dims_after}
 use Rattle.lra_domain.specs.{Abstraction.worse, Changes.AllCanBeMade, Changes.CanBeMade, Changes.dims_after_actions, declared.Exactness.Exactness}
-use Rattle.lra_analysis_spec.proofs.{Keeping.some_is, Takes.worse_worse}
+use Rattle.lra_analysis_spec.proofs.Takes.{worse_worse}
 use Rattle.lra_back.specs.Operations.{BackwardOperations, PreOfAction}
 use Rattle.lra_back.specs.{BackwardCalls.PreAlongMet, BackwardCalls.Fits, BackwardCalls.reversed, Preconditions.PreOfPath, Preconditions.PreAlong}
 
@@ -94,4 +94,4 @@ pub contains_at : {A : Type 0} (xs : List A) (i : ℕ) (x : A) → slice_get xs 
 contains_at xs i x at = (i, slice_get_within xs i x at, get_or_from_slice_get xs i x x at)
 
 pub same_there : {A : Type 0} (xs : List A) (i : ℕ) (x y : A) → slice_get xs i ≡ Some x → slice_get xs i ≡ Some y → (f : A → ℕ) → f x ≡ f y
-same_there xs i x y at here f = ap f (some_is x y (sym at ∙ here))
+same_there xs i x y at here f = ap f (same_Some x y (sym at ∙ here))

@@ -23,7 +23,8 @@ use Rattle.lra_analysis_spec.specs.MovesOf.{in_turn, first_case, second_case, in
 use Rattle.lra_analysis_spec.specs.MovesOf.{guard, number_moves, within_type, set_to, append_set, push_all, set_cell, above_least, below_greatest, set_target, drop_last, moves_of}
 use Rattle.lra_analysis_spec.specs.declared.linearization.Linearized.TheVariants.{Linear, Divided, Unseen}
 use Rattle.lra_analysis_spec.specs.{Live.live_after_op, LiveLimit.most_live, declared.linearization.Division.Division, declared.linearization.Linearized.Linearized}
-use Rattle.lra_analysis_spec.proofs.{DivisionLemmas.constant_length, DivisionLemmas.room, DivisionLemmas.seen_fits, DivisionLemmas.subtracted_fits, FormLemmas.set_length}
+use Rattle.std.proofs.lemmas.List.{length-set}
+use Rattle.lra_analysis_spec.proofs.{DivisionLemmas.constant_length, DivisionLemmas.room, DivisionLemmas.seen_fits, DivisionLemmas.subtracted_fits}
 use Rattle.lra_linearize.proofs.GuardThresholdSteps.{test_wide}
 use Rattle.lra_transfer.specs.Changes.{Stays, CellFits, PlaceFits, OpFitsDims}
 use Rattle.lra_transfer.proofs.ChangeSteps.{assign_stays, first_made, second_made}
@@ -158,7 +159,7 @@ module _ (n : ℕ) (few : n ≤ most_live) where
 -- least changes --------------------------------------------------------------------------------------------------------
 
 one_wide : (n x : ℕ) (c : ℤ) → length (slice_set (replicate n (pos 0)) x c) ≡ n
-one_wide n x c = set_length (replicate n (pos 0)) x c ∙ length-replicate n (pos 0)
+one_wide n x c = length-set (replicate n (pos 0)) x c ∙ length-replicate n (pos 0)
 
 within_leads : (t : NumberType) (x : ℕ) (p : Moves) (n m : ℕ) → SidesLeadOn p n m → SidesLeadOn (within_type t m x p) n m
 within_leads Long x p n m h = h

@@ -3,6 +3,7 @@ use Rattle.std.proofs.Common.{◌≡◌, ◌≢◌, ℕ, ◌+◌, ◌-◌, ◌*�
 use Rattle.std.proofs.lemmas.List.{get_or_past, get_or_append_left, length-append}
 use Rattle.std.proofs.{lemmas.Bool.cases_eq, lemmas.Bool.cases_lt, lemmas.Bool.eq-eqb, lemmas.Bool.eqb-true, lemmas.Nat.Bits.bit_at-zero}
 use Rattle.std.specs.{Int.bit_at, List.All, Prelude.◌&&◌, Prelude.◌==◌, Prelude.min}
+use Rattle.std.proofs.lemmas.Bool.{and_parts}
 use Rattle.lra_bits.specs.Matrix.{Matrix, IsCommon, TellsCommon, TellsWithin}
 use Rattle.lra_bits.specs.{Transposed.AreColumns, TruthValues.value_at, TruthValues.both, TruthValues.ArePlaces, TruthValues.IsSubset}
 use Rattle.lra_bits.proofs.Pairs.{both_value}
@@ -102,11 +103,6 @@ still_within word left less t zero same within j h one = elim (cases_eq j t) [
 ]
 
 -- ---- a row that is true wherever two others are
-two_true : (a b : Bool) → (a && b) ≡ true → (a ≡ true) × (b ≡ true)
-two_true true true e = (refl, refl)
-two_true true false e = absurd (false_not refl e)
-two_true false b e = absurd (false_not refl e)
-
 module _ (m columns : Matrix) (places : List ℕ) (up down : ℕ) (d : List Bool) (ed : d ≡ get_or m.rows down []) (inside : up < length m.rows) (ld : length d ≡ m.width)
     (equal : All (λ r. length r ≡ m.width) m.rows) (all : length columns.rows ≡ m.width) (are_some : AreColumns m (length columns.rows) columns)
     (tight_some : ArePlaces (get_or m.rows up []) (length columns.rows) places) where
@@ -124,7 +120,7 @@ module _ (m columns : Matrix) (places : List ℕ) (up down : ℕ) (d : List Bool
 
   common_subset : (k : ℕ) → IsCommon columns places d (length places) k → IsSubset (both u d) (get_or m.rows k [])
   common_subset k c j t =
-      let two = two_true (value_at u j) (value_at d j) (sym (both_value u d j (lu ∙ sym ld)) ∙ t) in
+      let two = and_parts (value_at u j) (value_at d j) (sym (both_value u d j (lu ∙ sym ld)) ∙ t) in
       elim (cases_lt j m.width) [
         | inl l ↦
             let w = tight.whole j l two.0 in

@@ -8,7 +8,7 @@ use Rattle.std.specs.List.{list_all, slice_split, starts_with, onto_first, posit
 use Rattle.std.specs.{Char.is_ascii_digit, Prelude.◌||◌, Prelude.codes, Prelude.if◌then◌else◌, Str.bytes_eq, Str.Parse.signed_digits_value}
 use Rattle.lra_linear_spec.specs.Range.{in_range}
 use Rattle.lra_script.specs.ScriptText.{is_number, number_of}
-use Rattle.lra_script.proofs.WordLemmas.{both}
+use Rattle.std.proofs.lemmas.Bool.{and_parts}
 use Rattle.lra_certificate_spec.specs.Judged.{is_magnitude, begins_with_minus, is_spelled, number_in, then_number, numbers_in, words_of, spaced_numbers, so_many}
 use Rattle.lra_certificate_spec.specs.NumberViews.{HasNoWord, IsWordOf}
 
@@ -19,8 +19,8 @@ magnitude_digits (b ∷ bs) h = grind (arith, nat_tests)
 
 pub zero_word : (word : List ℕ) → bytes_eq word (codes "0") ≡ true → word ≡ 48 ∷ []
 zero_word [] h = cc
-zero_word (b ∷ []) h = let p = both (nat_eq b 48) true h in ap (λ x. x ∷ []) (let q = p.0 in grind (arith, nat_tests))
-zero_word (b ∷ c ∷ cs) h = let p = both (nat_eq b 48) false h in absurd (let q = p.1 in cc)
+zero_word (b ∷ []) h = let p = and_parts (nat_eq b 48) true h in ap (λ x. x ∷ []) (let q = p.0 in grind (arith, nat_tests))
+zero_word (b ∷ c ∷ cs) h = let p = and_parts (nat_eq b 48) false h in absurd (let q = p.1 in cc)
 
 pub either : (a b : Bool) → a || b ≡ true → (a ≡ true) ⊎ (b ≡ true)
 either true b h = inl refl

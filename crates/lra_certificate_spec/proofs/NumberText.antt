@@ -8,7 +8,8 @@ use Rattle.std.specs.{Str.bytes_eq, Str.Parse.AllDigits, Str.Parse.digits_value_
 use Rattle.lra_linear_spec.specs.Range.{InRange, in_range}
 use Rattle.lra_linear_spec.proofs.CheckedArithmetic.{in_range_yes}
 use Rattle.lra_certificate_spec.specs.Judged.{begins_with_minus, is_magnitude, is_spelled, number_in}
-use Rattle.lra_script.proofs.WordLemmas.{both, all_digits}
+use Rattle.std.proofs.lemmas.Bool.{and_parts}
+use Rattle.lra_script.proofs.WordLemmas.{all_digits}
 use Rattle.lra_certificate_spec.proofs.NumberSteps.{either, zero_word}
 
 -- ---- digits and their value
@@ -31,8 +32,8 @@ decimal_value_after n (c ∷ cs) some d small =
 -- digits of which the first is 1 to 9
 first_digit : (c : ℕ) (cs : List ℕ) → is_magnitude (c ∷ cs) ≡ true → (49 ≤ c) × (c ≤ 57) × (list_all is_ascii_digit cs ≡ true)
 first_digit c cs h =
-    let p = both (nat_le 49 c && nat_le c 57) (list_all is_ascii_digit cs) h in
-    let q = both (nat_le 49 c) (nat_le c 57) p.0 in
+    let p = and_parts (nat_le 49 c && nat_le c 57) (list_all is_ascii_digit cs) h in
+    let q = and_parts (nat_le 49 c) (nat_le c 57) p.0 in
     let low : 49 ≤ c = (let x = q.0 in grind (arith, nat_tests)) in
     let high : c ≤ 57 = (let x = q.1 in grind (arith, nat_tests)) in
     (low, high, p.1)
@@ -102,7 +103,7 @@ spelled_by word r (inr h) = magnitude_text word r h
 kept_number : (word : List ℕ) (z : ℤ) (b : Bool) → is_spelled word && in_range (signed_digits_value 10 word) ≡ b →
     (if b then Some (signed_digits_value 10 word) else None) ≡ Some z → (word ≡ signed_decimal z) × InRange z
 kept_number word z true e s =
-    let p = both (is_spelled word) (in_range (signed_digits_value 10 word)) e in
+    let p = and_parts (is_spelled word) (in_range (signed_digits_value 10 word)) e in
     let same = same_Some (signed_digits_value 10 word) z s in
     let r = range_of (signed_digits_value 10 word) p.1 in (
       spelled_by word r (either (bytes_eq word (codes "0")) (is_magnitude (if begins_with_minus word then drop 1 word else word)) p.0) ∙
@@ -122,13 +123,13 @@ digit_passes d h = grind (arith, nat_tests)
 all_push : (ds : List ℕ) (c : ℕ) → list_all is_ascii_digit ds ≡ true → is_ascii_digit c ≡ true → list_all is_ascii_digit (ds ++ c ∷ []) ≡ true
 all_push [] c h k = ap (λ (b : Bool). b && true) k
 all_push (d ∷ ds) c h k =
-    let p = both (is_ascii_digit d) (list_all is_ascii_digit ds) h in
+    let p = and_parts (is_ascii_digit d) (list_all is_ascii_digit ds) h in
     ap (λ (b : Bool). b && list_all is_ascii_digit (ds ++ c ∷ [])) p.0 ∙ all_push ds c p.1 k
 
 magnitude_push : (ds : List ℕ) (c : ℕ) → is_magnitude ds ≡ true → is_ascii_digit c ≡ true → is_magnitude (ds ++ c ∷ []) ≡ true
 magnitude_push [] c h k = cc
 magnitude_push (d ∷ ds) c h k =
-    let p = both (nat_le 49 d && nat_le d 57) (list_all is_ascii_digit ds) h in
+    let p = and_parts (nat_le 49 d && nat_le d 57) (list_all is_ascii_digit ds) h in
     ap (λ (b : Bool). b && list_all is_ascii_digit (ds ++ c ∷ [])) p.0 ∙ all_push ds c p.1 k
 
 one_magnitude : (n : ℕ) → n < 10 → 0 < n → is_magnitude ((48 + n) ∷ []) ≡ true

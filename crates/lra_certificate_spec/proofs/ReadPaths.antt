@@ -2,6 +2,7 @@
 use Rattle.std.proofs.Common.{◌≡◌, ◌<◌, ◌≤◌, ◌+◌, ℕ, suc, ℤ, Bool, true, false, List, [], ◌∷◌, ◌++◌, length, refl, ap, sym, ◌∙◌, subst, arith, append_assoc, append-nil, Option, Some, None, Result, Ok}
 use Rattle.std.proofs.Common.{Err, length-append}
 use Rattle.std.specs.{List.AllByRecursion, List.flat_map, Prelude.if◌then◌else◌, Prelude.codes, Prelude.slice_get, Prelude.◌&&◌, Prelude.⊤}
+use Rattle.std.proofs.lemmas.Bool.{and_parts}
 use Rattle.lra_linear_spec.specs.{Descriptions.LinearRow, Descriptions.system_of, declared.Excess.Excess}
 use Rattle.lra_program.specs.{Program.Program, Sites.Site, Sites.sites_of}
 use Rattle.lra_operations.specs.Tree.{Node}
@@ -241,10 +242,6 @@ module _ (P : Program) (g : Node) (states : List RowsAtPoint) (fit : (p : ℕ) �
   first_ascends one [] h a = tt
   first_ascends one (two ∷ more) h a = (omega (arith, h.0), a)
 
-  both_true : (x y : Bool) → x && y ≡ true → (x ≡ true) × (y ≡ true)
-  both_true true y h = (refl, h)
-  both_true false y h = cc
-
   module _ (denials : (q : ℕ) → AllByRecursion (λ path. state_to states path.goal ≡ None) (violations_of P g q)) where
     pub listed_said : (q : ℕ) (sites : List Site) (l : Left) (y : ℕ × Left) → Found q sites → judged_listed P g states q sites l ≡ Ok y →
         (ones : List ListedAssertion) × AreListed q ones × (length ones ≡ y.0) × (joined l.pieces ≡ flat_map listed_text ones ++ joined y.1.pieces)
@@ -269,7 +266,7 @@ module _ (P : Program) (g : Node) (states : List RowsAtPoint) (fit : (p : ℕ) �
             let rest = again l y k in
             (rest.0, (rest.1.0, later q rest.0 rest.1.1, rest.1.2, rest.1.3), rest.2, rest.3)
         on again true h k =
-            let b = both_true site.asserts (is_next_line (assert_text q) (line_on l.pieces)) h in
+            let b = and_parts site.asserts (is_next_line (assert_text q) (line_on l.pieces)) h in
             let t = then_is (judged_violations P g states (violations_of P g q) (after_line l))
             (λ (next : Left). one_more (judged_listed P g states (suc q) sites
             next)) y k in

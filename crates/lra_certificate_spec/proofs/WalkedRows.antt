@@ -1,7 +1,7 @@
 -- What rows over symbols stand for: where actions lead from one store to another, the symbols have values at which the
 -- rows are the numbers of the second store, and at which the tests hold.
 use Rattle.std.proofs.Common.{◌≡◌, ℕ, zero, suc, ◌<◌, ◌≤◌, ◌+◌, ◌-◌, ℤ, pos, ◌+ℤ◌, ◌*ℤ◌, List, [], ◌∷◌, ◌++◌, length, map, take, drop, Result, Ok, Err, refl, ap, sym, ◌∙◌, subst, arith, inl, inr, ◌⊎◌}
-use Rattle.std.proofs.lemmas.List.{map-append, length-append, length-map, map-set, take-map}
+use Rattle.std.proofs.lemmas.List.{map-append, length-append, length-map, map-set, take-map, length-set}
 use Rattle.std.proofs.{Common.add-one, Math.IntN.+ℤ_idr, lemmas.Bool.cases_lt, lemmas.List.Elements.Contains-append_cases}
 use Rattle.std.specs.{List.AllByRecursion, List.Contains, Prelude.slice_set}
 use Rattle.lra_linear_spec.specs.Descriptions.{LinearRow, HoldsWith, Holds, Con}
@@ -93,13 +93,8 @@ composed_value n k cs forms row u o w e =
 symbol_value : (n column : ℕ) (u : List ℤ) → column < suc n → product (symbol (suc n) column) u ≡ entry u column
 symbol_value n column u h = entry_product (suc n) column (pos 1) u h ∙ ring (v (pos 1) ⊗ v (entry u column)) (v (entry u column)) (omega arith)
 
-length_put : (xs : List ℤ) (i : ℕ) (y : ℤ) → length (slice_set xs i y) ≡ length xs
-length_put [] i y = refl
-length_put (x ∷ xs) zero y = refl
-length_put (x ∷ xs) (suc i) y = ap suc (length_put xs i y)
-
 pub symbol_width : (n column : ℕ) → length (symbol n column) ≡ n
-symbol_width n column = length_put (zeros n) column (pos 1) ∙ length_zeros n
+symbol_width n column = length-set (zeros n) column (pos 1) ∙ length_zeros n
 
 drop_first : (u : List ℤ) (i : ℕ) (x : ℤ) (rest : List ℤ) → drop i u ≡ x ∷ rest → (entry u i ≡ x) × (drop (suc i) u ≡ rest)
 drop_first [] zero x rest e = absurd (cc)

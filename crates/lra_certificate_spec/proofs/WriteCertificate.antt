@@ -5,6 +5,7 @@ use Rattle.std.proofs.{Math.Seq.take-append_seam, Math.Seq.drop-append-add, lemm
 use Rattle.std.proofs.{lemmas.Option.same_Some, lemmas.Option.none-some, lemmas.Slice.Eq.bytes_eq-Decides}
 use Rattle.std.specs.List.{AllByRecursion, flat_map, position_or_len, before_first, after_first}
 use Rattle.std.specs.{Fmt.decimal, Prelude.if◌then◌else◌, Prelude.codes, Prelude.slice_get, Prelude.◌&&◌, Str.Parse.digits_value}
+use Rattle.std.proofs.lemmas.Bool.{and_right}
 use Rattle.lra_linear_spec.specs.Range.{InRange}
 use Rattle.lra_program.specs.{Program.Program, Sites.Site, Sites.sites_of}
 use Rattle.lra_operations.specs.Tree.{Node}
@@ -44,10 +45,6 @@ not_end q = refl
 
 end_first : line_on (pieces_of end_text) ≡ Some (codes "end")
 end_first = ap (λ (x : List ℕ). line_on (pieces_of x)) (sym (append-nil end_text)) ∙ line_first (codes "end") [] (text_from 32 (codes "end") refl)
-
-and_false : (a b : Bool) → b ≡ false → a && b ≡ false
-and_false true b e = e
-and_false false b e = refl
 
 abbrev pub listing : List ListedAssertion → List ℕ
 listing ones = flat_map listed_text ones ++ end_text
@@ -108,7 +105,7 @@ module _ (P : Program) (g : Node) (states : List RowsAtPoint) (fit : (p : ℕ) �
 
   skipped : (q : ℕ) (site : Site) (sites : List Site) (ones : List ListedAssertion) (l : Left) → is_next_line (assert_text q) (line_on l.pieces) ≡ false →
       ListedRead (suc q) sites ones l → ListedRead q (site ∷ sites) ones l
-  skipped q site sites ones l e r = (r.0, ap (step q site sites l) (and_false site.asserts (is_next_line (assert_text q) (line_on l.pieces)) e) ∙ r.1, r.2)
+  skipped q site sites ones l e r = (r.0, ap (step q site sites l) (and_right site.asserts (is_next_line (assert_text q) (line_on l.pieces)) e) ∙ r.1, r.2)
 
   module _ (one : ListedAssertion) (site : Site) (sites : List Site) (ones : List ListedAssertion) (l : Left) (meets : CertifiesAssertion P g states one)
       (here : Some site ≡ Some meets.site) (numbers : AllByRecursion IsWritable one.evidence) (shape : l.pieces ≡ pieces_of (listing (one ∷ ones)))

@@ -13,7 +13,7 @@ use Rattle.lra_certificate_spec.specs.CertificateText.{numbers_text, relation_te
 use Rattle.lra_certificate_spec.specs.Certificates.{IsPointRow, AreNumbers}
 use Rattle.lra_certificate_spec.specs.Judged.{number_in, then_number, numbers_in, words_of, so_many, spaced_numbers, numbers_after, Left, Judged, then_judged, line_on, after_line, is_next_line, takes}
 use Rattle.lra_certificate_spec.specs.Judged.{constraint_row, or_else, row_in, judged_rows, RowsAtPoint, judged_state, judged_states, multipliers_in}
-use Rattle.lra_script.proofs.WordLemmas.{both}
+use Rattle.std.proofs.lemmas.Bool.{and_parts}
 use Rattle.lra_certificate_spec.proofs.{NumberSteps.word_behind, NumberText.text_spelled}
 
 -- ---- bytes of words and of lines: above the space, and at least that
@@ -32,7 +32,7 @@ from_joined n (x ∷ xs) ys h k = (h.0, from_joined n xs ys h.1 k)
 pub text_from : (n : ℕ) (bs : List ℕ) → list_all (λ b. nat_le n b) bs ≡ true → AreFrom n bs
 text_from n [] h = tt
 text_from n (b ∷ bs) h =
-    let p = both (nat_le n b) (list_all (λ (c : ℕ). nat_le n c) bs) h in
+    let p = and_parts (nat_le n b) (list_all (λ (c : ℕ). nat_le n c) bs) h in
     let low : n ≤ b = (let x = p.0 in grind (arith, nat_tests)) in
     (low, text_from n bs p.1)
 

@@ -8,7 +8,8 @@ use Rattle.lra_linear_spec.proofs.Membership.{contains_head, contains_none, cont
 use Rattle.lra_double_description.specs.{Pairs.HasThird, Pairs.both_tight, Thirds.FewHaveThird}
 use Rattle.lra_cone.specs.Cones.{ConeContent, IsCone, tight_values, saturation_rows}
 use Rattle.lra_cone.proofs.ThirdRays.{AreTight, third_ray}
-use Rattle.lra_cone.proofs.TightRows.{both_yes, either_tight, row_at, rows_length, subset_from, tight_either, with_cases, zero_yes}
+use Rattle.std.proofs.lemmas.Bool.{and_from}
+use Rattle.lra_cone.proofs.TightRows.{either_tight, row_at, rows_length, subset_from, tight_either, with_cases, zero_yes}
 
 -- ---- the rows that are tight at both
 abbrev is_common : List ℤ → List ℤ → LinearRow → Bool
@@ -36,7 +37,7 @@ common_tight (g ∷ taken) u d x h s m e f =
     let rows = common_rows taken u d in
     elim (with_cases g.equal g.row (system_of taken) s m) [
       | inl y ↦
-          let here : is_common u d g ≡ true = both_yes (int_eq (product g.row u) (pos 0)) (int_eq (product g.row d) (pos 0))
+          let here : is_common u d g ≡ true = and_from (int_eq (product g.row u) (pos 0)) (int_eq (product g.row d) (pos 0))
           (zero_yes (product g.row u) (either_tight g.row s (entry u) y e)) (zero_yes (product g.row d) (either_tight g.row s (entry d) y f)) in
           tight_either g.row s (entry x) y (h g.row (subst (λ (b : Bool). Contains (cond b (g.row ∷ rows) rows) g.row) (sym here) (contains_head g.row rows)))
       | inr n ↦ common_tight taken u d x (λ c k. h c (common_later (is_common u d g) g.row rows c k)) s n e f

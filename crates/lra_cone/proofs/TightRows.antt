@@ -1,7 +1,8 @@
 -- Which rows are tight at a ray, as truth values.
 use Rattle.std.proofs.Common.{◌≡◌, ℕ, zero, suc, ◌<◌, Bool, true, false, List, [], ◌∷◌, ◌++◌, length, get_or, refl, ap, sym, ◌∙◌, arith, pos, ℤ, neg_ℤ, inl, inr, ◌⊎◌}
 use Rattle.std.proofs.{lemmas.Bool.and_parts, lemmas.Bool.Decides.Decides-int_eq, lemmas.Int.ints}
-use Rattle.std.specs.{List.Contains, Ordering.int_eq, Prelude.◌&&◌}
+use Rattle.std.specs.{List.Contains, Ordering.int_eq}
+use Rattle.std.proofs.lemmas.Bool.{and_from}
 use Rattle.lra_bits.specs.{Matrix.unmarked, TruthValues.IsSubset, TruthValues.both}
 use Rattle.lra_linear_spec.specs.{Cones.with_row, Descriptions.LinearRow, Descriptions.system_of, Vectors.entry, Vectors.dot, Vectors.product, Vectors.negated}
 use Rattle.lra_linear_spec.proofs.{Membership.contains_cases, Membership.contains_head, Membership.contains_tail, Membership.contains_none, Products.negated_dot, Widening.zero_said}
@@ -9,10 +10,6 @@ use Rattle.lra_cone.specs.Cones.{tight_values, saturation_rows}
 
 pub zero_yes : (z : ℤ) → z ≡ pos 0 → int_eq z (pos 0) ≡ true
 zero_yes z h = (Decides-int_eq z (pos 0)).1 h
-
-pub both_yes : (a b : Bool) → a ≡ true → b ≡ true → (a && b) ≡ true
-both_yes true b h k = k
-both_yes false b h k = h
 
 -- ---- the rows of a system
 pub with_cases : (equal : Bool) (c : List ℤ) (system : List (List ℤ)) (s : List ℤ) → Contains (with_row equal c system) s → ((s ≡ c) ⊎ (s ≡ negated c)) ⊎ Contains system s
@@ -47,7 +44,7 @@ pub subset_said : (taken : List LinearRow) (u d r : List ℤ) → IsSubset (both
     (s : List ℤ) → Contains (system_of taken) s → dot s (entry u) ≡ pos 0 → dot s (entry d) ≡ pos 0 → dot s (entry r) ≡ pos 0
 subset_said [] u d r h s m e f = absurd (contains_none s m)
 subset_said (g ∷ taken) u d r h s m e f = elim (with_cases g.equal g.row (system_of taken) s m) [
-  | inl x ↦ tight_either g.row s (entry r) x (zero_said (product g.row r) (h 0 (both_yes (int_eq (product g.row u) (pos 0)) (int_eq (product g.row d) (pos 0))
+  | inl x ↦ tight_either g.row s (entry r) x (zero_said (product g.row r) (h 0 (and_from (int_eq (product g.row u) (pos 0)) (int_eq (product g.row d) (pos 0))
       (zero_yes (product g.row u) (either_tight g.row s (entry u) x e)) (zero_yes (product g.row d) (either_tight g.row s (entry d) x f)))))
   | inr n ↦ subset_said taken u d r (λ k. h (suc k)) s n e f
 ]

@@ -7,7 +7,8 @@ use Rattle.lra_dbm.specs.Steps.{Progress, shortest, rounded, all_rounded, streng
 use Rattle.lra_dbm.specs.Tight.{Entries, opposite, signed_value, with_sign, IsStore}
 use Rattle.lra_dbm.specs.{Cells.Cells, Cells.cell, Cells.outside, Cells.entries, Cells.IsMatrix, Entry.◌⊑◌, Entry.◌⊞◌, Entry.half_of, Entry.within_range, Entry.passes_range}
 use Rattle.lra_dbm.proofs.Lowering.{Comes, comes_here, comes_on, lowered_comes, lowered_at, lowered_kept, in_turn_keeps, in_turn_each, enter_matrix, enter_lowers, enter_at, enter_kept, half_fits}
-use Rattle.lra_dbm.proofs.Lowering.{within_range_fits, le_within_range, within_range_same, or_false}
+use Rattle.std.proofs.lemmas.Bool.{or_parts}
+use Rattle.lra_dbm.proofs.Lowering.{within_range_fits, le_within_range, within_range_same}
 use Rattle.lra_dbm.proofs.{CellLemmas.opposite_below, CellLemmas.entries_inside, CellLemmas.inside_or_out, EntryLemmas.le_same, EntryLemmas.le_none, EntryLemmas.le_trans, EntryLemmas.sum_grows}
 use Rattle.lra_dbm.proofs.{Paths.shortest_kept, Stores.parity_of, Strong.opposite_twice, Strong.half_bounds, Strong.halves_grow, Ways.IsTightlyClosed, Ways.Below}
 
@@ -108,7 +109,7 @@ module _ (n : ℕ) where
       record {
         is = enter_matrix n i j (half_of (within_range sum)) p.cells h k is (half_fits (within_range sum) (within_range_fits sum));
         lowers = enter_lowers n i j (half_of (within_range sum)) p.cells h k is;
-        flags = λ f. (or_false p.flagged (passes_range sum) f).0;
+        flags = λ f. (or_parts p.flagged (passes_range sum) f).0;
       }
 
   row_strengthened_comes : (i : ℕ) (p : Progress) → i < 2 * n → IsMatrix n p.cells → Comes n p (row_strengthened i (2 * n) p)
@@ -131,7 +132,7 @@ module _ (n : ℕ) where
         let y = entries_inside n q.cells (opposite j) j oj l in
         let sum = cell q.cells i (opposite i) ⊞ cell q.cells (opposite j) j in
         le_trans (enter_at n i j (half_of (within_range sum)) q.cells hi l h.is)
-        (le_trans (le_same (ap half_of (within_range_same sum (or_false q.flagged (passes_range sum) f).1)))
+        (le_trans (le_same (ap half_of (within_range_same sum (or_parts q.flagged (passes_range sum) f).1)))
         (half_sum (half i) (half (opposite j)) (cell q.cells i (opposite i)) (cell q.cells (opposite j) j)
         (le_trans (le_same (sym x)) (le_trans (h.lowers.at i (opposite i)) (even i hi)))
         (le_trans (le_same (sym y ∙ ap (entries n q.cells (opposite j)) (sym (opposite_twice j)))) (le_trans (h.lowers.at (opposite j) (opposite (opposite j))) (even (opposite j) oj))))))

@@ -1,7 +1,8 @@
 -- What lowering an entry does: the step of which closing is made.
 use Rattle.std.proofs.Common.{◌≡◌, ℕ, zero, suc, ◌*◌, ◌<◌, inl, inr, ℤ, Option, None, Some, refl, sym, ap, ◌∙◌, arith, Bool, true, false, cond, subst}
 use Rattle.std.proofs.{lemmas.Bool.Decides.leb_tells, lemmas.Int.ints}
-use Rattle.std.specs.Prelude.{◌||◌, not, unsigned_abs, ◌^◌}
+use Rattle.std.specs.Prelude.{not, unsigned_abs, ◌^◌}
+use Rattle.std.proofs.lemmas.Bool.{or_parts}
 use borrow.Author.Count.{below_more}
 use Rattle.lra_dbm.specs.Entry.{◌⊑◌, lesser, EntryInRange, half_of, within_range, passes_range}
 use Rattle.lra_dbm.specs.{Cells.Cells, Cells.cell, Cells.entries, Cells.entered, Cells.IsMatrix, Steps.Progress, Steps.in_turn, Steps.lowered, Tight.Entries, Tight.opposite}
@@ -89,10 +90,6 @@ within_range_same (Some v) h = by_range (in_range v) h
     by_range true h = refl
     by_range false h = absurd (cc)
 
-pub or_false : (a b : Bool) → (a || b) ≡ false → (a ≡ false) × (b ≡ false)
-or_false true b h = absurd (cc)
-or_false false b h = (refl, h)
-
 -- from p to q entries only fall, and flags only rise
 pub record Comes (n : ℕ) (p q : Progress) : Type 0 where
   pub is : IsMatrix n q.cells
@@ -113,11 +110,11 @@ pub lowered_comes : (n i j : ℕ) (v : Option ℤ) (p : Progress) → i < 2 * n 
 lowered_comes n i j v p h k is = record {
   is = enter_matrix n i j (within_range v) p.cells h k is (within_range_fits v);
   lowers = enter_lowers n i j (within_range v) p.cells h k is;
-  flags = λ f. (or_false p.flagged (passes_range v) f).0;
+  flags = λ f. (or_parts p.flagged (passes_range v) f).0;
 }
 
 pub lowered_at : (n i j : ℕ) (v : Option ℤ) (p : Progress) → i < 2 * n → j < 2 * n → IsMatrix n p.cells → (lowered i j v p).flagged ≡ false → entries n (lowered i j v p).cells i j ⊑ v
-lowered_at n i j v p h k is f = le_trans (enter_at n i j (within_range v) p.cells h k is) (le_same (within_range_same v (or_false p.flagged (passes_range v) f).1))
+lowered_at n i j v p h k is f = le_trans (enter_at n i j (within_range v) p.cells h k is) (le_same (within_range_same v (or_parts p.flagged (passes_range v) f).1))
 
 pub lowered_kept : (n i j : ℕ) (v : Option ℤ) (p : Progress) → i < 2 * n → j < 2 * n → IsMatrix n p.cells → (c : Entries) → Below c (entries n p.cells)
     → c i j ⊑ v → c (opposite j) (opposite i) ⊑ v → Below c (entries n (lowered i j v p).cells)

@@ -1,7 +1,7 @@
 -- The loops over pivots, rows and columns, with coherent writes, give shortest paths.
 use Rattle.std.proofs.Common.{◌≡◌, ◌≢◌, ℕ, zero, suc, ◌*◌, ◌<◌, ◌≤◌, ◌⊎◌, inl, inr, ℤ, pos, Option, None, Some, refl, sym, ap, ◌∙◌, arith, Bool, true, false, cond, subst}
 use Rattle.std.proofs.{lemmas.Bool.cases_Bool, lemmas.Bool.Decides.eqb_tells, lemmas.Bool.Decides.leb_tells, lemmas.Int.ints}
-use Rattle.std.specs.Prelude.{◌||◌}
+use Rattle.std.proofs.lemmas.Bool.{or_cases}
 use Rattle.lra_dbm.specs.Steps.{Progress, in_turn, any_below, relaxed, row_relaxed, pivot_relaxed, shortest, is_negative, negative_diagonal, relaxed_unless_negative}
 use Rattle.lra_dbm.specs.{Cells.Cells, Cells.cell, Cells.outside, Cells.entries, Cells.IsMatrix, Entry.◌⊑◌, Entry.◌⊞◌, Tight.Entries, Tight.opposite}
 use Rattle.lra_dbm.proofs.EntryLemmas.{le_same, le_none, le_trans, le_antisym, sum_grows, sum_swap, lesser_left, lesser_right, le_lesser}
@@ -37,13 +37,9 @@ triangles_beyond n cells q far = record {
 
 -- ---- an entry of the diagonal that is below 0
 
-or_true : (a b : Bool) → (a || b) ≡ true → (a ≡ true) ⊎ (b ≡ true)
-or_true true b h = inl refl
-or_true false b h = inr h
-
 pub any_true : (f : ℕ → Bool) (k : ℕ) → any_below f k ≡ true → (i : ℕ) × (i < k) × (f i ≡ true)
 any_true f zero h = absurd (cc)
-any_true f (suc k) h = elim (or_true (any_below f k) (f k) h) [
+any_true f (suc k) h = elim (or_cases (any_below f k) (f k) h) [
   | inl e ↦ (let r = any_true f k e in (r.0, omega (arith, r.1), r.2))
   | inr e ↦ (k, omega arith, e)
 ]

@@ -7,7 +7,8 @@ use Rattle.lra_dbm.specs.Shifting.{added_to, origin, shifted, shifted_within, pa
 use Rattle.lra_dbm.specs.{Cells.Cells, Cells.size, Cells.entries, Cells.written, Cells.IsMatrix, Steps.any_below, Tight.Entries, Tight.opposite}
 use Rattle.lra_dbm.proofs.CellLemmas.{opposite_below, inside_or_out, length-written, written_twin, written_same, written_cases}
 use Rattle.lra_dbm.proofs.Clears.{in_pair, half_opposite, opposite_plus, opposite_minus}
-use Rattle.lra_dbm.proofs.{EntryLemmas.le_same, EntryLemmas.le_trans, Lowering.within_range_fits, Lowering.within_range_same, Lowering.or_false, Strong.opposite_twice}
+use Rattle.std.proofs.lemmas.Bool.{or_parts}
+use Rattle.lra_dbm.proofs.{EntryLemmas.le_same, EntryLemmas.le_trans, Lowering.within_range_fits, Lowering.within_range_same, Strong.opposite_twice}
 
 -- ---- one more entry of a row
 
@@ -240,8 +241,8 @@ some_below f (suc k) h = decide (any_below f k) refl (some_below f k)
 none_below : (f : ℕ → Bool) (k i : ℕ) → any_below f k ≡ false → i < k → f i ≡ false
 none_below f zero i h l = absurd (omega arith)
 none_below f (suc k) i h l = elim (eqb_tells i k) [
-  | inl e ↦ ap f e.1 ∙ (or_false (any_below f k) (f k) h).1
-  | inr e ↦ none_below f k i (or_false (any_below f k) (f k) h).0 (let ne = e.1 in omega arith)
+  | inl e ↦ ap f e.1 ∙ (or_parts (any_below f k) (f k) h).1
+  | inr e ↦ none_below f k i (or_parts (any_below f k) (f k) h).0 (let ne = e.1 in omega arith)
 ]
 
 abbrev RowPasses : ℕ → Bool → ℕ → ℤ → Entries → ℕ → Bool
@@ -284,7 +285,7 @@ pub both_shifted : (n : ℕ) (flips : Bool) (x : ℕ) (c : ℤ) (old one two : C
 both_shifted n flips x c old one two plus minus passes small is first second p m e = record {
   is = shifted_matrix n flips x c old is one two small first second;
   entries = both_given n flips x c old is one two small first second;
-  exact = λ none i j h k. let q = or_false plus minus (sym e ∙ none) in
+  exact = λ none i j h k. let q = or_parts plus minus (sym e ∙ none) in
       both_given n flips x c old is one two small first second i j h k
       ∙ within_range_same (shifted flips x c (entries n old) i j)
       (none_passes n flips x c old is (sym p ∙ q.0) (sym m ∙ q.1) i j h k);

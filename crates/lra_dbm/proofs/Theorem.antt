@@ -10,13 +10,14 @@ use Rattle.lra_dbm.proofs.Closed.{difference, difference_closed, store_below, be
 use Rattle.lra_dbm.proofs.Closed.{all_strengthened_kept, all_upper, shortest_below}
 use Rattle.lra_dbm.proofs.EntryLemmas.{le_same, le_none, le_trans, le_antisym, sum_grows, sum_swap, lesser_left, le_lesser}
 use Rattle.lra_dbm.proofs.{CellLemmas.opposite_below, CellLemmas.entries_inside, Diagonal.all_rounded_diagonal, Diagonal.strengthened_diagonal, Lowering.Comes, Lowering.comes_on}
-use Rattle.lra_dbm.proofs.{Lowering.le_within_range, Lowering.within_range_same, Lowering.or_false, Paths.beyond, Paths.beyond_self, Paths.any_true, Paths.negative_absurd, Paths.shortest_comes}
+use Rattle.std.proofs.lemmas.Bool.{or_parts}
+use Rattle.lra_dbm.proofs.{Lowering.le_within_range, Lowering.within_range_same, Paths.beyond, Paths.beyond_self, Paths.any_true, Paths.negative_absurd, Paths.shortest_comes}
 use Rattle.lra_dbm.proofs.{Paths.shortest_closed, Stores.tightly_closed_is_tight, Strong.opposite_twice, Strong.strengthened_closed, Ways.IsTightlyClosed, Ways.Below, Ways.IsClosed, Ways.strengthened}
 
 any_false : (f : ℕ → Bool) (k : ℕ) → any_below f k ≡ false → (i : ℕ) → i < k → f i ≡ false
 any_false f zero h i l = absurd (omega arith)
 any_false f (suc k) h i l =
-    let parts = or_false (any_below f k) (f k) h in
+    let parts = or_parts (any_below f k) (f k) h in
     below_more (λ i. f i ≡ false) k (λ i m. any_false f k parts.0 i m) parts.1 i (omega arith)
 
 not_negative : (x : Option ℤ) → is_negative x ≡ false → Some (pos 0) ⊑ x
@@ -63,7 +64,7 @@ module _ (n : ℕ) (p : Progress) (is : IsMatrix n p.cells) (closed : IsClosed (
     five = all_strengthened_comes n (2 * n) (after_crossing n (all_rounded (2 * n) p)) (omega arith) three.is
 
     calm_sums : ((all_rounded (2 * n) p).flagged ≡ false) × (crossing_passes (all_rounded (2 * n) p).cells (2 * n) ≡ false)
-    calm_sums = or_false (all_rounded (2 * n) p).flagged (crossing_passes (all_rounded (2 * n) p).cells (2 * n)) (five.flags calm)
+    calm_sums = or_parts (all_rounded (2 * n) p).flagged (crossing_passes (all_rounded (2 * n) p).cells (2 * n)) (five.flags calm)
 
     even : (i : ℕ) → i < 2 * n → entries n (all_rounded (2 * n) p).cells i (opposite i) ⊑ bound i ⊞ bound i
     even i h = all_rounded_at n p is calm_sums.0 i h
@@ -216,7 +217,7 @@ module _ (n : ℕ) (cells : Cells) (is : IsMatrix n cells) where
           kept = λ s m. below_store n strong.cells s m.width (on_strong s m);
           same = as_before strong.cells (record { at = λ i j. le_trans (to_strong.lowers.at i j) ((comes_on to_paths to_even).lowers.at i j) });
           diagonal = λ f. zero_after e g;
-          tight = λ f calm. let calm_even = (or_false even_bounds.flagged (crossing_passes even_bounds.cells (2 * n)) (to_strong.flags calm)).0 in
+          tight = λ f calm. let calm_even = (or_parts even_bounds.flagged (crossing_passes even_bounds.cells (2 * n)) (to_strong.flags calm)).0 in
               tight_after n paths to_paths.is (now_closed n start is e (to_even.flags calm_even)) g calm;
         },
       )))

@@ -13,6 +13,7 @@ use Rattle.lra_linear_spec.proofs.Descriptions.{system_from, system_has, gen_gen
 use Rattle.lra_linear_spec.proofs.Membership.{contains_head, contains_tail, contains_none, contains_cases}
 use Rattle.lra_linear_spec.proofs.{CanonicalForms.no_repeat, Combinations.generated_row, LinearMaps.generated_nonneg, Lines.signed_zero, OneSpelling.given_from, OneSpelling.falsity_never}
 use Rattle.lra_linear_spec.proofs.{OneSpelling.given_has, Products.negated_dot, Products.dot_negated, Signs.between_opposites}
+use Rattle.lra_linear_spec.proofs.Signs.{opposite_of_zero}
 use Rattle.lra_canonical.proofs.Orders.{ascends}
 use Rattle.lra_canonical.specs.declared.order.Order.TheVariants.{Inequalities}
 use Rattle.lra_systems.specs.LinearSystems.{LinearSystem, generators, constraints, rows_by_kind, FitsKind, FitKinds}
@@ -170,13 +171,10 @@ valid_at given true r x valid gen =
     let g = gen_generated given (entry x) gen in
     between_opposites (product r x) (dot (negated r) (entry x)) (negated_dot r (entry x))
     (generated_nonneg r (system_of given) (entry x) (λ t m. zero_nonneg (product r t) (at t m)) g)
-    (generated_nonneg (negated r) (system_of given) (entry x) (λ t m. opposite (product r t) (dot (negated r) (entry t)) (negated_dot r (entry t)) (at t m)) g)
+    (generated_nonneg (negated r) (system_of given) (entry x) (λ t m. opposite_of_zero (product r t) (dot (negated r) (entry t)) (negated_dot r (entry t)) (at t m)) g)
   where
     zero_nonneg : (z : ℤ) → z ≡ pos 0 → pos 0 ≤ℤ z
     zero_nonneg z e = omega (arith, ints, e)
-
-    opposite : (z y : ℤ) → y ≡ neg_ℤ z → z ≡ pos 0 → pos 0 ≤ℤ y
-    opposite z y e f = omega (arith, ints, e, f)
 
     at : (t : List ℤ) → Contains (system_of given) t → product r t ≡ pos 0
     at t m = let f = system_from given t m in elim f.sign [
@@ -185,13 +183,10 @@ valid_at given true r x valid gen =
     ]
 valid_at given false r x valid gen = generated_nonneg r (system_of given) (entry x) at (gen_generated given (entry x) gen)
   where
-    opposite : (z y : ℤ) → y ≡ neg_ℤ z → z ≡ pos 0 → pos 0 ≤ℤ y
-    opposite z y e f = omega (arith, ints, e, f)
-
     at : (t : List ℤ) → Contains (system_of given) t → pos 0 ≤ℤ product r t
     at t m = let f = system_from given t m in elim f.sign [
       | inl e ↦ subst (λ (y : List ℤ). pos 0 ≤ℤ product r y) (sym e) (valid f.given f.has).0
-      | inr e ↦ opposite (product r f.given.row) (product r t) (ap (product r) e.1 ∙ dot_negated r f.given.row) (subst (λ b. HoldsWith b (product r f.given.row)) e.0 (valid f.given f.has).1)
+      | inr e ↦ opposite_of_zero (product r f.given.row) (product r t) (ap (product r) e.1 ∙ dot_negated r f.given.row) (subst (λ b. HoldsWith b (product r f.given.row)) e.0 (valid f.given f.has).1)
     ]
 
 -- a list of those that are seen to be valid

@@ -1,6 +1,6 @@
 -- The canonical list of the own kind: the form of the tight rows and the others, reduced by it, have the solutions of the rows, and
 -- without the redundant ones they are the canonical description of what the rows generate.
-use Rattle.std.proofs.Common.{◌≡◌, ℕ, zero, suc, ◌+◌, ◌<◌, ◌≤◌, Bool, true, false, List, [], ◌∷◌, ◌++◌, length, get_or, refl, ap, sym, ◌∙◌, subst, arith, pos, ℤ, ◌+ℤ◌, ◌*ℤ◌, neg_ℤ, ◌≤ℤ◌, inl, inr}
+use Rattle.std.proofs.Common.{◌≡◌, ℕ, zero, suc, ◌+◌, ◌<◌, ◌≤◌, Bool, true, false, List, [], ◌∷◌, ◌++◌, length, get_or, refl, ap, sym, ◌∙◌, subst, arith, pos, ℤ, ◌+ℤ◌, ◌*ℤ◌, ◌≤ℤ◌, inl, inr}
 use Rattle.std.proofs.lemmas.List.Elements.{Contains-append_cases, Contains-append_left, Contains-append_right, Contains-get_or, All-contains}
 use Rattle.std.proofs.{Common.◌⊎◌, lemmas.Int.ints, lemmas.List.length-append}
 use Rattle.std.specs.List.{Contains}
@@ -10,6 +10,7 @@ use Rattle.lra_linear_spec.proofs.Descriptions.{FromGiven, system_from, system_h
 use Rattle.lra_linear_spec.proofs.Membership.{contains_none, contains_cases, contains_head, contains_tail}
 use Rattle.lra_linear_spec.proofs.{LinearMaps.generated_nonneg, LinearMaps.generated_through, Lines.in_lines, Lines.signed_from, OneSpelling.given_from, Products.negated_dot, Products.product_comm}
 use Rattle.lra_linear_spec.proofs.{Products.dot_same, Products.dot_scale, Products.dot_plus, Ring.ring, Ring.v, Ring.◌⊕◌, Ring.◌⊗◌, Signs.between_opposites, Signs.no_product}
+use Rattle.lra_linear_spec.proofs.Signs.{opposite_of_zero}
 use Rattle.lra_bits.specs.Matrix.{Matrix}
 use Rattle.lra_canonical.specs.Irredundant.{IsSaturation, IsIrredundant, Solutions}
 use Rattle.lra_canonical.specs.{Echelons.HaveWidth, Echelons.SameEqualities, Reduced.IsEchelonForm, Reduced.SolvesAll, Reduced.IsReducedBy}
@@ -59,13 +60,10 @@ zero_product : (rows : List (List ℤ)) (r u : List ℤ) → ((t : List ℤ) →
 zero_product rows r u h g =
     between_opposites (product r u) (dot (negated r) (entry u)) (negated_dot r (entry u))
     (generated_nonneg r rows (entry u) (λ t m. at_least (product r t) (h t m)) g)
-    (generated_nonneg (negated r) rows (entry u) (λ t m. opposite (product r t) (dot (negated r) (entry t)) (negated_dot r (entry t)) (h t m)) g)
+    (generated_nonneg (negated r) rows (entry u) (λ t m. opposite_of_zero (product r t) (dot (negated r) (entry t)) (negated_dot r (entry t)) (h t m)) g)
   where
     at_least : (z : ℤ) → z ≡ pos 0 → pos 0 ≤ℤ z
     at_least z e = omega (arith, ints, e)
-
-    opposite : (z y : ℤ) → y ≡ neg_ℤ z → z ≡ pos 0 → pos 0 ≤ℤ y
-    opposite z y e f = omega (arith, ints, e, f)
 
 -- ---- the same solutions
 pub to_solutions : (s : ConeContent) (form reduced : List (List ℤ)) → Made s form reduced → (u : List ℤ) → length u ≡ suc s.dims → Solves (system_of s.taken) (entry u) → Solutions form reduced u
@@ -103,13 +101,10 @@ from_solutions s form reduced made u h c m =
     zero_nonneg : (z : ℤ) → z ≡ pos 0 → pos 0 ≤ℤ z
     zero_nonneg z e = omega (arith, ints, e)
 
-    opposite : (z y : ℤ) → y ≡ neg_ℤ z → z ≡ pos 0 → pos 0 ≤ℤ y
-    opposite z y e f = omega (arith, ints, e, f)
-
     tight_case : (f : FromGiven s.taken c) → product f.given.row u ≡ pos 0 → pos 0 ≤ℤ product c u
     tight_case f z = elim f.sign [
       | inl e ↦ zero_nonneg (product c u) (ap (λ (y : List ℤ). product y u) e ∙ z)
-      | inr e ↦ opposite (product f.given.row u) (product c u) (ap (λ (y : List ℤ). product y u) e.1 ∙ negated_dot f.given.row (entry u)) z
+      | inr e ↦ opposite_of_zero (product f.given.row u) (product c u) (ap (λ (y : List ℤ). product y u) e.1 ∙ negated_dot f.given.row (entry u)) z
     ]
 
     loose_case : (r : List ℤ) → Contains (loose_rows s.rays (rows_of s.taken)) r → pos 0 ≤ℤ product r u
@@ -273,9 +268,6 @@ own_canonical s form reduced kept made widths x = record {
     at_least : (z : ℤ) → z ≡ pos 0 → pos 0 ≤ℤ z
     at_least z e = omega (arith, ints, e)
 
-    opposite : (z y : ℤ) → y ≡ neg_ℤ z → z ≡ pos 0 → pos 0 ≤ℤ y
-    opposite z y e f = omega (arith, ints, e, f)
-
     solved : (t : List ℤ) → Contains (all_rows form kept) t → (q : List ℤ) → length q ≡ w → Solves (system_of s.taken) (entry q) → pos 0 ≤ℤ product t q
     solved t m q l h =
         let y = (x.same q l).0 (to_solutions s form reduced made q l h) in
@@ -283,6 +275,6 @@ own_canonical s form reduced kept made widths x = record {
           | inl i ↦ y.1 t i
           | inr i ↦ let z = signed_from form t i in elim z.sign [
             | inl e ↦ at_least (product t q) (ap (λ (k : List ℤ). product k q) e ∙ y.0 z.line z.has)
-            | inr e ↦ opposite (product z.line q) (product t q) (ap (λ (k : List ℤ). product k q) e ∙ negated_dot z.line (entry q)) (y.0 z.line z.has)
+            | inr e ↦ opposite_of_zero (product z.line q) (product t q) (ap (λ (k : List ℤ). product k q) e ∙ negated_dot z.line (entry q)) (y.0 z.line z.has)
           ]
         ]

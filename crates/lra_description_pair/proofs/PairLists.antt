@@ -11,6 +11,7 @@ use Rattle.lra_linear_spec.proofs.Descriptions.{con_none, dual_flipped, system_f
 use Rattle.lra_linear_spec.proofs.{Combinations.generated_row, LinearMaps.separated, LinearMaps.generated_nonneg, Lines.in_lines, Lines.zeros_length, LowestTerms.primitive_at}
 use Rattle.lra_linear_spec.proofs.{Membership.contains_head, Membership.contains_none, Membership.each_one, Membership.split_one, OneSpelling.dual_same_cone, OneSpelling.falsity_never}
 use Rattle.lra_linear_spec.proofs.{OneSpelling.positivity_product, Polyhedra.con_gen, Products.dot_minus, Products.entry_negated, Products.negated_dot}
+use Rattle.lra_linear_spec.proofs.Signs.{opposite_of_zero}
 use Rattle.lra_systems.specs.LinearSystems.{LinearSystem, constraints, generators, rows_by_kind, FitKinds}
 use Rattle.lra_description_pair.proofs.GeneratorLists.{at_least_zero, generators_shown, listed_counted, listed_generators, listed_have, flat_rows, nothing_generated, same_points}
 use Rattle.lra_description_pair.proofs.{ConstraintLists.listed_facets, ConstraintLists.listed_hold, ConstraintLists.nothing_is, ConstraintLists.same_constraints, OwnRows.all_width}
@@ -229,7 +230,7 @@ given_columns n taken f t m =
       | inl e ↦ subst (λ (y : List ℤ). pos 0 ≤ℤ entry y 0) (sym e) (elim (f x.given x.has) [ inl p ↦ above (entry x.given.row 0) p.1 | inr z ↦ zero_is (entry x.given.row 0) z ])
       | inr e ↦ elim (f x.given x.has) [
         | inl p ↦ absurd (never x.given.equal e.0 p.0)
-        | inr z ↦ opposite (entry x.given.row 0) (entry t 0) (ap (λ (y : List ℤ). entry y 0) e.1 ∙ entry_negated x.given.row 0) z
+        | inr z ↦ opposite_of_zero (entry x.given.row 0) (entry t 0) (ap (λ (y : List ℤ). entry y 0) e.1 ∙ entry_negated x.given.row 0) z
       ]
     ]
   where
@@ -238,9 +239,6 @@ given_columns n taken f t m =
 
     zero_is : (z : ℤ) → z ≡ pos 0 → pos 0 ≤ℤ z
     zero_is z e = omega (arith, ints, e)
-
-    opposite : (z y : ℤ) → y ≡ neg_ℤ z → z ≡ pos 0 → pos 0 ≤ℤ y
-    opposite z y e f = omega (arith, ints, e, f)
 
     never : (b : Bool) → b ≡ true → b ≡ false → ⊥
     never true e f = cc

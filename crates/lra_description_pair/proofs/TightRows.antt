@@ -2,6 +2,7 @@
 use Rattle.std.proofs.Common.{◌≡◌, ℕ, zero, suc, ◌<◌, Bool, true, false, cond, List, [], ◌∷◌, ◌++◌, length, get_or, refl, ap, sym, ◌∙◌, subst, arith, pos, ℤ, inl, inr, ◌⊎◌}
 use Rattle.std.proofs.{lemmas.Bool.cases_lt, lemmas.Bool.Decides.Decides-int_eq, lemmas.List.append-nil, lemmas.List.get_or_default, lemmas.List.Elements.Contains-get_or}
 use Rattle.std.specs.{List.Contains, Ordering.int_eq}
+use Rattle.std.proofs.lemmas.Bool.{false_from_ne_true}
 use Rattle.lra_linear_spec.specs.{Descriptions.LinearRow, Descriptions.rows_of, Strain.is_tight_at, Strain.tight_rows, Vectors.product}
 use Rattle.lra_linear_spec.proofs.Membership.{contains_none, contains_cases, contains_head, contains_tail}
 use Rattle.lra_canonical.specs.Reduced.{IsReducedBy}
@@ -175,13 +176,9 @@ part_tight rays lines rows tight loose new bits r b t h e a =
 pub part_loose : (rays : List (List ℤ)) (lines : ℕ) (rows tight loose new : List (List ℤ)) (bits after : List (List Bool)) (r : List ℤ) (b : List Bool) → TellsTight rays lines r b →
     ¬ ((k : ℕ) → k < length b → value_at b k ≡ true) → new ≡ loose ++ r ∷ [] → after ≡ bits ++ b ∷ [] → AreParts rays lines rows tight loose bits → AreParts rays lines (rows ++ r ∷ []) tight new after
 part_loose rays lines rows tight loose new bits after r b t h e f a =
-    let no : is_tight_at rays r ≡ false = is_false (is_tight_at rays r) (λ y. h (tight_told rays lines r b t y)) in
+    let no : is_tight_at rays r ≡ false = false_from_ne_true (is_tight_at rays r) (λ y. h (tight_told rays lines r b t y)) in
     record {
       is_tight = a.is_tight ∙ sym (append-nil (tight_rows rays rows)) ∙ ap (λ (q : Bool). tight_rows rays rows ++ cond q (r ∷ []) []) (sym no) ∙ sym (tight_append rays rows (r ∷ []));
       is_loose = e ∙ ap (λ (l : List (List ℤ)). l ++ r ∷ []) a.is_loose ∙ ap (λ (q : Bool). loose_rows rays rows ++ cond q [] (r ∷ [])) (sym no) ∙ sym (loose_append rays rows (r ∷ []));
       told = subst (λ (l : List (List ℤ)). AllTellTight rays lines l after) (sym e) (subst (AllTellTight rays lines (loose ++ r ∷ [])) (sym f) (told_append rays lines loose bits r b a.told t));
     }
-  where
-    is_false : (q : Bool) → (q ≡ true → ⊥) → q ≡ false
-    is_false true n = absurd (n refl)
-    is_false false n = refl

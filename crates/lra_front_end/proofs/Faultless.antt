@@ -3,6 +3,7 @@
 use Rattle.std.proofs.Common.{◌≡◌, ℕ, suc, ◌+◌, zero, ◌≤◌, ◌<◌, List, [], ◌∷◌, ◌++◌, length, take, Option, Some, None, Bool, true, false, not, ◌||◌, nat_eq, refl, ap, ◌∙◌, subst, arith}
 use Rattle.std.proofs.{lemmas.Bool.eqb-true, lemmas.Option.same_Some, lemmas.Option.none-some}
 use Rattle.std.specs.{List.AllByRecursion, Prelude.is_none, Prelude.◌&&◌, Prelude.option_map, Prelude.slice_get}
+use Rattle.std.proofs.lemmas.Bool.{not-false}
 use Rattle.lra_base.specs.{declared.refusals.Cause.Cause, declared.refusals.Cause.TheVariants.NotArray, declared.refusals.Place.Place}
 use Rattle.lra_syntax.specs.{Trees.FunctionTree, declared.trees.Identifier.Identifier}
 use Rattle.lra_program.specs.{Program.Slot, Program.global, Program.local, Program.Program, WellFormed.IsLive}
@@ -27,10 +28,6 @@ none_both xs ys e = (none_left xs ys e, none_right xs ys e)
 pub none_if : (b : Bool) (c : Cause) (at : Place) → fault_if b c at ≡ [] → b ≡ false
 none_if true c at e = absurd cc
 none_if false c at e = refl
-
-pub is_not : (b : Bool) → not b ≡ false → b ≡ true
-is_not true e = refl
-is_not false e = absurd cc
 
 pub at_place : {A : Type 0} (Q : A → Type 0) (xs : List A) (k : ℕ) (x : A) → AllByRecursion Q xs → slice_get xs k ≡ Some x → Q x
 at_place Q [] k x h e = absurd (none-some x e)
@@ -116,7 +113,7 @@ module _ (P : Program) (live : ℕ) where
 -- calls ------------------------------------------------------------------------------------------------------------
 
 same_count : (n count : ℕ) (b : Bool) → (not (nat_eq n count) || b) ≡ false → n ≡ count
-same_count n count b e = eqb-true n count (is_not (nat_eq n count) (first_false (not (nat_eq n count)) b e))
+same_count n count b e = eqb-true n count (not-false (nat_eq n count) (first_false (not (nat_eq n count)) b e))
   where
     first_false : (a b : Bool) → (a || b) ≡ false → a ≡ false
     first_false true b e = e

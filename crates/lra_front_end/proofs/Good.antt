@@ -17,7 +17,8 @@ use Rattle.lra_resolution_spec.specs.Scope.{Scope, binding_of, with_local, decla
 use Rattle.lra_front_end.specs.Literals.{IsSmallUnary, IsSmallTerm, IsSmallExpr, IsSmallNegation, IsSmallTest, IsSmallConjunction, IsSmallCond, IsSmallCall, IsSmallRvalue, IsSmallGiven, IsSmallAssign}
 use Rattle.lra_front_end.specs.Literals.{IsSmallShape, IsSmallDeclarator, IsSmallInit, IsSmallForTest, IsSmallStep, IsSmallStmt, AreSmallCases, AreSmallItems}
 use Rattle.lra_front_end.proofs.Declared.{wider, behind_declared}
-use Rattle.lra_front_end.proofs.Faultless.{none_left, none_right, none_if, is_not, Sees, sees_local, sees_inner, variable_lives, called_is}
+use Rattle.std.proofs.lemmas.Bool.{not-false}
+use Rattle.lra_front_end.proofs.Faultless.{none_left, none_right, none_if, Sees, sees_local, sees_inner, variable_lives, called_is}
 
 module _ (P : Program) where
   module _ (live : ℕ) (s : Scope) (sees : Sees P live s) where
@@ -215,8 +216,8 @@ module _ (P : Program) where
             good_stmt r in_loop (m + step_count a) more u t after small.3 (none_right _ body e),
             good_step m more u a after small.2 (none_right _ (step_faults F u a) to_step),
           )
-      good_stmt r b n live s (tree.break at) sees small e = is_not b.breaks (none_if (not b.breaks) _ at e)
-      good_stmt r b n live s (tree.continue at) sees small e = is_not b.continues (none_if (not b.continues) _ at e)
+      good_stmt r b n live s (tree.break at) sees small e = not-false b.breaks (none_if (not b.breaks) _ at e)
+      good_stmt r b n live s (tree.continue at) sees small e = not-false b.continues (none_if (not b.continues) _ at e)
       good_stmt r b n live s (tree.return at x) sees small e = good_return r b n live s at x sees small e
       good_stmt r b n live s (tree.assert at c) sees small e = good_cond live s sees c small e
       good_stmt r b n live s (tree.assume at c) sees small e = good_cond live s sees c small e

@@ -1,5 +1,5 @@
 -- What the stages behind the reading answer, as answers of the tree of a source of several threads.
-use Rattle.std.proofs.Common.{◌≡◌, ℕ, zero, suc, ◌+◌, ◌<◌, List, [], ◌∷◌, ◌++◌, length, map, drop, take, get_or, Some, None, Result, refl, sym, ap, ◌∙◌, subst, arith, length-append, add-one}
+use Rattle.std.proofs.Common.{◌≡◌, ℕ, zero, suc, ◌+◌, ◌<◌, List, [], ◌∷◌, ◌++◌, length, map, drop, take, get_or, Some, None, Result, sym, ap, ◌∙◌, subst, arith, length-append, add-one}
 use Rattle.std.proofs.{Math.Seq.take-suc, lemmas.List.at_drop_more}
 use Rattle.std.specs.{List.AllByRecursion, List.AllZip, Prelude.flat_map, Prelude.slice_get, Result.IsErrAnd}
 use Rattle.lra_base.specs.{Refused.IfRefusal, Refused.IfRefused, declared.error.SourceError.SourceError, declared.error.SourceError.TheVariants.Refused, declared.error.SourceError.TheVariants.Memory}
@@ -76,12 +76,6 @@ module _ (t : FileTree) (n m place : ℕ) (places : List ℕ) where
       (λ r h. limit_refused r names straight whole
       (subst (λ (ls : List Labelled). limit_fault ls n (events_of (thread_program t place)) ≡ Some r) table
       (subst (λ (Q : resolved.Program). limit_fault labels n (events_of Q) ≡ Some r) is h))) e fault)
-
--- an element that is there, whatever stands for one that isn't
-pub same_within : {A : Type 0} (xs : List A) (i : ℕ) (d e : A) → i < length xs → get_or xs i d ≡ get_or xs i e
-same_within [] i d e l = absurd (omega (arith, l))
-same_within (y ∷ xs) zero d e l = refl
-same_within (y ∷ xs) (suc i) d e l = same_within xs i d e (omega (arith, l))
 
 -- what holds of each holds of one
 pub each_at : {A : Type 0} (P : A → Type 0) (xs : List A) (i : ℕ) (x : A) → AllByRecursion P xs → i < length xs → x ≡ get_or xs i x → P x

@@ -14,7 +14,8 @@ use Rattle.lra_resolution_spec.specs.Resolve.{main_of, resolve}
 use Rattle.lra_resolution_spec.specs.Scope.{SymbolEntry, width_of_all, parameter_entry, global_entries, function_scope}
 use Rattle.lra_resolution_spec.specs.Threads.{greatest_threads, thread_name, has_no_parameters, has_thread, thread_places_from, thread_places, thread_faults, thread_program}
 use Rattle.lra_front_end.specs.Literals.{IsSmallPart, HasSmallLiterals}
-use Rattle.lra_front_end.proofs.Faultless.{none_left, none_right, none_if, is_not, width-append}
+use Rattle.std.proofs.lemmas.Bool.{not-false}
+use Rattle.lra_front_end.proofs.Faultless.{none_left, none_right, none_if, width-append}
 use Rattle.lra_front_end.proofs.{Declared.variables_width, Good.AreCallees, Good.good_items, Numbered.parts_run, Numbered.run_is_range}
 
 -- globals ----------------------------------------------------------------------------------------------------------
@@ -25,7 +26,7 @@ HasItsType g = IsTrue (fits g.number_type g.value)
 first_fits : (t : NumberType) (v : Option SignedLiteral) → first_value_faults t v ≡ [] → IsTrue (fits t (value_or_zero v))
 first_fits Int None e = refl
 first_fits Long None e = refl
-first_fits t (Some v) e = is_not (fits t v.value) (none_if (not (fits t v.value)) _ v.place e)
+first_fits t (Some v) e = not-false (fits t v.value) (none_if (not (fits t v.value)) _ v.place e)
 
 has_then : (t : NumberType) (shape : tree.ScalarOrArrayTree SignedLiteral) (more rest : List GlobalVariable) → shape_faults (first_value_faults t) shape ≡ []
     → AllByRecursion HasItsType (more ++ rest) → AllByRecursion HasItsType ((variables_by t shape ++ more) ++ rest)
@@ -176,7 +177,7 @@ well_formed t small e =
     let F = functions_of t in
     let parts = parts_faults F [] [] t.parts in
     well_formed_with t (main_of F (resolved_functions t)) small (none_left parts _ e)
-    (main_in F 1 [] t.parts (is_not (list_any is_main F) (none_if (not (list_any is_main F)) _ _ (none_right parts _ e))))
+    (main_in F 1 [] t.parts (not-false (list_any is_main F) (none_if (not (list_any is_main F)) _ _ (none_right parts _ e))))
 
 -- threads ----------------------------------------------------------------------------------------------------------
 

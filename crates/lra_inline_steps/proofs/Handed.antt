@@ -4,7 +4,7 @@ use Rattle.lra_program.specs.{Program.Stmt, Program.break, Program.continue, Pro
 use Rattle.lra_operations.specs.Tree.{broken, continued, returned, Node}
 use Rattle.lra_inline_steps.specs.Building.{inside, WritesStmt, LeavesLoop}
 use Rattle.lra_inline_steps.specs.{Limits.add_points, Limits.stopped, Limits.OnLimit, declared.frame.Frame.Frame, declared.points.InlineError.InlineError}
-use Rattle.lra_inline_steps.proofs.Stopping.{ok_through}
+use Rattle.std.proofs.lemmas.Result.{IfOk-weaker}
 
 not_broken : broken ≡ returned → ⊥
 not_broken e = cc
@@ -28,13 +28,13 @@ module _ (P : Program) (path : List ℕ) (r : Frame) (S : List Site) where
           → IfOk b (λ g. LeavesLoop path r S at broken (view g) U)
           → IfOk b (λ g. WritesStmt P path r S s (view g) U)
       break_handed s at e low h = stmt_handed s (break at) e
-          (ok_through b (λ g. LeavesLoop path r S at broken (view g) U) (λ g. WritesStmt P path r S (break at) (view g) U) (λ g x. x P not_broken low) h)
+          (IfOk-weaker b (λ g. LeavesLoop path r S at broken (view g) U) (λ g. WritesStmt P path r S (break at) (view g) U) (λ g x. x P not_broken low) h)
 
       pub continue_handed : (s : Stmt) (at : ℕ) → s ≡ continue at → ((m : ℕ) → r.continues ≡ Some m → m ≤ r.live)
           → IfOk b (λ g. LeavesLoop path r S at continued (view g) U)
           → IfOk b (λ g. WritesStmt P path r S s (view g) U)
-      continue_handed s at e low h = stmt_handed s (continue at) e (ok_through b (λ g. LeavesLoop path r S at continued (view g) U) (λ g. WritesStmt P path r S (continue at) (view g) U)
+      continue_handed s at e low h = stmt_handed s (continue at) e (IfOk-weaker b (λ g. LeavesLoop path r S at continued (view g) U) (λ g. WritesStmt P path r S (continue at) (view g) U)
           (λ g x. x P not_continued low) h)
 
       pub any_handed : (s s' : Stmt) → s ≡ s' → IfOk b (λ g. (Q : Program) → WritesStmt Q path r S s' (view g) U) → IfOk b (λ g. WritesStmt P path r S s (view g) U)
-      any_handed s s' e h = stmt_handed s s' e (ok_through b (λ g. (Q : Program) → WritesStmt Q path r S s' (view g) U) (λ g. WritesStmt P path r S s' (view g) U) (λ g x. x P) h)
+      any_handed s s' e h = stmt_handed s s' e (IfOk-weaker b (λ g. (Q : Program) → WritesStmt Q path r S s' (view g) U) (λ g. WritesStmt P path r S s' (view g) U) (λ g x. x P) h)

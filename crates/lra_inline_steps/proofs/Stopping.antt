@@ -37,10 +37,6 @@ module _ {A : Type 0} (b : Result A InlineError) where
 
 -- what a call answers is handed on -----------------------------------------------------------------------------------
 
-pub ok_through : {A E : Type 0} (b : Result A E) (X Y : A → Type 0) → ((a : A) → X a → Y a) → IfOk b X → IfOk b Y
-ok_through (Ok a) X Y f h = f a h
-ok_through (Err e) X Y f h = tt
-
 pub limit_through : {A : Type 0} (b : Result A InlineError) (X Y : Limit → Type 0) → ((x : Limit) → X x → Y x) → OnLimit b X → OnLimit b Y
 limit_through (Ok a) X Y f h = tt
 limit_through (Err e) X Y f h = error_as e X Y f h

@@ -1,8 +1,9 @@
 -- The pivot of a row is a function of the row: where a row leads in a column, that column is its pivot. In an echelon form each row is
 -- positive at its pivot, and the others are 0 there, row by row.
-use Rattle.std.proofs.Common.{Bool, List, [], ap, arith, cond, false, inl, inr, length, pos, refl, subst, suc, sym, true, zero, ℕ, ℤ, ◌++◌, ◌+◌, ◌<ℤ◌, ◌<◌, ◌∙◌, ◌∷◌, ◌≡◌, ◌≢◌}
+use Rattle.std.proofs.Common.{List, [], ap, arith, cond, false, inl, inr, length, pos, refl, subst, suc, sym, zero, ℕ, ℤ, ◌++◌, ◌+◌, ◌<ℤ◌, ◌<◌, ◌∙◌, ◌∷◌, ◌≡◌, ◌≢◌}
 use Rattle.std.proofs.lemmas.List.Elements.{Contains-append_right, Contains-get_or}
 use Rattle.std.specs.{Cmp.signed_Decides, List.Contains, Ordering.int_eq, Prelude.slice_index_or}
+use Rattle.std.proofs.lemmas.Bool.{false_from_ne_true}
 use Rattle.lra_linear_spec.specs.{Echelon.IsEchelon, Echelon.HasPivot, Echelon.lead_from, Echelon.pivot, Vectors.entry}
 use Rattle.lra_linear_spec.proofs.{Membership.contains_cases, Membership.contains_head, Membership.contains_none, Membership.contains_tail, Signs.not_both}
 
@@ -15,12 +16,8 @@ lead_at : (xs : List ℤ) (j k : ℕ) → ((i : ℕ) → i < k → entry xs i �
 lead_at [] j k h n = absurd (n refl)
 lead_at (x ∷ xs) j zero h n = ap (λ b. cond b (lead_from (suc j) xs) j) (unequal x n) ∙ omega arith
   where
-    by_test : (b : Bool) → (b ≡ true → ⊥) → b ≡ false
-    by_test true f = absurd (f refl)
-    by_test false f = refl
-
     unequal : (x : ℤ) → x ≢ pos 0 → int_eq x (pos 0) ≡ false
-    unequal x n = by_test (int_eq x (pos 0)) (λ e. n ((signed_Decides x (pos 0)).0 e))
+    unequal x n = false_from_ne_true (int_eq x (pos 0)) (λ e. n ((signed_Decides x (pos 0)).0 e))
 lead_at (x ∷ xs) j (suc k) h n =
     ap (λ b. cond b (lead_from (suc j) xs) j) ((signed_Decides x (pos 0)).1 (h 0 (omega arith))) ∙
     lead_at xs (suc j) k (λ i l. h (suc i) (omega (arith, l))) n ∙ omega arith

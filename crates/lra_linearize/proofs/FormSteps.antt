@@ -10,7 +10,7 @@ use Rattle.lra_linear_forms.specs.Form.{Form, FormFits}
 use Rattle.lra_analysis_spec.specs.Linear as linear
 use Rattle.lra_analysis_spec.specs.Linear.{live_form, variable_form}
 use Rattle.lra_linearize.specs.Forms.{rest_form}
-use Rattle.lra_analysis_spec.proofs.Keeping.{some_is}
+use Rattle.std.proofs.lemmas.Option.{same_Some}
 
 -- of all numbers these are there, and these come; those that are there have 64 bits
 pub record SoFar (all there left : List ℤ) : Type 0 where
@@ -18,7 +18,7 @@ pub record SoFar (all there left : List ℤ) : Type 0 where
   pub words : list_all is_word all ≡ list_all is_word left
 
 word_is : (z x : ℤ) (b : Bool) → is_word z ≡ b → Some x ≡ (if b then Some z else None) → (x ≡ z) × (b ≡ true)
-word_is z x true is e = (some_is x z e, refl)
+word_is z x true is e = (same_Some x z e, refl)
 word_is z x false is e = cc
 
 -- one more of them

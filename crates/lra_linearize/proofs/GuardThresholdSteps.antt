@@ -2,7 +2,8 @@
 use Rattle.std.proofs.Common.{◌≡◌, ℕ, suc, ℤ, pos, negsuc, ◌*ℤ◌, List, [], ◌∷◌, ◌++◌, Option, Some, None, Bool, length, map, take, get_or, ◌+◌, ◌<◌, refl, sym, ap, subst, ◌∙◌, append_assoc}
 use Rattle.std.proofs.{Common.append-nil, lemmas.List.map-append, lemmas.List.map_more, lemmas.List.length-map}
 use Rattle.std.specs.Prelude.{◌-ℤ◌, neg_ℤ}
-use Rattle.lra_analysis_spec.proofs.{FormLemmas.fitting_same, Keeping.some_is}
+use Rattle.std.proofs.lemmas.Option.{same_Some}
+use Rattle.lra_analysis_spec.proofs.FormLemmas.{fitting_same}
 use Rattle.lra_linear_forms.specs.{Form.Form, Form.opposite_form, declared.test.Test.Test}
 use Rattle.lra_systems.specs.LinearSystems.{LinearSystem}
 use Rattle.lra_linear_spec.specs.{declared.ConKind.ConKind, declared.ConKind.TheVariants.Ge, declared.ConKind.TheVariants.Eq}
@@ -55,7 +56,7 @@ chain_more base wanted c cs i x s t u h is before one =
 -- a test has as many coefficients as the difference
 from_form_wide : (o : Option Form) (n : ℕ) → ((f : Form) → o ≡ Some f → length f.coefficients ≡ n) → (t : Test) → Some t ≡ at_least_zero o → length t.expr.coefficients ≡ n
 from_form_wide None n wide t h = cc
-from_form_wide (Some f) n wide t h = ap (λ (x : Test). length x.expr.coefficients) (some_is t (record { expr = f; kind = Ge }) h) ∙ wide f refl
+from_form_wide (Some f) n wide t h = ap (λ (x : Test). length x.expr.coefficients) (same_Some t (record { expr = f; kind = Ge }) h) ∙ wide f refl
 
 same_wide : (f g : Form) (n : ℕ) → fitting f ≡ Some g → length f.coefficients ≡ n → length g.coefficients ≡ n
 same_wide f g n e h = sym (ap (λ (x : Form). length x.coefficients) (fitting_same f g e)) ∙ h
@@ -65,8 +66,8 @@ test_wide Below d t h = from_form_wide _ _ (λ f e. same_wide (opposite_form d) 
 test_wide AtMost d t h = from_form_wide _ _ (λ f e. same_wide (record { constant = negsuc 0 *ℤ d.constant; coefficients = map (λ c. negsuc 0 *ℤ c) d.coefficients }) f _ e
     (length-map d.coefficients (λ c. negsuc 0 *ℤ c))) t h
 test_wide Above d t h = from_form_wide _ _ (λ f e. same_wide (record { constant = d.constant -ℤ pos 1; coefficients = d.coefficients }) f _ e refl) t h
-test_wide AtLeast d t h = ap (λ (x : Test). length x.expr.coefficients) (some_is t (record { expr = d; kind = Ge }) h)
-test_wide Equal d t h = ap (λ (x : Test). length x.expr.coefficients) (some_is t (record { expr = d; kind = Eq }) h)
+test_wide AtLeast d t h = ap (λ (x : Test). length x.expr.coefficients) (same_Some t (record { expr = d; kind = Ge }) h)
+test_wide Equal d t h = ap (λ (x : Test). length x.expr.coefficients) (same_Some t (record { expr = d; kind = Eq }) h)
 test_wide Differs d t h = cc
 
 pub row_width : (f : Form) (more : ℤ) → length (row_of f more) ≡ suc (length f.coefficients)

@@ -1,5 +1,6 @@
 -- What is told of a row of a list where a number passes as it is formed.
-use Rattle.std.proofs.Common.{◌≡◌, ℕ, zero, suc, ◌<◌, List, [], ◌∷◌, ◌++◌, length, map, drop, get_or, arith, ap, refl, sym, ◌∙◌, subst, ℤ, Result, Err}
+use Rattle.std.proofs.Common.{◌≡◌, ℕ, suc, ◌<◌, List, [], ◌∷◌, ◌++◌, length, map, drop, get_or, ap, refl, sym, ◌∙◌, subst, ℤ, Result, Err}
+use Rattle.std.proofs.lemmas.List.{get_or_default}
 use Rattle.lra_linear_spec.specs.{Descriptions.LinearRow, Kinds.is_equality, OperationStrain.FormingPasses, Strain.Loss, declared.Cause.TheVariants.Excess, declared.ConKind.ConKind}
 use Rattle.lra_linear_spec.specs.{declared.ConKind.TheVariants.Ge, declared.GenKind.GenKind}
 use Rattle.lra_linear_spec.specs.declared.Excess as E
@@ -10,11 +11,6 @@ use Rattle.lra_systems.proofs.FirstMembers.{front, given_split, member}
 use Rattle.lra_descriptions.specs.ShownLists.{dual_kind}
 use Rattle.lra_descriptions.proofs.SeveralKinds.{dual_given}
 use Rattle.lra_mapped_systems.specs.Forming.{IsLossAt}
-
-default_other : {A : Type 0} (xs : List A) (i : ℕ) (d e : A) → i < length xs → get_or xs i d ≡ get_or xs i e
-default_other [] i d e h = absurd (omega (arith, h))
-default_other (x ∷ xs) zero d e h = refl
-default_other (x ∷ xs) (suc i) d e h = default_other xs i d e (omega (arith, h))
 
 pub loss_told : (list chosen : LinearSystem ConKind) (rows : List (List ℤ)) (kinds : List ConKind) (place : ℕ) (row : List ℤ)
     (e : E.Excess) (loss : Loss) → constraints chosen ≡ front is_equality list.rows list.kinds place →
@@ -31,7 +27,7 @@ loss_told list chosen rows kinds place row e loss ec er ek n h is el =
       is = given_split is_equality list.rows list.kinds place row Ge many h here ∙
           ap (λ (l : List LinearRow). l ++ member is_equality list.kinds place row Ge ∷ later) (sym ec) ∙
           ap (λ (l : List ConKind). constraints chosen ++ member is_equality l place row Ge ∷ later) (sym ek);
-      is_row = here ∙ default_other list.rows place row [] h;
+      is_row = here ∙ get_or_default list.rows place row [] h;
       is_cause = refl;
     })
 
@@ -51,7 +47,7 @@ lost_at check given told rows seen place r e loss l eg er h is passes = record {
   excess = e;
   is_cause = l.is_cause;
   passes = subst (λ (y : List ℤ). check y ≡ Err e)
-      (is ∙ default_other seen place r [] h ∙ ap (λ (rs : List (List ℤ)). get_or rs place []) (sym er) ∙ sym l.is_row)
+      (is ∙ get_or_default seen place r [] h ∙ ap (λ (rs : List (List ℤ)). get_or rs place []) (sym er) ∙ sym l.is_row)
       passes;
 }
 

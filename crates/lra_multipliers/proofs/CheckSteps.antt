@@ -5,6 +5,7 @@ use Rattle.std.proofs.lemmas.Bool.Decides.{nat_tests, Decides-int_eq, Decides-an
 use Rattle.std.proofs.{Math.IntN.+ℤ_idl, Math.IntN.+ℤ_idr, Math.IntN.+ℤ_assoc, lemmas.Bool.cases_lt, lemmas.Int.ints, lemmas.Int.to_z-of_z, lemmas.Option.same_Some, lemmas.Option.none-some}
 use Rattle.std.specs.Prelude.{if◌then◌else◌, int_le, ◌&&◌, option_and_then, IfSome}
 use Rattle.std.specs.{Bool.Decides, Cmp.Lexicographic.pointwise, Cmp.Rules.signed_items, Int.w128, List.AllByRecursion, Option.SomeIff, Ordering.int_eq}
+use Rattle.std.proofs.lemmas.Bool.{false_from_ne_true}
 use borrow.Author.Count.{below_more}
 use Rattle.lra_linear_spec.specs.{CheckedArithmetic.checked_added_entry, CheckedArithmetic.checked_added, CheckedArithmetic.then_rest, CheckedArithmetic.and_then, Descriptions.LinearRow}
 use Rattle.lra_linear_spec.specs.{Descriptions.rows_of, Polyhedra.positivity, Range.InRange, Range.in_range, Vectors.entry, Vectors.zeros, Vectors.signed_sum, declared.Excess.Excess}
@@ -216,10 +217,6 @@ none_below f n t a j h e = let s = some_below f n t a j h in none-some s.0 (sym 
 same_entry : (x y : ℤ) (o p : Option ℤ) (b : Bool) → o ≡ Some x → p ≡ Some y → both o p ≡ Some b → int_eq x y ≡ b
 same_entry x y o p b e f g = same_Some (int_eq x y) b (sym (ap (λ (q : Option ℤ). both q p) e ∙ ap (both (Some x)) f) ∙ g)
 
-not_true : (b : Bool) → (b ≡ true → ⊥) → b ≡ false
-not_true true h = absurd (h refl)
-not_true false h = refl
-
 apart : (x y : ℤ) → int_eq x y ≡ false → x ≡ y → ⊥
 apart x y e f = true_false (sym ((Decides-int_eq x y).1 f) ∙ e)
   where
@@ -243,7 +240,7 @@ module _ (mult sums : ℕ → Option ℤ) (n : ℕ) (s : Bool) where
       each : (j : ℕ) → entry row j ≡ entry sum j
       each j = by j (cases_lt j n)
   rows_agree row sum false m k a =
-      not_true (pointwise int_eq row sum) (λ e. apart (entry row a.1.0) (entry sum a.1.0)
+      false_from_ne_true (pointwise int_eq row sum) (λ e. apart (entry row a.1.0) (entry sum a.1.0)
       (same_entry (entry row a.1.0) (entry sum a.1.0) (mult a.1.0) (sums a.1.0) false (m.1 a.1.0 a.1.1) (k.1 a.1.0 a.1.1) a.1.2)
       (ap (λ (r : List ℤ). entry r a.1.0) ((signed_items row sum).0 e)))
 

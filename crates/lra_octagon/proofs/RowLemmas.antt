@@ -5,6 +5,7 @@ use Rattle.std.proofs.lemmas.List.Elements.{Contains-append_cases, Contains-appe
 use Rattle.std.proofs.{Math.ListN.length-set, lemmas.Bool.false≢true, lemmas.Bool.Decides.eqb_tells, lemmas.Bool.Decides.leb_tells, lemmas.Int.ints, lemmas.List.length-replicate}
 use Rattle.std.specs.{Cmp.int_cmp_is, Cmp.signed_Decides, Cmp.Lexicographic.slice_cmp, List.Contains, Ordering.int_cmp, Ordering.int_eq, Ordering.ordering_then, Prelude.if◌then◌else◌, Prelude.◌+ℤ◌}
 use Rattle.std.specs.{Prelude.◌≤ℤ◌, Prelude.neg_ℤ, Prelude.int_le, Prelude.slice_set, declared.cmp.Ordering.Ordering, declared.cmp.Ordering.TheVariants.Less, declared.cmp.Ordering.TheVariants.Equal}
+use Rattle.std.proofs.lemmas.Bool.{false_from_ne_true}
 use Rattle.lra_linear_spec.specs.RowOrder.{Ascends, inequality_cmp}
 use Rattle.lra_linear_spec.specs.{Echelon.lead_from, Echelon.pivot, Vectors.entry, declared.ConKind.ConKind, declared.ConKind.TheVariants.Ge, declared.ConKind.TheVariants.Eq}
 use Rattle.lra_linear_spec.proofs.{Membership.contains_cases, Membership.contains_none, Products.entry_set_other, Products.entry_set_same}
@@ -60,15 +61,11 @@ at_minus n i b h = let half : (2 * b + 1) / 2 ≡ b = omega arith in
 
 -- ---- its pivot
 
-unless : (b : Bool) → (b ≡ true → ⊥) → b ≡ false
-unless true f = absurd (f refl)
-unless false f = refl
-
 lead_is : (k j : ℕ) (xs : List ℤ) → k < length xs → ((p : ℕ) → p < k → entry xs p ≡ pos 0) → entry xs k ≢ pos 0
     → lead_from j xs ≡ j + k
 lead_is k j [] h z d = absurd (omega (arith, h))
 lead_is zero j (x ∷ xs) h z d =
-    ap (λ (b : Bool). cond b (lead_from (suc j) xs) j) (unless (int_eq x (pos 0)) (λ e. d ((signed_Decides x (pos 0)).0 e))) ∙ omega arith
+    ap (λ (b : Bool). cond b (lead_from (suc j) xs) j) (false_from_ne_true (int_eq x (pos 0)) (λ e. d ((signed_Decides x (pos 0)).0 e))) ∙ omega arith
 lead_is (suc k) j (x ∷ xs) h z d =
     ap (λ (b : Bool). cond b (lead_from (suc j) xs) j) ((signed_Decides x (pos 0)).1 (z 0 (omega arith)))
     ∙ lead_is k (suc j) xs (omega (arith, h)) (λ p l. z (suc p) (omega (arith, l))) d ∙ omega arith
@@ -573,7 +570,7 @@ printed_is m i j q (inr later) = elim (eqb_tells i j) as (λ _. (printed m i j �
     λ w. elim w [
       | inl x ↦ absurd (f.1 x.0)
       | inr x ↦ (unless_is (most m (opposite i)) (most m (opposite j)) (m i (opposite j)) q).1
-          (x.1, unless (implied_by (most m (opposite i)) (most m (opposite j)) q) (λ t. x.2 ((implied_is m i j q).0 t)))
+          (x.1, false_from_ne_true (implied_by (most m (opposite i)) (most m (opposite j)) q) (λ t. x.2 ((implied_is m i j q).0 t)))
     ],
   )
 ]
@@ -662,4 +659,4 @@ unequal_exact n m r = (λ d. named (of_unequals n m 0 n r d), λ w. listed w)
     listed w =
         let first = w.row.first in
         has_unequals n m 0 n w.row.i r (omega arith) (omega (arith, first))
-        (row_listed Ge n m r w.row (unless (is_equality_pair m w.row.i w.row.j) (λ t. w.alone ((row_equality n m r w.row).0 t))))
+        (row_listed Ge n m r w.row (false_from_ne_true (is_equality_pair m w.row.i w.row.j) (λ t. w.alone ((row_equality n m r w.row).0 t))))

@@ -1,7 +1,8 @@
 -- The readers of blocks are exact.
-use Rattle.std.proofs.Common.{◌≡◌, ℕ, ◌+◌, ◌≤◌, Bool, true, false, ◌||◌, ◌⊎◌, List, [], ◌∷◌, ◌++◌, Option, Some, None, refl, sym, ap, subst, ◌∙◌, arith, inl, inr, option_map}
+use Rattle.std.proofs.Common.{◌≡◌, ℕ, ◌+◌, ◌≤◌, true, false, ◌⊎◌, List, [], ◌∷◌, ◌++◌, Option, Some, None, refl, sym, ap, subst, ◌∙◌, arith, inl, inr, option_map}
 use Rattle.std.proofs.lemmas.List.{append-nil}
 use Rattle.std.specs.Bool.{⊤}
+use Rattle.std.proofs.lemmas.Bool.{or_left, or_right}
 use Rattle.lra_base.specs.declared.refusals.Place.{Place}
 use Rattle.lra_syntax.specs.Trees.{StmtTree, block, nothing, assign, call, if_only, if_else, while, for, break, continue, return, assert, assume, increment, after, before, no_init, ItemsTree}
 use Rattle.lra_syntax.specs.Trees.{no_items, switch, no_cases, declaration, statement}
@@ -365,13 +366,6 @@ either_stmt o l t z (inr s) = s.0
 
 pub stmt_either : (o l : ℕ) (t : StmtTree) (z : Pieces) → IsStmt o l t z → BlockText o l t z ⊎ SimpleText o l t z
 stmt_either o l t z s = elim (is_block t) [ inl b ↦ inl (s, b) | inr b ↦ inr (s, b) ]
-
-pub or_left : (a b : Bool) → a ≡ true → (a || b) ≡ true
-or_left a b e = rw e refl
-
-pub or_right : (a b : Bool) → b ≡ true → (a || b) ≡ true
-or_right true b e = refl
-or_right false b e = e
 
 pub stated_first : (l : ℕ) (t : StmtTree) (z : Pieces) (k : Option Token) → StatedText l t z → begins_stmt (first_or z k) ≡ true
 stated_first l t z k s = stmt_begins (λ o. begins_stmt o ≡ true) all_begin (opened_by t l) (level_of t l) t z k s

@@ -8,7 +8,8 @@ use Rattle.lra_syntax.specs.{Trees.nothing, Trees.CasesTree, Trees.no_cases, Tre
 use Rattle.lra_parser_spec.specs.Statements.{begins_stmt, stated_of, LabelledTree, with_labels, cases_from, begins_case, labelled_of, add_label, first_labelled, some_cases, cases_parser, braces_of}
 use Rattle.lra_parser_spec.specs.{Reading.Parse, Reading.list_of, Tests.is_mark, Tests.begins_label}
 use Rattle.lra_parser_spec.proofs.Exact.{Exact, Any, Free, Both, test, first_or, first_or-both, then}
-use Rattle.lra_parser_spec.proofs.ExactBlocks.{StatedText, stated_first, stated_no_label, or_left, or_right}
+use Rattle.std.proofs.lemmas.Bool.{or_left, or_right}
+use Rattle.lra_parser_spec.proofs.ExactBlocks.{StatedText, stated_first, stated_no_label}
 use Rattle.lra_parser_spec.proofs.{Chain.regroup, Chain.Items, Chain.AfterLast, Chain.all_last, Chain.exact_list, ExactExpressions.Of, ExactLabels.label_first, ExactLabels.exact_label}
 use Rattle.lra_parser_spec.proofs.{ExactLabels.AfterLabels, ExactLabels.exact_labels, ExactStatements.AfterStmt, ExactStatements.BracesText, Forms.widen, Forms.retell, Forms.entry, Forms.mapped}
 use Rattle.lra_parser_spec.proofs.{Forms.branch, Forms.exact_done, Marks.is_mark_some, Parts.token, Parts.exact_behind, Parts.exact_ended, Tokens.IsInner, Tokens.some_place}

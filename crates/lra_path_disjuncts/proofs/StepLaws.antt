@@ -11,7 +11,7 @@ use Rattle.lra_analysis_spec.specs.Linearization.{linearized}
 use Rattle.lra_analysis_spec.proofs.{CondKeeping.value_leads, Keeping.op_leads}
 use Rattle.lra_path_segments.specs.Segments.{SegmentStep, does, goes, RunsStep}
 use Rattle.lra_path_disjuncts.specs.StepMoves.{dims_after_step, label_moves, step_moves, unmatched_moves}
-use Rattle.lra_path_segments.proofs.LabelLaws.{neither}
+use Rattle.std.proofs.lemmas.Bool.{or_parts}
 use Rattle.lra_path_disjuncts.proofs.OpLengths.{op_length}
 
 itself : (z : ℤ) → compares equal z z ≡ true
@@ -34,7 +34,7 @@ module _ (base : ℕ) (e : Expr) (s : State) (z : ℤ) (left : List ℤ) (got : 
       → MayLead (unmatched_moves (length s.store) (linearized (length s.store) base e) labels) s.store s.store
   unmatched_lead [] none = refl
   unmatched_lead (Case y ∷ labels) none =
-      let (here, later) = neither (int_eq z y) (list_any (is_same_case (Case z)) labels) none in
+      let (here, later) = or_parts (int_eq z y) (list_any (is_same_case (Case z)) labels) none in
       (s.store, value_leads (environment_at base s) e y false s.draws left z got (unequal z y here), unmatched_lead labels later)
   unmatched_lead (Default ∷ labels) none = unmatched_lead labels none
 

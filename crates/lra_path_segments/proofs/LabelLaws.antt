@@ -1,15 +1,12 @@
 -- Which of a `switch`'s labels a value goes to, and the ways of arms, which are those of a row of trees.
 use Rattle.std.proofs.{Common.◌≡◌, Common.ℤ, Common.List, Common.◌++◌, Common.Bool, Common.true, Common.false, Common.refl, Common.sym, Common.ap, Common.◌∙◌, lemmas.Bool.Decides.Decides-int_eq}
-use Rattle.std.specs.{List.list_any, Prelude.cond, Prelude.◌||◌, Prelude.if◌then◌else◌}
+use Rattle.std.specs.{List.list_any, Prelude.cond, Prelude.if◌then◌else◌}
+use Rattle.std.proofs.lemmas.Bool.{or_parts}
 use Rattle.lra_base.specs.CaseLabels.{is_same_case, goal_of}
 use Rattle.lra_base.specs.{declared.case_labels.CaseLabel.CaseLabel, declared.case_labels.CaseLabel.TheVariants.Case, declared.case_labels.CaseLabel.TheVariants.Default}
 use Rattle.lra_operations.specs.Tree.{Completion, normal, jump, empty, Arms, no_arms, entry, arm, entries_of}
 use Rattle.lra_operations.proofs.ArmRows.{arms_row, row_behind}
 use Rattle.lra_path_segments.specs.Segments.{each_then, segments_by, then_outs, then_ways, through, through_arms, enter, enter_arms, exit_suffixes, arms_exit_suffixes, inside, inside_arms}
-
-pub neither : (a b : Bool) → (a || b) ≡ false → (a ≡ false) × (b ≡ false)
-neither true b e = absurd (let no : true ≡ false = e in cc)
-neither false b e = (refl, e)
 
 pub alike_are : (l k : CaseLabel) → is_same_case l k ≡ true → l ≡ k
 alike_are (Case y) (Case z) e = ap Case ((Decides-int_eq y z).0 e)
@@ -62,6 +59,6 @@ inside_row (arm a arms) =
 pub none_behind : (l : CaseLabel) (arms : Arms) → list_any (is_same_case l) (entries_of arms) ≡ false → row_behind l arms ≡ empty
 none_behind l no_arms never = refl
 none_behind l (entry k arms) never =
-    let (here, later) = neither (is_same_case l k) (list_any (is_same_case l) (entries_of arms)) never in
+    let (here, later) = or_parts (is_same_case l k) (list_any (is_same_case l) (entries_of arms)) never in
     ap (λ b. cond b (arms_row arms) (row_behind l arms)) here ∙ none_behind l arms later
 none_behind l (arm a arms) never = none_behind l arms never

@@ -2,6 +2,7 @@
 use Rattle.std.proofs.Common.{◌≡◌, ◌≢◌, ◌∙◌, ℕ, ℤ, Bool, true, false, ◌⊎◌, List, [], ◌∷◌, ◌++◌, inl, inr, sym, refl, subst}
 use Rattle.std.proofs.{lemmas.Bool.false≢true, lemmas.Bool.or_parts, lemmas.List.Elements.Contains-append_right}
 use Rattle.std.specs.{List.Contains, Prelude.◌||◌, Prelude.IsTrue}
+use Rattle.std.proofs.lemmas.Bool.{or_from}
 use Rattle.lra_domain.specs.{Abstraction.Grew, Rank.RankBelow, declared.Exactness.Exactness, declared.Mode.Mode}
 use Rattle.lra_domain.specs.declared.Exactness.TheVariants as degree
 use Rattle.lra_domain.specs.declared.Grown.TheVariants as Grown
@@ -85,10 +86,6 @@ or_true : (a b : Bool) → b ≡ true → IsTrue (a || b)
 or_true true b e = refl
 or_true false b e = e
 
-both_false : (a b : Bool) → a ≡ false → b ≡ false → (a || b) ≡ false
-both_false false b e f = f
-both_false true b e f = let wrong : ⊥ = cc in absurd wrong
-
 not_true : (b : Bool) → ¬ (IsTrue b) → b ≡ false
 not_true true h = absurd (h refl)
 not_true false h = refl
@@ -130,7 +127,7 @@ struck_second e how.Widen p r given is t = let wrong : ⊥ = cc in absurd wrong
 
 none_struck : (p r : Polyhedron) (given : List LinearRow) → some_passes p.generators given ≡ false → some_passes r.generators given ≡ false →
     ¬ (IsTrue (some_passes p.generators given || some_passes r.generators given))
-none_struck p r given f g t = false≢true (sym (both_false (some_passes p.generators given) (some_passes r.generators given) f g) ∙ t)
+none_struck p r given f g t = false≢true (sym (or_from (some_passes p.generators given) (some_passes r.generators given) f g) ∙ t)
 
 pub struck_none : (e : Exactness) (mode : Mode) (p r : Polyhedron) (given : List LinearRow) → some_passes p.generators given ≡ false → some_passes r.generators given ≡ false →
     IsStruck e mode p r given e

@@ -1,6 +1,6 @@
 -- A twin of a dimension: what the constraints ask of a point with one further coordinate.
 use Rattle.std.proofs.Common.{◌≡◌, ℕ, zero, suc, ◌<◌, ◌≤◌, ◌+◌, List, [], ◌∷◌, ◌++◌, length, map, drop, slice_set, ap, refl, sym, ◌∙◌, ℤ, pos, ◌+ℤ◌, ◌*ℤ◌, arith}
-use Rattle.std.proofs.lemmas.List.{map-append}
+use Rattle.std.proofs.lemmas.List.{map-append, length-set}
 use Rattle.lra_linear_spec.specs.Vectors.{cleared, dot, entry, product}
 use Rattle.lra_linear_spec.specs.{Descriptions.Con, Descriptions.LinearRow, Kinds.is_equality, Points.SameSet, Polyhedra.IsPolyhedron, Polyhedra.Polyhedron, declared.ConKind.ConKind}
 use Rattle.lra_linear_spec.proofs.{Products.entry_past, Ring.ring, Ring.v, Ring.◌⊕◌, Ring.◌⊗◌, SetOperations.meet_con, SetOperations.product_set}
@@ -13,11 +13,6 @@ map_set : (f : ℕ → ℤ) (l : List ℕ) (k d : ℕ) → map f (slice_set l k 
 map_set f [] k d = refl
 map_set f (x ∷ l) zero d = refl
 map_set f (x ∷ l) (suc k) d = ap (λ (r : List ℤ). f x ∷ r) (map_set f l k d)
-
-set_length : (l : List ℤ) (k : ℕ) (z : ℤ) → length (slice_set l k z) ≡ length l
-set_length [] k z = refl
-set_length (x ∷ l) zero z = refl
-set_length (x ∷ l) (suc k) z = ap suc (set_length l k z)
 
 -- ---- dimensions in turn
 nothing_left : (cs : List ℤ) (s : ℕ) → length cs ≤ s → drop s cs ≡ []
@@ -85,7 +80,7 @@ twin_point n k cs u w h =
     none_on j = omega arith
 
     short : {j : ℕ} → j < length (cleared k cs) → j < n
-    short {j = j} less = let e = set_length cs k (pos 0) in omega (arith, e, w, less)
+    short {j = j} less = let e = length-set cs k (pos 0) in omega (arith, e, w, less)
 
 twin_product : (n k : ℕ) (c x : List ℤ) → length c ≡ suc n → k < n →
     product (chosen (replaced n k ++ k ∷ []) c) x ≡ product c (chosen (replaced n k) x)
@@ -94,7 +89,7 @@ twin_product n k (c ∷ cs) x w h =
     let wide : length cs ≡ n = omega (arith, w) in
     ap (λ (z : ℤ). (c *ℤ entry x 0) +ℤ z)
     (ap (λ (r : List ℤ). dot r (λ j. entry x (suc j))) (twin_row n k cs wide)
-    ∙ dot_last (cleared k cs) (entry cs k) (λ j. entry x (suc j)) n (set_length cs k (pos 0) ∙ wide)
+    ∙ dot_last (cleared k cs) (entry cs k) (λ j. entry x (suc j)) n (length-set cs k (pos 0) ∙ wide)
     ∙ sym (twin_point n k cs (λ j. entry x (suc j)) wide h))
 
 -- ---- the set

@@ -3,6 +3,7 @@ use Rattle.std.proofs.Common.{◌≡◌, ◌⊎◌, ℕ, zero, suc, ◌<◌, ◌
 use Rattle.std.proofs.lemmas.List.Elements.{All-contains, Contains-append_cases, Contains-append_left, Contains-append_right}
 use Rattle.std.proofs.{Common.arith, Common.slice_set, lemmas.Int.ints, lemmas.Nat.Gcd.dvd_refl, lemmas.Nat.Gcd.dvd-zero}
 use Rattle.std.specs.{Int.◌∣◌, List.All, List.Contains, Prelude.◌↔◌, Prelude.◌==◌, Prelude.IsTrue, Prelude.unsigned_abs}
+use Rattle.std.proofs.lemmas.List.{length-set}
 use Rattle.lra_linear_spec.specs.Descriptions.{LinearRow, Con, equality, rows_as, inequality, system_of}
 use Rattle.lra_linear_spec.specs.Polyhedra.{HasPoint, IsPolyhedron, Polyhedron, positivity}
 use Rattle.lra_linear_spec.specs.{Echelon.pivot, Kinds.is_equality, Kinds.is_line, Points.IsPoint, Points.IsWithin, Vectors.blend, Vectors.cleared, Vectors.entry, Vectors.product}
@@ -19,15 +20,11 @@ use Rattle.lra_poly_queries.proofs.RelationLemmas.{blend_product}
 use Rattle.lra_poly_queries.specs.Shapes.{HasBound, IsBounded, IsUniverse}
 
 -- ---- an inequality that holds at all points
-set_length : (r : List ℤ) (k : ℕ) (z : ℤ) → length (slice_set r k z) ≡ length r
-set_length [] k z = refl
-set_length (x ∷ r) zero z = refl
-set_length (x ∷ r) (suc k) z = ap suc (set_length r k z)
 
 -- the point that is z along one coordinate
 along_is_point : (n k : ℕ) (z : ℤ) → IsPoint n (slice_set (positivity n) (suc k) z)
 along_is_point n k z = record {
-  width = set_length (positivity n) (suc k) z ∙ ap suc (zeros_length n);
+  width = length-set (positivity n) (suc k) z ∙ ap suc (zeros_length n);
   divisor = omega (arith, ints);
 }
 

@@ -2,6 +2,7 @@
 use Rattle.std.proofs.Common.{Bool, List, [], ap, arith, cond, false, inl, inr, length, not, refl, subst, suc, sym, true, ℤ, ◌++◌, ◌≤◌, ◌∙◌, ◌∷◌, ◌≡◌}
 use Rattle.std.proofs.{lemmas.Bool.and_parts, lemmas.List.append-nil, lemmas.List.Elements.filter-append}
 use Rattle.std.specs.{List.Contains, List.filter, List.list_any, Prelude.◌&&◌, Prelude.◌||◌}
+use Rattle.std.proofs.lemmas.Bool.{or_left, or_right, not-true}
 use Rattle.lra_linear_spec.specs.Widening.{holds_with, is_tight_as, is_valid}
 use Rattle.lra_linear_spec.specs.{CheckedArithmetic.checked_product, Descriptions.LinearRow, Descriptions.rows_as, Polyhedra.HasPoint, Polyhedra.Polyhedron, RowOrder.Ascends, RowOrder.inequality_cmp}
 use Rattle.lra_linear_spec.proofs.Membership.{NoRepeat, contains_cases, contains_head, contains_none, contains_tail, filter_from, filter_has, list_all_at, list_all_from}
@@ -90,10 +91,6 @@ given_apart (r ∷ rows) a = (
 pub free_apart : (p : Polyhedron) (h : HasPoint p) (rows : List LinearRow) → NoRepeat (free p rows)
 free_apart p h rows = subst NoRepeat (sym (free_rows p h rows)) (no_repeat_filter (is_free p rows) (rows_as false h.inequalities) (given_apart h.inequalities h.inequalities_ascend))
 
-not_said : (b : Bool) → not b ≡ true → b ≡ false
-not_said true e = cc
-not_said false e = refl
-
 -- a free row is an inequality, and none of the rows saturates the same
 pub record IsFree (p : Polyhedron) (h : HasPoint p) (rows : List LinearRow) (f : LinearRow) : Type 0 where
   pub is_row : Contains p.rows f
@@ -109,7 +106,7 @@ free_said p h rows f k =
       is_row = (filter_from (is_free p rows) p.rows f k).0;
       is_inequality = g.1;
       unequal = g.0;
-      alone = not_said (list_any (is_tight_as p.generators f) rows) (and_parts (not f.equal) (not (list_any (is_tight_as p.generators f) rows)) m.1).1;
+      alone = not-true (list_any (is_tight_as p.generators f) rows) (and_parts (not f.equal) (not (list_any (is_tight_as p.generators f) rows)) m.1).1;
     }
 
 pub free_has : (p : Polyhedron) (rows : List LinearRow) (s : LinearRow) → Contains p.rows s → s.equal ≡ false → list_any (is_tight_as p.generators s) rows ≡ false → Contains (free p rows) s
@@ -119,17 +116,9 @@ free_has p rows s k e a = filter_has (is_free p rows) p.rows s k (ap (λ b. not 
 pub any_from : {A : Type 0} (t : A → Bool) (xs : List A) (x : A) → Contains xs x → t x ≡ true → list_any t xs ≡ true
 any_from t [] x k e = absurd (contains_none x k)
 any_from {A = A} t (y ∷ xs) x k e = elim (contains_cases y x xs k) [
-  | inl q ↦ first (t y) (list_any t xs) (ap t q ∙ e)
-  | inr d ↦ later (t y) (list_any t xs) (any_from t xs x d e)
+  | inl q ↦ or_left (t y) (list_any t xs) (ap t q ∙ e)
+  | inr d ↦ or_right (t y) (list_any t xs) (any_from t xs x d e)
 ]
-  where
-    first : (a b : Bool) → a ≡ true → (a || b) ≡ true
-    first true b e = refl
-    first false b e = cc
-
-    later : (a b : Bool) → b ≡ true → (a || b) ≡ true
-    later true b e = refl
-    later false b e = e
 
 pub any_said : {A : Type 0} (t : A → Bool) (xs : List A) → list_any t xs ≡ true → (x : A) × Contains xs x × (t x ≡ true)
 any_said t [] e = cc

@@ -3,6 +3,7 @@ use Rattle.std.proofs.Common.{◌≡◌, ◌≢◌, ◌∙◌, ◌<◌, ◌≤�
 use Rattle.std.proofs.{lemmas.Bool.and_parts, lemmas.Int.ints}
 use Rattle.std.specs.Prelude.{◌&&◌, ◌||◌, ◌≤ℤ◌, ◌<ℤ◌, int_lt, negsuc}
 use Rattle.std.specs.{Cmp.Lexicographic.pointwise, Cmp.Rules.signed_items, List.Contains, List.filter, List.list_any, Ordering.int_eq}
+use Rattle.std.proofs.lemmas.Bool.{and_from, not_from_false, not-true}
 use Rattle.lra_linear_spec.specs.{Descriptions.Con, Descriptions.LinearRow, Descriptions.Holds, Descriptions.HoldsWith, Kinds.is_equality, OperationStrain.LimitedStrains, OperationStrain.valid_on}
 use Rattle.lra_linear_spec.specs.{Points.IsPoint, Points.IsWithin, Points.SameSet, Polyhedra.HasPoint, Polyhedra.IsPolyhedron, Polyhedra.Polyhedron, Vectors.dot, Vectors.entry, Vectors.product}
 use Rattle.lra_linear_spec.specs.{Widening.LimitedWidening, Widening.is_valid, declared.ConKind.ConKind, declared.ConKind.TheVariants.Ge, declared.ConKind.TheVariants.Eq}
@@ -82,11 +83,7 @@ lower_holds n xs ys x point l h =
 -- ---- tighter rows
 tighter_parts : (s r : LinearRow) → is_tighter s r ≡ true → (r.equal ≡ false) × (is_lower s.row r.row ≡ true)
 tighter_parts s r h =
-    let b = and_parts (not r.equal) (is_lower s.row r.row) h in (turned r.equal b.0, b.1)
-  where
-    turned : (b : Bool) → not b ≡ true → b ≡ false
-    turned true e = cc
-    turned false e = refl
+    let b = and_parts (not r.equal) (is_lower s.row r.row) h in (not-true r.equal b.0, b.1)
 
 lower_through : (xs ys zs : List ℤ) → IsLower xs ys → IsLower ys zs → IsLower xs zs
 lower_through xs ys zs a b =
@@ -172,9 +169,6 @@ fewer {A} t u (x ∷ xs) y f k a b = elim (contains_cases x y xs k) [
     later false false e g i = i
 
 -- ---- of the rows the tightest
-not_so : (b : Bool) → b ≡ false → not b ≡ true
-not_so false e = refl
-not_so true e = cc
 
 module _ (n : ℕ) (rows : List LinearRow) (x : List ℤ) (point : IsPoint n x) (all : Con (tightest rows) x) where
   -- a row that is loose holds where each tighter one does
@@ -183,7 +177,7 @@ module _ (n : ℕ) (rows : List LinearRow) (x : List ℤ) (point : IsPoint n x) 
   by_tighter r has others = by_value (is_loose rows r) refl
     where
       by_value : (b : Bool) → is_loose rows r ≡ b → Holds r x
-      by_value false e = all r (filter_has (λ t. not (is_loose rows t)) rows r has (not_so (is_loose rows r) e))
+      by_value false e = all r (filter_has (λ t. not (is_loose rows t)) rows r has (not_from_false (is_loose rows r) e))
       by_value true e =
           let (s, among, tighter) = any_said (λ s. is_tighter s r) rows e in
           let less = fewer (λ t. is_tighter t s) (λ t. is_tighter t r) rows s (λ t h. tighter_through t s r h tighter) among (never_itself s) tighter in
@@ -245,16 +239,11 @@ few_limited p q given h k same x point l = (
   l.0,
   λ g has a b.
       let valid : Contains (kept_thresholds p q given) g = subst (λ (rows : List LinearRow). Contains rows g) (sym same)
-      (filter_has (λ r. is_valid p r && is_valid q r) given g has (both (is_valid p g) (is_valid q g) ((valid_decides p h g).1 a) ((valid_decides q k g).1 b))) in
+      (filter_has (λ r. is_valid p r && is_valid q r) given g has (and_from (is_valid p g) (is_valid q g) ((valid_decides p h g).1 a) ((valid_decides q k g).1 b))) in
       tightest_tell p.dims (kept_thresholds p q given) x point (λ t few.
       let f = kept_at p q given t (filter_from (λ r. not (is_loose (kept_thresholds p q given) r)) (kept_thresholds p q given) t few).0 in
       l.1 t few ((valid_decides p h t).0 (holds_valid p t f.1)) ((valid_decides q k t).0 (holds_valid q t f.2))) g valid,
 )
-  where
-    both : (a b : Bool) → a ≡ true → b ≡ true → (a && b) ≡ true
-    both true true e f = refl
-    both true false e f = cc
-    both false b e f = cc
 
 tightest_same : (p q : Polyhedron) (given : List LinearRow) → IsPolyhedron p → IsPolyhedron q → q.dims ≡ p.dims → IsWithin p.dims (Con p.rows) (Con q.rows)
     → kept_thresholds p q given ≡ valid_on p q given → SameSet p.dims (LimitedWidening p q given) (LimitedWidening p q (tightest (kept_thresholds p q given)))

@@ -2,6 +2,7 @@
 use Rattle.std.proofs.Common.{Bool, Err, List, Ok, Result, [], ap, arith, cond, false, get_or, inl, inr, length, refl, subst, suc, sym, true, zero, ℕ, ℤ, ◌++◌, ◌<◌, ◌∙◌, ◌∷◌, ◌≡◌, ◌⊎◌, IsOk}
 use Rattle.std.proofs.lemmas.List.Elements.{All-append, All-contains, Contains-append_cases, Contains-append_left, Contains-append_right}
 use Rattle.std.specs.{List.All, List.Contains, List.list_all, Prelude.◌&&◌}
+use Rattle.std.proofs.lemmas.Bool.{and_right, and_from}
 use Rattle.lra_linear_spec.specs.{CheckedArithmetic.checked_product, Descriptions.LinearRow, OperationStrain.valid_on, Polyhedra.Polyhedron, Widening.holds_with, Widening.is_valid}
 use Rattle.lra_linear_spec.specs.declared.Excess as E
 use Rattle.lra_linear_spec.proofs.Membership.{contains_head, contains_tail, list_all_at, list_all_from}
@@ -30,11 +31,7 @@ ok_fits (Err e) h = cc
 pub holds_said : (p : Polyhedron) (r : LinearRow) → IsValidity p.generators r Holds → true ≡ holds_in_range p r
 holds_said p r h = sym (list_all_from (λ g. fits (checked_product r.row g.row) && holds_with r g) p.generators (λ g k.
     let m = All-contains (λ x. Satisfies x r) p.generators g h k in
-    joined (fits (checked_product r.row g.row)) (holds_with r g) (ok_fits (checked_product r.row g.row) m.0) m.1))
-  where
-    joined : (a b : Bool) → a ≡ true → b ≡ true → (a && b) ≡ true
-    joined true b e f = f
-    joined false b e f = cc
+    and_from (fits (checked_product r.row g.row)) (holds_with r g) (ok_fits (checked_product r.row g.row) m.0) m.1))
 
 one_fails : {A : Type 0} (test : A → Bool) (xs : List A) (x : A) → Contains xs x → test x ≡ false → list_all test xs ≡ false
 one_fails test xs x k e = by_value (list_all test xs) refl
@@ -44,11 +41,7 @@ one_fails test xs x k e = by_value (list_all test xs) refl
     by_value true h = let t = list_all_at test xs h x k in cc
 
 pub fails_said : (p : Polyhedron) (r : LinearRow) → IsValidity p.generators r Fails → false ≡ holds_in_range p r
-fails_said p r k = sym (one_fails (λ g. fits (checked_product r.row g.row) && holds_with r g) p.generators k.0 k.1 (ended (fits (checked_product r.row k.0.row)) (holds_with r k.0) k.2.1))
-  where
-    ended : (a b : Bool) → b ≡ false → (a && b) ≡ false
-    ended true b e = e
-    ended false b e = refl
+fails_said p r k = sym (one_fails (λ g. fits (checked_product r.row g.row) && holds_with r g) p.generators k.0 k.1 (and_right (fits (checked_product r.row k.0.row)) (holds_with r k.0) k.2.1))
 
 pub wide_said : (p : Polyhedron) (r : LinearRow) (e : E.Excess) → IsValidity p.generators r (Wide e) → false ≡ holds_in_range p r
 wide_said p r e k = sym (one_fails (λ g. fits (checked_product r.row g.row) && holds_with r g) p.generators k.0 k.1 (ended (holds_with r k.0) (checked_product r.row k.0.row) k.2))

@@ -1,5 +1,6 @@
 -- Lemmas on how heads grow.
 use Rattle.std.proofs.Common.{◌≡◌, ◌≢◌, ◌⊎◌, ℕ, ◌<◌, ℤ, Bool, true, false, List, [], ◌∷◌, length, Option, Some, None, refl, sym, subst, ◌∙◌, inl, inr, arith}
+use Rattle.std.proofs.lemmas.Option.{same_Some}
 use Rattle.lra_systems.specs.LinearSystems.{LinearSystem}
 use Rattle.lra_linear_spec.specs.declared.ConKind.{ConKind}
 use Rattle.lra_domain.specs.Abstraction.{Abstraction, Starts, Grew, GrowthStrains}
@@ -255,17 +256,14 @@ one_more m l pl given (p ∷ ps) qs mode k o fine some merged g = more_one m l p
 
 -- dimensions and other small things ---------------------------------------------------------------------------------------
 
-some_is : {X : Type 0} (x y : X) → Some x ≡ Some y → x ≡ y
-some_is x y e = cc
-
 pub dims_of_some : {V H : Type 0} (m : Abstraction V H) (ps : List V) (j k : V) → ((n : ℕ) → HaveDims m n ps → m.dims j ≡ n)
     → Some j ≡ Some k → (n : ℕ) → HaveDims m n ps → m.dims k ≡ n
-dims_of_some {V} m ps j k dims e n all = subst (λ (x : V). m.dims x ≡ n) (some_is j k e) (dims n all)
+dims_of_some {V} m ps j k dims e n all = subst (λ (x : V). m.dims x ≡ n) (same_Some j k e) (dims n all)
 
 pub head_of_some : {V H : Type 0} (m : Abstraction V H) (g h : H) (n : ℕ) → m.head_dims g ≡ n → RankFits (m.rank g)
     → m.head_well_formed g → Some g ≡ Some h → (m.head_dims h ≡ n) × RankFits (m.rank h) × m.head_well_formed h
 head_of_some {V} {H} m g h n dims fits fine e =
-    subst (λ (x : H). (m.head_dims x ≡ n) × RankFits (m.rank x) × m.head_well_formed x) (some_is g h e) (dims, fits, fine)
+    subst (λ (x : H). (m.head_dims x ≡ n) × RankFits (m.rank x) × m.head_well_formed x) (same_Some g h e) (dims, fits, fine)
 
 pub merges_some : {V H : Type 0} (m : Abstraction V H) (ps : List V) (o : Option V) (j : V) → o ≡ Some j → MergesExactly m ps o
     → MergesExactly m ps (Some j)

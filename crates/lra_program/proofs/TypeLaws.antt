@@ -1,6 +1,7 @@
 -- A value, where there is one, has its expression's type; and what stops by a number computes something.
 use Rattle.std.proofs.Common.{◌≡◌, ℤ, pos, List, [], ◌∷◌, Option, Some, None, Bool, true, false, refl, ap, subst, inl, inr}
 use Rattle.std.specs.Prelude.{◌-ℤ◌, slice_get, if◌then◌else◌, int_div, int_rem, ◌&&◌, ◌||◌, ◌⊎◌}
+use Rattle.std.proofs.lemmas.Bool.{or_left, or_right}
 use Rattle.lra_base.specs.{NumberTypes.fits, NumberTypes.wider, Operators.Operator, Operators.plus, Operators.minus, Operators.times, Operators.over, Operators.modulo}
 use Rattle.lra_base.specs.{declared.number_types.NumberType.NumberType, declared.number_types.NumberType.TheVariants.Int, declared.number_types.NumberType.TheVariants.Long}
 use Rattle.lra_base.proofs.TypeLimits.{int_is_long}
@@ -82,14 +83,6 @@ pub values_have_types : ValuesHaveTypes
 values_have_types e s draws left z is = value_has_its_type e s draws (z, left) is
 
 -- what stops by a number computes ------------------------------------------------------------------------------------
-
-or_left : (a b : Bool) → a ≡ true → (a || b) ≡ true
-or_left true b e = refl
-or_left false b e = cc
-
-or_right : (a b : Bool) → b ≡ true → (a || b) ≡ true
-or_right true b e = refl
-or_right false b e = e
 
 and_is_false : (a b : Bool) → (a && b) ≡ false → (a ≡ false) ⊎ (b ≡ false)
 and_is_false true b e = inr e

@@ -1,6 +1,7 @@
 -- A report's JSON has no float.
-use Rattle.std.proofs.Common.{◌≡◌, ◌||◌, ℕ, List, [], ◌∷◌, map, fold, Bool, true, false, codes, if◌then◌else◌, nat_cmp, Ordering, Less, Equal, Greater, refl, Option, Some, None, ap, ◌∙◌}
+use Rattle.std.proofs.Common.{◌≡◌, ℕ, List, [], ◌∷◌, map, fold, Bool, true, false, codes, if◌then◌else◌, nat_cmp, Ordering, Less, Equal, Greater, refl, Option, Some, None, ap, ◌∙◌}
 use Rattle.std.specs.{Cmp.Lexicographic.slice_cmp, List.list_any, Ordering.match_ordering}
+use Rattle.std.proofs.lemmas.Bool.{or_parts}
 use Rattle.serde_json.specs.Data.{Data, Members, boolean, string, object, member, no_members, put}
 use Rattle.serde_json.specs.{View.items_of, Written.has_float, Written.items_have_float, Written.members_have_float, Written.compact_text}
 use Rattle.lra_options.specs.OptionRows.{number_row, number_value, number_options, is_number_reported, flag_row, flag_value, flag_options, is_reported}
@@ -31,14 +32,9 @@ flag_without_floats (Some n) = refl
 put_without_floats : (k : List ℕ) (d : Data) (so : Members) → has_float d ≡ false → members_have_float so ≡ false → members_have_float (put k d so) ≡ false
 put_without_floats k d no_members none before = rw none refl
 put_without_floats k d (member l e more) none before =
-    let both = apart (has_float e) (members_have_float more) before in
+    let both = or_parts (has_float e) (members_have_float more) before in
     go (slice_cmp nat_cmp k l) both (put_without_floats k d more none both.1)
   where
-    apart : (a b : Bool) → (a || b) ≡ false → (a ≡ false) × (b ≡ false)
-    apart false false h = (refl, refl)
-    apart false true h = cc
-    apart true b h = cc
-
     go : (o : Ordering) → (has_float e ≡ false) × (members_have_float more ≡ false) → members_have_float (put k d more) ≡ false
         → members_have_float (match_ordering o (member k d (member l e more)) (member l d more) (member l e (put k d more))) ≡ false
     go Less both later = rw (none, both.0, both.1) refl

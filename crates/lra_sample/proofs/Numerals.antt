@@ -1,7 +1,8 @@
 -- The numerals and the names of variables that sample sources have.
-use Rattle.std.proofs.Common.{◌≡◌, ℕ, zero, suc, ◌+◌, ◌*◌, ◌/◌, ◌%◌, ◌<◌, ◌≤◌, Bool, true, false, ◌&&◌, List, [], ◌∷◌, ◌++◌, refl, ap, ◌∙◌, arith, inl, inr}
+use Rattle.std.proofs.Common.{◌≡◌, ℕ, zero, suc, ◌+◌, ◌*◌, ◌/◌, ◌%◌, ◌<◌, ◌≤◌, true, false, List, [], ◌∷◌, ◌++◌, refl, ap, ◌∙◌, arith, inl, inr}
 use Rattle.std.proofs.{lemmas.Bool.cases_lt, lemmas.Bool.or_right, lemmas.Bool.Decides.nat_tests, lemmas.Fmt.decimal_digit, lemmas.Fmt.decimal_step}
 use Rattle.std.specs.{Fmt.decimal, List.list_all, Prelude.codes, Prelude.nat_le, Prelude.Some}
+use Rattle.std.proofs.lemmas.Bool.{and_right}
 use Rattle.lra_base.specs.declared.number_types.NumberType.TheVariants.{Int, Long}
 use Rattle.lra_syntax.specs.Lexeme.{is_between, is_digit, is_word_byte, is_letter, digit_value, number_after, decimal_base, octal, greatest_literal, greatest_int_literal, literal_type, number_word}
 use Rattle.lra_syntax.specs.{Faults.greatest_level, Lexeme.word, Lexeme.name, Lexeme.literal_text, declared.tokens.Kind.TheVariants.Name, declared.tokens.Kind.TheVariants.Number}
@@ -14,11 +15,7 @@ use Rattle.lra_program.specs.Program.{Slot, local}
 -- a word ends before a byte that is none of a word's
 none_passes : (cs u : List ℕ) (c : ℕ) → is_word_byte c ≡ false → list_all is_word_byte (cs ++ c ∷ u) ≡ false
 none_passes [] u c e = rw e refl
-none_passes (x ∷ cs) u c e = fails (is_word_byte x) (list_all is_word_byte (cs ++ c ∷ u)) (none_passes cs u c e)
-  where
-    fails : (a b : Bool) → b ≡ false → (a && b) ≡ false
-    fails true b e = e
-    fails false b e = refl
+none_passes (x ∷ cs) u c e = and_right (is_word_byte x) (list_all is_word_byte (cs ++ c ∷ u)) (none_passes cs u c e)
 
 -- with this byte in front only words are lexemes
 abbrev pub OnlyWords : ℕ → Type 0

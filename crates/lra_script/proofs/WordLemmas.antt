@@ -4,13 +4,10 @@ use Rattle.std.proofs.{Common.rules, lemmas.Bool.Decides.nat_tests, lemmas.List.
 use Rattle.std.proofs.{lemmas.Str.Ascii.IsAscii-from_all, lemmas.Str.Parse.IsDigitsTest, lemmas.Str.Parse.numerals_by_value, lemmas.Str.Parse.without_leading_plus_none}
 use Rattle.std.specs.Str.Parse.{IsNumeral, AllDigits, ParsesSigned, signed_digits_value, without_leading_sign}
 use Rattle.std.specs.{Char.is_ascii_digit, Char.is_ascii_uppercase, Char.is_ascii_alphanumeric, Int.w128, List.All, List.list_all, Option.SomeIff, Str.IsUtf8}
+use Rattle.std.proofs.lemmas.Bool.{and_parts}
 use Rattle.lra_linear_spec.specs.Range.{InRange, in_range}
 use Rattle.lra_linear_spec.proofs.CheckedArithmetic.{in_range_yes}
 use Rattle.lra_script.specs.ScriptText.{is_name, is_number, number_of}
-
-pub both : (a b : Bool) → a && b ≡ true → (a ≡ true) × (b ≡ true)
-both true b h = (refl, h)
-both false b h = cc
 
 -- ---- ASCII
 digit_low : (c : ℕ) → is_ascii_digit c ≡ true → c < 128
@@ -28,7 +25,7 @@ all_low test low cs h = λ k d i. low _ (AllPass-from_list_all test cs h k d i)
 pub name_is_utf8 : (word : List ℕ) → is_name word ≡ true → IsUtf8 word
 name_is_utf8 [] h = cc
 name_is_utf8 (c ∷ cs) h =
-    let parts = both (is_ascii_uppercase c) (list_all is_ascii_alphanumeric cs) h in
+    let parts = and_parts (is_ascii_uppercase c) (list_all is_ascii_alphanumeric cs) h in
     IsUtf8-from_ascii (c ∷ cs) (IsAscii-from_all (c ∷ cs) (All-cons (λ (b : ℕ). b < 128) c cs (uppercase_low c parts.0) (all_low is_ascii_alphanumeric alphanumeric_low cs parts.1)))
 
 -- ---- digits, with a minus before them or not
@@ -36,7 +33,7 @@ counted : (n : ℕ) → not (nat_eq n 0) ≡ true → 0 < n
 counted n h = grind (arith, nat_tests)
 
 digits_of : (ds : List ℕ) → not (nat_eq (length ds) 0) && list_all is_ascii_digit ds ≡ true → (0 < length ds) × (list_all is_ascii_digit ds ≡ true)
-digits_of ds h = let p = both (not (nat_eq (length ds) 0)) (list_all is_ascii_digit ds) h in (counted (length ds) p.0, p.1)
+digits_of ds h = let p = and_parts (not (nat_eq (length ds) 0)) (list_all is_ascii_digit ds) h in (counted (length ds) p.0, p.1)
 
 test_of_digits : IsDigitsTest (λ ds. list_all is_ascii_digit ds ≡ true)
 test_of_digits = search rules
@@ -45,7 +42,7 @@ pub all_digits : (ds : List ℕ) → list_all is_ascii_digit ds ≡ true → All
 all_digits ds h = (numerals_by_value _ test_of_digits).to ds h
 
 not_plus : (c : ℕ) (cs : List ℕ) → list_all is_ascii_digit (c ∷ cs) ≡ true → c ≢ 43
-not_plus c cs h = let p = both (is_ascii_digit c) (list_all is_ascii_digit cs) h in let q = p.0 in λ e. absurd (grind (arith, nat_tests))
+not_plus c cs h = let p = and_parts (is_ascii_digit c) (list_all is_ascii_digit cs) h in let q = p.0 in λ e. absurd (grind (arith, nat_tests))
 
 -- by whether a minus stands first
 numeral_by : (c : ℕ) (cs : List ℕ) (b : Bool) → (nat_eq c 45) ≡ b

@@ -1,6 +1,6 @@
 -- Computed tests for `no gap begins here` and `this is the longest spelling`, for sources that are written out.
 use Rattle.std.proofs.Common.{◌≡◌, ℕ, ◌<◌, ◌≤◌, Bool, true, false, not, ◌||◌, ◌&&◌, nat_eq, List, [], ◌∷◌, ◌++◌, length, refl, sym, ◌∙◌, subst, arith, append_assoc, inl, inr}
-use Rattle.std.proofs.lemmas.Bool.{cases_lt}
+use Rattle.std.proofs.lemmas.Bool.{cases_lt, or_left, or_right}
 use Rattle.std.specs.Prelude.{codes, ◌⊎◌}
 use Rattle.lra_syntax.specs.Lexeme.{is_name_word, is_number_word, mark_text, is_among, IsOpen, SpellsToken, Lexeme, word, number_word, mark_word, unclosed}
 use Rattle.lra_syntax.specs.Tokens.{is_blank, IsGap, blank, line_comment, block_comment, skipped_line, NoGap, IsLongest, IsToken}
@@ -38,14 +38,6 @@ mark_is_lexeme : (m : Mark) → is_lexeme (mark_text m) ≡ true
 mark_is_lexeme mark.Plus = refl
 mark_is_lexeme _ = refl
 
-or_first : (a b : Bool) → a ≡ true → (a || b) ≡ true
-or_first true b e = refl
-or_first false b e = cc
-
-or_second : (a b : Bool) → b ≡ true → (a || b) ≡ true
-or_second true b e = refl
-or_second false b e = e
-
 -- the second byte tells a comment from a division
 abbrev pub opens_comment : List ℕ → Bool
 opens_comment [] = false
@@ -53,8 +45,8 @@ opens_comment (c ∷ []) = false
 opens_comment (c ∷ d ∷ cs) = nat_eq c 47 && nat_eq d 42
 
 pub tested : (s after : List ℕ) → opens_comment (s ++ after) ≡ false → Lexeme s → is_lexeme s ≡ true
-tested s after other (word w) = or_first (is_name_word s || is_number_word s) (is_among s operators) (or_first (is_name_word s) (is_number_word s) w)
-tested s after other (number_word w) = or_first (is_name_word s || is_number_word s) (is_among s operators) (or_second (is_name_word s) (is_number_word s) w)
+tested s after other (word w) = or_left (is_name_word s || is_number_word s) (is_among s operators) (or_left (is_name_word s) (is_number_word s) w)
+tested s after other (number_word w) = or_left (is_name_word s || is_number_word s) (is_among s operators) (or_right (is_name_word s) (is_number_word s) w)
 tested s after other (mark_word m e) = rw e (mark_is_lexeme m)
 tested s after other (unclosed u) = let h : opens_comment ((codes "/*" ++ u.0) ++ after) ≡ false = subst (λ (z : List ℕ). opens_comment (z ++ after) ≡ false) u.1 other in cc
 
@@ -125,8 +117,8 @@ closes (c ∷ d ∷ cs) = (nat_eq c 42 && nat_eq d 47) || closes (d ∷ cs)
 
 closes_within : (front rest : List ℕ) → closes (front ++ (42 ∷ 47 ∷ rest)) ≡ true
 closes_within [] rest = refl
-closes_within (c ∷ []) rest = or_second (nat_eq c 42 && false) true refl
-closes_within (c ∷ d ∷ front) rest = or_second (nat_eq c 42 && nat_eq d 47) (closes (d ∷ front ++ (42 ∷ 47 ∷ rest))) (closes_within (d ∷ front) rest)
+closes_within (c ∷ []) rest = or_right (nat_eq c 42 && false) true refl
+closes_within (c ∷ d ∷ front) rest = or_right (nat_eq c 42 && nat_eq d 47) (closes (d ∷ front ++ (42 ∷ 47 ∷ rest))) (closes_within (d ∷ front) rest)
 
 pub is_open : (s : List ℕ) → closes s ≡ false → IsOpen s
 is_open s none front rest e =

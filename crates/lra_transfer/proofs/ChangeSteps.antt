@@ -1,6 +1,6 @@
 -- Steps of the proofs on changes of values.
 use Rattle.std.proofs.Common.{◌≡◌, ℕ, suc, ◌+◌, ◌-◌, ◌≤◌, ◌<◌, List, ◌∷◌, Some, length, refl, sym, ap, ◌∙◌, subst, arith}
-use Rattle.std.proofs.lemmas.List.{length-replicate}
+use Rattle.std.proofs.lemmas.List.{length-replicate, length-set}
 use Rattle.lra_linear_forms.specs.{Form.Form, declared.test.Test.Test}
 use Rattle.lra_domain.specs.{Abstraction.Abstraction, Abstraction.TransfersTo, Abstraction.worse, Actions.Action, Actions.assign, Actions.embed, Actions.remove_last, Actions.dims_after, Actions.test}
 use Rattle.lra_domain.specs.{Changes.AllCanBeMade, Moves.Moves, Moves.stay, Moves.make, Moves.dims_moved, Parts.CapsWithin, declared.Exactness.Exactness, declared.Exactness.TheVariants.Exact}
@@ -15,7 +15,6 @@ use Rattle.lra_linearize.proofs.GuardThresholdSteps.{test_wide}
 use Rattle.lra_linear_spec.specs.declared.ConKind.TheVariants.{Ge}
 use Rattle.std.specs.Prelude.{ℤ, pos, negsuc, neg_ℤ, ◌-ℤ◌, replicate, slice_set}
 use Rattle.lra_analysis_spec.proofs.DivisionLemmas.{constant_form_wide, constant_length, extended_length, opposite_length, room, seen_fits, subtracted_fits}
-use Rattle.lra_analysis_spec.proofs.FormLemmas.{set_length}
 use Rattle.lra_transfer.specs.Changes.{Does, Stays, CellFits}
 
 -- one change alone
@@ -146,7 +145,7 @@ done_append m base e v x w c d first dims caps one second =
 
 -- a form of one variable alone has a coefficient for each variable
 pub one_wide : (f : Form) (n x : ℕ) (c k : ℤ) → f ≡ record { constant = k; coefficients = slice_set (replicate n (pos 0)) x c } → length f.coefficients ≡ n
-one_wide f n x c k is = ap (λ (g : Form). length g.coefficients) is ∙ set_length (replicate n (pos 0)) x c ∙ length-replicate n (pos 0)
+one_wide f n x c k is = ap (λ (g : Form). length g.coefficients) is ∙ length-set (replicate n (pos 0)) x c ∙ length-replicate n (pos 0)
 
 -- a variable within its type, over so many, at this place
 pub held_as : {V H : Type 0} (m : Abstraction V H) (t : NumberType) (p : Moves) (n k x y : ℕ) (v : V) (e : Exactness) (w : V) → n ≡ k → x ≡ y → Does m

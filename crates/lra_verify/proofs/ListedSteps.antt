@@ -1,6 +1,7 @@
 -- Listed assertions, one after the other, as the code tells of them.
 use Rattle.std.proofs.Common.{◌≡◌, ◌+◌, ◌∷◌, [], ℕ, suc, Bool, true, false, List, Ok, Err, refl, ap, sym, ◌∙◌, subst, arith, add-one}
 use Rattle.std.specs.{Fmt.decimal, Prelude.if◌then◌else◌, Prelude.◌&&◌, Prelude.codes}
+use Rattle.std.proofs.lemmas.Bool.{and_right}
 use Rattle.lra_program.specs.Sites.{Site}
 use Rattle.lra_certificate_lines.specs.{LineViews.IsFault, declared.refusals.VerifyError.VerifyError}
 use Rattle.lra_certificate_spec.specs.Judged.{Left, Judged, then_judged, after_line, is_next_line, line_on, one_more}
@@ -79,10 +80,6 @@ module _ (denials : ℕ → Left → Judged Left) (q : ℕ) (n : ℕ) (l : Left)
   abbrev by : Bool → Judged (ℕ × Left)
   by b = if b then then_judged (denials q (after_line l)) (λ next. Ok (n + 1, next)) else Ok (n, l)
 
-  none_by : (asserts is : Bool) → is ≡ false → asserts && is ≡ false
-  none_by true is e = e
-  none_by false is e = refl
-
   both_by : (asserts is : Bool) → asserts ≡ true → is ≡ true → asserts && is ≡ true
   both_by asserts is a e = ap (λ (x : Bool). x && is) a ∙ e
 
@@ -92,7 +89,7 @@ module _ (denials : ℕ → Left → Judged Left) (q : ℕ) (n : ℕ) (l : Left)
   pub assertion_none : (asserts : Bool) (text : List ℕ) → text ≡ numbered_text (codes "assert") (q + 1) → is_next_line text (line_on l.pieces) ≡ false →
       assertion_by denials q asserts (n, l) ≡ Ok (n, l)
   assertion_none asserts text is e =
-      ap by (none_by asserts (is_next_line (assert_text q) (line_on l.pieces))
+      ap by (and_right asserts (is_next_line (assert_text q) (line_on l.pieces))
       (ap (λ (x : List ℕ). is_next_line x (line_on l.pieces)) (sym (assert_line q text is)) ∙ e))
 
   module _ (asserts : Bool) (text : List ℕ) (is : text ≡ numbered_text (codes "assert") (q + 1)) (a : asserts ≡ true)

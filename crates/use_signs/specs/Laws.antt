@@ -7,7 +7,8 @@ use Rattle.guzhtarel.specs.Domains.ExactDomains.{Facts, abstraction_of, laws_of}
 use Rattle.guzhtarel.specs.EntryDomains.{EntryFacts, one_if, of_entries}
 use Rattle.guzhtarel.specs.Linear.Vectors.{entry, product}
 use Rattle.guzhtarel.specs.{Domains.Laws.Laws, Entries.AllHave, Entries.AllHold, Linear.ConKind.TheVariants.Ge}
-use Rattle.guzhtarel.proofs.{EntryChanges.both_true, EntryDomains.facts_of, Rows.UnitRows.unit_product}
+use Rattle.std.proofs.lemmas.Bool.{and_parts}
+use Rattle.guzhtarel.proofs.{EntryDomains.facts_of, Rows.UnitRows.unit_product}
 use Rattle.use_signs.specs.Signs.{Known, is_sum_known, sign_row, sign}
 
 -- ---- the value of a form that is known
@@ -17,9 +18,9 @@ times_known (pos c) (negsuc x) h p = absurd (omega (arith, ints))
 times_known (negsuc c) x h p = absurd (omega (arith, ints))
 
 one_known : (c x : ℤ) (k : Bool) → (int_le (pos 0) c && (k || int_eq c (pos 0))) ≡ true → Known k x → pos 0 ≤ℤ (c *ℤ x)
-one_known c x true t h = let p = both_true (int_le (pos 0) c) true t in times_known c x (grind (arith, ints)) h
+one_known c x true t h = let p = and_parts (int_le (pos 0) c) true t in times_known c x (grind (arith, ints)) h
 one_known c x false t h =
-    let p = both_true (int_le (pos 0) c) (int_eq c (pos 0)) t in
+    let p = and_parts (int_le (pos 0) c) (int_eq c (pos 0)) t in
     let none : c ≡ pos 0 = grind (arith, ints) in
     rw none (grind (arith, ints))
 
@@ -29,7 +30,7 @@ sum_known [] ks s t f a = omega (arith, ints)
 sum_known (c ∷ cs) [] s t f a = absurd (omega (arith, f))
 sum_known (c ∷ cs) (k ∷ ks) [] t f a = absurd a
 sum_known (c ∷ cs) (k ∷ ks) (x ∷ s) t f a =
-    let p = both_true (int_le (pos 0) c && (k || int_eq c (pos 0))) (is_sum_known cs ks) t in
+    let p = and_parts (int_le (pos 0) c && (k || int_eq c (pos 0))) (is_sum_known cs ks) t in
     let one = one_known c x k p.0 a.0 in
     let rest = sum_known cs ks s p.1 (omega (arith, f)) a.1 in
     omega (arith, ints)
@@ -41,7 +42,7 @@ form_known z cs ks s f a = by_test (int_le (pos 0) z && is_sum_known cs ks) refl
     by_test : (b : Bool) → (int_le (pos 0) z && is_sum_known cs ks) ≡ b → Known b (z +ℤ product cs s)
     by_test false t = tt
     by_test true t =
-        let p = both_true (int_le (pos 0) z) (is_sum_known cs ks) t in
+        let p = and_parts (int_le (pos 0) z) (is_sum_known cs ks) t in
         let low : pos 0 ≤ℤ z = grind (arith, ints) in
         let rest = sum_known cs ks s p.1 f a in
         omega (arith, ints)

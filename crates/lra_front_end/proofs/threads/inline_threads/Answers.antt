@@ -1,7 +1,7 @@
 -- Goals of `inline_threads`: a tree of operations for each thread, or the refusal for the first recursive call, or for the
 -- first limit that the threads pass together.
 use Rattle.std.proofs.Common.{◌≡◌, ◌+◌, [], ◌++◌, length, map, drop, get_or, None, refl, ap, sym, ◌∙◌, subst}
-use Rattle.std.proofs.lemmas.List.{at_drop_all, take_all}
+use Rattle.std.proofs.lemmas.List.{at_drop_all, take_all, get_or_default}
 use Rattle.std.specs.List.{AllZip}
 use Rattle.lra_syntax.specs.{Labels.labels_of, Views.tree_view}
 use Rattle.lra_program.specs.{Program.Program, Sites.events_of, Sites.sites_of, WellFormed.IsWellFormed}
@@ -9,7 +9,7 @@ use Rattle.lra_operations.specs.TreeViews.{site_view}
 use Rattle.lra_resolution_spec.specs.{LabelTable.LabelLists, Refuse.limit_fault, Threads.thread_program}
 use Rattle.lra_inline_steps.specs.Inlining.{points_in}
 use Rattle.lra_front_end.specs.ThreadsStages.{IsInlinedOf, IsThreadInlined}
-use Rattle.lra_front_end.proofs.ThreadSteps.{exit_recursive, placed, stays_placed, events_at, events_behind, exit_limit, same_within, each_at, next_at, more_points, zip_more}
+use Rattle.lra_front_end.proofs.ThreadSteps.{exit_recursive, placed, stays_placed, events_at, events_behind, exit_limit, each_at, next_at, more_points, zip_more}
 use Rattle.lra_front_end.proofs.threads.inline_threads.Goals as goal
 
 pub check_calls-requires-clause-functions : goal.check_calls-requires-clause-functions
@@ -37,7 +37,7 @@ graph_of-requires c =
     let xs = c.args.threads.now in
     let place = get_or xs i 0 in
     subst IsWellFormed (sym (placed t c.threads.resolution.program place c.threads.invariant.program))
-    (each_at (λ k. IsWellFormed (thread_program t k)) xs i place c.requires.well c.threads-test.true (same_within xs i 0 place c.threads-test.true))
+    (each_at (λ k. IsWellFormed (thread_program t k)) xs i place c.requires.well c.threads-test.true (get_or_default xs i 0 place c.threads-test.true))
 
 pub threads-preserved : goal.threads-preserved
 threads-preserved c =
@@ -53,13 +53,13 @@ threads-preserved c =
       program = stays_placed t old c.graph_of.new.program place c.in_ok-graph.ensures.placed here;
       labels = c.threads.invariant.labels;
       within = c.threads.invariant.within
-          ∙ next_at (λ places. limit_fault (labels_of t) n (events_at t places)) xs i place c.threads-test.true (same_within xs i 0 place c.threads-test.true)
+          ∙ next_at (λ places. limit_fault (labels_of t) n (events_at t places)) xs i place c.threads-test.true (get_or_default xs i 0 place c.threads-test.true)
           ∙ events_behind t n m place (drop (i + 1) xs)
           (subst (λ (P : Program). limit_fault (labels_of t) n (events_of P) ≡ None) here (c.in_ok-graph.ensures.within (labels_of t)))
           (more_points site_view c.threads.before.items (sites_of (thread_program t place)) (points_in c.graph_of.new.before)
           (subst (λ (P : Program). points_in c.graph_of.new.before ≡ points_in c.threads.before ++ sites_of P) here c.in_ok-graph.ensures.behind));
       graphs = zip_more (IsThreadInlined t) xs c.threads.graphs.items _ i place c.in_ok-graph.graph c.threads.invariant.graphs c.threads-test.true
-          (same_within xs i 0 place c.threads-test.true)
+          (get_or_default xs i 0 place c.threads-test.true)
           c.in_ok-push.ensures.items (subst (λ (P : Program). IsInlinedOf P c.in_ok-graph.graph) here c.in_ok-graph.ensures.graph);
     }
 
@@ -73,7 +73,7 @@ returns-in_err-graph-clause-refused c =
     exit_limit t n n place (drop (i + 1) xs) c.threads.resolution.labels.labels _ c.from_residual-in_err-graph.result _ c.requires.clean
     c.in_ok-check_calls.ensures.straight
     (c.threads.invariant.within ∙ next_at (λ places. limit_fault (labels_of t) n (events_at t places)) xs i place c.threads-test.true
-    (same_within xs i 0 place c.threads-test.true))
+    (get_or_default xs i 0 place c.threads-test.true))
     (ap (λ (l : LabelLists). l.labels) c.threads.invariant.labels ∙ c.requires.labels) (placed t c.threads.resolution.program place c.threads.invariant.program)
     c.from_residual-in_err-graph.ensures.1 c.in_err-graph.ensures.refused
 

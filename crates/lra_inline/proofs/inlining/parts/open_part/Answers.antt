@@ -2,7 +2,8 @@
 use Rattle.std.proofs.Common.{map}
 use Rattle.lra_program.specs.ProgramViews.{item_view, items_of, program_view}
 use Rattle.lra_inline_steps.specs.Inlining.{points_in}
-use Rattle.lra_inline_steps.proofs.{FirstSteps.rounds_open, ItemRows.items_begin, Stopping.ok_through, Stopping.limit_through}
+use Rattle.std.proofs.lemmas.Result.{IfOk-weaker}
+use Rattle.lra_inline_steps.proofs.{FirstSteps.rounds_open, ItemRows.items_begin, Stopping.limit_through}
 use Rattle.lra_inline.proofs.inlining.parts.open_part.Goals as goal
 
 pub returns-in-Stmt-clause-leads : goal.returns-in-Stmt-clause-leads
@@ -28,7 +29,7 @@ open_call-requires c =
     record { well = c.requires.well; stands = s.0; few = s.1 }
 
 pub returns-in-Call-clause-leads : goal.returns-in-Call-clause-leads
-returns-in-Call-clause-leads c = rw c.in-Call.is (ok_through c.open_call.result _ _ (λ g h. h (points_in c.args.sites.now)) c.open_call.ensures.leads)
+returns-in-Call-clause-leads c = rw c.in-Call.is (IfOk-weaker c.open_call.result _ _ (λ g h. h (points_in c.args.sites.now)) c.open_call.ensures.leads)
 
 pub returns-in-Call-clause-limit : goal.returns-in-Call-clause-limit
 returns-in-Call-clause-limit c = rw c.in-Call.is (limit_through c.open_call.result _ _ (λ l h. h (points_in c.args.sites.now)) c.open_call.ensures.limit)

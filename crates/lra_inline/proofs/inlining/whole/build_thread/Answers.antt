@@ -5,7 +5,8 @@ use Rattle.lra_resolution_spec.specs.Refuse.{limit_fault}
 use Rattle.lra_program.specs.{ProgramViews.program_view, Sites.events_of, Sites.sites_of}
 use Rattle.lra_operations.specs.{Agree.IsInlinedTree, TreeViews.node_view, TreeViews.site_view}
 use Rattle.lra_inline_steps.specs.Limits.{add_points, stopped, refusal_of}
-use Rattle.lra_inline_steps.proofs.Stopping.{err_stopped, ok_through, limit_through}
+use Rattle.std.proofs.lemmas.Result.{IfOk-weaker}
+use Rattle.lra_inline_steps.proofs.Stopping.{err_stopped, limit_through}
 use Rattle.lra_inline.proofs.Totals.{walk_sites, made_within, made_refused, fewer_within}
 use Rattle.lra_inline.proofs.inlining.whole.build_thread.Goals as goal
 
@@ -22,14 +23,14 @@ returns-clause-behind c =
     let P = program_view c.args.program.now in
     let S = map site_view c.args.before.now.items in
     let U = map site_view c.write_program.new.sites.items in
-    ok_through c.build.result (λ g. IsInlinedTree P (node_view g.tree)) (λ _. U ≡ S ++ sites_of P)
+    IfOk-weaker c.build.result (λ g. IsInlinedTree P (node_view g.tree)) (λ _. U ≡ S ++ sites_of P)
     (λ g h. walk_sites S (events_of P) U c.in_ok-write_program.ensures.walked) c.build.ensures.graph
 
 pub returns-clause-within : goal.returns-clause-within
 returns-clause-within c =
     let P = program_view c.args.program.now in
     let S = map site_view c.args.before.now.items in
-    ok_through c.build.result (λ g. IsInlinedTree P (node_view g.tree)) (λ _. (ls : List Labelled) → limit_fault ls (length S) (events_of P) ≡ None)
+    IfOk-weaker c.build.result (λ g. IsInlinedTree P (node_view g.tree)) (λ _. (ls : List Labelled) → limit_fault ls (length S) (events_of P) ≡ None)
     (λ g h. made_within P S (map site_view c.write_program.new.sites.items) c.in_ok-write_program.ensures.walked) c.build.ensures.graph
 
 -- alone it passes no limit that it doesn't pass behind others
