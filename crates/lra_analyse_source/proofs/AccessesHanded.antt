@@ -14,7 +14,8 @@ use Rattle.lra_analysis_spec.specs.{Accesses.EachJudged, Accesses.CondInside, Ac
 use Rattle.lra_fixpoint.specs.Numbers.{AreBelow}
 use Rattle.lra_report.specs.Listing.{accesses_at}
 use Rattle.lra_report_build.specs.AnalysisResults.{AreAccessVerdicts, IsAccessing}
-use Rattle.lra_analyse_source.proofs.{Found.place_of, Found.site_there, Found.found_of, Found.asked_one, Found.found_on, Handing.contained}
+use Rattle.lra_linear_spec.proofs.ListPlaces.{contains_at, there_within}
+use Rattle.lra_analyse_source.proofs.{Found.place_of, Found.found_of, Found.asked_one, Found.found_on}
 
 -- places -----------------------------------------------------------------------------------------------------------------
 
@@ -111,7 +112,7 @@ some_there q (x ∷ xs) some = by (nat_eq x.point q) refl some (λ later. some_t
     by : (b : Bool) → nat_eq x.point q ≡ b → IsTrue (nat_lt 0 (length (cond b (op_accesses x.op) [] ++ flat_map (picked_at q) xs)))
         → (IsTrue (nat_lt 0 (length (flat_map (picked_at q) xs))) → (a : OpAtPoint) × Contains xs a × (a.point ≡ q))
         → (a : OpAtPoint) × Contains (x ∷ xs) a × (a.point ≡ q)
-    by true e some rest = (x, contained (x ∷ xs) 0 x refl, eqb-true _ _ e)
+    by true e some rest = (x, contains_at (x ∷ xs) 0 x refl, eqb-true _ _ e)
     by false e some rest = let (a, among, at) = rest some in (a, contains_tail x a xs among, at)
 
 -- what the listing asks --------------------------------------------------------------------------------------------------
@@ -135,6 +136,6 @@ module _ {V H : Type 0} (m : Abstraction V H) (ops : Operations V H) (g : Node) 
     where
       accessing : (a : OpAtPoint) → Contains (accessing_ops None g) a → a.point < length sites → IsAccessing g sites a.point
       accessing a among low =
-          let (s, site) = site_there sites a.point low in
+          let (s, site) = there_within sites a.point low in
           let some = (asked_one op_accesses_any (length sites) g None below a among).1 in
           (s, site, subst (λ (xs : List Element). IsTrue (nat_lt 0 (length xs))) (sym (accessed_there a among)) some)

@@ -7,7 +7,8 @@ use Rattle.lra_program.specs.Sites.{Site}
 use Rattle.lra_operations.specs.{CheckedOperations.OpAtPoint, CheckedOperations.computing_ops, Tree.Node}
 use Rattle.lra_analysis_spec.specs.{Fits.OpFits, Fits.Judges, Fits.JudgesIf, Operations.Operations}
 use Rattle.lra_report_build.specs.AnalysisResults.{AreVerdictsOn, IsComputing}
-use Rattle.lra_analyse_source.proofs.Found.{found_on, none_before, site_there}
+use Rattle.lra_linear_spec.proofs.ListPlaces.{there_within}
+use Rattle.lra_analyse_source.proofs.Found.{found_on, none_before}
 
 -- a tree computes where it asks, and asks where it computes
 computes_there : (asked : List OpAtPoint) (a : OpAtPoint) → Contains asked a → IsTrue (list_any (λ (x : OpAtPoint). nat_eq x.point a.point) asked)
@@ -24,7 +25,7 @@ module _ {V H : Type 0} (m : Abstraction V H) (ops : Operations V H) (g : Node) 
   pub fitting_on : (sites : List Site) → length values ≡ length sites → Judges m ops g values flagged fitting behind
       → AreVerdictsOn (IsComputing g sites) fitting
   fitting_on sites many j = found_on ops (OpFits m ops) (computing_ops None g) values flagged fitting behind j (IsComputing g sites)
-      (λ a one low. let (s, site) = site_there sites a.point (subst (λ (n : ℕ). a.point < n) many low) in
+      (λ a one low. let (s, site) = there_within sites a.point (subst (λ (n : ℕ). a.point < n) many low) in
       (s, site, computes_there (computing_ops None g) a one))
       (λ q (s, site, so). asked_there (computing_ops None g) q so)
 

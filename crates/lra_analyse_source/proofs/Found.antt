@@ -1,12 +1,12 @@
 -- What is found of those operations of a tree of which something is asked, whatever it is: it stands at the points of these,
 -- in order, and so do its flags.
-use Rattle.std.proofs.Common.{◌≡◌, ◌∙◌, ◌<◌, ◌++◌, ℕ, zero, suc, List, [], ◌∷◌, length, map, Option, Some, None, Bool, true, false, refl, sym, ap, subst, arith, inl, inr}
+use Rattle.std.proofs.Common.{◌≡◌, ◌∙◌, ◌<◌, ◌++◌, ℕ, List, [], ◌∷◌, length, map, Option, Some, None, Bool, true, false, refl, sym, ap, subst, arith, inl, inr}
 use Rattle.std.proofs.{lemmas.List.Elements.Contains-append_cases, lemmas.Option.slice_get_within, lemmas.Option.slice_get_read, lemmas.Option.same_Some}
 use Rattle.std.specs.{List.Contains, Prelude.IsTrue, Prelude.slice_get, Prelude.if◌then◌else◌}
 use Rattle.lra_linear_spec.proofs.Membership.{contains_cases, contains_none, contains_head, contains_tail, map_from, map_has}
 use Rattle.lra_domain.specs.{declared.Exactness.Exactness, declared.Exactness.TheVariants.Exact, declared.Exactness.TheVariants.Flagged}
 use Rattle.lra_base.specs.declared.number_types.NumberType.{NumberType}
-use Rattle.lra_program.specs.{Program.Program, Receivers.nobody, Sites.Site, Step.State, Step.Op, Step.store_value, Step.test}
+use Rattle.lra_program.specs.{Program.Program, Receivers.nobody, Step.State, Step.Op, Step.store_value, Step.test}
 use Rattle.lra_operations.specs.CheckedOperations.{OpAtPoint, AgreesOnOps, op_where, ops_where, ops_where_in_arms, fresh_after}
 use Rattle.lra_operations.specs.Tree.{Node, empty, probe, point, act, check, seq, choose, iterate, catch, leave, select, Arms, no_arms, entry, arm}
 use Rattle.lra_analysis_spec.specs.{Judging.Finding, Judging.answer_of, Judging.first_flagged, Judging.Finds, Operations.Operations, Pass.noted}
@@ -19,11 +19,6 @@ use Rattle.lra_analyse_source.proofs.Handing.{image_of}
 -- at which place a member stands
 pub place_of : {A : Type 0} (xs : List A) (x : A) → Contains xs x → (i : ℕ) × (slice_get xs i ≡ Some x)
 place_of xs x h = (h.0, slice_get_read xs (length xs) h.0 x refl h.1 (sym h.2))
-
-pub site_there : (sites : List Site) (k : ℕ) → k < length sites → (s : Site) × (slice_get sites k ≡ Some s)
-site_there [] k h = absurd (omega (arith, h))
-site_there (s ∷ ss) zero h = (s, refl)
-site_there (s ∷ ss) (suc k) h = site_there ss k (omega (arith, h))
 
 -- what is told is one of what was found
 pub found_of : {A : Type 0} (found : List (Finding A)) (q : ℕ) (x : A) → Contains (map answer_of found) (q, x)

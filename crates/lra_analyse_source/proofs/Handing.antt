@@ -4,6 +4,7 @@ use Rattle.std.proofs.Common.{◌≡◌, ℕ, zero, suc, ◌≤◌, ◌<◌, Lis
 use Rattle.std.proofs.{lemmas.List.length-map, lemmas.List.Elements.Contains-append_cases, lemmas.Option.none-some, lemmas.Option.same_Some}
 use Rattle.std.specs.{List.AllByRecursion, List.Contains, List.flat_map, Prelude.slice_get, Prelude.IsTrue}
 use Rattle.lra_linear_spec.proofs.Membership.{contains_cases, contains_head, contains_none, contains_tail, map_from}
+use Rattle.lra_linear_spec.proofs.ListPlaces.{contains_at}
 use Rattle.lra_base.specs.declared.refusals.Place.{Place}
 use Rattle.lra_domain.specs.{Abstraction.Abstraction, Laws.Laws}
 use Rattle.lra_program.specs.{Program.Program, Sites.Site, Sites.sites_of}
@@ -31,12 +32,6 @@ pub image_of : {A B : Type 0} (f : A → B) (xs : List A) (k : ℕ) (y : B) → 
 image_of f [] k y e = absurd (none-some y e)
 image_of f (x ∷ xs) zero y e = (x, refl, same_Some (f x) y e)
 image_of f (x ∷ xs) (suc k) y e = image_of f xs k y e
-
--- what stands at a place is in the list
-pub contained : {A : Type 0} (xs : List A) (k : ℕ) (x : A) → slice_get xs k ≡ Some x → Contains xs x
-contained [] k x e = absurd (none-some x e)
-contained (y ∷ xs) zero x e = subst (λ (z : _). Contains (y ∷ xs) z) (same_Some y x e) (contains_head y xs)
-contained (y ∷ xs) (suc k) x e = contains_tail y x xs (contained xs k x e)
 
 -- a verdict that is told is one of its kind
 pub one_told : (own : VerdictKind) (vs : List (ℕ × Bool)) (kind : VerdictKind) (n which : ℕ) (b : Bool) →
@@ -185,7 +180,7 @@ module _ {V H : Type 0} (m : Abstraction V H) (plan : Plan) (P : Program) (g : N
     states_wide laws domain are q s state there got =
         let (v, value_there, is) = image_of shown values q state got in
         let dims : m.dims v ≡ s.live = value_dims laws q v s value_there there in
-        subst (λ (x : Invariant). AllByRecursion (HasWidth s.live) x) is (subst (λ (n : ℕ). AllByRecursion (HasWidth n) (shown v)) dims (are v (contained values q v value_there)).wide)
+        subst (λ (x : Invariant). AllByRecursion (HasWidth s.live) x) is (subst (λ (n : ℕ). AllByRecursion (HasWidth n) (shown v)) dims (are v (contains_at values q v value_there)).wide)
 
     -- and is shown by canonical lists, as its value is
     pub states_canonical : Laws m → (domain : Domain) → AreCanonicallyShown domain m.dims shown values

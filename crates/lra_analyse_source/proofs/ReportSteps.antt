@@ -23,7 +23,8 @@ use Rattle.lra_front_end.specs.Stages.{HasInlinedTree}
 use Rattle.lra_analyse_source.specs.Stages.{IsReportOfTree, ReportsSolution}
 use Rattle.lra_analyse_source.proofs.Handing.{as_many, value_dims, states_as_many, of_assertions, of_all, states_canonical, states_wide, flag_there}
 use Rattle.lra_analyse_source.proofs.{AccessesHanded.inside_on, FitsHanded.fitting_on, FitsHanded.unflagged_before, Fitting.tree_fits, Fitting.few_globals, Flags.graph_below, Found.asked_one}
-use Rattle.lra_analyse_source.proofs.{Found.flagged_below, Found.none_before, Found.site_there, Numbering.numbered, Readable.canonical, Readable.readable}
+use Rattle.lra_linear_spec.proofs.ListPlaces.{there_within}
+use Rattle.lra_analyse_source.proofs.{Found.flagged_below, Found.none_before, Numbering.numbered, Readable.canonical, Readable.readable}
 use Rattle.lra_analysis_spec.proofs.{OneAccess.accesses_written, OneAccess.accesses_strained, OneJudgement.judged_written, OneJudgement.judged_strained, OneTree.one_tree}
 use Rattle.lra_overflow_checks.specs.Judged.{AreBelow}
 use Rattle.lra_inline_sound.proofs.{CheckedOperations.trees_agree_on_accesses, CheckedOperations.trees_agree_on_overflows, DistinctSites.distinct_sites}
@@ -127,7 +128,7 @@ module _ {V H : Type 0} (m : Abstraction V H) (t : FileTree) (g : Node) (sites :
   few_dims laws k d h =
       let v = get_or values k d in
       let there : slice_get values k ≡ Some v = slice_get-get_or values k d h in
-      let (s, site) = site_there (sites_of (resolve t)) k (subst (λ (n : ℕ). k < n) values_as_many h) in
+      let (s, site) = there_within (sites_of (resolve t)) k (subst (λ (n : ℕ). k < n) values_as_many h) in
       let dims = value_dims m plan (resolve t) g solved.result values verdicts flagged has.is_graph solved.derived solved.solves laws k v s there site in
       let few = has.few k s site in
       omega (arith, dims, few)

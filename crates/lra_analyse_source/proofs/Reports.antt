@@ -18,7 +18,8 @@ use Rattle.lra_domain.specs.{Abstraction.Abstraction, Laws.Laws}
 use Rattle.lra_analysis_spec.proofs.Caps.{solved_capped}
 use Rattle.lra_report_build.specs.AnalysisResults.{ReportedVerdict, reported_verdict, reported_accesses, reported_all, reported_of}
 use Rattle.lra_analyse_source.specs.AnalysisReport.{ReportsIteration}
-use Rattle.lra_analyse_source.proofs.Handing.{as_many, contained, one_access, one_told, value_dims}
+use Rattle.lra_linear_spec.proofs.ListPlaces.{contains_at}
+use Rattle.lra_analyse_source.proofs.Handing.{as_many, one_access, one_told, value_dims}
 use Rattle.lra_analyse_source.proofs.Sound.{value_there, proved_holds, IsListed, listed_all, IsOn, judged_all, SiteAt, assertion_site, computing_site, access_site, get_either}
 use Rattle.lra_analyse_source.proofs.{AccessesHold.inside_holds, FitsHold.fitting_holds, Flags.IsBelow, Flags.graph_below, Flags.iteration_below, Found.flagged_below, Numbering.numbered}
 use Rattle.lra_fixpoint.proofs.Counting.{iteration_fails_once}
@@ -68,7 +69,7 @@ module _ {V H : Type 0} (m : Abstraction V H) (laws : Laws m) (shown : V → Inv
       (subst (λ y. At (resolve t) y store) is at) in
       let (w, found', state) = value_of k p listed in
       let same : v ≡ w = same_Some v w (sym found ∙ found') in
-      subst (λ (y : Invariant). InvariantHolds y store) (sym (state ∙ ap shown (sym same))) ((x.are_shown v (contained x.values k v found)).holds store has)
+      subst (λ (y : Invariant). InvariantHolds y store) (sym (state ∙ ap shown (sym same))) ((x.are_shown v (contains_at x.values k v found)).holds store has)
 
   -- a verdict on an assertion
   asserted : (q : ℕ) (s : Site) (so : Bool) → slice_get (sites_of (resolve t)) q ≡ Some s → Contains x.verdicts (q, so) → IsTrue so → Fails (resolve t)
@@ -101,7 +102,7 @@ module _ {V H : Type 0} (m : Abstraction V H) (laws : Laws m) (shown : V → Inv
   -- each verdict is told of one that was found, of its kind, its number and which of its kind it is
   told_there : (k : ℕ) (v : Verdict) → slice_get r.verdicts k ≡ Some v → Contains (reported_all x.verdicts x.fitting x.inside) (reported_of v)
   told_there k v listed = subst (λ (ts : List ReportedVerdict). Contains ts (reported_of v)) x.proved
-      (contained (map reported_of r.verdicts) k (reported_of v) (slice_get-map reported_of r.verdicts k ∙ ap (option_map reported_of) listed))
+      (contains_at (map reported_of r.verdicts) k (reported_of v) (slice_get-map reported_of r.verdicts k ∙ ap (option_map reported_of) listed))
 
   less : (p q : ℕ) → suc q ≡ suc p → p ≡ q
   less p q e = omega (arith, e)
@@ -225,7 +226,7 @@ module _ {V H : Type 0} (m : Abstraction V H) (laws : Laws m) (shown : V → Inv
       → IsListed (globals_named t.parts) (labels_of t) s p → AreParts o p
   parts_are o same some room k s p there listed (is, names) =
       let (v, found, state) = value_of k p listed in
-      let here = contained x.values k v found in
+      let here = contains_at x.values k v found in
       let one = x.are_shown v here in
       let capped = solved_capped m laws (plan_of settings constants) some (resolve t) x.tree x.result x.values x.verdicts x.flagged x.derived x.solves v here in
       let cap : length (m.parts v) ≤ settings.parts = laws.capped_parts v settings.parts capped in

@@ -1,11 +1,12 @@
 -- From the parts of going back to what it gives.
-use Rattle.std.proofs.Common.{◌≡◌, ◌≢◌, ◌≤◌, ◌<◌, ◌^◌, ◌↔◌, ℕ, zero, suc, List, [], ◌∷◌, length, Option, None, Some, Bool, true, Contains, Result, Ok, Err, IsErrAnd, refl, sym, ap, subst, ◌∙◌, arith}
-use Rattle.std.proofs.{Common.slice_get, lemmas.Option.none-some}
+use Rattle.std.proofs.Common.{◌≡◌, ◌≢◌, ◌≤◌, ◌<◌, ◌^◌, ◌↔◌, ℕ, suc, List, [], length, Option, None, Some, Bool, true, Contains, Result, Ok, Err, IsErrAnd, refl, sym, ap, subst, ◌∙◌, arith}
+use Rattle.std.proofs.Common.{slice_get}
 use Rattle.lra_domain.specs.{Abstraction.Abstraction, Actions.Action, Backward.BackwardAbstraction, Changes.AllCanBeMade, Changes.dims_after_actions, declared.Exactness.Exactness}
 use Rattle.lra_program.specs.{Program.Cond, Sites.Site, declared.program.GlobalVariable.GlobalVariable}
 use Rattle.lra_operations.specs.Tree.{Node}
 use Rattle.lra_analysis_spec.specs.{Analysis.IsUnreachable, LiveLimit.most_live, Pass.noted}
 use Rattle.std.proofs.lemmas.Option.{same_Some}
+use Rattle.lra_linear_spec.proofs.ListPlaces.{there_within, also_there}
 use Rattle.lra_path_segments.specs.{Segments.Goal, Segments.comes_to, TreeSegments.TreeSegment}
 use Rattle.lra_path_disjuncts.specs.{Disjuncts.greatest_paths, Tables.IsTable}
 use Rattle.lra_paths.specs.{Paths.AreFewIn, Paths.actions_between_in, Sources.to_goal, declared.paths.PathsFailure.PathsFailure, declared.sources.Source.Source}
@@ -16,19 +17,6 @@ use Rattle.lra_back.specs.declared.analysis.BackFailure.TheVariants.{Memory, Too
 use Rattle.lra_back.specs.{BackwardCalls.task_view, Operations.lossy_back_operations, Rounds.Rounds, declared.analysis.BackFailure.BackFailure, declared.tasks.Task.Task}
 use Rattle.lra_paths.specs.declared.paths.PathsFailure.TheVariants as paths_failure
 use Rattle.lra_back.proofs.RoundSteps.{same_rounds}
-
--- of a list as long something stands there too
-pub also_there : {A B : Type 0} (xs : List A) (ys : List B) (i : ℕ) (x : A) → length ys ≡ length xs → slice_get xs i ≡ Some x
-    → (y : B) × (slice_get ys i ≡ Some y)
-also_there [] ys i x same at = absurd (none-some x at)
-also_there (z ∷ xs) [] i x same at = absurd (omega arith)
-also_there (z ∷ xs) (y ∷ ys) zero x same at = (y, refl)
-also_there (z ∷ xs) (y ∷ ys) (suc i) x same at = also_there xs ys i x (omega arith) at
-
-pub there_within : {A : Type 0} (xs : List A) (i : ℕ) → i < length xs → (x : A) × (slice_get xs i ≡ Some x)
-there_within [] i inside = absurd (omega arith)
-there_within (x ∷ xs) zero inside = (x, refl)
-there_within (x ∷ xs) (suc i) inside = there_within xs i (omega arith)
 
 -- paths that lead from the dimensions of the one to those of the head
 pub heads_fit : {V H : Type 0} (m : Abstraction V H) (t : Task V) (p : ℕ) (s : Source) (x : V) (heads : List H) → IsTask m t → AreHeads m t.forward.now heads

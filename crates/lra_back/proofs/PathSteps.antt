@@ -1,5 +1,5 @@
 -- Going back over the changes of a path, from the last one.
-use Rattle.std.proofs.Common.{◌≡◌, ◌≤◌, ◌<◌, ◌^◌, ℕ, zero, suc, List, [], ◌∷◌, length, map, get_or, drop, take, Some, refl, sym, ap, subst, ◌∙◌, arith, slice_get, option_map, Contains}
+use Rattle.std.proofs.Common.{◌≡◌, ◌≤◌, ◌<◌, ◌^◌, ℕ, zero, suc, List, [], ◌∷◌, length, map, get_or, drop, take, Some, refl, sym, ap, subst, ◌∙◌, arith, slice_get, option_map}
 use Rattle.std.proofs.lemmas.Option.{slice_get_within, slice_get_read, slice_get-map, get_or_from_slice_get, none-some, same_Some}
 use Rattle.std.proofs.{Math.Seq.drop-cons, lemmas.List.length-map}
 use Rattle.lra_domain.specs.Actions.{Action, assign, forget, test, embed, remove_last, dims_after}
@@ -89,9 +89,6 @@ read_mapped f xs i x inside is = slice_get-map f xs i ∙ ap (option_map f) (rea
 
 pub mapped_past : {A B : Type 0} (f : A → B) (xs : List A) (i : ℕ) → length xs ≤ i → length (map f xs) ≤ i
 mapped_past f xs i past = simp length-map past
-
-pub contains_at : {A : Type 0} (xs : List A) (i : ℕ) (x : A) → slice_get xs i ≡ Some x → Contains xs x
-contains_at xs i x at = (i, slice_get_within xs i x at, get_or_from_slice_get xs i x x at)
 
 pub same_there : {A : Type 0} (xs : List A) (i : ℕ) (x y : A) → slice_get xs i ≡ Some x → slice_get xs i ≡ Some y → (f : A → ℕ) → f x ≡ f y
 same_there xs i x y at here f = ap f (same_Some x y (sym at ∙ here))

@@ -6,7 +6,7 @@ use Rattle.lra_program.specs.Sites.{Site}
 use Rattle.lra_analysis_spec.specs.LiveLimit.{most_live}
 use Rattle.lra_program.specs.Assertions.{IsAssertion}
 use Rattle.lra_back.specs.BackwardAnalysis.{AreWide}
-use Rattle.lra_back.proofs.BackSteps.{also_there}
+use Rattle.lra_linear_spec.proofs.ListPlaces.{also_there}
 
 few_enough : (n : ℕ) → n ≤ most_live → n ≤ 2 ^ 30
 few_enough n few = omega arith

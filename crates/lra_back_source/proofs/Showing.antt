@@ -13,7 +13,8 @@ use Rattle.lra_report.specs.{Listing.AreListed, Listing.HasWidth, Parts.HasSameP
 use Rattle.lra_front_end.proofs.Named.{shown_as_many}
 use Rattle.lra_report_build.specs.{AnalysisResults.AreInvariants, AnalysisResults.state_of, Polyhedra.shown_polyhedron, Shown.AreShown}
 use Rattle.lra_poly_domain.specs.Abstraction.{polyhedron_abstraction}
-use Rattle.lra_analyse_source.proofs.{Handing.contained, Handing.image_of, Sound.listed_all}
+use Rattle.lra_linear_spec.proofs.ListPlaces.{contains_at}
+use Rattle.lra_analyse_source.proofs.{Handing.image_of, Sound.listed_all}
 use Rattle.lra_back.specs.BackwardAnalysis.{AreWide}
 use Rattle.lra_report.specs.Report.{HasSamePointsAt}
 use Rattle.lra_back_source.specs.BackReports.{BacksHaveSamePoints, ShowsAtPoints}
@@ -26,7 +27,7 @@ states_listed sites values states wide shown are = record {
   wide = λ q s state site there.
       let (v, value, is) = image_of shown_polyhedron values q state (ap (λ (l : List Invariant). slice_get l q) (sym are) ∙ there) in
       subst (λ (x : Invariant). AllByRecursion (HasWidth s.live) x) is
-      (subst (λ (n : ℕ). AllByRecursion (HasWidth n) (shown_polyhedron v)) (wide.1 q s v site value).0 (shown v (contained values q v value)).wide);
+      (subst (λ (n : ℕ). AllByRecursion (HasWidth n) (shown_polyhedron v)) (wide.1 q s v site value).0 (shown v (contains_at values q v value)).wide);
 }
 
 -- the value that a point shows
@@ -52,7 +53,7 @@ same_points t values points shows =
     let dims = (shows.wide.1 k s v site value).0 in
     subst (λ (st : Invariant). AllByRecursion (HasSamePoints (length x.names)) st) state
     (same_parts (length x.names) (shown_polyhedron v)
-    (subst (λ (n : ℕ). AllByRecursion (ShowsPart Poly n) (shown_polyhedron v)) (dims ∙ sym names) (shows.are_shown v (contained values k v value)).tell)))
+    (subst (λ (n : ℕ). AllByRecursion (ShowsPart Poly n) (shown_polyhedron v)) (dims ∙ sym names) (shows.are_shown v (contains_at values k v value)).tell)))
 
 pub backs_same_points : BacksHaveSamePoints
 backs_same_points source p r x = same_points x.program.tree x.values r.points x.shows

@@ -9,7 +9,8 @@ use Rattle.lra_report.specs.{BackText.BackReport, Report.InvariantHolds, Report.
 use Rattle.lra_certificate_spec.specs.Claims.{program_of}
 use Rattle.lra_poly_domain.specs.{Abstraction.polyhedron_abstraction, Backward.polyhedron_backward, Laws.polyhedron_laws}
 use Rattle.lra_report_build.specs.Polyhedra.{shown_polyhedron}
-use Rattle.lra_analyse_source.proofs.{Handing.contained, Sound.held_there, Sound.listed_all}
+use Rattle.lra_linear_spec.proofs.ListPlaces.{contains_at}
+use Rattle.lra_analyse_source.proofs.{Sound.held_there, Sound.listed_all}
 use Rattle.lra_back.specs.BackwardAnalysis.{FailsFrom}
 use Rattle.lra_back_sound.specs.FailingRuns.{HoldsAtPoints, CoverFailingRuns}
 use Rattle.lra_back_sound.proofs.{FailingRuns.traced_sound, FirstPoints.nothing_left, FirstPoints.one_first}
@@ -48,7 +49,7 @@ backs_sound source p r x = record {
       let one : v ≡ w = same_Some v w (sym value ∙ same) in
       subst (λ (st : Invariant). InvariantHolds st store) state
       (subst (λ (u : Polyhedron). InvariantHolds (shown_polyhedron u) store) one
-      ((x.shows.are_shown v (contained x.values k v value)).holds store held.1)));
+      ((x.shows.are_shown v (contains_at x.values k v value)).holds store held.1)));
   proved = λ proved s site fails. (found source p r x).proved s site (x.found.proved.0 proved) fails;
 }
 
@@ -67,7 +68,7 @@ proved_at_first source p r x =
       exactly = λ y there.
           let (v, value, state) = value_shown x.values r.points first.0 y x.shows.states there in
           let left = nothing_left polyhedron_abstraction (program_of x.program) x.program.operations first.0 x.values v first.1 value in
-          let many = (x.shows.are_shown v (contained x.values first.0 v value)).as_many in (
+          let many = (x.shows.are_shown v (contains_at x.values first.0 v value)).as_many in (
             λ proved. sym state ∙ none_beside (shown_polyhedron v) (polyhedron_abstraction.parts v) many (left.0 (x.found.proved.0 proved)),
             λ none. x.found.proved.1 (left.1 (none_beside (polyhedron_abstraction.parts v) (shown_polyhedron v) (sym many) (state ∙ none))),
           );

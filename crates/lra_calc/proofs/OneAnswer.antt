@@ -10,7 +10,8 @@ use Rattle.lra_duality.specs.Maxima.{StaysInRange, PassesRange, Improves, DoesNo
 use Rattle.lra_duality.specs.{declared.inclusion.Inclusion.Inclusion, declared.maximum.Maximum.Maximum}
 use Rattle.lra_duality.specs.declared.inclusion.Inclusion.TheVariants as inclusion
 use Rattle.lra_duality.specs.declared.maximum.Maximum.TheVariants as maximum
-use Rattle.lra_duality.proofs.MaximumLemmas.{difference, in_order, never_both}
+use Rattle.lra_linear_spec.proofs.Signs.{difference, in_order}
+use Rattle.lra_duality.proofs.MaximumLemmas.{never_both}
 use Rattle.lra_calc.specs.Views.{IsPlacedInclusion, IsPlacedMaximum}
 use Rattle.lra_calc.proofs.MakingLemmas.{all_tail}
 

@@ -29,7 +29,8 @@ use Rattle.lra_analyse_source.specs.{SourceReports.IsAnalysisReport, Stages.IsRe
 use Rattle.lra_analyse_source.proofs.{Handing.as_many, Handing.of_assertions, Handing.value_dims, Numbering.numbered, ReportSteps.few_points, StageSteps.is_answered}
 use Rattle.lra_certify_source.specs.Certified.{IsHanded, IsCertificateOf, IsCertifyRefusalOf, HasSmallPoint}
 use Rattle.lra_certify_source.specs.{Extraction.state_by, Extraction.dims_by, Extraction.dims_in, Extraction.proved_in, Refusals.IfRefusal, Refusals.error_by, Settings.certify_options}
-use Rattle.lra_certify_source.proofs.{ClosedPaths.at_below, ClosedPaths.paths_stay, Listing.listable, Listing.shows_rows, TakenSteps.taken_dims, Written.stops_there, Written.counted}
+use Rattle.lra_linear_spec.proofs.ListPlaces.{there_within}
+use Rattle.lra_certify_source.proofs.{ClosedPaths.paths_stay, Listing.listable, Listing.shows_rows, TakenSteps.taken_dims, Written.stops_there, Written.counted}
 
 -- ---- the program
 -- few variables live at each point
@@ -84,9 +85,9 @@ module _ (t : FileTree) (g : Node) (sites : List Site) (has : HasInlinedTree t g
   have_dims states same q rows there =
       let low = slice_get_within states q (Some rows) there in
       let long : length states ≡ length values = sym (length-map states dims_in) ∙ ap length same ∙ length-map values dims_by in
-      let (v, value) = at_below values q (omega (arith, low, long)) in
+      let (v, value) = there_within values q (omega (arith, low, long)) in
       let points = ap length has.points in
-      let (s, site) = at_below sites q (omega (arith, low, long, many, points)) in
+      let (s, site) = there_within sites q (omega (arith, low, long, many, points)) in
       taken_dims states values q rows v same there value
       ∙ wide q v value s (ap (λ (l : List Site). slice_get l q) (sym has.points) ∙ site)
       ∙ sym (ap live_of site)

@@ -1,12 +1,13 @@
 -- The rows of an iteration that isn't narrowed are closed along paths: what leads to a point at the same divisor leads there among
 -- rational points.
-use Rattle.std.proofs.Common.{◌≡◌, ◌≢◌, ◌∙◌, ◌<◌, ◌+◌, ◌-◌, ℕ, zero, suc, ℤ, ◌*ℤ◌, Bool, List, [], ◌∷◌, ◌++◌, length, take, refl, ap, sym, subst, arith}
+use Rattle.std.proofs.Common.{◌≡◌, ◌≢◌, ◌∙◌, ◌+◌, ◌-◌, ℕ, zero, suc, ℤ, ◌*ℤ◌, Bool, List, [], ◌∷◌, ◌++◌, length, take, refl, ap, sym, subst, arith}
 use Rattle.std.proofs.lemmas.List.{length-set, length-append, length-take-le}
 use Rattle.std.proofs.{Math.Seq.take-append_seam, lemmas.Option.none-some, lemmas.Option.same_Some, lemmas.Option.slice_get-map}
 use Rattle.std.specs.{List.AllByRecursion, Prelude.Option, Prelude.None, Prelude.Some, Prelude.map, Prelude.option_map, Prelude.slice_get, Prelude.slice_set, Prelude.Contains}
 use Rattle.lra_linear_spec.specs.Polyhedra.{Polyhedron, IsPolyhedron}
 use Rattle.lra_linear_spec.specs.{Descriptions.LinearRow, Descriptions.Con, Points.IsPoint, Points.SamePoint, SetOperations.assigned, SetOperations.SameBut, Vectors.entry, Vectors.product}
 use Rattle.lra_linear_spec.proofs.Products.{entry_set_other}
+use Rattle.lra_linear_spec.proofs.ListPlaces.{there_within}
 use Rattle.lra_linear_forms.specs.Form.{form_row}
 use Rattle.lra_domain.specs.Actions.{Action, dims_after, assign, forget, test, embed, remove_last}
 use Rattle.lra_poly_domain.specs.Abstraction.{polyhedron_abstraction}
@@ -80,10 +81,6 @@ leads_all (step ∷ steps) (d ∷ xs) y n p (z, one, rest) =
     (z, to, leads_all steps z y (dims_after step (dimension (d ∷ xs))) to.0 rest)
 
 -- ---- values
-pub at_below : {A : Type 0} (xs : List A) (k : ℕ) → k < length xs → (x : A) × (slice_get xs k ≡ Some x)
-at_below [] k low = absurd (omega (arith, low))
-at_below (x ∷ xs) zero low = (x, refl)
-at_below (x ∷ xs) (suc k) low = at_below xs k (omega (arith, low))
 
 in_all : (values : List Polyhedron) (q : ℕ) (p : Polyhedron) → AllByRecursion IsPolyhedron values → slice_get values q ≡ Some p → IsPolyhedron p
 in_all [] q p all e = absurd (none-some p e)
@@ -126,8 +123,8 @@ module _ (P : Program) (g : Node) (values : List Polyhedron) (verdicts : List (�
   paths_stay zero goal actions within asked among = λ x y point inside led.
       arrives goal y asked (closed.first goal actions among x y point (leads_all actions x y 0 point led))
   paths_stay (suc p) goal actions within asked among =
-      let (s, site) = at_below (sites_of P) p (omega (arith, within)) in
-      let (v, value) = at_below values p (omega (arith, within, many)) in
+      let (s, site) = there_within (sites_of P) p (omega (arith, within)) in
+      let (v, value) = there_within values p (omega (arith, within, many)) in
       subst (λ (state : RowsAtPoint). IsInductiveFrom (live_of (slice_get (sites_of P) p)) actions state (state_to states goal)) (sym (state_at p v value))
       (subst (λ (o : Option Site). IsInductiveFrom (live_of o) actions (state_by v) (state_to states goal)) (sym site)
       (from_point p s v goal actions site value asked among))

@@ -9,7 +9,7 @@ use Rattle.lra_linear_spec.proofs.Combinations.{generated_row, generated_zero, g
 use Rattle.lra_linear_spec.proofs.LinearMaps.{bent, generated_right, generated_through, generated_bent, generated_nonneg}
 use Rattle.lra_linear_spec.proofs.Membership.{NoRepeat, contains_cases, contains_head, contains_tail, contains_split, contains_middle, filter_has, filter_from}
 use Rattle.lra_linear_spec.proofs.Products.{entry_blend, blend_length, row_same, dot_linear, dot_same, dot_scale, dot_plus, dot_negated, negated_dot, negated_length, entry_negated}
-use Rattle.lra_linear_spec.proofs.Signs.{as_nat, no_product, no_factor, cancel_same, positive_is_nonnegative, between_opposites, zero_at_least, cases_sign, above_zero}
+use Rattle.lra_linear_spec.proofs.Signs.{as_nat, no_product, no_factor, cancel_same, positive_is_nonnegative, between_opposites, zero_at_least, cases_sign, above_zero, le_yes, le_said}
 use Rattle.lra_linear_spec.proofs.{AdjacentPairs.adjacent_pairs_suffice, CanonicalForms.lines_are_all, CanonicalForms.ray_extreme, Descriptions.holds_at_least, DoubleDescription.pair}
 use Rattle.lra_linear_spec.proofs.{DoubleDescription.StepOf, Duality.dual_step, FlatRows.generated_flat, Lines.signed_from, Lines.signed_multiple, Lines.in_lines, Lines.in_lines_negated}
 use Rattle.lra_linear_spec.proofs.{Lines.lines_generated, LowestTerms.same_multiple, Redundancy.drop_keeps, Redundancy.redundant_tight, Redundancy.kept_pointed, Redundancy.pair_pointed, Ring.ring}
@@ -387,9 +387,6 @@ module _ (w : ℕ) (c : List ℤ) (system lines rays : List (List ℤ)) (d : Are
 
     wide_has : (r : List ℤ) → Contains rays r → pos 0 ≤ℤ product c r → Contains wide r
     wide_has r m h = Contains-append_left (filter (λ r. int_le (pos 0) (product c r)) rays) new r (filter_has (λ r. int_le (pos 0) (product c r)) rays r m (sym (le_yes (product c r) h)))
-      where
-        le_yes : (z : ℤ) → pos 0 ≤ℤ z → true ≡ int_le (pos 0) z
-        le_yes z h = omega (arith, ints)
 
     wide_new : (t : List ℤ) → Contains new t → Contains wide t
     wide_new t m = Contains-append_right (filter (λ r. int_le (pos 0) (product c r)) rays) new t m
@@ -399,9 +396,6 @@ module _ (w : ℕ) (c : List ℤ) (system lines rays : List (List ℤ)) (d : Are
       | inl i ↦ let f = filter_from (λ r. int_le (pos 0) (product c r)) rays t i in inl (f.0, le_said (product c t) (sym f.1))
       | inr i ↦ inr i
     ]
-      where
-        le_said : (z : ℤ) → true ≡ int_le (pos 0) z → pos 0 ≤ℤ z
-        le_said z h = omega (arith, ints)
 
     abbrev wide_target : List (List ℤ)
     wide_target = all_rows lines wide

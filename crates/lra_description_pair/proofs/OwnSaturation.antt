@@ -11,6 +11,7 @@ use Rattle.lra_linear_spec.proofs.Membership.{contains_none, contains_cases, con
 use Rattle.lra_linear_spec.proofs.{LinearMaps.generated_nonneg, LinearMaps.generated_through, Lines.in_lines, Lines.signed_from, OneSpelling.given_from, Products.negated_dot, Products.product_comm}
 use Rattle.lra_linear_spec.proofs.{Products.dot_same, Products.dot_scale, Products.dot_plus, Ring.ring, Ring.v, Ring.◌⊕◌, Ring.◌⊗◌, Signs.between_opposites, Signs.no_product}
 use Rattle.lra_linear_spec.proofs.Signs.{opposite_of_zero}
+use Rattle.lra_linear_spec.proofs.Products.{dot_zero_row}
 use Rattle.lra_bits.specs.Matrix.{Matrix}
 use Rattle.lra_canonical.specs.Irredundant.{IsSaturation, IsIrredundant, Solutions}
 use Rattle.lra_canonical.specs.{Echelons.HaveWidth, Echelons.SameEqualities, Reduced.IsEchelonForm, Reduced.SolvesAll, Reduced.IsReducedBy}
@@ -237,11 +238,6 @@ is_saturation s form reduced matrix made widths told = record {
         (reduced_product form i.0 r t i.2 (form_everywhere s form reduced made t (Contains-append_left s.rays (both_ways s.lines) t n))).0
         (h (record { row = t; equal = false }) (Contains-append_left (rows_as false s.rays) (rows_as true s.lines) (record { row = t; equal = false }) (given_has s.rays t n)))))
         (loose_in s.rays (rows_of s.taken) i.0 i.1).1
-
-    dot_zero_row : (r : List ℤ) (u : ℕ → ℤ) → ((j : ℕ) → entry r j ≡ pos 0) → dot r u ≡ pos 0
-    dot_zero_row [] u z = refl
-    dot_zero_row (x ∷ r) u z = ap (λ y. (y *ℤ u 0) +ℤ dot r (λ j. u (suc j))) (z 0) ∙ ap (λ y. (pos 0 *ℤ u 0) +ℤ y) (dot_zero_row r (λ j. u (suc j)) (λ j. z (suc j))) ∙
-        ring (v (pos 0) ⊗ v (u 0) ⊕ v (pos 0)) (v (pos 0)) (omega arith)
 
 -- ---- what is left is the canonical list
 pub own_canonical : (s : ConeContent) (form reduced kept : List (List ℤ)) → Made s form reduced → HaveWidth (suc s.dims) kept → IsIrredundant (suc s.dims) form reduced kept → IsOwnList s form kept

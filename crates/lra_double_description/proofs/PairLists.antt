@@ -1,11 +1,12 @@
 -- Lists of adjacent pairs, place by place, and lists of what pairs give.
 use Rattle.std.proofs.Common.{◌≡◌, ℕ, suc, ◌+◌, ◌<◌, ◌≤◌, Bool, true, false, cond, List, [], ◌∷◌, ◌++◌, length, get_or, take, refl, ap, sym, ◌∙◌, subst, arith, pos, ℤ, ◌<ℤ◌, ◌≤ℤ◌, inl, inr, ◌⊎◌}
 use Rattle.std.proofs.lemmas.List.Elements.{Contains-append_cases, Contains-append_left, Contains-append_right}
-use Rattle.std.proofs.{Common.int_lt, Common.int_le, lemmas.Bool.cases_lt, lemmas.Bool.Decides.Decides-int_eq, lemmas.Int.ints, lemmas.List.take_more, lemmas.List.get_or_past}
+use Rattle.std.proofs.{Common.int_lt, lemmas.Bool.cases_lt, lemmas.Bool.Decides.Decides-int_eq, lemmas.Int.ints, lemmas.List.take_more, lemmas.List.get_or_past}
 use Rattle.std.specs.List.{Contains}
 use Rattle.lra_bits.specs.TruthValues.{both}
 use Rattle.lra_linear_spec.specs.{Descriptions.HoldsWith, LowestTerms.IsLowest}
 use Rattle.lra_linear_spec.proofs.Membership.{contains_none, contains_cases, contains_head, contains_tail}
+use Rattle.lra_linear_spec.proofs.Signs.{le_yes, le_said}
 use Rattle.lra_bits.proofs.Pairs.{both_length}
 use Rattle.lra_double_description.specs.Pairs.{HasThird, NoThird, TellsAdjacent, both_tight, IsAdjacentPair, AreApart, IsBefore, ArePairs, pair_sum, AreCombined}
 use Rattle.lra_double_description.specs.{Steps.is_inside, Steps.inside_count, Strains.IsPairError, Strains.ArePairsError, declared.pairs.Pair.Pair}
@@ -211,17 +212,11 @@ not_less_said z y h = said z y (sym h)
 
 pub inside_yes : (equal : Bool) (p : ℤ) → HoldsWith equal p → is_inside equal p ≡ true
 inside_yes true p h = (Decides-int_eq p (pos 0)).1 h
-inside_yes false p h = sym (yes_at p h)
-  where
-    yes_at : (p : ℤ) → pos 0 ≤ℤ p → true ≡ int_le (pos 0) p
-    yes_at p h = omega (arith, ints)
+inside_yes false p h = sym (le_yes p h)
 
 pub inside_said : (equal : Bool) (p : ℤ) → is_inside equal p ≡ true → HoldsWith equal p
 inside_said true p h = (Decides-int_eq p (pos 0)).0 h
-inside_said false p h = said p (sym h)
-  where
-    said : (p : ℤ) → true ≡ int_le (pos 0) p → pos 0 ≤ℤ p
-    said p h = omega (arith, ints)
+inside_said false p h = le_said p (sym h)
 
 -- what the test of a kind answers
 pub accepted : (b equal : Bool) (p : ℤ) → (b ≡ true → HoldsWith equal p) × (HoldsWith equal p → b ≡ true) → b ≡ is_inside equal p

@@ -8,6 +8,7 @@ use Rattle.lra_linear_spec.proofs.Descriptions.{FromGiven, gen_generated, genera
 use Rattle.lra_linear_spec.proofs.{Combinations.generated_row, LinearMaps.generated_nonneg, Lines.zeros_length, Membership.contains_head, Membership.contains_none, OneSpelling.positivity_product}
 use Rattle.lra_linear_spec.proofs.{Polyhedra.con_gen, Polyhedra.generators_are_generators, Products.dot_linear, Products.dot_negated, Products.dot_same, Products.entry_blend, Products.entry_negated}
 use Rattle.lra_linear_spec.proofs.{Products.product_comm, Ring.mul_nonnegative, Ring.ring, Ring.v, Ring.⊖, Ring.◌⊕◌, Ring.◌⊗◌, SetOperations.has_vertex, SetOperations.valid_on_rows}
+use Rattle.lra_linear_spec.proofs.Signs.{difference, in_order}
 use Rattle.lra_systems.specs.LinearSystems.{LinearSystem, generators, rows_by_kind}
 use Rattle.lra_duality.specs.Maxima.{DoesNotImprove, Improves, IsAtMost, IsGreatestValue, IsMaximum, IsUnbounded, OfPoint, TellsMaximum}
 use Rattle.lra_duality.specs.declared.maximum.Maximum.{Maximum}
@@ -34,16 +35,10 @@ least : (num den f d : ℤ) → (f *ℤ den) ≤ℤ (num *ℤ d) → pos 0 ≤�
 least num den f d h = subst (λ (z : ℤ). pos 0 ≤ℤ z)
     (ring (v num ⊗ v d ⊕ ⊖ (v f ⊗ v den)) (v num ⊗ v d ⊕ ⊖ (v den) ⊗ v f) (omega arith))
     (difference (f *ℤ den) (num *ℤ d) h)
-  where
-    difference : (a b : ℤ) → a ≤ℤ b → pos 0 ≤ℤ (b +ℤ neg_ℤ a)
-    difference a b h = omega (arith, ints, h)
 
 most : (num den f d : ℤ) → pos 0 ≤ℤ ((num *ℤ d) +ℤ (neg_ℤ den *ℤ f)) → (f *ℤ den) ≤ℤ (num *ℤ d)
-most num den f d h = apart (f *ℤ den) (num *ℤ d) (subst (λ (z : ℤ). pos 0 ≤ℤ z)
+most num den f d h = in_order (f *ℤ den) (num *ℤ d) (subst (λ (z : ℤ). pos 0 ≤ℤ z)
     (ring (v num ⊗ v d ⊕ ⊖ (v den) ⊗ v f) (v num ⊗ v d ⊕ ⊖ (v f ⊗ v den)) (omega arith)) h)
-  where
-    apart : (a b : ℤ) → pos 0 ≤ℤ (b +ℤ neg_ℤ a) → a ≤ℤ b
-    apart a b h = omega (arith, ints, h)
 
 -- ---- without bound
 -- a direction of the system along which the form grows

@@ -7,7 +7,7 @@ use Rattle.std.specs.{Int.◌∣◌, Int.IsGcd, List.All}
 use Rattle.lra_linear_spec.specs.{CheckedArithmetic.checked_product, CheckedArithmetic.checked_product_from, Descriptions.LinearRow, Kinds.is_line, LowestTerms.IsPrimitive, Range.InRange}
 use Rattle.lra_linear_spec.specs.{Range.in_range, Vectors.entry, Vectors.negated, Vectors.product, declared.Excess.Excess, declared.GenKind.GenKind, declared.GenKind.TheVariants.Point}
 use Rattle.lra_linear_spec.proofs.CheckedArithmetic.{checked_product_value, checked_product_in_range}
-use Rattle.lra_linear_spec.proofs.Signs.{as_nat, cancel_same, divide_nonnegative, positive_is_nonnegative, positive_nat, positive_part, times_positive}
+use Rattle.lra_linear_spec.proofs.Signs.{as_nat, cancel_same, divide_nonnegative, positive_is_nonnegative, positive_nat, positive_part, times_positive, difference, in_order}
 use Rattle.lra_linear_spec.proofs.{LowestTerms.signed_quotient_is, Membership.all_from, Ring.mul_nonnegative, Ring.ring, Ring.v, Ring.⊖, Ring.◌⊕◌, Ring.◌⊗◌}
 use Rattle.lra_row.proofs.{Ratio.apart, RowLemmas.quotient_signed}
 use Rattle.lra_systems.specs.LinearSystems.{LinearSystem, generators, rows_by_kind}
@@ -31,14 +31,9 @@ pub all_weaker : {A : Type 0} (P Q : A → Type 0) (xs : List A) → ((x : A) �
 all_weaker P Q xs f h = all_from Q xs (λ x k. f x (All-contains P xs x h k))
 
 -- ---- values at points, compared
-pub in_order : (a b : ℤ) → pos 0 ≤ℤ (b +ℤ neg_ℤ a) → a ≤ℤ b
-in_order a b h = omega (arith, ints, h)
 
 apart_below : (a b : ℤ) → pos 0 <ℤ (b +ℤ neg_ℤ a) → a <ℤ b
 apart_below a b h = omega (arith, ints, h)
-
-pub difference : (a b : ℤ) → a ≤ℤ b → pos 0 ≤ℤ (b +ℤ neg_ℤ a)
-difference a b h = omega (arith, ints, h)
 
 sum_above : (a b : ℤ) → pos 0 ≤ℤ a → pos 0 <ℤ b → pos 0 <ℤ (a +ℤ b)
 sum_above a b h k = omega (arith, ints, h, k)

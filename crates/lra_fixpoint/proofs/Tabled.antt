@@ -6,6 +6,7 @@ use Rattle.std.proofs.{lemmas.List.Elements.Contains-push_cases, lemmas.Option.n
 use Rattle.std.specs.Prelude.{◌↔◌, IsTrue, slice_get, slice_set, replicate, flat_map, option_map, cond, true, false}
 use Rattle.std.specs.{List.Contains, Option.option_to_list}
 use Rattle.lra_linear_spec.proofs.Membership.{contains_none, contains_head, contains_tail, contains_cases}
+use Rattle.lra_linear_spec.proofs.ListPlaces.{there_within}
 use Rattle.lra_domain.specs.Abstraction.{Abstraction}
 use Rattle.lra_program.specs.{Assertions.assertions_from, Sites.Site}
 use Rattle.lra_analysis_spec.specs.{Analysis.IsUnreachable, Analysis.IsSolution, Pass.PassEntry, Pass.value, Pass.failing, Pass.recorded, Pass.PassResult}
@@ -272,11 +273,6 @@ module _ {V : Type 0} (T : List Site) (xs : List (PassEntry V)) (counted : AreCo
       few q None e = let c = counted.no_values q e in omega (arith, c)
       few q (Some s) e = let c = counted.values q s e in omega (arith, c)
 
-site_there : (T : List Site) (q : ℕ) → q < length T → (s : Site) × (slice_get T q ≡ Some s)
-site_there [] q h = absurd (omega (arith, h))
-site_there (s ∷ T) zero h = (s, refl)
-site_there (s ∷ T) (suc q) h = site_there T q (omega (arith, h))
-
 module _ {V H : Type 0} (m : Abstraction V H) (T : List Site) (r : PassResult V) (n : ℕ) (t : List (Option V)) (u : List (Option Bool)) (long : n ≡ length T) (counted : AreCounted T r.entries)
     (tabled : AreTabled m n r.entries t u) where
   values_there : (values : List V) → values ≡ flat_map option_to_list t → map (λ (v : V). Some v) values ≡ t
@@ -284,7 +280,7 @@ module _ {V H : Type 0} (m : Abstraction V H) (T : List Site) (r : PassResult V)
     where
       there : (q : ℕ) → q < length t → (v : V) × (slice_get t q ≡ Some (Some v))
       there q h =
-          let s = site_there T q (let l = tabled.places in omega (arith, l, long, h)) in
+          let s = there_within T q (let l = tabled.places in omega (arith, l, long, h)) in
           let k = counted_value V q r.entries (let c = counted.values q s.0 s.1 in omega (arith, c)) in (k.0, (tabled.is_value q k.0).1 k.1)
 
   pub tables_solve : (values : List V) (verdicts : List (ℕ × Bool)) (flagged : Option ℕ) → values ≡ flat_map option_to_list t → verdicts ≡ filled_from 0 u → flagged ≡ r.flag →

@@ -14,7 +14,8 @@ use Rattle.lra_paths.specs.Paths.{same_goal, live_of, started, first_segments, n
 use Rattle.lra_paths.proofs.SourceSteps.{alike}
 use Rattle.lra_inductive_sound.specs.Inductive.{IsAtGoal, FailOnce, ValuesAreInductive, IsGoalValue, IsInductiveThrough}
 use Rattle.lra_inductive_sound.specs.Points.{PointsOf, LeadsBy, KeepPoints}
-use Rattle.lra_inductive_sound.proofs.{Changes.split_leads, Changes.made_keep, Members.flat_map_from, Members.pairs_from, Trees.tree_closed}
+use Rattle.lra_linear_spec.proofs.ListPlaces.{flat_map_from}
+use Rattle.lra_inductive_sound.proofs.{Changes.split_leads, Changes.made_keep, Members.pairs_from, Trees.tree_closed}
 
 module _ (V H X : Type 0) (m : Abstraction V H) (o : PointsOf V H X) (keep : KeepPoints m o) where
   module _ (r : PassResult V) (values : List V) (verdicts : List (ℕ × Bool)) (flagged : Option ℕ) (solves : IsSolution m r values verdicts flagged)

@@ -8,7 +8,7 @@ use borrow.Author.Differences.{down, up}
 use Rattle.lra_linear_spec.specs.{Cones.Generated, Cones.Solves, Vectors.blend, Vectors.dot, Vectors.entry, Vectors.sum_of}
 use Rattle.lra_linear_spec.proofs.Combinations.{generated_divided, generated_plus, generated_row, generated_same, generated_times}
 use Rattle.lra_linear_spec.proofs.Products.{blend_length, dot_linear, dot_plus, dot_same, dot_scale, entry_blend}
-use Rattle.lra_linear_spec.proofs.Signs.{above_zero, add_nonnegative, as_nat, cases_sign, compare_two, divide_nonnegative, neg_nat, positive_is_nonnegative, positive_nat}
+use Rattle.lra_linear_spec.proofs.Signs.{above_zero, add_nonnegative, as_nat, cases_sign, compare_two, divide_nonnegative, neg_nat, positive_is_nonnegative, positive_nat, neg_positive}
 use Rattle.lra_linear_spec.proofs.{AllPairs.kept_only, AllPairs.pairs_only, AllPairs.step_rows_are, DoubleDescription.kept, DoubleDescription.pair, DoubleDescription.pairs}
 use Rattle.lra_linear_spec.proofs.{DoubleDescription.step_rows, LinearMaps.generated_through, LinearMaps.sum_nonneg, Membership.contains_cases, Membership.contains_head, Membership.contains_tail}
 use Rattle.lra_linear_spec.proofs.{Ring.mul_nonnegative, Ring.ring, Ring.v, Ring.⊖, Ring.◌⊕◌, Ring.◌⊗◌, Saturation.AdjacentStep, Saturation.TightToo, Saturation.tight_sum, Step.step_complete}
@@ -419,9 +419,6 @@ module _ {w : ℕ} {c : List ℤ} {system rays lines target : List (List ℤ)} (
     is : (j : ℕ) → entry (pair c p n) j ≡ (pos a *ℤ entry p j) +ℤ (pos b *ℤ entry n j)
     dots : (s : List ℤ) → dot s (entry (pair c p n)) ≡ (pos a *ℤ dot s (entry p)) +ℤ (pos b *ℤ dot s (entry n))
     point : Point (pair c p n)
-
-  neg_positive : (z : ℤ) (n : ℕ) → z <ℤ pos 0 → neg_ℤ z ≡ pos n → 0 < n
-  neg_positive z n h e = omega (arith, ints, h, e)
 
   between : (p n : List ℤ) → Contains rays p → Contains rays n → pos 0 <ℤ dot c (entry p) → dot c (entry n) <ℤ pos 0 → Between p n
   between p n hp hn up down =

@@ -7,11 +7,9 @@ use Rattle.lra_linear_spec.proofs.Combinations.{generated_plus, generated_row, g
 use Rattle.lra_linear_spec.proofs.DoubleDescription.{StepOf, kept, pair, pairs, pairs_of, step_rows}
 use Rattle.lra_linear_spec.proofs.{Membership.contains_cases, Membership.contains_head, Membership.contains_tail, Products.dot_linear, Products.dot_same, Products.entry_blend, Ring.ring, Ring.v}
 use Rattle.lra_linear_spec.proofs.{Ring.⊖, Ring.◌⊕◌, Ring.◌⊗◌, Signs.as_nat, Signs.neg_nat, Signs.positive_is_nonnegative}
+use Rattle.lra_linear_spec.proofs.Signs.{le_yes, le_said}
 
 -- ---- tests
--- a test that must answer yes
-le_yes : (z : ℤ) → pos 0 ≤ℤ z → true ≡ int_le (pos 0) z
-le_yes z h = omega (arith, ints)
 
 lt_yes : (a b : ℤ) → a <ℤ b → true ≡ int_lt a b
 lt_yes a b h = omega (arith, ints)
@@ -35,9 +33,6 @@ pub kept_only : (c : List ℤ) (rays : List (List ℤ)) (t : List ℤ) → Conta
 kept_only c [] t k = absurd (omega (arith, k.1))
 kept_only c (x ∷ rays) t k = by_test c x rays t (int_le (pos 0) (dot c (entry x))) refl (λ i. kept_only c rays t i) k
   where
-    le_said : (z : ℤ) → true ≡ int_le (pos 0) z → pos 0 ≤ℤ z
-    le_said z h = omega (arith, ints)
-
     by_test : (c x : List ℤ) (rays : List (List ℤ)) (t : List ℤ) (b : Bool) → b ≡ int_le (pos 0) (dot c (entry x)) → (Contains (kept c rays) t → Contains rays t × (pos 0 ≤ℤ dot c (entry t))) →
         Contains (cond b (x ∷ kept c rays) (kept c rays)) t → Contains (x ∷ rays) t × (pos 0 ≤ℤ dot c (entry t))
     by_test c x rays t true e ih k = elim (contains_cases x t (kept c rays) k) [

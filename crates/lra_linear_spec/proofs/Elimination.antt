@@ -6,7 +6,7 @@ use Rattle.std.proofs.lemmas.Int.{ints}
 use Rattle.std.specs.List.{Contains}
 use Rattle.lra_linear_spec.specs.{Cones.Generated, Cones.Solves, Vectors.blend, Vectors.dot, Vectors.entry}
 use Rattle.lra_linear_spec.proofs.Combinations.{generated_divided, generated_more, generated_plus, generated_row, generated_same, generated_times}
-use Rattle.lra_linear_spec.proofs.Signs.{above_zero, add_nonnegative, cases_sign, divide_nonnegative, neg_nat}
+use Rattle.lra_linear_spec.proofs.Signs.{above_zero, add_nonnegative, cases_sign, divide_nonnegative, neg_nat, neg_positive}
 use Rattle.lra_linear_spec.proofs.{DoubleDescription.StepOf, LinearMaps.generated_nonneg, Membership.contains_cases, Membership.contains_head, Membership.contains_tail, Products.blend_length}
 use Rattle.lra_linear_spec.proofs.{Products.dot_linear, Products.dot_same, Products.entry_blend, Products.product_comm, Ring.mul_nonnegative, Ring.ring, Ring.v, Ring.⊖, Ring.◌⊕◌, Ring.◌⊗◌}
 
@@ -141,14 +141,11 @@ met x g rows target st h l s k =
                       ap (λ z. (neg_ℤ bt *ℤ slack p q a b) +ℤ (b *ℤ z)) w.3 ∙
                       ring (⊖ (v bt) ⊗ v (slack p q a b) ⊕ v b ⊗ v (pos 0)) (⊖ (v bt) ⊗ v (slack p q a b)) (omega arith) ∙
                       ap (λ z. z *ℤ slack p q a b) m.1 in
-                      divide_nonnegative m.0 (slack p q a b) (m_positive bt m.0 w.2 m.1)
+                      divide_nonnegative m.0 (slack p q a b) (neg_positive bt m.0 w.2 m.1)
                       (subst (λ y. pos 0 ≤ℤ y) e (mul_nonnegative (pos q) ((neg_ℤ bt *ℤ a) +ℤ (b *ℤ at)) (omega (arith, ints)) pair))
                 ]
           ]
     ]
-  where
-    m_positive : (z : ℤ) (n : ℕ) → z <ℤ pos 0 → neg_ℤ z ≡ pos n → 0 < n
-    m_positive z n h e = omega (arith, ints, h, e)
 
 -- ---- the consequences of one more inequality
 -- one more inequality, where the rows after it meet it

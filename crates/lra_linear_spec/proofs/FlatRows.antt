@@ -1,6 +1,6 @@
 -- Rows combined with a line so that their product with c is 0: what they keep of the rows before, and the lines without that line are
 -- again in echelon form.
-use Rattle.std.proofs.Common.{List, [], ap, arith, inl, inr, neg_ℤ, negsuc, pos, refl, subst, suc, sym, unsigned_abs, ℕ, ℤ, ◌*ℤ◌, ◌++◌, ◌+ℤ◌, ◌<ℤ◌, ◌∙◌, ◌∷◌, ◌≡◌, ◌≤ℤ◌, ◌⊎◌}
+use Rattle.std.proofs.Common.{List, [], ap, arith, inl, inr, neg_ℤ, negsuc, pos, refl, subst, sym, unsigned_abs, ℕ, ℤ, ◌*ℤ◌, ◌++◌, ◌+ℤ◌, ◌<ℤ◌, ◌∙◌, ◌∷◌, ◌≡◌, ◌≤ℤ◌, ◌⊎◌}
 use Rattle.std.proofs.{lemmas.Int.ints, lemmas.List.Elements.Contains-append_cases, lemmas.List.Elements.Contains-append_left, lemmas.List.Elements.Contains-append_right}
 use Rattle.std.specs.{Int.◌∣◌, List.Contains}
 use Rattle.lra_linear_spec.specs.{Cones.Generated, Cones.both_ways, Echelon.Before, Echelon.IsEchelon, LowestTerms.IsPrimitive, Vectors.dot, Vectors.entry, Vectors.negated}
@@ -8,6 +8,7 @@ use Rattle.lra_linear_spec.proofs.Combinations.{generated_divided, generated_plu
 use Rattle.lra_linear_spec.proofs.{DoubleDescription.Flat, DoubleDescription.Flats, LinearMaps.generated_nonneg, Lines.line_multiple, Lines.signed_from, Lines.signed_multiple}
 use Rattle.lra_linear_spec.proofs.{Membership.contains_cases, Membership.contains_head, Membership.contains_tail, Products.dot_linear, Products.dot_same, Products.dot_scale, Products.entry_negated}
 use Rattle.lra_linear_spec.proofs.{Ring.ring, Ring.v, Ring.⊖, Ring.◌⊕◌, Ring.◌⊗◌, Signs.as_nat, Signs.no_product, Signs.not_both, Signs.positive_nat, Signs.positive_part, Signs.times_positive}
+use Rattle.lra_linear_spec.proofs.Products.{negated_dot}
 
 Rows : Type 0
 Rows = List (List ℤ)
@@ -166,14 +167,9 @@ flat_back_zero c l r t cone p line f h = flat_back c l r t cone p line f (genera
 pub generated_flat : (c : List ℤ) (rows : List (List ℤ)) (u : ℕ → ℤ) → ((r : List ℤ) → Contains rows r → dot c (entry r) ≡ pos 0) → Generated rows u → dot c u ≡ pos 0
 generated_flat c rows u h g =
     let up : pos 0 ≤ℤ dot c u = generated_nonneg c rows u (λ r k. subst (λ z. pos 0 ≤ℤ z) (sym (h r k)) (omega (arith, ints))) g in
-    let down : pos 0 ≤ℤ dot (negated c) u = generated_nonneg (negated c) rows u (λ r k. subst (λ z. pos 0 ≤ℤ z) (sym (other c (entry r) ∙ ap neg_ℤ (h r k))) (omega (arith, ints))) g in
-    both (dot c u) up (subst (λ z. pos 0 ≤ℤ z) (other c u) down)
+    let down : pos 0 ≤ℤ dot (negated c) u = generated_nonneg (negated c) rows u (λ r k. subst (λ z. pos 0 ≤ℤ z) (sym (negated_dot c (entry r) ∙ ap neg_ℤ (h r k))) (omega (arith, ints))) g in
+    both (dot c u) up (subst (λ z. pos 0 ≤ℤ z) (negated_dot c u) down)
   where
-    other : (c : List ℤ) (u : ℕ → ℤ) → dot (negated c) u ≡ neg_ℤ (dot c u)
-    other [] u = refl
-    other (x ∷ c) u = ap (λ y. (neg_ℤ x *ℤ u 0) +ℤ y) (other c (λ j. u (suc j))) ∙ ring (⊖ (v x) ⊗ v (u 0) ⊕ ⊖ (v (dot c (λ j. u (suc j))))) (⊖ (v x ⊗ v (u 0) ⊕ v (dot c (λ j. u (suc j)))))
-        (omega arith)
-
     both : (z : ℤ) → pos 0 ≤ℤ z → pos 0 ≤ℤ neg_ℤ z → z ≡ pos 0
     both z h k = omega (arith, ints, h, k)
 

@@ -3,6 +3,7 @@
 pub mod Ring
 pub mod Signs
 pub mod Membership
+pub mod ListPlaces
 pub mod Products
 pub mod CheckedArithmetic
 pub mod LowestTerms

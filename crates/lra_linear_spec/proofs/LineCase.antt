@@ -1,5 +1,5 @@
 -- The case of a line (Chernikova 1965, Le Verge 1992): the new lists are canonical, and dual to the system with the further row.
-use Rattle.std.proofs.Common.{Bool, List, [], ap, arith, cond, false, inl, inr, length, neg_ℤ, negsuc, pos, refl, subst, suc, sym, true, ℕ, ℤ, ◌*ℤ◌, ◌++◌, ◌+ℤ◌, ◌<ℤ◌, ◌∙◌, ◌∷◌, ◌≡◌, ◌≤ℤ◌, ◌⊎◌}
+use Rattle.std.proofs.Common.{Bool, List, [], ap, arith, cond, false, inl, inr, length, neg_ℤ, negsuc, pos, refl, subst, sym, true, ℕ, ℤ, ◌*ℤ◌, ◌++◌, ◌+ℤ◌, ◌<ℤ◌, ◌∙◌, ◌∷◌, ◌≡◌, ◌≤ℤ◌, ◌⊎◌}
 use Rattle.std.proofs.{lemmas.Int.ints, lemmas.List.Elements.Contains-append_cases, lemmas.List.Elements.Contains-append_left, lemmas.List.Elements.Contains-append_right}
 use Rattle.std.specs.List.{Contains}
 use Rattle.lra_linear_spec.specs.{Canonical.IsCanonical, Cones.AreDual, Cones.Generated, Cones.all_rows, Cones.both_ways, LowestTerms.IsPrimitive, Vectors.dot, Vectors.entry, Vectors.negated}
@@ -10,6 +10,8 @@ use Rattle.lra_linear_spec.proofs.{Combinations.generated_row, Combinations.gene
 use Rattle.lra_linear_spec.proofs.{DoubleDescription.LineCase, DoubleDescription.StepOf, Duality.LineTarget, Duality.dual_line_step, Duality.dual_step, Lines.line_multiple, Lines.signed_from}
 use Rattle.lra_linear_spec.proofs.{Lines.signed_multiple, Lines.signed_zero, Membership.contains_cases, Membership.contains_head, Membership.contains_split, Membership.contains_tail}
 use Rattle.lra_linear_spec.proofs.{Products.dot_minus, Products.dot_negated, Products.entry_negated, Products.negated_length, Ring.ring, Ring.v, Ring.⊖, Ring.◌⊕◌, Ring.◌⊗◌, Signs.not_both}
+use Rattle.lra_linear_spec.proofs.Products.{negated_dot}
+use Rattle.lra_linear_spec.proofs.Lines.{in_lines}
 
 -- a multiple by 1
 one_times : (rows : List (List ℤ)) (k : List ℤ) → Generated rows (λ j. pos 1 *ℤ entry k j) → Generated rows (entry k)
@@ -255,24 +257,19 @@ all_flat_rows c l before after new rays flat f fa fr t i = elim (Contains-append
 second_step : (c l : List ℤ) (rest : List (List ℤ)) → pos 0 <ℤ dot c (entry l) → ((t : List ℤ) → Contains rest t → dot c (entry t) ≡ pos 0) → StepOf (negated c) (l ∷ rest) rest
 second_step c l rest p h =
     let low : (t : List ℤ) → Contains (l ∷ rest) t → dot (negated c) (entry t) ≤ℤ pos 0 = λ t k. elim (contains_cases l t rest k) [
-      | inl e ↦ subst (λ (y : List ℤ). dot (negated c) (entry y) ≤ℤ pos 0) e (subst (λ z. z ≤ℤ pos 0) (sym (other c (entry l))) (falls (dot c (entry l)) p))
-      | inr m ↦ subst (λ z. z ≤ℤ pos 0) (sym (other c (entry t) ∙ ap neg_ℤ (h t m))) (omega (arith, ints))
+      | inl e ↦ subst (λ (y : List ℤ). dot (negated c) (entry y) ≤ℤ pos 0) e (subst (λ z. z ≤ℤ pos 0) (sym (negated_dot c (entry l))) (falls (dot c (entry l)) p))
+      | inr m ↦ subst (λ z. z ≤ℤ pos 0) (sym (negated_dot c (entry t) ∙ ap neg_ℤ (h t m))) (omega (arith, ints))
     ] in
     record {
       keeps = λ r k g. elim (contains_cases l r rest k) [
-        | inl e ↦ absurd (clash (dot c (entry l)) p (subst (λ z. pos 0 ≤ℤ z) (other c (entry l)) (subst (λ (y : List ℤ). pos 0 ≤ℤ dot (negated c) (entry y)) (sym e) g)))
+        | inl e ↦ absurd (clash (dot c (entry l)) p (subst (λ z. pos 0 ≤ℤ z) (negated_dot c (entry l)) (subst (λ (y : List ℤ). pos 0 ≤ℤ dot (negated c) (entry y)) (sym e) g)))
         | inr m ↦ generated_row rest r m
       ];
       pairs = λ q n k m g b. absurd (above (dot (negated c) (entry q)) g (low q k));
-      from = λ t k. inl (contains_tail l t rest k, subst (λ z. pos 0 ≤ℤ z) (sym (other c (entry t) ∙ ap neg_ℤ (h t k))) (omega (arith, ints)));
+      from = λ t k. inl (contains_tail l t rest k, subst (λ z. pos 0 ≤ℤ z) (sym (negated_dot c (entry t) ∙ ap neg_ℤ (h t k))) (omega (arith, ints)));
       inside = λ t k. generated_row (l ∷ rest) t (contains_tail l t rest k);
     }
   where
-    other : (c : List ℤ) (u : ℕ → ℤ) → dot (negated c) u ≡ neg_ℤ (dot c u)
-    other [] u = refl
-    other (x ∷ c) u = ap (λ y. (neg_ℤ x *ℤ u 0) +ℤ y) (other c (λ j. u (suc j))) ∙ ring (⊖ (v x) ⊗ v (u 0) ⊕ ⊖ (v (dot c (λ j. u (suc j))))) (⊖ (v x ⊗ v (u 0) ⊕ v (dot c (λ j. u (suc j)))))
-        (omega arith)
-
     falls : (z : ℤ) → pos 0 <ℤ z → neg_ℤ z ≤ℤ pos 0
     falls z h = omega (arith, ints, h)
 
@@ -336,15 +333,7 @@ line_case_dual w equal c lines rays new_lines new_rays x lc wo wn system d =
     (choose equal l (new ++ x.after) x.flat_rays d1 (swap_rows w (negated c) c system target d2)))
   where
     line_width : (k : List ℤ) → Contains lines k → length k ≡ w
-    line_width k m = wo k (Contains-append_right rays (both_ways lines) k (in_both lines k m))
-      where
-        in_both : (rows : List (List ℤ)) (k : List ℤ) → Contains rows k → Contains (both_ways rows) k
-        in_both [] k m = absurd (omega (arith, m.1))
-        in_both (x ∷ rows) k m = elim (contains_cases x k rows m) [
-          | inl e ↦ subst (Contains (both_ways (x ∷ rows))) e (contains_head x (negated x ∷ both_ways rows))
-          | inr n ↦ contains_tail x k
-              (negated x ∷ both_ways rows) (contains_tail (negated x) k (both_ways rows) (in_both rows k n))
-        ]
+    line_width k m = wo k (Contains-append_right rays (both_ways lines) k (in_lines lines k m))
 
     among : (b : Bool) (l : List ℤ) (new flat : List (List ℤ)) (t : List ℤ) → Contains (all_rows new flat) t → Contains (all_rows new (cond b flat (l ∷ flat))) t
     among true l new flat t k = k

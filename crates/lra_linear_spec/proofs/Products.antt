@@ -126,3 +126,14 @@ pub negated_dot : (c : List ℤ) (u : ℕ → ℤ) → dot (negated c) u ≡ neg
 negated_dot [] u = refl
 negated_dot (x ∷ xs) u = ap (λ z. (neg_ℤ x *ℤ u 0) +ℤ z) (negated_dot xs (λ j. u (suc j))) ∙
     ring (⊖ (v x) ⊗ v (u 0) ⊕ ⊖ (v (dot xs (λ j. u (suc j))))) (⊖ (v x ⊗ v (u 0) ⊕ v (dot xs (λ j. u (suc j))))) (omega arith)
+
+-- the product of a row of zeros, and of one that has nothing but its first entry
+pub dot_zero_row : (r : List ℤ) (u : ℕ → ℤ) → ((j : ℕ) → entry r j ≡ pos 0) → dot r u ≡ pos 0
+dot_zero_row [] u z = refl
+dot_zero_row (x ∷ r) u z =
+    ap (λ y. (y *ℤ u 0) +ℤ dot r (λ j. u (suc j))) (z 0) ∙ ap (λ y. (pos 0 *ℤ u 0) +ℤ y) (dot_zero_row r (λ j. u (suc j)) (λ j. z (suc j))) ∙
+    ring (v (pos 0) ⊗ v (u 0) ⊕ v (pos 0)) (v (pos 0)) (omega arith)
+
+pub dot_first : (cs : List ℤ) (u : ℕ → ℤ) → ((j : ℕ) → 0 < j → entry cs j ≡ pos 0) → dot cs u ≡ entry cs 0 *ℤ u 0
+dot_first [] u h = ring (v (pos 0)) (v (pos 0) ⊗ v (u 0)) (omega arith)
+dot_first (c ∷ cs) u h = ap (λ y. (c *ℤ u 0) +ℤ y) (dot_zero_row cs (λ j. u (suc j)) (λ j. h (suc j) (omega arith))) ∙ ring (v c ⊗ v (u 0) ⊕ v (pos 0)) (v c ⊗ v (u 0)) (omega arith)

@@ -1,4 +1,5 @@
 -- Signs of whole numbers, their sums and products; a whole number of known sign as a natural one.
+use Rattle.std.specs.Prelude.{true, int_le}
 use Rattle.std.proofs.Common.{ap, arith, inl, inr, neg_ℤ, negsuc, pos, refl, suc, sym, zero, ℕ, ℤ, ◌*ℤ◌, ◌+ℤ◌, ◌+◌, ◌-◌, ◌<ℤ◌, ◌<◌, ◌∙◌, ◌≡◌, ◌≤ℤ◌, ◌⊎◌}
 use Rattle.std.proofs.{lemmas.Bool.cases_lt, lemmas.Int.ints}
 use Rattle.lra_linear_spec.proofs.Ring.{ring, v, ⊖, ◌⊕◌, ◌⊗◌}
@@ -31,6 +32,13 @@ zero_at_least z e = omega (arith, ints, e)
 pub opposite_of_zero : (z y : ℤ) → y ≡ neg_ℤ z → z ≡ pos 0 → pos 0 ≤ℤ y
 opposite_of_zero z y e f = omega (arith, ints, e, f)
 
+-- ---- a test of a sign
+pub le_yes : (z : ℤ) → pos 0 ≤ℤ z → true ≡ int_le (pos 0) z
+le_yes z h = omega (arith, ints)
+
+pub le_said : (z : ℤ) → true ≡ int_le (pos 0) z → pos 0 ≤ℤ z
+le_said z h = omega (arith, ints)
+
 -- ---- as natural numbers
 pub as_nat : (z : ℤ) → pos 0 ≤ℤ z → (n : ℕ) × (z ≡ pos n)
 as_nat (pos n) h = (n, refl)
@@ -45,6 +53,9 @@ pub neg_nat : (z : ℤ) → z <ℤ pos 0 → (n : ℕ) × (neg_ℤ z ≡ pos n)
 neg_nat (pos n) h = absurd (omega (arith, ints, h))
 neg_nat (negsuc n) h = (suc n, refl)
 
+pub neg_positive : (z : ℤ) (n : ℕ) → z <ℤ pos 0 → neg_ℤ z ≡ pos n → 0 < n
+neg_positive z n h e = omega (arith, ints, h, e)
+
 -- the one of two natural numbers is the other and a rest
 pub compare_two : (a b : ℕ) → ((d : ℕ) × (a ≡ b + d) × (0 < d)) ⊎ ((d : ℕ) × (b ≡ a + d))
 compare_two a b = elim (cases_lt b a) [ inl h ↦ inl (a - b, omega arith, omega arith) | inr h ↦ inr (b - a, omega arith) ]
@@ -55,6 +66,13 @@ add_nonnegative a b h k = omega (arith, ints)
 
 pub add_nonpositive : (a b : ℤ) → a ≤ℤ pos 0 → b ≤ℤ pos 0 → (a +ℤ b) ≤ℤ pos 0
 add_nonpositive a b h k = omega (arith, ints)
+
+-- ---- differences
+pub difference : (a b : ℤ) → a ≤ℤ b → pos 0 ≤ℤ (b +ℤ neg_ℤ a)
+difference a b h = omega (arith, ints, h)
+
+pub in_order : (a b : ℤ) → pos 0 ≤ℤ (b +ℤ neg_ℤ a) → a ≤ℤ b
+in_order a b h = omega (arith, ints, h)
 
 -- ---- products
 pub divide_nonnegative : (k : ℕ) (z : ℤ) → 0 < k → pos 0 ≤ℤ (pos k *ℤ z) → pos 0 ≤ℤ z

@@ -1,17 +1,13 @@
 -- The check of listed constraints, from the check of their rows and of their kinds.
 use Rattle.std.proofs.Common.{◌≡◌, ℕ, suc, ℤ, pos, Bool, List, [], ◌∷◌, length, Option, refl, ap, sym, ◌∙◌, subst, arith}
 use Rattle.std.proofs.lemmas.List.Elements.{All-contains}
-use Rattle.std.specs.{List.All, List.AllByRecursion, List.Contains, Prelude.◌&&◌, Prelude.int_le}
+use Rattle.std.specs.{List.All, List.AllByRecursion, Prelude.◌&&◌, Prelude.int_le}
 use Rattle.lra_linear_spec.specs.{Descriptions.rows_of, Kinds.is_equality, declared.ConKind.ConKind}
-use Rattle.lra_linear_spec.proofs.Membership.{contains_head, contains_tail}
+use Rattle.lra_linear_spec.proofs.ListPlaces.{by_recursion}
 use Rattle.lra_systems.specs.LinearSystems.{LinearSystem, constraints, rows_by_kind}
 use Rattle.lra_multipliers.specs.Columns.{column_agrees, ColumnsTell, kinds_show, answer_told}
 use Rattle.lra_multipliers.specs.Multipliers.{Multipliers, Answer, IsAnswer, may_show, checked}
 use Rattle.lra_multipliers.proofs.{CheckLoops.kinds_signed_is, CheckSteps.AreWide, CheckSteps.checked_told, CheckSteps.checked_exact}
-
-by_recursion : {A : Type 0} (Q : A → Type 0) (xs : List A) → ((x : A) → Contains xs x → Q x) → AllByRecursion Q xs
-by_recursion Q [] h = tt
-by_recursion Q (x ∷ xs) h = (h x (contains_head x xs), by_recursion Q xs (λ y k. h y (contains_tail x y xs k)))
 
 given_wide : (n : ℕ) (rows : List (List ℤ)) (kinds : List ConKind) → AllByRecursion (λ r. length r ≡ n) rows → AreWide n (rows_by_kind is_equality rows kinds)
 given_wide n [] kinds w = tt

@@ -1,13 +1,13 @@
 -- How many equalities hold on a polyhedron.
-use Rattle.std.proofs.Common.{◌≡◌, ℕ, zero, suc, ◌<◌, ◌≤◌, ◌+◌, ◌-◌, Bool, true, false, List, [], ◌∷◌, ◌++◌, length, ap, refl, sym, ◌∙◌, subst, ℤ, pos, neg_ℤ, ◌+ℤ◌, ◌*ℤ◌, ◌<ℤ◌, ◌≤ℤ◌, inl, inr, arith}
-use Rattle.std.proofs.{lemmas.Bool.cases_lt, lemmas.Int.ints, lemmas.List.Elements.Contains-append_left}
+use Rattle.std.proofs.Common.{◌≡◌, ℕ, zero, suc, ◌<◌, ◌≤◌, ◌+◌, ◌-◌, Bool, true, false, List, [], ◌∷◌, ◌++◌, length, ap, refl, sym, ◌∙◌, subst, ℤ, pos, neg_ℤ, ◌<ℤ◌, ◌≤ℤ◌, inl, inr, arith}
+use Rattle.std.proofs.{lemmas.Bool.cases_lt, lemmas.List.Elements.Contains-append_left}
 use Rattle.std.specs.List.{Contains, prefix_len}
 use Rattle.lra_linear_spec.specs.Descriptions.{LinearRow, Con, equality, rows_as, rays_of, system_of}
 use Rattle.lra_linear_spec.specs.Polyhedra.{HasPoint, IsPolyhedron, Polyhedron}
 use Rattle.lra_linear_spec.specs.{Cones.Generated, Cones.all_rows, Echelon.IsEchelon, Echelon.HasPivot, Echelon.Spanned, Kinds.is_equality, Points.IsEmptySet, Points.IsPoint, SetOperations.ValidOn}
 use Rattle.lra_linear_spec.specs.{Vectors.dot, Vectors.entry, Vectors.negated, Vectors.product, declared.ConKind.ConKind, declared.ConKind.TheVariants.Eq, declared.ConKind.TheVariants.Ge}
 use Rattle.lra_linear_spec.proofs.CanonicalForms.{lines_are_all, spanned_in_cone, spanned_negative}
-use Rattle.lra_linear_spec.proofs.Products.{dot_minus, entry_negated, entry_past, negated_dot, negated_length, product_comm}
+use Rattle.lra_linear_spec.proofs.Products.{dot_minus, entry_negated, entry_past, negated_dot, negated_length, product_comm, dot_first}
 use Rattle.lra_linear_spec.proofs.Signs.{between_opposites, not_both, opposite_of_zero, times_positive, zero_at_least}
 use Rattle.lra_linear_spec.proofs.{Combinations.generated_same, Descriptions.in_system, LinearMaps.generated_nonneg, Membership.contains_head, Membership.contains_tail, OneSpelling.cone_solved}
 use Rattle.lra_linear_spec.proofs.{OneSpelling.given_has, Polyhedra.con_gen, Polyhedra.generators_lines, Polyhedra.generators_rays, SetOperations.has_vertex, SetOperations.valid_on_rows}
@@ -41,30 +41,9 @@ fewer_above w lo (r ∷ rows) (suc p ∷ ps) width ech none low h =
     omega (arith, i, above)
 
 -- ---- an equality that a point meets doesn't lead in column 0
-first_alone : (c : List ℤ) (u : ℕ → ℤ) → ((j : ℕ) → 0 < j → entry c j ≡ pos 0) → dot c u ≡ entry c 0 *ℤ u 0
-first_alone [] u h = nothing (u 0)
-  where
-    nothing : (z : ℤ) → pos 0 ≡ pos 0 *ℤ z
-    nothing z = omega (arith, ints)
-first_alone (c ∷ cs) u h = ap (λ (z : ℤ). (c *ℤ u 0) +ℤ z) (zero_row cs (λ j. u (suc j)) (λ j. h (suc j) (omega arith)))
-    ∙ right_zero (c *ℤ u 0)
-  where
-    right_zero : (z : ℤ) → z +ℤ pos 0 ≡ z
-    right_zero z = omega (arith, ints)
-
-    zero_row : (cs : List ℤ) (w : ℕ → ℤ) → ((j : ℕ) → entry cs j ≡ pos 0) → dot cs w ≡ pos 0
-    zero_row [] w h = refl
-    zero_row (d ∷ ds) w h = both d (w 0) (dot ds (λ j. w (suc j))) (h 0) (zero_row ds (λ j. w (suc j)) (λ j. h (suc j)))
-      where
-        both : (d x y : ℤ) → d ≡ pos 0 → y ≡ pos 0 → (d *ℤ x) +ℤ y ≡ pos 0
-        both d x y e f = ap (λ (z : ℤ). (z *ℤ x) +ℤ y) e ∙ ap (λ (z : ℤ). (pos 0 *ℤ x) +ℤ z) f ∙ sum x
-          where
-            sum : (x : ℤ) → (pos 0 *ℤ x) +ℤ pos 0 ≡ pos 0
-            sum x = omega (arith, ints)
-
 not_leading : (n : ℕ) (c x : List ℤ) → IsPoint n x → product c x ≡ pos 0 → ¬ (HasPivot c 0)
 not_leading n c x i z l = not_both (product c x)
-    (subst (λ (y : ℤ). pos 0 <ℤ y) (sym (first_alone c (entry x) (λ j h. l.before j (h, inr refl))))
+    (subst (λ (y : ℤ). pos 0 <ℤ y) (sym (dot_first c (entry x) (λ j h. l.before j (h, inr refl))))
     (times_positive (entry c 0) (entry x 0) l.here i.divisor)) z
 
 equality_has : (p : Polyhedron) (h : HasPoint p) (c : List ℤ) → Contains h.equalities c → Contains p.rows (equality c)

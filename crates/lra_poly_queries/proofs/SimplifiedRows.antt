@@ -6,6 +6,7 @@ use Rattle.std.specs.{List.Contains, Prelude.unwrap_or}
 use Rattle.lra_linear_spec.specs.Descriptions.{Con, LinearRow, Holds}
 use Rattle.lra_linear_spec.specs.{Kinds.is_equality, Points.SameSet, Polyhedra.Polyhedron, SetOperations.Meet, Strain.Loss, declared.ConKind.ConKind}
 use Rattle.lra_linear_spec.proofs.Membership.{contains_cases, contains_middle, contains_tail, split_none}
+use Rattle.lra_linear_spec.proofs.ListPlaces.{there_within}
 use Rattle.lra_poly.specs.Outcomes.{IfExact, IfFlagged, first_of}
 use Rattle.lra_poly.specs.{declared.outcome.Outcome.Outcome, declared.outcome.Outcome.TheVariants.Exact, declared.outcome.Outcome.TheVariants.Flagged}
 use Rattle.lra_poly.proofs.PolyLemmas.{if_exact, if_flagged}
@@ -304,14 +305,9 @@ told_at n context list kept others i r k told er ek eo t g later e =
 pub row_at : (list : LinearSystem ConKind) (i : ℕ) → length list.kinds ≡ length list.rows → i < length list.rows →
     (g : LinearRow) × (drop i (constraints list) ≡ g ∷ drop (i + 1) (constraints list))
 row_at list i n h =
-    let r = some_at list.rows i h in
-    let k = some_at list.kinds i (omega (arith, n, h)) in
+    let r = there_within list.rows i h in
+    let k = there_within list.kinds i (omega (arith, n, h)) in
     (record { row = r.0; equal = is_equality k.0 }, at_place list i r.0 k.0 r.1 k.1)
-  where
-    some_at : {A : Type 0} (xs : List A) (i : ℕ) → i < length xs → (x : A) × (slice_get xs i ≡ Some x)
-    some_at [] i h = absurd (omega (arith, h))
-    some_at (x ∷ xs) zero h = (x, refl)
-    some_at (x ∷ xs) (suc i) h = some_at xs i (omega (arith, h))
 
 -- the place behind, where the one at hand is left out
 pub place_left : (p context : Polyhedron) (list kept : LinearSystem ConKind) (i n : ℕ) (o : Outcome) → n ≡ p.dims →

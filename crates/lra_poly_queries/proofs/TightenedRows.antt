@@ -6,6 +6,7 @@ use Rattle.lra_linear_spec.specs.Descriptions.{Con, LinearRow, equality, inequal
 use Rattle.lra_linear_spec.specs.{Kinds.is_equality, LowestTerms.IsPrimitive, Points.IsPoint, Points.IsWithin, Polyhedra.falsity, Vectors.entry, Vectors.product, declared.ConKind.ConKind}
 use Rattle.lra_linear_spec.proofs.{Descriptions.con_cons, Descriptions.con_head, Descriptions.con_none, Descriptions.con_tail, Lines.entry_zeros, OneSpelling.falsity_never, Products.dot_same}
 use Rattle.lra_linear_spec.proofs.{Products.dot_scale, Products.product_comm, Ring.mul_nonnegative, Ring.ring, Ring.v, Ring.⊖, Ring.◌⊕◌, Ring.◌⊗◌, Signs.cases_sign, Signs.no_product}
+use Rattle.lra_linear_spec.proofs.Signs.{add_nonnegative, difference}
 use Rattle.lra_systems.specs.LinearSystems.{LinearSystem, constraints, rows_by_kind}
 use Rattle.lra_systems.proofs.LinearRows.{constraints_pushed, given_more}
 use Rattle.lra_poly_queries.specs.Tightened.{AreTightened, IsTightened}
@@ -38,16 +39,10 @@ round_up : (d : ℕ) (c q y x : ℤ) → (q *ℤ pos d) ≤ℤ c → pos 0 ≤�
     pos 0 ≤ℤ ((c *ℤ x) +ℤ (pos d *ℤ y))
 round_up d c q y x low up h =
     let wide = mul_nonnegative (pos d) ((q *ℤ x) +ℤ y) (omega (arith, ints)) h in
-    let more = mul_nonnegative (c +ℤ neg_ℤ (q *ℤ pos d)) x (apart (q *ℤ pos d) c low) up in
+    let more = mul_nonnegative (c +ℤ neg_ℤ (q *ℤ pos d)) x (difference (q *ℤ pos d) c low) up in
     let spread : (pos d *ℤ ((q *ℤ x) +ℤ y)) +ℤ ((c +ℤ neg_ℤ (q *ℤ pos d)) *ℤ x) ≡ (c *ℤ x) +ℤ (pos d *ℤ y) =
     ring (v (pos d) ⊗ (v q ⊗ v x ⊕ v y) ⊕ (v c ⊕ ⊖ (v q ⊗ v (pos d))) ⊗ v x) (v c ⊗ v x ⊕ v (pos d) ⊗ v y) (omega arith) in
-    subst (λ (z : ℤ). pos 0 ≤ℤ z) spread (sum (pos d *ℤ ((q *ℤ x) +ℤ y)) ((c +ℤ neg_ℤ (q *ℤ pos d)) *ℤ x) wide more)
-  where
-    apart : (a b : ℤ) → a ≤ℤ b → pos 0 ≤ℤ (b +ℤ neg_ℤ a)
-    apart a b h = omega (arith, ints, h)
-
-    sum : (a b : ℤ) → pos 0 ≤ℤ a → pos 0 ≤ℤ b → pos 0 ≤ℤ (a +ℤ b)
-    sum a b h k = omega (arith, ints, h, k)
+    subst (λ (z : ℤ). pos 0 ≤ℤ z) spread (add_nonnegative (pos d *ℤ ((q *ℤ x) +ℤ y)) ((c +ℤ neg_ℤ (q *ℤ pos d)) *ℤ x) wide more)
 
 -- ---- an inequality
 pub at_least_tightened : (n : ℕ) (c q : ℤ) (cs ds : List ℤ) (d : ℕ) → 0 < d → length ds ≡ n →

@@ -4,7 +4,7 @@ use Rattle.std.proofs.Common.{List, [], ap, arith, inl, inr, length, neg_ℤ, ne
 use Rattle.std.proofs.{lemmas.Int.ints, lemmas.List.Elements.Contains-append_left}
 use Rattle.std.specs.List.{Contains}
 use Rattle.lra_linear_spec.specs.Polyhedra.{HasPoint, IsPolyhedronOf, Polyhedron, positivity}
-use Rattle.lra_linear_spec.specs.Vectors.{behind_zero, dot, entry, product, sum_of, zeros}
+use Rattle.lra_linear_spec.specs.Vectors.{behind_zero, entry, product, sum_of, zeros}
 use Rattle.lra_linear_spec.specs.{Cones.Generated, Cones.Solves, Cones.both_ways, Descriptions.Con, Descriptions.LinearRow, Descriptions.system_of, LowestTerms.IsPrimitive, Points.IsPoint}
 use Rattle.lra_linear_spec.proofs.Combinations.{generated_divided, generated_plus, generated_same, generated_times, generated_zero}
 use Rattle.lra_linear_spec.proofs.OneSpelling.{columns_of, cone_solved, far, gone, gone_divisor, gone_product, positivity_product, rows_hold, some_member}
@@ -13,6 +13,7 @@ use Rattle.lra_linear_spec.proofs.{LinearMaps.generated_right, LinearMaps.genera
 use Rattle.lra_linear_spec.proofs.{LowestTerms.same_multiple, Membership.contains_cases, Membership.contains_head, Membership.contains_none, Membership.contains_tail, Products.blend_length}
 use Rattle.lra_linear_spec.proofs.{Products.negated_dot, Products.negated_length, Products.product_comm, Products.row_same, Ring.mul_nonnegative, Ring.ring, Ring.v, Ring.⊖, Ring.◌⊕◌, Ring.◌⊗◌}
 use Rattle.lra_linear_spec.proofs.{Saturation.Beside, Saturation.IsExtreme, Signs.add_nonnegative, Signs.cancel_same, Signs.not_both, Signs.times_positive, Spans.all_zero}
+use Rattle.lra_linear_spec.proofs.Products.{dot_first}
 use Rattle.lra_canonical.proofs.Solutions.{description_exists}
 use Rattle.lra_poly_widening.proofs.{Dimension.pivot_row, Faces.IsAbove, Faces.above_generated, Faces.beside_back, Faces.con, Faces.equality_flat, Faces.facet_not_flat, Faces.gen, Faces.line_flat}
 
@@ -61,15 +62,6 @@ strong_found cone lines r x sub (t ∷ rows) h (suc f ∷ fs) l g k p e =
     by_other b zero q again = let i = again q in (i.0, contains_tail t i.0 rows i.1, i.2)
 
 -- ---- the positivity row stands beside no other facet
-dot_flat : (cs : List ℤ) (u : ℕ → ℤ) → ((j : ℕ) → entry cs j ≡ pos 0) → dot cs u ≡ pos 0
-dot_flat [] u h = refl
-dot_flat (c ∷ cs) u h =
-    ap (λ y. (y *ℤ u 0) +ℤ dot cs (λ j. u (suc j))) (h 0) ∙ ap (λ y. (pos 0 *ℤ u 0) +ℤ y) (dot_flat cs (λ j. u (suc j)) (λ j. h (suc j))) ∙
-    ring (v (pos 0) ⊗ v (u 0) ⊕ v (pos 0)) (v (pos 0)) (omega arith)
-
-dot_first : (cs : List ℤ) (u : ℕ → ℤ) → ((j : ℕ) → 0 < j → entry cs j ≡ pos 0) → dot cs u ≡ entry cs 0 *ℤ u 0
-dot_first [] u h = ring (v (pos 0)) (v (pos 0) ⊗ v (u 0)) (omega arith)
-dot_first (c ∷ cs) u h = ap (λ y. (c *ℤ u 0) +ℤ y) (dot_flat cs (λ j. u (suc j)) (λ j. h (suc j) (omega arith))) ∙ ring (v c ⊗ v (u 0) ⊕ v (pos 0)) (v c ⊗ v (u 0)) (omega arith)
 
 -- no equality leads in column 0
 pub no_pivot_first : (p : Polyhedron) (h : HasPoint p) → ¬ (Contains h.constraints_canonical.pivots 0)

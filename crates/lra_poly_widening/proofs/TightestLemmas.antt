@@ -10,6 +10,7 @@ use Rattle.lra_linear_spec.specs.{Widening.LimitedWidening, Widening.is_valid, d
 use Rattle.lra_systems.specs.LinearSystems.{LinearSystem, constraints, rows_by_kind}
 use Rattle.lra_linear_spec.proofs.Membership.{contains_cases, contains_none, filter_from, filter_has}
 use Rattle.lra_linear_spec.proofs.{Ring.mul_nonnegative, Ring.ring, Ring.v, Ring.◌⊕◌, Ring.◌⊗◌, Widening.valid_decides}
+use Rattle.lra_linear_spec.proofs.Signs.{add_nonnegative}
 use Rattle.lra_poly.specs.Outcomes.{Becomes, IfExact, IfFlagged}
 use Rattle.lra_poly.specs.{declared.outcome.Outcome.Outcome, declared.outcome.Outcome.TheVariants.Exact, declared.outcome.Outcome.TheVariants.Flagged}
 use Rattle.lra_poly.proofs.PolyLemmas.{becomes_same}
@@ -62,15 +63,12 @@ between x y e f = grind (arith, ints)
 from_zero : (z : ℤ) → z ≡ pos 0 → pos 0 ≤ℤ z
 from_zero z e = grind (arith, ints)
 
-sum_above : (x y : ℤ) → pos 0 ≤ℤ x → pos 0 ≤ℤ y → pos 0 ≤ℤ (x +ℤ y)
-sum_above x y e f = grind (arith, ints)
-
 -- d is c and what is between
 with_room : (d c e r : ℤ) → pos 0 ≤ℤ ((d +ℤ (negsuc 0 *ℤ c)) *ℤ e) → pos 0 ≤ℤ ((c *ℤ e) +ℤ r) → pos 0 ≤ℤ ((d *ℤ e) +ℤ r)
 with_room d c e r a b =
     let same : ((d +ℤ (negsuc 0 *ℤ c)) *ℤ e) +ℤ ((c *ℤ e) +ℤ r) ≡ (d *ℤ e) +ℤ r =
     ring (((v d ⊕ v (negsuc 0) ⊗ v c) ⊗ v e) ⊕ ((v c ⊗ v e) ⊕ v r)) ((v d ⊗ v e) ⊕ v r) (omega arith) in
-    subst (λ (z : ℤ). pos 0 ≤ℤ z) same (sum_above ((d +ℤ (negsuc 0 *ℤ c)) *ℤ e) ((c *ℤ e) +ℤ r) a b)
+    subst (λ (z : ℤ). pos 0 ≤ℤ z) same (add_nonnegative ((d +ℤ (negsuc 0 *ℤ c)) *ℤ e) ((c *ℤ e) +ℤ r) a b)
 
 -- where the lower row has a value at least 0, the other one has
 lower_holds : (n : ℕ) (xs ys x : List ℤ) → IsPoint n x → IsLower xs ys → pos 0 ≤ℤ product xs x → pos 0 ≤ℤ product ys x

@@ -1,11 +1,11 @@
 -- The combination of two rows on either side of a third has product 0 with it, and substitution replaces a coordinate.
 use Rattle.std.proofs.Common.{arith, ◌≡◌, ℕ, ◌<◌, List, [], ◌∷◌, length, ap, sym, ◌∙◌, refl, pos, ℤ, ◌+ℤ◌, ◌*ℤ◌, neg_ℤ, ◌<ℤ◌, Result, Ok, Err, cond}
-use Rattle.std.proofs.{lemmas.Int.ints, lemmas.List.Elements.All-head, lemmas.List.Elements.All-tail}
+use Rattle.std.proofs.{lemmas.List.Elements.All-head, lemmas.List.Elements.All-tail}
 use Rattle.std.specs.List.{All}
 use Rattle.lra_linear_spec.specs.CheckedArithmetic.{checked_product, checked_entry, checked_blend, then_rest, checked_combination, checked_added, checked_added_entry, checked_substitution}
 use Rattle.lra_linear_spec.specs.Vectors.{entry, product, blend, combined, cleared, substituted}
 use Rattle.lra_linear_spec.specs.{LowestTerms.IsLowest, Range.InRange, Range.in_range, declared.Excess.Excess, declared.Operation.TheVariants.Product, declared.Operation.TheVariants.Sum}
-use Rattle.lra_linear_spec.proofs.Signs.{as_nat, positive_nat, neg_nat, no_product, positive_is_nonnegative}
+use Rattle.lra_linear_spec.proofs.Signs.{as_nat, positive_nat, neg_nat, no_product, positive_is_nonnegative, neg_positive}
 use Rattle.lra_linear_spec.proofs.{CheckedArithmetic.in_range_yes, Products.entry_blend, Products.dot_same, Products.dot_linear, Products.dot_scale, Ring.v, Ring.◌⊕◌, Ring.◌⊗◌, Ring.⊖, Ring.ring}
 use Rattle.lra_row.specs.Rows.{IsPositiveSum}
 use Rattle.lra_row.proofs.FirstPassing.{combination_is}
@@ -30,13 +30,10 @@ combined_positive u w c row l above below h =
       times = h.times;
       left = a.0;
       right = b.0;
-      positive = (h.positive, nonzero (product c w) a.0 below a.1, positive_nat (product c u) b.0 above b.1);
+      positive = (h.positive, neg_positive (product c w) a.0 below a.1, positive_nat (product c u) b.0 above b.1);
       is_sum = λ j. h.is_multiple j ∙ entry_blend (neg_ℤ (product c w)) (product c u) u w l j ∙ ap (λ (x : ℤ). (x *ℤ entry u j) +ℤ (product c u *ℤ entry w j)) a.1 ∙
           ap (λ (x : ℤ). (pos a.0 *ℤ entry u j) +ℤ (x *ℤ entry w j)) b.1;
     }
-  where
-    nonzero : (z : ℤ) (n : ℕ) → z <ℤ pos 0 → neg_ℤ z ≡ pos n → 0 < n
-    nonzero z n h e = omega (arith, ints, h, e)
 
 -- the combination from the numbers that were computed
 pub combined_read : (u w c row : List ℤ) (above below opposite : ℤ) → above ≡ product c u → below ≡ product c w → opposite ≡ neg_ℤ below → row ≡ blend opposite above u w → row ≡ combined u w c

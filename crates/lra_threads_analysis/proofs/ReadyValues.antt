@@ -1,7 +1,8 @@
 -- What judging accesses asks of the values that an iteration leaves.
-use Rattle.std.proofs.Common.{◌≡◌, ◌∙◌, ◌<◌, ℕ, zero, suc, List, [], ◌∷◌, length, get_or, Some, refl, sym, subst, arith}
+use Rattle.std.proofs.Common.{◌≡◌, ◌∙◌, ◌<◌, ℕ, List, length, get_or, Some, sym, subst, arith}
 use Rattle.std.proofs.{lemmas.List.length-map, lemmas.Option.slice_get-get_or, lemmas.Option.slice_get_within, lemmas.Option.get_or_from_slice_get}
 use Rattle.std.specs.Prelude.{All, slice_get}
+use Rattle.lra_linear_spec.proofs.ListPlaces.{also_there}
 use Rattle.lra_box.specs.{Abstraction.box_abstraction, Content.BoxContent}
 use Rattle.lra_program.specs.Sites.{Site}
 use Rattle.lra_operations.specs.{CheckedOperations.OpAtPoint, TreeViews.site_view, declared.tree.InlinedProgram.InlinedProgram}
@@ -9,14 +10,6 @@ use Rattle.lra_analysis_spec.specs.LiveLimit.{most_live}
 use Rattle.lra_fixpoint.specs.Lives.{AreWide}
 use Rattle.lra_overflow_checks.specs.Judged.{AreBelow}
 use Rattle.lra_threads_analysis.specs.Found.{sites_in}
-
--- the place is there in a list that is as long
-pub same_place : {A B : Type 0} (xs : List A) (ys : List B) (k : ℕ) (x : A) → length ys ≡ length xs → slice_get xs k ≡ Some x
-    → (y : B) × (slice_get ys k ≡ Some y)
-same_place [] ys k x long e = let wrong : ⊥ = cc in absurd wrong
-same_place (z ∷ xs) [] k x long e = let wrong : ⊥ = cc in absurd wrong
-same_place (z ∷ xs) (y ∷ ys) zero x long e = (y, refl)
-same_place (z ∷ xs) (y ∷ ys) (suc k) x long e = same_place xs ys k x (omega (arith, long)) e
 
 module _ (graph : InlinedProgram) (values : List BoxContent) (points : length values ≡ length graph.sites.items) where
   pub as_many_sites : length values ≡ length (sites_in graph)
@@ -27,7 +20,7 @@ module _ (graph : InlinedProgram) (values : List BoxContent) (points : length va
   few_dims wide few k d h =
       let v = get_or values k d in
       let there : slice_get values k ≡ Some v = slice_get-get_or values k d h in
-      let (s, site) = same_place values (sites_in graph) k v (sym as_many_sites) there in
+      let (s, site) = also_there values (sites_in graph) k v (sym as_many_sites) there in
       let low = few k s (slice_get_within (sites_in graph) k s site) in
       let own : s.live < most_live = subst (λ (t : Site). t.live < most_live) (get_or_from_slice_get (sites_in graph) k s s site) low in
       let dims = wide k v there s site in

@@ -14,7 +14,8 @@ use Rattle.lra_threads_analysis.specs.Found.{AreInstrumented, HoldsOf, IsThreadR
 use Rattle.lra_threads_analysis.specs.Found.{flag_of_thread}
 use Rattle.lra_threads_analysis.specs.{Analysed.IsAnalysed, Analysed.IsAnalysedOf, Holding.AllHold, Holding.AreFlagged, Holding.HoldsInRound, declared.found.ThreadResult.ThreadResult}
 use Rattle.lra_threads_analysis.proofs.OwnAccesses.{judged_own, none_before, accessed_written, by_flag}
-use Rattle.lra_threads_analysis.proofs.{ReadyValues.as_many_sites, ReadyValues.same_place, RoundsOf.all_told, RoundsOf.all_fit}
+use Rattle.lra_linear_spec.proofs.ListPlaces.{also_there}
+use Rattle.lra_threads_analysis.proofs.{ReadyValues.as_many_sites, RoundsOf.all_told, RoundsOf.all_fit}
 
 -- an element there has its own in the list of which this is the image
 own_there : {A B : Type 0} (f : A → B) (o : Option A) (y : B) → option_map f o ≡ Some y → (x : A) × (o ≡ Some x) × (y ≡ f x)
@@ -29,7 +30,7 @@ module _ (plan : Plan) (globals : List GlobalVariable) (graphs : List InlinedPro
       → AreThreadResults (length globals) (IsAnalysedOf plan globals graphs) (length graphs) end.table end.found → P.globals ≡ globals
       → slice_get graphs k ≡ Some graph → node_view graph.tree ≡ instrumented (length P.globals) g → HoldsInRound P k graph g end
   holds_in_round P k graph g end are same is opens =
-      let (f, there) = same_place graphs end.found k graph are.all is in
+      let (f, there) = also_there graphs end.found k graph are.all is in
       let (one, at, analysed) = are.each k f there in
       let own : one ≡ graph = same_Some one graph (sym at ∙ is) in
       of_graph f there (subst (λ (x : InlinedProgram). IsAnalysed plan globals x (threads_interference (length globals) k end.table) f) own analysed)

@@ -15,7 +15,8 @@ use Rattle.lra_threads_analysis.specs.Found.{AreInstrumented, AreReady, IsThread
 use Rattle.lra_threads_analysis.specs.{Holding.AllHold, Holding.AreFlagged, Interleaved.AreThreads, Interleaved.IsThread, Interleaved.ThreadsHold, declared.found.ThreadResult.ThreadResult}
 use Rattle.lra_threads_source.specs.ThreadsReports.{IsThreadsReportOf, shared_program, thread_functions, threads_plan}
 use Rattle.lra_threads_source.specs.{Listed.ShowsThreads, Listed.thread_place, Stages.AreGraphsOf, Stages.AreOfGraphs, Stages.IsFlagIn, Stages.IsInstrumented, ThreadsText.ThreadsReport}
-use Rattle.lra_threads_source.proofs.{FlaggedPoints.flag_there, Handed.of_graphs, Readying.are_graphs, Readying.are_ready, Readying.graph_at, Readying.zip_at, Readying.zip_viewed, Sound.element_at}
+use Rattle.lra_linear_spec.proofs.ListPlaces.{there_within}
+use Rattle.lra_threads_source.proofs.{FlaggedPoints.flag_there, Handed.of_graphs, Readying.are_graphs, Readying.are_ready, Readying.graph_at, Readying.zip_at, Readying.zip_viewed}
 
 -- the globals as they are handed on
 pub globals_seen : (t : FileTree) (p : declared.Program) (globals : List GlobalVariable) → program_view p ≡ thread_program t p.main → globals ≡ p.globals.items
@@ -72,7 +73,7 @@ module _ (source : List ℕ) (t : FileTree) (accepted : AcceptsThreads Spells so
   are_threads k f there =
       let (place, at, same) = image_of (λ (p : ℕ). function_or (slice_get (resolved_functions t) p)) (thread_places t) k f there in
       let many = (graphs_handed).count in
-      let (h, here) = element_at others k (let low = slice_get_within (thread_places t) k place at in omega (arith, low, many)) in
+      let (h, here) = there_within others k (let low = slice_get_within (thread_places t) k place at in omega (arith, low, many)) in
       let (g, own, is_opened, (place', at', of)) = graph_at t accepted.names accepted.within graphs others read (length globals) long opens k h here in
       let one : place' ≡ place = same_Some place' place (sym at' ∙ at) in
       let of' : IsInlinedOf (thread_program t place) g = subst (λ (p : ℕ). IsInlinedOf (thread_program t p) g) one of in (
@@ -102,7 +103,7 @@ module _ (source : List ℕ) (t : FileTree) (accepted : AcceptsThreads Spells so
         let (g', here, same) = image_of (λ (x : InlinedProgram). node_view x.tree) graphs k g there in
         let (place, at, of) = zip_at (IsThreadInlined t) (thread_places t) graphs k g' read here in
         let many = (graphs_handed).count in
-        let (h, own) = element_at others k (let within = slice_get_within (thread_places t) k place at in omega (arith, within, many)) in
+        let (h, own) = there_within others k (let within = slice_get_within (thread_places t) k place at in omega (arith, within, many)) in
         let points = (graphs_handed).sites k h own in
         let long = length-map h.sites.items site_view in
         let same_points = ap length points in

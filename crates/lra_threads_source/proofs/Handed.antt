@@ -1,11 +1,11 @@
 -- What rounds end with, as the listing asks it.
 use Rattle.std.proofs.Common.{◌≡◌, ◌∙◌, ◌≤◌, ◌<◌, ◌+◌, ℕ, suc, Bool, true, false, List, [], ◌∷◌, length, map, sym, subst, arith}
 use Rattle.std.proofs.{lemmas.List.length-map, lemmas.Option.same_Some}
-use Rattle.std.specs.{List.AllByRecursion, List.Contains, Prelude.Some, Prelude.slice_get, Prelude.if◌then◌else◌}
+use Rattle.std.specs.{List.AllByRecursion, Prelude.Some, Prelude.slice_get, Prelude.if◌then◌else◌}
 use Rattle.lra_base.specs.declared.refusals.Place.{Place}
 use Rattle.lra_program.specs.{Assertions.assertions_from, Program.Program, Sites.Site, declared.program.GlobalVariable.GlobalVariable}
 use Rattle.lra_operations.specs.{Tree.Node, TreeViews.node_view, TreeViews.site_view, declared.tree.InlinedProgram.InlinedProgram}
-use Rattle.lra_linear_spec.proofs.Membership.{contains_head, contains_tail}
+use Rattle.lra_linear_spec.proofs.ListPlaces.{by_recursion}
 use Rattle.lra_analysis_spec.specs.Instrumented.{instrumented}
 use Rattle.lra_base.specs.AccessVerdicts.{reported_view}
 use Rattle.lra_threads_fixpoint.specs.Rounds.{ThreadsFixpoint}
@@ -24,10 +24,6 @@ asserting_low k n (s ∷ ss) low = by s.asserts (asserting_low (suc k) n ss (ome
     by true rest = (omega (arith, low), rest)
     by false rest = rest
 
-each_among : {A : Type 0} (P : A → Type 0) (xs : List A) → ((x : A) → Contains xs x → P x) → AllByRecursion P xs
-each_among P [] each = tt
-each_among P (x ∷ xs) each = (each x (contains_head x xs), each_among P xs (λ y among. each y (contains_tail x y xs among)))
-
 pub of_graph : (P : Program) (k : ℕ) (graph : InlinedProgram) (g : Node) (end : ThreadsFixpoint ThreadResult) (h : HoldsInRound P k graph g end) →
     IsOfGraph graph h.found
 of_graph P k graph g end h =
@@ -42,7 +38,7 @@ of_graph P k graph g end h =
           (asserting_low 0 (points_in graph) (sites_in graph) (omega (arith, long))));
       inside =
           all_viewed (λ (v : ℕ × List (Place × Bool)). v.0 < points_in graph) reported_view h.found.inside.verdicts.items
-          (each_among (λ (v : ℕ × List (Place × Bool)). v.0 < points_in graph) (access_verdicts_of h.found)
+          (by_recursion (λ (v : ℕ × List (Place × Bool)). v.0 < points_in graph) (access_verdicts_of h.found)
           (λ v among.
           let low = answers_low g (thread_values h.found) before (access_verdicts_of h.found) _ judged v among in
           let many = h.points in

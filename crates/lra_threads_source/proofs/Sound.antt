@@ -2,8 +2,8 @@
 use Rattle.std.proofs.Common.{◌≡◌, ◌∙◌, ◌≤◌, ◌<◌, ◌+◌, ℕ, zero, suc, ℤ, Bool, true, List, [], ◌∷◌, length, get_or, take, inl, inr, refl, sym, ap, subst, arith}
 use Rattle.std.proofs.lemmas.Option.{get_or_from_slice_get, same_Some, slice_get-map, slice_get_within}
 use Rattle.std.proofs.{lemmas.List.length-map, lemmas.List.Elements.Contains-append_cases, lemmas.List.Sums.sum_by-cons}
-use Rattle.std.specs.{List.Contains, List.flat_map, List.sum_by, Prelude.Option, Prelude.Some, Prelude.IsTrue, Prelude.option_map, Prelude.slice_get}
-use Rattle.lra_linear_spec.proofs.Membership.{contains_cases, contains_head, contains_none, contains_tail, map_from}
+use Rattle.std.specs.{List.Contains, List.sum_by, Prelude.Option, Prelude.Some, Prelude.IsTrue, Prelude.option_map, Prelude.slice_get}
+use Rattle.lra_linear_spec.proofs.Membership.{contains_cases, contains_head, contains_none, map_from}
 use Rattle.lra_base.specs.declared.refusals.Place.{Place}
 use Rattle.lra_box.specs.{Abstraction.box_abstraction, Content.BoxContent, declared.interval.Interval.Interval}
 use Rattle.lra_syntax.specs.{Labels.Labelled, Labels.labels_of, Trees.FileTree}
@@ -15,7 +15,8 @@ use Rattle.lra_report.specs.{Listing.AreListed, Listing.listed_verdict, Report.I
 use Rattle.lra_front_end.proofs.Named.{globals_as_many}
 use Rattle.lra_report_build.specs.AnalysisResults.{access_verdicts, access_verdicts_at, site_at, state_of, verdict_at}
 use Rattle.lra_report_build.specs.Shown.{shown_state}
-use Rattle.lra_analyse_source.proofs.Handing.{contained, image_of}
+use Rattle.lra_linear_spec.proofs.ListPlaces.{contains_at, there_within, flat_map_from}
+use Rattle.lra_analyse_source.proofs.Handing.{image_of}
 use Rattle.lra_interleavings.specs.Interleavings.{AtThread, FailsThread, ThreadWritesValue, OutOfBoundsThread}
 use Rattle.lra_threads_fixpoint.specs.{Interference.interval_at, Interference.threads_interference, Rounds.ThreadsFixpoint}
 use Rattle.lra_threads_analysis.specs.Found.{IsThreadResultOf, thread_finding, access_verdicts_of, thread_values, verdicts_of}
@@ -30,23 +31,11 @@ use Rattle.lra_threads_source.proofs.{FlaggedPoints.all_end_found, FlaggedPoints
 
 -- lists --------------------------------------------------------------------------------------------------------------
 
-pub element_at : {A : Type 0} (xs : List A) (k : ℕ) → k < length xs → (x : A) × (slice_get xs k ≡ Some x)
-element_at [] k low = absurd (omega (arith, low))
-element_at (x ∷ xs) zero low = (x, refl)
-element_at (x ∷ xs) (suc k) low = element_at xs k (omega (arith, low))
-
 listed_long : (outside : List (List ℕ)) (ls : List Labelled) (k : ℕ) (ss : List Site) (ps : List PointReport) → AreListed outside ls k ss ps → length ps ≡ length ss
 listed_long outside ls k [] [] listed = refl
 listed_long outside ls k [] (p ∷ ps) listed = absurd listed
 listed_long outside ls k (s ∷ ss) [] listed = absurd listed
 listed_long outside ls k (s ∷ ss) (p ∷ ps) listed = ap suc (listed_long outside ls (suc k) ss ps listed.2)
-
-flat_from : {A B : Type 0} (f : A → List B) (xs : List A) (b : B) → Contains (flat_map f xs) b → (x : A) × Contains xs x × Contains (f x) b
-flat_from f [] b among = absurd (contains_none b among)
-flat_from f (x ∷ xs) b among = elim (Contains-append_cases (f x) (flat_map f xs) b among) [
-  | inl here ↦ (x, contains_head x xs, here)
-  | inr later ↦ let (y, one, there) = flat_from f xs b later in (y, contains_tail x y xs one, there)
-]
 
 -- numbers ------------------------------------------------------------------------------------------------------------
 
@@ -73,7 +62,7 @@ before_by_turn t k few = sums_by_turn t 0 (thread_places t) (λ i low. ap (threa
 module _ (t : FileTree) (end : ThreadsFixpoint ThreadResult) (holds : HoldsInterleaved (shared_program t) (thread_functions t) end) where
   function_at : (k : ℕ) → k < length (thread_places t) → slice_get (thread_functions t) k ≡ Some (function_or (slice_get (resolved_functions t) (thread_place t k)))
   function_at k low =
-      let (place, there) = element_at (thread_places t) k low in
+      let (place, there) = there_within (thread_places t) k low in
       slice_get-map (λ (p : ℕ). function_or (slice_get (resolved_functions t) p)) (thread_places t) k
       ∙ ap (option_map (λ (p : ℕ). function_or (slice_get (resolved_functions t) p))) there
       ∙ ap (λ (p : ℕ). Some (function_or (slice_get (resolved_functions t) p))) (sym (get_or_from_slice_get (thread_places t) k place 0 there))
@@ -87,7 +76,7 @@ module _ (t : FileTree) (end : ThreadsFixpoint ThreadResult) (holds : HoldsInter
       sym (slice_get-map state_of ps q ∙ ap (option_map state_of) there) ∙ ap (λ (l : List Invariant). slice_get l q) alone.states
       ∙ slice_get-map (shown_state box_abstraction) (thread_values found) q ∙ ap (option_map (shown_state box_abstraction)) value in
       subst (λ (x : Invariant). InvariantHolds x store) (sym (same_Some p.state (shown_state box_abstraction v) state))
-      ((alone.are_shown v (contained (thread_values found) q v value)).holds store has)
+      ((alone.are_shown v (contains_at (thread_values found) q v value)).holds store has)
 
   pub points_hold : (points : List PointReport) → length end.found ≡ length (thread_places t) → ShowsPoints t end.found points → (k q : ℕ) (s : Site) (x : PointReport)
       (store : List ℤ) → IsPointOf t k q s
@@ -97,7 +86,7 @@ module _ (t : FileTree) (end : ThreadsFixpoint ThreadResult) (holds : HoldsInter
       holds.stores k q (function_or (slice_get (resolved_functions t) (thread_place t k))) s store (function_at k is.is_thread) is.is_point at in
       let low = slice_get_within end.found k found is_found in
       let as_many = shows.as_many in
-      let (ps, is_alone) = element_at shows.alone k (omega (arith, low, as_many)) in
+      let (ps, is_alone) = there_within shows.alone k (omega (arith, low, as_many)) in
       let alone = shows.are_listed k found ps is_found is_alone in
       let inside : q < length (thread_sites t k) = slice_get_within (thread_sites t k) q s is.is_point in
       let place : points_before t k + q ≡ sizes_from (size_of t) 0 k + q =
@@ -113,7 +102,7 @@ module _ (t : FileTree) (end : ThreadsFixpoint ThreadResult) (holds : HoldsInter
       sizes i y here =
           let below = slice_get_within shows.alone i y here in
           let as_many = shows.as_many in
-          let (found, is_found) = element_at end.found i (omega (arith, below, as_many)) in
+          let (found, is_found) = there_within end.found i (omega (arith, below, as_many)) in
           length-map y (point_in_thread (points_before t i) (suc i))
           ∙ listed_long (globals_named t.parts) (labels_of t) 1 (thread_sites t i) y (shows.are_listed i found y is_found here).listed
 
@@ -241,7 +230,7 @@ module _ (delay narrow : ℕ) (source : List ℕ) (r : ThreadsReport) (x : IsThr
   accessed_right k q s v is accessed =
       let (j, found, there, told) = first_from (reported_verdicts t accesses_alone) x.end.found v accessed in
       let (u, one, same) = map_from (verdict_in_thread (points_before t j) (suc j)) (accesses_alone t j found) v told in
-      let (w, among, part) = flat_from (access_verdicts_at (labels_of t) (thread_sites t j)) (access_verdicts_of found) u one in
+      let (w, among, part) = flat_map_from (access_verdicts_at (labels_of t) (thread_sites t j)) (access_verdicts_of found) u one in
       let (n, i, here, so) = access_from (labels_of t) (suc w.0) (site_at (thread_sites t j) w.0) 0 w.1 u part in
       told_right j u v Access w.0 n i.1 k q s same (sym (ap (λ (y : Verdict). y.kind) so)) (sym (ap (λ (y : Verdict). y.number) so))
       (sym (ap (λ (y : Verdict). y.which) so) ∙ from_nought n) (sym (ap (λ (y : Verdict). y.holds) so))
@@ -267,7 +256,7 @@ module _ (delay narrow : ℕ) (source : List ℕ) (r : ThreadsReport) (x : IsThr
       let (row, is_row, (interval, is_interval, within)) = x.holds.gives k y z gives in
       let below = gives.global in
       let as_many = globals_as_many t.parts in
-      let (name, named) = element_at (globals_named t.parts) y (omega (arith, below, as_many)) in
+      let (name, named) = there_within (globals_named t.parts) y (omega (arith, below, as_many)) in
       record {
         name = name;
         is_named = named;

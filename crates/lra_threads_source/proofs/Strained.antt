@@ -4,7 +4,8 @@ use Rattle.std.specs.Prelude.{Option, None, Some, option_map}
 use Rattle.lra_resolution_spec.specs.Threads.{thread_program}
 use Rattle.lra_threads_source.specs.ThreadsReports.{AreDefinedThreads, FlaggedThreadsStrain, IsThreadsReportOf, StrainsAtNumber, UnflaggedThreadsAreDefined, shared_program, threads_plan}
 use Rattle.lra_threads_source.specs.{Listed.number_in, Listed.thread_place, Listed.thread_sites, ThreadsText.ThreadsReport}
-use Rattle.lra_threads_source.proofs.{FlaggedPoints.flag_there, Sound.element_at, Sound.tree_at}
+use Rattle.lra_linear_spec.proofs.ListPlaces.{there_within}
+use Rattle.lra_threads_source.proofs.{FlaggedPoints.flag_there, Sound.tree_at}
 
 -- a number that is told is that of a flag
 told_flag : {A : Type 0} (f : A → ℕ) (o : Option A) (n : ℕ) → option_map f o ≡ Some n → (a : A) × (o ≡ Some a) × (f a ≡ n)
@@ -30,7 +31,7 @@ module _ (delay narrow : ℕ) (source : List ℕ) (r : ThreadsReport) (x : IsThr
       let (g, there, low) =
       flag_there (threads_plan delay narrow x.constants) (shared_program x.program.tree) x.program.operations
       (λ k. thread_program x.program.tree (thread_place x.program.tree k)) (λ k g at. (tree_at delay narrow source r x k g at).1) x.end x.rounds f.0 f.1 is in
-      let (s, site) = element_at (thread_sites x.program.tree f.0) f.1 low in
+      let (s, site) = there_within (thread_sites x.program.tree f.0) f.1 low in
       record {
         thread = f.0;
         point = f.1;

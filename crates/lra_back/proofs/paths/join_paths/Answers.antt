@@ -2,7 +2,8 @@
 use Rattle.std.proofs.Common.{◌+◌, add-one}
 use Rattle.lra_path_disjuncts.specs.TableDisjuncts.{all_done, lists_done}
 use Rattle.lra_back.specs.Operations.{lossy_back_operations}
-use Rattle.lra_back.proofs.{JoinSteps.first_comes, JoinSteps.last_comes, JoinSteps.next_comes, PathSteps.contains_at, PathSteps.mapped_past, PathSteps.read_mapped}
+use Rattle.lra_linear_spec.proofs.ListPlaces.{contains_at}
+use Rattle.lra_back.proofs.{JoinSteps.first_comes, JoinSteps.last_comes, JoinSteps.next_comes, PathSteps.mapped_past, PathSteps.read_mapped}
 use Rattle.lra_back.proofs.paths.join_paths.Goals as goal
 
 pub paths-init : goal.paths-init
