@@ -1,7 +1,8 @@
 -- The tree of a well-formed program whose points have few variables fits the iteration.
-use Rattle.std.proofs.Common.{◌≡◌, ◌≢◌, ℕ, zero, suc, ◌+◌, ◌-◌, ◌≤◌, ◌<◌, List, [], ◌∷◌, length, Option, Some, None, Bool, true, inl, inr, refl, sym, ap, ◌∙◌, subst, arith}
+use Rattle.std.proofs.Common.{◌≡◌, ◌≢◌, ℕ, suc, ◌+◌, ◌-◌, ◌≤◌, ◌<◌, List, [], ◌∷◌, length, Option, Some, None, Bool, true, inl, inr, refl, sym, ap, ◌∙◌, subst, arith}
 use Rattle.std.proofs.lemmas.Option.{none-some, same_Some}
 use Rattle.std.specs.{List.AllByRecursion, List.Contains, Prelude.slice_get}
+use Rattle.lra_front_end.proofs.Faultless.{at_place}
 use Rattle.lra_linear_spec.proofs.Membership.{contains_none, contains_cases}
 use Rattle.lra_program.specs.Program.{Slot, global, local, Expr, Cond, Call, Rvalue, Stmt, Cases, BlockItems, Program}
 use Rattle.lra_program.specs.Step.{Op, append, store_value, fill, store_element, havoc, truncate_to, test, ReturnFrame, arguments_for}
@@ -258,11 +259,6 @@ module _ (f : Frame) (n r : ℕ) (x : Receiver) (gives : List Argument → Op) (
   call_fit : (q : ℕ) → Fit f n n (callee_node q r n x (gives es) params g)
   call_fit q = seq_fit _ _ few_params (given_fit q) (catch_fit q)
 
-all_at : {A : Type 0} (P : A → Type 0) (xs : List A) (k : ℕ) (x : A) → AllByRecursion P xs → slice_get xs k ≡ Some x → P x
-all_at P [] k x h e = absurd (none-some x e)
-all_at P (y ∷ xs) zero x h e = subst P (same_Some y x e) h.0
-all_at P (y ∷ xs) (suc k) x h e = all_at P xs k x h.1 e
-
 -- where a part of a well-formed program stands, its variables live
 pub record Standing (P : Program) (f : Frame) (n own : ℕ) : Type 0 where
   pub globals : length P.globals ≤ n
@@ -419,7 +415,7 @@ module _ (P : Program) (T : List Site) (few : AllFew T) (well : IsWellFormed P) 
         call_fit spot.frame spot.live r' y gives (arguments_for fn.parameters c.arguments) adds params g (callee spot.frame spot.live y c) n'
         (given_width fn.parameters c.arguments j) refl refl refl (grows_all d) fw' place
         (fit_all d no_jumps params (in_callee spot.frame spot.live own params y (callee spot.frame spot.live y c) st place refl refl) fw'
-        (all_at (IsGoodFunction P) P.functions c.function fn well.functions i)) spot.next
+        (at_place (IsGoodFunction P) P.functions c.function fn well.functions i)) spot.next
 
 contains_at : {A : Type 0} (P : A → Type 0) (xs : List A) (x : A) → AllByRecursion P xs → Contains xs x → P x
 contains_at P [] x h there = absurd (contains_none x there)

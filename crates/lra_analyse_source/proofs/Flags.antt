@@ -1,5 +1,5 @@
 -- The first flagged point of a program's iteration is a point of the program.
-use Rattle.std.proofs.Common.{◌≡◌, ℕ, zero, suc, ◌-◌, ◌<◌, List, [], ◌∷◌, length, Option, Some, None, Bool, refl, sym, subst}
+use Rattle.std.proofs.Common.{◌≡◌, ℕ, zero, suc, ◌-◌, ◌<◌, List, [], ◌∷◌, length, Option, Some, None, Bool, sym, subst}
 use Rattle.std.proofs.lemmas.Option.{slice_get_within}
 use Rattle.std.specs.Prelude.{⊤}
 use Rattle.lra_domain.specs.{declared.Exactness.Exactness, declared.Exactness.TheVariants.Exact, declared.Exactness.TheVariants.Flagged}
@@ -10,10 +10,11 @@ use Rattle.lra_operations.specs.Inlined.{InlineState, move, IsSiteWith, InlineSt
 use Rattle.lra_operations.specs.Inlined.{as_loop, as_for, as_break, as_continue, as_return, as_return_value, as_return_call, as_end, as_end_value, as_end_call, as_assert, as_assume, as_none}
 use Rattle.lra_operations.specs.Inlined.{as_declaration, as_statement, as_fresh, as_given, is_loop, as_value, as_result, is_call, InlineCall, as_array, as_write, as_write_call, InlineCases, as_switch}
 use Rattle.lra_operations.specs.Inlined.{as_no_cases, as_labelled, as_stated}
-use Rattle.lra_operations.specs.Tree.{Exit, broken, continued, returned, Node, empty, probe, point, act, check, seq, choose, iterate, catch, leave, select, Arms, no_arms, entry, arm}
+use Rattle.lra_operations.specs.Tree.{Node, empty, probe, point, act, check, seq, choose, iterate, catch, leave, select, Arms, no_arms, entry, arm}
 use Rattle.lra_operations.specs.{Agree.IsInlinedTree, declared.probes.Probe.TheVariants.InterferencePoint, declared.probes.Probe.TheVariants.RecordWrite}
-use Rattle.lra_analysis_spec.specs.Pass.{Absorption, nothing_absorbed, PassResult, noted, jumps, jumps_caught, Transformer, LoopRoundFrom, AscendingIteration, DescendingIteration, PassUnder}
+use Rattle.lra_analysis_spec.specs.Pass.{Absorption, nothing_absorbed, PassResult, noted, Transformer, LoopRoundFrom, AscendingIteration, DescendingIteration, PassUnder}
 use Rattle.lra_analysis_spec.specs.{Analysis.Iteration, Operations.Operations, Pass.ArmsPassUnder, Plan.Plan, Plan.Widening, UnderInterference.IterationUnder}
+use Rattle.lra_analysis_spec.proofs.Transfer.{jump_flag, behind_flag}
 use Rattle.lra_fixpoint.specs.Numbers.{ArmsAreBelow, AreBelow}
 
 -- the first flagged point, where there is one, is below n
@@ -95,16 +96,6 @@ noted_below : (n q : ℕ) (e : Exactness) (f : Option ℕ) → q < n → IsBelow
 noted_below n q e (Some p) l b = b
 noted_below n q Exact None l b = tt
 noted_below n q Flagged None l b = l
-
-jump_flag : {V : Type 0} (j : Exit) (v nothing : V) (f : Option ℕ) → (jumps j v nothing f).flag ≡ f
-jump_flag broken v nothing f = refl
-jump_flag continued v nothing f = refl
-jump_flag returned v nothing f = refl
-
-behind_flag : {V : Type 0} (j : Exit) (r : PassResult V) (v : V) (f : Option ℕ) → (jumps_caught j r v f).flag ≡ f
-behind_flag broken r v f = refl
-behind_flag continued r v f = refl
-behind_flag returned r v f = refl
 
 module _ (V H : Type 0) (ops : Operations V H) (admission : Absorption V) (n : ℕ) where
   flag_is : (f g : Option ℕ) → f ≡ g → IsBelow n g → IsBelow n f

@@ -3,6 +3,7 @@
 use Rattle.std.proofs.Common.{◌≡◌, ◌∙◌, ◌<◌, ◌++◌, ℕ, List, [], ◌∷◌, length, map, Option, Some, None, Bool, true, false, refl, sym, ap, subst, arith, inl, inr}
 use Rattle.std.proofs.{lemmas.List.Elements.Contains-append_cases, lemmas.Option.slice_get_within, lemmas.Option.slice_get_read, lemmas.Option.same_Some}
 use Rattle.std.specs.{List.Contains, Prelude.IsTrue, Prelude.slice_get, Prelude.if◌then◌else◌}
+use Rattle.lra_pass_results.proofs.Again.{none_noted}
 use Rattle.lra_linear_spec.proofs.Membership.{contains_cases, contains_none, contains_head, contains_tail, map_from, map_has}
 use Rattle.lra_domain.specs.{declared.Exactness.Exactness, declared.Exactness.TheVariants.Exact, declared.Exactness.TheVariants.Flagged}
 use Rattle.lra_base.specs.declared.number_types.NumberType.{NumberType}
@@ -90,11 +91,7 @@ module _ (asks : Op → Bool) where
 -- where nothing is flagged behind, nothing is before
 first_none : {A : Type 0} (f : Option ℕ) (js : List (Finding A)) → first_flagged f js ≡ None → f ≡ None
 first_none f [] e = e
-first_none f (j ∷ js) e = noted_none j.point j.exactness f (first_none (noted j.point j.exactness f) js e)
-  where
-    noted_none : (q : ℕ) (e : Exactness) (f : Option ℕ) → noted q e f ≡ None → f ≡ None
-    noted_none q e (Some p) h = h
-    noted_none q e None h = refl
+first_none f (j ∷ js) e = none_noted j.point j.exactness f (first_none (noted j.point j.exactness f) js e)
 
 module _ {V H A : Type 0} (ops : Operations V H) (Told : Op → V → A → Exactness → Type 0) (asked : List OpAtPoint) (values : List V) (flagged : Option ℕ)
     (answers : List (ℕ × A)) (behind : Option ℕ) (j : Finds ops Told asked values flagged answers behind) where

@@ -3,6 +3,7 @@
 use Rattle.std.proofs.Common.{◌≡◌, ℕ, zero, suc, ◌≤◌, ◌<◌, List, [], ◌∷◌, length, map, Option, Some, None, Bool, true, false, cond, refl, sym, ap, ◌∙◌, ◌+◌, subst, arith, inl, inr}
 use Rattle.std.proofs.{lemmas.List.length-map, lemmas.List.Elements.Contains-append_cases, lemmas.Option.none-some, lemmas.Option.same_Some}
 use Rattle.std.specs.{List.AllByRecursion, List.Contains, List.flat_map, Prelude.slice_get, Prelude.IsTrue}
+use Rattle.lra_front_end.proofs.Faultless.{at_place}
 use Rattle.lra_linear_spec.proofs.Membership.{contains_cases, contains_head, contains_none, contains_tail, map_from}
 use Rattle.lra_linear_spec.proofs.ListPlaces.{contains_at}
 use Rattle.lra_base.specs.declared.refusals.Place.{Place}
@@ -96,12 +97,6 @@ asserts_counted true h = omega arith
 asserts_counted false h = absurd (let no : false ≡ true = h in cc)
 
 -- what is handed over ------------------------------------------------------------------------------------------------
-
--- what holds of all members holds of that at a place
-at_place : {A : Type 0} (Q : A → Type 0) (xs : List A) (i : ℕ) (x : A) → AllByRecursion Q xs → slice_get xs i ≡ Some x → Q x
-at_place Q [] i x all at = absurd (none-some _ at)
-at_place Q (y ∷ ys) zero x all at = subst Q (same_Some _ _ at) all.0
-at_place Q (y ∷ ys) (suc i) x all at = at_place Q ys i x all.1 at
 
 module _ {V H : Type 0} (m : Abstraction V H) (plan : Plan) (P : Program) (g : Node) (r : PassResult V) (values : List V) (verdicts : List (ℕ × Bool)) (flagged : Option ℕ)
     (graph : IsInlinedTree P g) (derived : LossyIteration m plan P g r) (solves : IsSolution m r values verdicts flagged) where

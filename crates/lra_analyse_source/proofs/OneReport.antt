@@ -19,6 +19,7 @@ use Rattle.lra_program.specs.{Accesses.op_accesses_any, Accesses.OpOutOfBounds, 
 use Rattle.lra_report.specs.Listing.{AreListed, Subject, subjects, AreJudged, Lists, listed_point, listed_verdict}
 use Rattle.lra_report.specs.declared.verdict_kinds.VerdictKind.TheVariants.{Assertion, Fit, Access}
 use Rattle.lra_report.specs.{Report.Invariant, Report.PointReport, Report.Report, Report.Verdict, declared.verdict_kinds.VerdictKind.VerdictKind}
+use Rattle.lra_report.proofs.OneText.{report_by}
 use Rattle.lra_operations.specs.CheckedOperations.{OpAtPoint, AgreesOnOps, AgreesOnOverflows, AgreesOnAccesses, accessing_ops, ops_where}
 use Rattle.lra_operations.specs.Tree.{Node}
 use Rattle.lra_analysis_spec.specs.Operations.{exact_operations, lossy_operations}
@@ -252,9 +253,4 @@ one_unflagged one one_list o source r s x y e f =
     let other_judged = subst (λ (z : Options). AreJudged (labels_of t) (subjects z g t) s.verdicts) (sym options) (lists.verdicts g lists.is_graph) in
     let verdicts : r.verdicts ≡ s.verdicts = same_verdicts (labels_of t)
     (subjects r.options g t) r.verdicts s.verdicts (x.report.lists.verdicts g lists.is_graph) other_judged same.verdicts in
-    one_record r s (x.report.options ∙ sym y.report.options) (e ∙ sym f) points verdicts
-  where
-    one_record : (r s : Report) → r.options ≡ s.options → r.flagged ≡ s.flagged → r.points ≡ s.points → r.verdicts ≡ s.verdicts → r ≡ s
-    one_record r s a b c d =
-        let is : record { options = r.options; flagged = r.flagged; points = r.points; verdicts = r.verdicts }
-        ≡ record { options = s.options; flagged = s.flagged; points = s.points; verdicts = s.verdicts } = rw (a, b, c, d) refl in is
+    report_by r s (x.report.options ∙ sym y.report.options) (e ∙ sym f) points verdicts

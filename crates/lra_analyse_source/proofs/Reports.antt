@@ -24,6 +24,7 @@ use Rattle.lra_analyse_source.proofs.Sound.{value_there, proved_holds, IsListed,
 use Rattle.lra_analyse_source.proofs.{AccessesHold.inside_holds, FitsHold.fitting_holds, Flags.IsBelow, Flags.graph_below, Flags.iteration_below, Found.flagged_below, Numbering.numbered}
 use Rattle.lra_fixpoint.proofs.Counting.{iteration_fails_once}
 use Rattle.lra_front_end.proofs.Named.{shown_as_many}
+use Rattle.lra_front_end.proofs.OneAnswer.{heads, tails}
 
 -- lists --------------------------------------------------------------------------------------------------------------
 
@@ -34,13 +35,7 @@ map_at f g (a ∷ xs) [] e k x there = absurd (not_empty (f a) (map f xs) e)
     not_empty : {C : Type 0} (c : C) (cs : List C) → c ∷ cs ≡ [] → ⊥
     not_empty c cs e = cc
 map_at f g (a ∷ xs) (b ∷ ys) e zero x there = (b, refl, ap f (sym (same_Some a x there)) ∙ heads (f a) (g b) (map f xs) (map g ys) e)
-  where
-    heads : {C : Type 0} (c d : C) (cs ds : List C) → c ∷ cs ≡ d ∷ ds → c ≡ d
-    heads c d cs ds e = cc
 map_at f g (a ∷ xs) (b ∷ ys) e (suc k) x there = map_at f g xs ys (tails (f a) (g b) (map f xs) (map g ys) e) k x there
-  where
-    tails : {C : Type 0} (c d : C) (cs ds : List C) → c ∷ cs ≡ d ∷ ds → cs ≡ ds
-    tails c d cs ds e = cc
 
 -- what stands in a list of images is one of them
 slice_get_of_map : {A B : Type 0} (f : A → B) (xs : List A) (k : ℕ) (y : B) → slice_get (map f xs) k ≡ Some y → (x : A) × (slice_get xs k ≡ Some x) × (y ≡ f x)
@@ -48,7 +43,7 @@ slice_get_of_map f [] k y there = absurd (none-some y there)
 slice_get_of_map f (x ∷ xs) zero y there = (x, refl, sym (same_Some (f x) y there))
 slice_get_of_map f (x ∷ xs) (suc k) y there = slice_get_of_map f xs k y there
 
-listed_length : (outside : List (List ℕ)) (ls : List Labelled) (number : ℕ) (ss : List Site) (ps : List PointReport) → AreListed outside ls number ss ps → length ps ≡ length ss
+pub listed_length : (outside : List (List ℕ)) (ls : List Labelled) (number : ℕ) (ss : List Site) (ps : List PointReport) → AreListed outside ls number ss ps → length ps ≡ length ss
 listed_length o ls n [] [] l = refl
 listed_length o ls n [] (p ∷ ps) l = absurd l
 listed_length o ls n (s ∷ ss) [] l = absurd l

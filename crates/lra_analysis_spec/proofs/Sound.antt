@@ -150,7 +150,7 @@ module _ (V H : Type 0) (m : Abstraction V H) (laws : Laws m) (keeps : ChangesKe
 equals : (z y : ℤ) → int_eq z y ≡ true → compares equal z y ≡ true
 equals z y e = let same : z ≡ y = (Decides-int_eq z y).0 e in grind (arith, ints, same)
 
-unequal : (z y : ℤ) → int_eq z y ≡ false → compares equal z y ≡ false
+pub unequal : (z y : ℤ) → int_eq z y ≡ false → compares equal z y ≡ false
 unequal z y e = by (compares equal z y) refl
   where
     by : (b : Bool) → compares equal z y ≡ b → b ≡ false

@@ -29,12 +29,12 @@ pub record Transfers {V H : Type 0} (Keeps : Exactness → Type 0) (a b : Operat
 abbrev pub aligned : {V H : Type 0} → Operations V H → Operations V H → Operations V H
 aligned a b = record b { dims = a.dims }
 
-behind_flag : {V : Type 0} (k : Exit) (r : PassResult V) (v : V) (f : Option ℕ) → (jumps_caught k r v f).flag ≡ f
+pub behind_flag : {V : Type 0} (k : Exit) (r : PassResult V) (v : V) (f : Option ℕ) → (jumps_caught k r v f).flag ≡ f
 behind_flag broken r v f = refl
 behind_flag continued r v f = refl
 behind_flag returned r v f = refl
 
-jump_flag : {V : Type 0} (k : Exit) (v nothing : V) (f : Option ℕ) → (jumps k v nothing f).flag ≡ f
+pub jump_flag : {V : Type 0} (k : Exit) (v nothing : V) (f : Option ℕ) → (jumps k v nothing f).flag ≡ f
 jump_flag broken v nothing f = refl
 jump_flag continued v nothing f = refl
 jump_flag returned v nothing f = refl

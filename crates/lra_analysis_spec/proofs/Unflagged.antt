@@ -1,7 +1,8 @@
 -- What a derivation with drops says of the written iteration.
 use Rattle.std.proofs.Common.{◌≡◌, ℕ, Option, None, Some, refl, inl, inr}
 use Rattle.lra_domain.specs.Interference.{Interference, no_interference}
-use Rattle.lra_domain.specs.{Abstraction.Abstraction, Abstraction.worse, Laws.Laws, declared.Exactness.Exactness, declared.Exactness.TheVariants.Exact, declared.Exactness.TheVariants.Flagged}
+use Rattle.lra_domain.specs.{Abstraction.Abstraction, Laws.Laws, declared.Exactness.Exactness, declared.Exactness.TheVariants.Exact, declared.Exactness.TheVariants.Flagged}
+use Rattle.lra_domain.proofs.Worse.{exact_parts}
 use Rattle.lra_program.specs.Program.{Program}
 use Rattle.lra_operations.specs.Tree.{Node}
 use Rattle.lra_analysis_spec.specs.UnderInterference.{absorbed, absorbed_exactly, absorbed_straining, ExactIterationUnder, LossyIterationUnder, StrainsUnder}
@@ -10,10 +11,6 @@ use Rattle.lra_analysis_spec.specs.{Operations.lossy_operations, Operations.stra
 use Rattle.lra_analysis_spec.proofs.Transfer.{Matters, Transfers, made, passes, passes_among}
 
 -- all exact, no flag
-exact_parts : (c d : Exactness) → worse c d ≡ Exact → (c ≡ Exact) × (d ≡ Exact)
-exact_parts Exact d h = (refl, h)
-exact_parts Flagged d h = cc
-
 exact_before : (q : ℕ) (e : Exactness) (f : Option ℕ) → noted q e f ≡ None → (e ≡ Exact) × (f ≡ None)
 exact_before q e (Some p) h = cc
 exact_before q Exact None h = (refl, refl)
@@ -98,7 +95,7 @@ flagged_strains_among {V} {H} o m laws set P g r q (none, first, e, universal, v
     (r, (none, first, e, universal.0, began, p.1), is)
 
 -- among nobody a pass is one of a program that runs alone
-same_ones : {V H : Type 0} (ops : Operations V H) → Transfers (λ e. Unit {0}) ops ops
+pub same_ones : {V H : Type 0} (ops : Operations V H) → Transfers (λ e. Unit {0}) ops ops
 same_ones ops = record {
   changed = λ step v e w k h. h;
   joined = λ u v e w k h. h;

@@ -1,11 +1,9 @@
 -- Heads of points: how they start, and one that is set.
 use Rattle.std.proofs.Common.{◌≡◌, ◌≢◌, ◌≤◌, ◌<◌, ℕ, zero, suc, List, [], ◌∷◌, ◌++◌, length, take, Some, refl, sym, ap, subst, ◌∙◌, arith, slice_get, slice_set}
-use Rattle.std.proofs.{Math.Seq.take-suc, lemmas.List.take_all, lemmas.Option.slice_get_within, lemmas.Option.get_or_from_slice_get, lemmas.Option.none-some}
+use Rattle.std.proofs.{lemmas.List.take_all, lemmas.Option.slice_get_within, lemmas.Option.none-some}
+use Rattle.lra_path_disjuncts.proofs.SideLists.{take_next}
 use Rattle.lra_domain.specs.{Abstraction.Abstraction, Rank.RankFits}
 use Rattle.lra_back.specs.{BackwardCalls.AreHeads, Operations.BackwardOperations, Rounds.AreStarted, Rounds.no_rows}
-
-pub take_at : {A : Type 0} (xs : List A) (j : ℕ) (x : A) → slice_get xs j ≡ Some x → take (suc j) xs ≡ take j xs ++ x ∷ []
-take_at xs j x at = take-suc xs j x (slice_get_within xs j x at) ∙ ap (λ y. take j xs ++ y ∷ []) (get_or_from_slice_get xs j x x at)
 
 -- how they start -----------------------------------------------------------------------------------------------------
 
@@ -35,7 +33,7 @@ module _ {V H : Type 0} (ops : BackwardOperations V H) (m : Abstraction V H) whe
   pub first_next : (forward : List V) (i j : ℕ) (heads : List H) (x : V) (h : H) → j ≡ suc i → slice_get forward i ≡ Some x → AreFirst (take i forward) heads
       → IsFirst (m.dims x) h → AreFirst (take j forward) (heads ++ h ∷ [])
   first_next forward i j heads x h next at so one =
-      subst (λ (xs : List V). AreFirst xs (heads ++ h ∷ [])) (sym (ap (λ k. take k forward) next ∙ take_at forward i x at))
+      subst (λ (xs : List V). AreFirst xs (heads ++ h ∷ [])) (sym (ap (λ k. take k forward) next ∙ take_next forward i x at))
       (first_more (take i forward) heads x h so one)
 
   pub first_all : (forward : List V) (i : ℕ) (heads : List H) → length forward ≤ i → AreFirst (take i forward) heads → AreFirst forward heads

@@ -11,6 +11,7 @@ use Rattle.lra_duality.specs.{declared.inclusion.Inclusion.Inclusion, declared.m
 use Rattle.lra_duality.specs.declared.inclusion.Inclusion.TheVariants as inclusion
 use Rattle.lra_duality.specs.declared.maximum.Maximum.TheVariants as maximum
 use Rattle.lra_linear_spec.proofs.Signs.{difference, in_order}
+use Rattle.lra_linear_spec.proofs.Membership.{split_none}
 use Rattle.lra_duality.proofs.MaximumLemmas.{never_both}
 use Rattle.lra_calc.specs.Views.{IsPlacedInclusion, IsPlacedMaximum}
 use Rattle.lra_calc.proofs.MakingLemmas.{all_tail}
@@ -101,11 +102,7 @@ flat_apart : (form : List ℤ) (g : LinearRow) → DoesNotImprove form g → Imp
 flat_apart form g d i = d i
 
 none_first : {A : Type 0} (P Q : A → Type 0) (list : List A) (i : ℕ) → list ≡ [] → FirstAt P Q list i → ⊥
-none_first P Q list i e f = empty f.earlier f.member f.later (sym e ∙ f.is)
-  where
-    empty : {A : Type 0} (xs : List A) (x : A) (ys : List A) → [] ≡ xs ++ x ∷ ys → ⊥
-    empty [] x ys e = cc
-    empty (p ∷ xs) x ys e = cc
+none_first P Q list i e f = split_none f.earlier f.member f.later (sym e ∙ f.is)
 
 -- a point has the value f / e, which is n / d and at most m / c
 cross : (f e n d m c : ℤ) → pos 0 <ℤ e → pos 0 <ℤ d → f *ℤ d ≡ n *ℤ e → (f *ℤ c) ≤ℤ (m *ℤ e) → (n *ℤ c) ≤ℤ (m *ℤ d)

@@ -8,6 +8,7 @@ use Rattle.lra_linear_spec.specs.{Range.InRange, Range.in_range, Vectors.entry, 
 use Rattle.lra_linear_spec.proofs.{CheckedArithmetic.in_range_yes, Ring.ring, Ring.v, Ring.◌⊕◌, Ring.◌⊗◌}
 use Rattle.lra_row.specs.{Rows.IsExcessOf, declared.error.RowError.RowError}
 use Rattle.lra_row.specs.declared.error.RowError.TheVariants as of_row
+use Rattle.lra_row.proofs.RowLemmas.{entry_at}
 use Rattle.lra_multipliers.specs.Symbols.{composed_from, composed, symbol, symbols}
 
 -- ---- a factor 0 leaves the sum
@@ -70,11 +71,6 @@ module _ (width : ℕ) (row : List ℤ) (forms : List (List ℤ)) where
           ap (λ (r : List ℤ). composed width r forms) same
 
   module _ (place : ℕ) (sum : List ℤ) (so_far : IsSoFar place sum) where
-    entry_at : (r : List ℤ) (i : ℕ) → entry r i ≡ get_or r i (pos 0)
-    entry_at [] i = refl
-    entry_at (c ∷ cs) zero = refl
-    entry_at (c ∷ cs) (suc i) = entry_at cs i
-
     tail_entry : (r : List ℤ) (i : ℕ) → entry (drop 1 r) i ≡ entry r (suc i)
     tail_entry [] i = refl
     tail_entry (c ∷ cs) i = refl

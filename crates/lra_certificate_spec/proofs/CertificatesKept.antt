@@ -9,6 +9,7 @@ use Rattle.lra_linear_spec.specs.Descriptions.{LinearRow, HoldsWith, Holds, Con,
 use Rattle.lra_linear_spec.specs.{Polyhedra.falsity, Vectors.entry, Vectors.dot, Vectors.product, Vectors.zeros}
 use Rattle.lra_linear_spec.proofs.Membership.{contains_none, contains_cases, contains_head, contains_tail, map_has, map_from}
 use Rattle.lra_linear_spec.proofs.{Descriptions.solves_con, Ring.ring, Ring.v, Ring.◌⊕◌, Ring.◌⊗◌}
+use Rattle.lra_linear_spec.proofs.OneSpelling.{dot_zeros}
 use Rattle.lra_program.specs.{Program.Program, Sites.Site, Sites.sites_of}
 use Rattle.lra_operations.specs.Tree.{Node}
 use Rattle.lra_path_segments.specs.Segments.{Goal, comes_to, violates}
@@ -29,12 +30,8 @@ product_front [] x new h = refl
 product_front (c ∷ cs) [] new h = absurd (omega (arith, h))
 product_front (c ∷ cs) (y ∷ ys) new h = ap (λ (z : ℤ). (c *ℤ y) +ℤ z) (product_front cs ys new (omega (arith, h)))
 
-dot_none : (k : ℕ) (u : ℕ → ℤ) → dot (zeros k) u ≡ pos 0
-dot_none zero u = refl
-dot_none (suc k) u = ap (λ (z : ℤ). (pos 0 *ℤ u 0) +ℤ z) (dot_none k (λ j. u (suc j))) ∙ ring (v (pos 0) ⊗ v (u 0) ⊕ v (pos 0)) (v (pos 0)) (omega arith)
-
 dot_padded : (r : List ℤ) (k : ℕ) (u : ℕ → ℤ) → dot (r ++ zeros k) u ≡ dot r u
-dot_padded [] k u = dot_none k u
+dot_padded [] k u = dot_zeros k u
 dot_padded (c ∷ cs) k u = ap (λ (z : ℤ). (c *ℤ u 0) +ℤ z) (dot_padded cs k (λ j. u (suc j)))
 
 con_behind : (xs ys : List LinearRow) (u : List ℤ) → Con xs u → Con ys u → Con (xs ++ ys) u
@@ -108,7 +105,7 @@ module _ (live : ℕ) (path : Path) (s t : List ℤ) (long : length s ≡ live) 
       where
         value : product (falsity n) u ≡ negsuc 0
         value =
-            ap (λ (z : ℤ). (negsuc 0 *ℤ entry u 0) +ℤ z) (dot_none n (λ j. entry u (suc j))) ∙ ap (λ (z : ℤ). (negsuc 0 *ℤ z) +ℤ pos 0) e ∙
+            ap (λ (z : ℤ). (negsuc 0 *ℤ entry u 0) +ℤ z) (dot_zeros n (λ j. entry u (suc j))) ∙ ap (λ (z : ℤ). (negsuc 0 *ℤ z) +ℤ pos 0) e ∙
             ring (v (negsuc 0) ⊗ v (pos 1) ⊕ v (pos 0)) (v (negsuc 0)) (omega arith)
 
         below : pos 0 ≤ℤ negsuc 0 → ⊥
@@ -156,7 +153,7 @@ module _ (live : ℕ) (path : Path) (s t : List ℤ) (long : length s ≡ live) 
   path_holds (Some rows) target evidence h f held = meets_lines rows held f target evidence h
 
 -- ---- lists of paths
-range_has : (a n x : ℕ) → a ≤ x → x < a + n → Contains (range_with_len a n) x
+pub range_has : (a n x : ℕ) → a ≤ x → x < a + n → Contains (range_with_len a n) x
 range_has a zero x h k = absurd (omega (arith, h, k))
 range_has a (suc n) x h k = elim (cases_lt a x) [
   | inl l ↦ contains_tail a x (range_with_len (a + 1) n) (range_has (a + 1) n x (omega (arith, l)) (omega (arith, k)))

@@ -1,13 +1,14 @@
 -- What is found over the grounds of a path is what has to be said of it; and points of its premises lead to its target.
-use Rattle.std.proofs.Common.{◌≡◌, inl, inr, ◌-◌, ℕ, suc, ℤ, pos, ◌≤ℤ◌, ◌<ℤ◌, ◌<◌, List, [], ◌∷◌, length, map, take, Option, None, Some, Result, Ok, Err, refl, ap, sym, ◌∙◌, subst, arith}
+use Rattle.std.proofs.Common.{◌≡◌, inl, inr, ◌-◌, ℕ, suc, ℤ, pos, ◌≤ℤ◌, ◌<ℤ◌, ◌<◌, List, [], ◌∷◌, length, map, take, Option, None, Some, Ok, Err, refl, ap, sym, ◌∙◌, subst, arith}
 use Rattle.std.proofs.{lemmas.List.length-take-le, lemmas.List.Elements.All-contains, lemmas.List.Elements.Contains-append_left, lemmas.List.Elements.Contains-append_right}
 use Rattle.std.specs.List.{Contains, AllByRecursion, AllZip}
 use Rattle.lra_linear_spec.specs.Descriptions.{LinearRow, Con, system_of}
-use Rattle.lra_linear_spec.specs.{Points.IsPoint, Points.IsEmptySet, Polyhedra.falsity, Vectors.entry, Vectors.product, declared.Excess.Excess}
+use Rattle.lra_linear_spec.specs.{Points.IsPoint, Points.IsEmptySet, Polyhedra.falsity, Vectors.entry, Vectors.product}
 use Rattle.lra_linear_spec.proofs.{Descriptions.con_solves, Membership.contains_head, Membership.contains_tail, Membership.map_has}
 use Rattle.lra_systems.specs.LinearSystems.{constraints}
 use Rattle.lra_paths.specs.Paths.{Path}
 use Rattle.lra_multipliers.specs.{Multipliers.Multipliers, Multipliers.IsFarkasCertificate, Multipliers.yes, Multipliers.IsAnswer, Symbols.SymbolicState, Symbols.composed, Symbols.width_of}
+use Rattle.lra_multipliers.proofs.CheckSteps.{ok_err}
 use Rattle.lra_certificate_spec.specs.Certificates.{Evidence, none, infeasible, implies, PathPremises, padded, premises_of, contradiction, IsShownInfeasible, IsClaimImplied, AreImplied, AreNumbers}
 use Rattle.lra_certificate_spec.specs.Judged.{RowsAtPoint}
 use Rattle.lra_certificate_spec.proofs.WalkedRows.{ok_is, AreOfWidth}
@@ -63,9 +64,6 @@ dead_shown laws g lead alive =
 -- the claims of a target's rows hold where all points lead to it
 pub target_holds : (g : PathFacts) (rows : List LinearRow) → AllLead g (Some rows) → AllHold g (system_of rows)
 target_holds g rows lead = λ claim k x is_point meets. con_solves rows (led_to g x) (lead x is_point meets) claim k
-
-ok_err : (row : List ℤ) (e : Excess) → (let r : Result (List ℤ) Excess = Ok row in r) ≡ Err e → ⊥
-ok_err row e is = cc
 
 -- ---- the grounds of a path
 module _ (live : ℕ) (rows : List LinearRow) (path : Path) (g : PathFacts) (of : ArePathFactsOf live rows path.actions g) where

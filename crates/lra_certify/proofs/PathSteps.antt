@@ -1,9 +1,9 @@
 -- Paths and assertions whose lines are written one after the other.
-use Rattle.std.proofs.Common.{◌≡◌, ◌≤◌, ◌<◌, ◌+◌, ◌-◌, ◌++◌, ◌∷◌, [], ℕ, zero, suc, List, length, drop, map, Option, Some, None, Result, Ok, Err, refl, ap, sym, ◌∙◌, subst, arith, add-one}
+use Rattle.std.proofs.Common.{◌≡◌, ◌≤◌, ◌<◌, ◌+◌, ◌-◌, ◌++◌, ◌∷◌, [], ℕ, List, length, drop, map, Option, Some, None, Result, Ok, Err, refl, ap, sym, ◌∙◌, subst, arith, add-one}
 use Rattle.std.proofs.Common.{append_assoc, append-nil, IfErr, OnOk, IsErrAnd, slice_index_or, Vec, ◌⊎◌, inl, inr, drop-cons, get_or}
-use Rattle.std.proofs.{lemmas.Bool.cases_lt, lemmas.List.map-append, lemmas.List.Elements.Contains-append_left, lemmas.List.Elements.Contains-get_or, lemmas.Result.err_from_is_err_and}
+use Rattle.std.proofs.{lemmas.List.map-append, lemmas.List.Elements.Contains-append_left, lemmas.List.Elements.Contains-get_or, lemmas.Result.err_from_is_err_and}
 use Rattle.std.specs.{Borrow.Bor, Global.Global, List.Contains, List.flat_map, List.range_with_len, Prelude.slice_get}
-use Rattle.lra_linear_spec.proofs.Membership.{contains_head, contains_tail, contains_cases, contains_none, map_has, map_from}
+use Rattle.lra_linear_spec.proofs.Membership.{contains_head, contains_cases, contains_none, map_has, map_from}
 use Rattle.lra_linear_spec.specs.Descriptions.{LinearRow}
 use Rattle.lra_domain.specs.{Actions.Action, declared.changes.Change.Change}
 use Rattle.lra_path_segments.specs.Segments.{Goal, comes_to, violates}
@@ -13,6 +13,7 @@ use Rattle.lra_path_segments.proofs.Lists.{flat_map_has}
 use Rattle.lra_row_text.specs.Texts.{text_line}
 use Rattle.lra_certificate_spec.specs.CertificateText.{edge_text, assert_text, evidence_text, listed_text}
 use Rattle.lra_certificate_spec.specs.{Certificates.Evidence, Certificates.none, Certificates.ListedAssertion, Certificates.state_from, Certificates.state_to, Judged.RowsAtPoint}
+use Rattle.lra_certificate_spec.proofs.CertificatesKept.{range_has}
 use Rattle.lra_verify.specs.{EdgeViews.sites_in, EdgeViews.states_in, EdgeViews.actions_out_of, EdgeViews.actions_by, EdgeViews.live_by, declared.annotated.AnnotatedProgram.AnnotatedProgram}
 use Rattle.lra_verify.proofs.EdgeSteps.{lists_next, lists_end, numbers_next, numbers_end}
 use Rattle.lra_certify.specs.PathEvidence.{IsEvidenceFrom, IsEvidenceFor, StrainsFrom, StrainsAlong, StopsIn}
@@ -162,14 +163,6 @@ module _ (w : AnnotatedProgram) (p q n : ℕ) (rows : List LinearRow) (is : n �
       )
 
 -- ---- each path of a list stays
-range_has : (a n i : ℕ) → a ≤ i → i < a + n → Contains (range_with_len a n) i
-range_has a zero i low high = absurd (omega (arith, low, high))
-range_has a (suc n) i low high =
-    elim (cases_lt a i) [
-      | inl h ↦ contains_tail a i (range_with_len (a + 1) n) (range_has (a + 1) n i (omega (arith, h)) (omega (arith, high)))
-      | inr h ↦ subst (λ (k : ℕ). Contains (a ∷ range_with_len (a + 1) n) k) (let e : a ≡ i = omega (arith, h, low) in e)
-          (contains_head a (range_with_len (a + 1) n))
-    ]
 
 module _ (w : AnnotatedProgram) where
   pub stay_to : (p q : ℕ) → q < length w.sites.now → AllAreInductive w (paths_from w p) → AllAreInductive w (paths_to w p (comes_to q))

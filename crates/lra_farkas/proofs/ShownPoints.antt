@@ -3,11 +3,14 @@ use Rattle.std.proofs.Common.{◌≡◌, ℕ, zero, suc, ◌<◌, ◌≤◌, ◌
 use Rattle.std.proofs.lemmas.List.Elements.{Contains-append_cases, Contains-append_left, Contains-append_right}
 use Rattle.std.proofs.{lemmas.Bool.cases_lt, lemmas.Int.ints, lemmas.List.FromFn.length-range_with_len, lemmas.List.FromFn.get_or-range_with_len}
 use Rattle.std.specs.List.{Contains, range_with_len}
+use Rattle.lra_description_pair.proofs.TightRows.{rows_from}
 use Rattle.lra_linear_spec.specs.Descriptions.{LinearRow, equality, rows_of, Con, Holds}
 use Rattle.lra_linear_spec.specs.{OperationStrain.unit_row, Points.IsPoint, Polyhedra.positivity, Vectors.entry, Vectors.dot, Vectors.product, Vectors.signed_sum}
 use Rattle.lra_linear_spec.proofs.Membership.{contains_none, contains_head, contains_tail, contains_cases, map_has, map_from}
 use Rattle.lra_linear_spec.proofs.{Lines.entry_zeros, Products.entry_past, Ring.ring, Ring.v, Ring.⊖, Ring.◌⊕◌, Ring.◌⊗◌, UnitRows.unit_product}
+use Rattle.lra_linear_spec.proofs.Spans.{sum_zero}
 use Rattle.lra_multipliers.specs.{Columns.first_of, Multipliers.IsSigned, Multipliers.AreSigned, Multipliers.IsFarkasCertificate}
+use Rattle.lra_multipliers.proofs.CheckSteps.{first_past}
 use Rattle.lra_farkas.specs.MultiplierRows.{balance_row, inequality_columns, multiplier_dims, sign_row, multiplier_rows, AreAsWide, PointsShow}
 
 -- ---- one column
@@ -36,26 +39,6 @@ balances x y z e h = omega (arith, ints, e, h)
 pub one_column : (n j : ℕ) → first_of j (pos 1) ≡ entry (positivity n) j
 one_column n zero = refl
 one_column n (suc j) = sym (entry_zeros n j)
-
-first_past : (j : ℕ) (z : ℤ) → 0 < j → first_of j z ≡ pos 0
-first_past zero z h = absurd (omega (arith, h))
-first_past (suc j) z h = refl
-
-sum_past : (ls : List ℤ) (rows : List (List ℤ)) (j : ℕ) → ((r : List ℤ) → Contains rows r → entry r j ≡ pos 0) → signed_sum ls rows j ≡ pos 0
-sum_past [] rows j h = refl
-sum_past (l ∷ ls) [] j h = refl
-sum_past (l ∷ ls) (r ∷ rows) j h =
-    ap (λ (z : ℤ). (l *ℤ z) +ℤ signed_sum ls rows j) (h r (contains_head r rows)) ∙
-    ap (λ (z : ℤ). (l *ℤ pos 0) +ℤ z) (sum_past ls rows j (λ t k. h t (contains_tail r t rows k))) ∙
-    ring (v l ⊗ v (pos 0) ⊕ v (pos 0)) (v (pos 0)) (omega arith)
-
--- the rows of a list are those of its members
-row_from : (gs : List LinearRow) (r : List ℤ) → Contains (rows_of gs) r → (g : LinearRow) × Contains gs g × (g.row ≡ r)
-row_from [] r k = absurd (contains_none r k)
-row_from (g ∷ gs) r k = elim (contains_cases g.row r (rows_of gs) k) [
-  | inl e ↦ (g, contains_head g gs, e)
-  | inr d ↦ let i = row_from gs r d in (i.0, contains_tail g i.0 gs i.1, i.2)
-]
 
 pub rows_many : (gs : List LinearRow) → length (rows_of gs) ≡ length gs
 rows_many [] = refl
@@ -133,8 +116,8 @@ module _ (premises : List LinearRow) (claim : List ℤ) (d c : ℤ) (ls : List �
       ap (λ (z : ℤ). d *ℤ z) (entry_past claim j h) ∙
       ring (v d ⊗ v (pos 0)) (v c ⊗ v (pos 0) ⊕ v (pos 0)) (omega arith) ∙
       ap (λ (z : ℤ). (c *ℤ z) +ℤ pos 0) (sym (sym (one_column (length claim) j) ∙ first_past j (pos 1) past)) ∙
-      ap (λ (z : ℤ). (c *ℤ entry (positivity (length claim)) j) +ℤ z) (sym (sum_past ls (rows_of premises) j (λ r k.
-      let g = row_from premises r k in
+      ap (λ (z : ℤ). (c *ℤ entry (positivity (length claim)) j) +ℤ z) (sym (sum_zero ls (rows_of premises) j (λ r k.
+      let g = rows_from premises r k in
       let w = wide.each g.0 g.1 in
       entry_past r j (subst (λ (t : List ℤ). length t ≤ j) g.2 (omega (arith, w, h))))))
 

@@ -7,8 +7,9 @@ use Rattle.lra_linear_spec.proofs.Membership.{contains_none, contains_head, cont
 use Rattle.lra_program.specs.{Program.Expr, Program.Cond, Program.Program, Sites.Site, Sites.sites_of}
 use Rattle.lra_operations.specs.Tree.{Exit, broken, continued, returned, Node, empty, probe, point, act, check, seq, choose, iterate, catch, leave, select, Arms, no_arms, entry, arm}
 use Rattle.lra_operations.specs.declared.probes.Probe.TheVariants.{InterferencePoint, RecordWrite}
-use Rattle.lra_analysis_spec.specs.Pass.{PassEntry, value, failing, recorded, PassResult, noted, jumps, jumps_caught, Transformer, LoopRoundFrom, AscendingIteration, DescendingIteration, Absorption}
+use Rattle.lra_analysis_spec.specs.Pass.{PassEntry, value, failing, recorded, PassResult, noted, jumps, Transformer, LoopRoundFrom, AscendingIteration, DescendingIteration, Absorption}
 use Rattle.lra_analysis_spec.specs.{Analysis.Iteration, Operations.Operations, Pass.nothing_absorbed, Pass.PassUnder, Pass.ArmsPassUnder, Plan.Plan, Plan.Widening}
+use Rattle.lra_analysis_spec.proofs.Sound.{behind_entries}
 use Rattle.lra_fixpoint.specs.Counts.{values_at, failing_at, AreCounted}
 use Rattle.lra_fixpoint.specs.Numbers.{one_if, values_in, values_in_arms, checks_in, checks_in_arms, asserts_of, IsNumbered}
 
@@ -42,11 +43,6 @@ both_found k xs ys c d c' d' p q = record {
   values = values_append k xs ys ∙ (let f = p.values in let g = q.values in omega (arith, f, g));
   checks = failing_append k xs ys ∙ (let f = p.checks in let g = q.checks in omega (arith, f, g));
 }
-
-behind_entries : {V : Type 0} (j : Exit) (r : PassResult V) (v : V) (f : Option ℕ) → (jumps_caught j r v f).entries ≡ r.entries
-behind_entries broken r v f = refl
-behind_entries continued r v f = refl
-behind_entries returned r v f = refl
 
 jump_entries : {V : Type 0} (j : Exit) (v nothing : V) (f : Option ℕ) → (jumps j v nothing f).entries ≡ []
 jump_entries broken v nothing f = refl

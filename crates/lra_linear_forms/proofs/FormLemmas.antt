@@ -14,7 +14,7 @@ summing_step a c x b cs xs fits is = (rw (← is) (omega (arith, ints)), λ h. i
     later (inl h) = absurd (h fits)
     later (inr h) = h
 
-neg_product : (c x : ℤ) → neg_ℤ c *ℤ x ≡ neg_ℤ (c *ℤ x)
+pub neg_product : (c x : ℤ) → neg_ℤ c *ℤ x ≡ neg_ℤ (c *ℤ x)
 neg_product (pos c) (pos x) = grind (arith, ints)
 neg_product (pos c) (negsuc x) = grind (arith, ints)
 neg_product (negsuc c) (pos x) = grind (arith, ints)

@@ -401,7 +401,7 @@ shows_decided premises c cs m row sum w f g =
     back : IsFarkasCertificate premises (c ∷ cs) m → HasSigns premises m × (row ≡ sum)
     back s = (((s.divisor, s.constant), s.factors), row_same row sum (left.0 ∙ sym right.0) (λ j. left.1 j ∙ s.sum j ∙ first j ∙ sym (right.1 j)))
 
-ok_err : (r : List ℤ) (e : Excess) → (let a : Result (List ℤ) Excess = Ok r in a) ≡ Err e → ⊥
+pub ok_err : (r : List ℤ) (e : Excess) → (let a : Result (List ℤ) Excess = Ok r in a) ≡ Err e → ⊥
 ok_err r e f = cc
 
 not_wide : (premises : List LinearRow) (claim : List ℤ) (m : Multipliers) (row sum : List ℤ) → checked_multiple claim m.divisor ≡ Ok row → premises_sum premises

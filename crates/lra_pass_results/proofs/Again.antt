@@ -7,7 +7,8 @@ use Rattle.lra_operations.specs.declared.probes.Probe.TheVariants.{InterferenceP
 use Rattle.lra_analysis_spec.specs.Pass.{AreJoined, Filters, PassResult, noted, jumps, values_behind, jumps_caught, Transformer, LoopRoundFrom, AscendingIteration, DescendingIteration, Absorption}
 use Rattle.lra_analysis_spec.specs.Pass.{PassUnder, ArmsPassUnder}
 use Rattle.lra_analysis_spec.specs.{Live.live_after, Operations.Operations, Operations.lossy_operations, Plan.Plan, Plan.Widening, UnderInterference.absorbed, UnderInterference.LossyPass}
-use Rattle.lra_analysis_spec.proofs.Transfer.{Matters, Transfers, passes_among}
+use Rattle.lra_analysis_spec.proofs.Transfer.{Matters, passes_among}
+use Rattle.lra_analysis_spec.proofs.Unflagged.{same_ones}
 use Rattle.lra_pass_results.specs.Outcome.{outcome_view, AreKept, EntersWith, IsEntered, IsKept, IsPassed, IsLoopRound, JumpsFit}
 use Rattle.lra_pass_results.specs.{declared.outcome.Entered.TheVariants.Again, declared.outcome.Entered.TheVariants.Anew, declared.outcome.LoopRound.LoopRound}
 use Rattle.lra_pass_results.specs.declared.outcome.Entered as entered
@@ -136,17 +137,6 @@ none_noted q e None h = refl
 
 none_matters : Matters (λ e. Unit {0}) (λ f. f ≡ None)
 none_matters = record { parts = λ c d k. (tt, tt); before = λ q e f h. (tt, none_noted q e f h) }
-
-same_ones : {V H : Type 0} (ops : Operations V H) → Transfers (λ e. Unit {0}) ops ops
-same_ones ops = record {
-  changed = λ step v e w k h. h;
-  joined = λ u v e w k h. h;
-  started = λ v rows h s. s;
-  stays = λ h v mode s. s;
-  grown = λ h v mode e next k s. s;
-  valued = λ h e v k s. s;
-  void = λ n cap v s. s;
-}
 
 pub none_before : {V H : Type 0} (ops : Operations V H) (admission : Absorption V) (set : Plan) (g : Node) (f : Option ℕ)
     (v : V) (r : PassResult V) → r.flag ≡ None → PassUnder V H ops admission set g f v r → f ≡ None

@@ -1,11 +1,12 @@
 -- What is kept of loops stays so along a pass: of what is flagged so far, it depends only on whether anything is.
-use Rattle.std.proofs.Common.{◌≡◌, ℕ, ◌<◌, List, length, Vec, Global, Option, Some, None, refl, sym, ap, subst, ◌∙◌}
+use Rattle.std.proofs.Common.{◌≡◌, ℕ, ◌<◌, List, length, Vec, Global, Option, Some, None, sym, ap, subst, ◌∙◌}
 use Rattle.std.specs.{List.All, Prelude.IfOk, Prelude.slice_index_or, Prelude.set}
 use Rattle.std.specs.Prelude as outcome_or
 use Rattle.lra_domain.specs.{Abstraction.Abstraction, Interference.Interference, declared.Exactness.Exactness}
 use Rattle.lra_program.specs.Program.{Cond}
-use Rattle.lra_operations.specs.Tree.{Exit, broken, continued, returned, Node, choose, iterate}
-use Rattle.lra_analysis_spec.specs.{Operations.lossy_operations, Pass.PassResult, Pass.noted, Pass.jumps_caught, Plan.Plan, UnderInterference.absorbed}
+use Rattle.lra_operations.specs.Tree.{Exit, Node, choose, iterate}
+use Rattle.lra_analysis_spec.specs.{Operations.lossy_operations, Pass.PassResult, Pass.noted, Plan.Plan, UnderInterference.absorbed}
+use Rattle.lra_analysis_spec.proofs.Transfer.{behind_flag}
 use Rattle.lra_pass_results.specs.LoopCache.{IsRecalled, AreRecalled, MayRecall, Remembers, StaysKept}
 use Rattle.lra_pass_results.specs.Outcome.{ended, outcome_view, AreBranchesJoined, Catches, IsKept, IsPassed, LeavesWith}
 use Rattle.lra_pass_results.specs.{declared.loop_cache.CachedLoop.CachedLoop, declared.loop_cache.LoopCache.LoopCache, declared.outcome.PassOutcome.PassOutcome}
@@ -21,11 +22,6 @@ later_noted q e f f' is none = none_noted q e f (sym is ∙ none)
 pub passed_later : {V H : Type 0} (o : Interference V) (m : Abstraction V H) (set : Plan) (g : Node) (f : Option ℕ) (v : V) (r : PassResult V) →
     IsPassed o m set g f v r → Later f r.flag
 passed_later o m set g f v r passed none = none_before (lossy_operations m) (absorbed o m) set g f v r none passed.pass
-
-behind_flag : {V : Type 0} (k : Exit) (s : PassResult V) (w : V) (f : Option ℕ) → (jumps_caught k s w f).flag ≡ f
-behind_flag broken s w f = refl
-behind_flag continued s w f = refl
-behind_flag returned s w f = refl
 
 pub caught_later : {V H : Type 0} (m : Abstraction V H) (q : ℕ) (k : Exit) (s r : PassResult V) → Catches m q k s r →
     Later s.flag r.flag

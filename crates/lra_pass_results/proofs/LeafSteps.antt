@@ -4,10 +4,11 @@ use Rattle.std.proofs.lemmas.List.{append-nil, map-append}
 use Rattle.std.specs.Prelude.{OnOk}
 use Rattle.std.specs.Prelude as outcome_or
 use Rattle.lra_domain.specs.{Abstraction.Abstraction, Interference.Interference, declared.Exactness.Exactness}
-use Rattle.lra_operations.specs.Tree.{Exit, broken, continued, returned}
+use Rattle.lra_operations.specs.Tree.{Exit}
 use Rattle.lra_operations.specs.Tree as graph
 use Rattle.lra_analysis_spec.specs.Pass.{PassEntry, PassResult, goes_on, in_turn, jumps, noted}
 use Rattle.lra_analysis_spec.specs.{Live.live_after, Operations.lossy_operations, Plan.Plan, UnderInterference.LossyPass}
+use Rattle.lra_analysis_spec.proofs.Transfer.{jump_flag}
 use Rattle.lra_pass_results.specs.declared.outcome.PassEntry as entry
 use Rattle.lra_pass_results.specs.{Flat.Follows, Outcome.ended, Outcome.entry_view, Outcome.outcome_view, Outcome.IsPassed, declared.outcome.PassOutcome.PassOutcome}
 use Rattle.lra_pass_results.proofs.{PassRows.same_lists, PassSteps.going_on_fits, PassSteps.jump_dims, PassSteps.jump_fits, PassSteps.jump_normal}
@@ -26,12 +27,6 @@ flagged_so xs w f g is = ap (λ (x : Option ℕ). goes_on xs w x) is
 pub flagged_twice : (q : ℕ) (d e : Exactness) (f g h : Option ℕ) → g ≡ noted q d f → h ≡ noted q e g →
     h ≡ noted q e (noted q d f)
 flagged_twice q d e f g h one two = two ∙ ap (λ (x : Option ℕ). noted q e x) one
-
--- what is flagged behind a jump
-jump_flag : {V : Type 0} (k : Exit) (v w : V) (f : Option ℕ) → (jumps k v w f).flag ≡ f
-jump_flag broken v w f = refl
-jump_flag continued v w f = refl
-jump_flag returned v w f = refl
 
 module _ {V H : Type 0} (o : Interference V) (m : Abstraction V H) (set : Plan) (so_far : PassOutcome V) where
   -- without a jump

@@ -233,7 +233,7 @@ side_found (join_of a b) n few less =
     past_is m k less = grind (arith, less)
 
 -- one more is written
-take_next : {A : Type 0} (xs : List A) (n : ℕ) (x : A) → slice_get xs n ≡ Some x → take (suc n) xs ≡ take n xs ++ x ∷ []
+pub take_next : {A : Type 0} (xs : List A) (n : ℕ) (x : A) → slice_get xs n ≡ Some x → take (suc n) xs ≡ take n xs ++ x ∷ []
 take_next {A = A} [] n x is = absurd (let no : None ≡ Some x = is in cc)
 take_next {A = A} (y ∷ xs) zero x is = let same : Some y ≡ Some x = is in ap (λ z. z ∷ []) (same_Some y x same)
 take_next {A = A} (y ∷ xs) (suc n) x is = ap (λ ys. y ∷ ys) (take_next xs n x is)

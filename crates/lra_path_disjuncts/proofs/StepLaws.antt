@@ -1,7 +1,7 @@
 -- What is done on a way leads where its moves lead: a value that goes to a label has that label's value, and one that goes to
 -- none has none of them.
-use Rattle.std.proofs.Common.{◌≡◌, ℕ, ℤ, List, [], ◌∷◌, length, Bool, true, false, Some, refl, sym, ap, ◌∙◌, subst, arith}
-use Rattle.std.proofs.{lemmas.Bool.Decides.Decides-int_eq, lemmas.Int.ints}
+use Rattle.std.proofs.Common.{◌≡◌, ℕ, ℤ, List, [], ◌∷◌, length, Bool, true, false, Some, refl, sym, ap, subst, arith}
+use Rattle.std.proofs.lemmas.Int.{ints}
 use Rattle.std.specs.{List.list_any, Ordering.int_eq, Prelude.if◌then◌else◌}
 use Rattle.lra_base.specs.declared.case_labels.CaseLabel.TheVariants.{Case, Default}
 use Rattle.lra_base.specs.{CaseLabels.is_same_case, Operators.equal, declared.case_labels.CaseLabel.CaseLabel}
@@ -9,6 +9,7 @@ use Rattle.lra_domain.specs.Moves.{MayLead}
 use Rattle.lra_program.specs.{Program.Expr, Step.State, Step.environment_at, Value.value_of, Value.compares}
 use Rattle.lra_analysis_spec.specs.Linearization.{linearized}
 use Rattle.lra_analysis_spec.proofs.{CondKeeping.value_leads, Keeping.op_leads}
+use Rattle.lra_analysis_spec.proofs.Sound.{unequal}
 use Rattle.lra_path_segments.specs.Segments.{SegmentStep, does, goes, RunsStep}
 use Rattle.lra_path_disjuncts.specs.StepMoves.{dims_after_step, label_moves, step_moves, unmatched_moves}
 use Rattle.std.proofs.lemmas.Bool.{or_parts}
@@ -16,13 +17,6 @@ use Rattle.lra_path_disjuncts.proofs.OpLengths.{op_length}
 
 itself : (z : ℤ) → compares equal z z ≡ true
 itself z = grind (arith, ints)
-
-unequal : (z y : ℤ) → int_eq z y ≡ false → compares equal z y ≡ false
-unequal z y e = by (compares equal z y) refl
-  where
-    by : (b : Bool) → compares equal z y ≡ b → b ≡ false
-    by false i = refl
-    by true i = absurd (let same : z ≡ y = grind (arith, ints, i) in let no : true ≡ false = sym ((Decides-int_eq z y).1 same) ∙ e in cc)
 
 pub step_length : (step : SegmentStep) (s t : State) → RunsStep step s t → length t.store ≡ dims_after_step step (length s.store)
 step_length (does op) s t o = op_length op s t o

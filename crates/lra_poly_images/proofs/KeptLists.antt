@@ -4,7 +4,7 @@ use Rattle.std.specs.List.{Contains}
 use Rattle.lra_linear_spec.specs.{Descriptions.LinearRow, OperationStrain.substituted_rows, OperationStrain.with_positivity, Polyhedra.Polyhedron, declared.ConKind.ConKind}
 use Rattle.lra_systems.specs.LinearSystems.{LinearSystem, constraints}
 use Rattle.lra_mapped_systems.specs.{Forming.AllFormed, Moving.AssignmentPasses, Moving.MovePasses, Moving.OnExcess, Moving.StaysBackFor, Moving.StaysFor, Moving.SubstitutionPasses, Moving.IsInverse}
-use Rattle.lra_poly.specs.{Outcomes.IfFlagged, Restricted.IsTried, declared.outcome.Outcome.Outcome, declared.outcome.Outcome.TheVariants.Exact, declared.outcome.Outcome.TheVariants.Flagged}
+use Rattle.lra_poly.specs.{Restricted.IsTried, declared.outcome.Outcome.Outcome}
 use Rattle.lra_poly_images.specs.FormedPreimages.{IsOfFormed}
 use Rattle.lra_row.specs.{declared.error.RowError.RowError, declared.error.RowError.TheVariants.Excess, declared.error.RowError.TheVariants.Memory}
 
@@ -26,9 +26,6 @@ pub stays_back_passed : (k : ℕ) (form back : List ℤ) (p : Polyhedron) → Is
 stays_back_passed k form back p takes h = inr (inr (back, takes, h))
 
 -- ---- as the code tells it: column x + 1, and the form's row
-pub flagged_since : (P : Type 0) (o : Outcome) → P → IfFlagged (λ _. P) o
-flagged_since P Exact h = tt
-flagged_since P (Flagged loss) h = h
 
 pub stays_for : (p : Polyhedron) (x : ℕ) (form row : List ℤ) → row ≡ form → StaysFor (x + 1) row p → StaysFor (suc x) form p
 stays_for p x form row er h = subst (λ (f : List ℤ). StaysFor (suc x) f p) er (subst (λ (k : ℕ). StaysFor k row p) (add-one x) h)

@@ -6,7 +6,8 @@ use Rattle.lra_linear_spec.specs.{Descriptions.Con, Descriptions.LinearRow, Kind
 use Rattle.lra_linear_spec.proofs.{Products.entry_past, Ring.ring, Ring.v, Ring.◌⊕◌, Ring.◌⊗◌, SetOperations.meet_con, SetOperations.product_set}
 use Rattle.lra_systems.specs.LinearSystems.{LinearSystem, constraints, rows_by_kind}
 use Rattle.lra_poly_queries.specs.{Expanded.Expanded, Expanded.expanded, Joined.counted, Moved.chosen, Moved.moved, Related.replaced}
-use Rattle.lra_poly_queries.proofs.{JoinedSets.con_moved, JoinedSets.dot_within, JoinedSets.first_rows, JoinedSets.width_of, RelatedSets.replaced_length, TakenRows.TakesRows}
+use Rattle.lra_duality.proofs.PolyhedronLemmas.{given_width}
+use Rattle.lra_poly_queries.proofs.{JoinedSets.con_moved, JoinedSets.dot_within, JoinedSets.first_rows, RelatedSets.replaced_length, TakenRows.TakesRows}
 
 -- ---- lists with a member replaced
 map_set : (f : ℕ → ℤ) (l : List ℕ) (k d : ℕ) → map f (slice_set l k d) ≡ slice_set (map f l) k (f d)
@@ -106,7 +107,7 @@ expanded_rows p k h less =
         (Con (moved (replaced p.dims k ++ k ∷ []) p.rows) x → Con p.rows (chosen (replaced p.dims k) x)) ×
         (Con p.rows (chosen (replaced p.dims k) x) → Con (moved (replaced p.dims k ++ k ∷ []) p.rows) x)
     twins x = con_moved (replaced p.dims k ++ k ∷ []) p.rows x (chosen (replaced p.dims k) x)
-        (λ g c. twin_product p.dims k g.row x (width_of p h g c) less)
+        (λ g c. twin_product p.dims k g.row x (given_width p h g c) less)
 
 pub twin_length : (n k : ℕ) (dims more : List ℕ) → dims ≡ replaced n k → more ≡ dims ++ k ∷ [] → length more ≡ n + 1
 twin_length n k dims more ed em =

@@ -5,8 +5,8 @@ use Rattle.std.specs.List.{Contains}
 use Rattle.lra_linear_spec.specs.Descriptions.{Con, LinearRow, Holds, HoldsWith}
 use Rattle.lra_linear_spec.specs.{Kinds.is_equality, Points.SameSet, Polyhedra.IsPolyhedron, Polyhedra.Polyhedron, Vectors.dot, Vectors.entry, Vectors.product, declared.ConKind.ConKind}
 use Rattle.lra_linear_spec.proofs.Products.{dot_same, entry_past}
-use Rattle.lra_linear_spec.proofs.{Descriptions.system_has, Membership.map_from, Membership.map_has, Ring.ring, Ring.v, Ring.◌⊕◌, Ring.◌⊗◌, SetOperations.meet_con}
-use Rattle.lra_duality.proofs.PolyhedronLemmas.{rows_width}
+use Rattle.lra_linear_spec.proofs.{Membership.map_from, Membership.map_has, Ring.ring, Ring.v, Ring.◌⊕◌, Ring.◌⊗◌, SetOperations.meet_con}
+use Rattle.lra_duality.proofs.PolyhedronLemmas.{given_width}
 use Rattle.lra_systems.specs.LinearSystems.{LinearSystem, constraints, rows_by_kind}
 use Rattle.lra_systems.proofs.LinearRows.{constraints_pushed, given_more}
 use Rattle.lra_poly_queries.specs.{Joined.Concatenated, Joined.concatenated, Joined.counted, Moved.chosen, Moved.moved}
@@ -105,20 +105,17 @@ con_moved dims rows x y e = (
       subst (λ (u : LinearRow). Holds u x) f.2 (subst (HoldsWith f.0.equal) (sym (e f.0 f.1)) (h f.0 f.1)),
 )
 
-pub width_of : (p : Polyhedron) → IsPolyhedron p → (g : LinearRow) → Contains p.rows g → length g.row ≡ suc p.dims
-width_of p h g m = rows_width p h g.row (system_has p.rows g m)
-
 pub first_rows : (p : Polyhedron) (m : ℕ) → IsPolyhedron p → (x : List ℤ) →
     (Con (moved (counted (p.dims + m) 0) p.rows) x → Con p.rows (take (suc p.dims) x)) ×
     (Con p.rows (take (suc p.dims) x) → Con (moved (counted (p.dims + m) 0) p.rows) x)
 first_rows p m h x = con_moved (counted (p.dims + m) 0) p.rows x (take (suc p.dims) x)
-    (λ g c. first_product p.dims (p.dims + m) g.row x (width_of p h g c) (omega arith))
+    (λ g c. first_product p.dims (p.dims + m) g.row x (given_width p h g c) (omega arith))
 
 last_rows : (n : ℕ) (q : Polyhedron) → IsPolyhedron q → (x : List ℤ) →
     (Con (moved (replicate n q.dims ++ counted q.dims 0) q.rows) x → Con q.rows (entry x 0 ∷ drop (suc n) x)) ×
     (Con q.rows (entry x 0 ∷ drop (suc n) x) → Con (moved (replicate n q.dims ++ counted q.dims 0) q.rows) x)
 last_rows n q h x = con_moved (replicate n q.dims ++ counted q.dims 0) q.rows x (entry x 0 ∷ drop (suc n) x)
-    (λ g c. last_product n q.dims g.row x (width_of q h g c))
+    (λ g c. last_product n q.dims g.row x (given_width q h g c))
 
 concatenated_rows : (p q : Polyhedron) → IsPolyhedron p → IsPolyhedron q →
     SameSet (p.dims + q.dims) (Concatenated p.dims (Con p.rows) (Con q.rows)) (Con (concatenated p q))

@@ -2,35 +2,33 @@
 use Rattle.std.proofs.Common.{◌≡◌, ℕ, zero, suc, ℤ, pos, neg_ℤ, ◌*ℤ◌, List, [], ◌∷◌, ap, ◌∙◌, subst, arith, sym}
 use Rattle.std.proofs.lemmas.Int.{ints}
 use Rattle.std.specs.{Int.◌∣◌, Prelude.unsigned_abs}
+use Rattle.lra_linear_forms.proofs.FormLemmas.{neg_product}
 use Rattle.lra_linear_spec.specs.{Descriptions.LinearRow, LowestTerms.IsPrimitive, Polyhedra.Polyhedron, Vectors.entry, Vectors.product, Vectors.negated}
-use Rattle.lra_linear_spec.proofs.{Products.negated_dot, Ring.ring, Ring.v, Ring.⊖, Ring.◌⊗◌}
+use Rattle.lra_linear_spec.proofs.Products.{negated_dot}
 use Rattle.lra_duality.specs.{Maxima.IsGreatestValue, Maxima.IsMaximum, Maxima.IsUnbounded, Maxima.HasValue, Maxima.IsAtMost, declared.maximum.Maximum.TheVariants.At}
 use Rattle.lra_poly_queries.specs.Minima.{IsAtLeast, IsLeastValue, IsUnboundedBelow}
-
-times_turned : (a b : ℤ) → neg_ℤ a *ℤ b ≡ neg_ℤ (a *ℤ b)
-times_turned a b = ring (⊖ (v a) ⊗ v b) (⊖ (v a ⊗ v b)) (omega arith)
 
 -- the opposite's value is the value, turned
 value_opposite : (form x : List ℤ) (den : ℤ) → product (negated form) x *ℤ den ≡ neg_ℤ (product form x *ℤ den)
 value_opposite form x den =
-    ap (λ (z : ℤ). z *ℤ den) (negated_dot form (entry x)) ∙ times_turned (product form x) den
+    ap (λ (z : ℤ). z *ℤ den) (negated_dot form (entry x)) ∙ neg_product (product form x) den
 
 at_most_turned : (form x : List ℤ) (num den : ℤ) → IsAtMost (negated form) num den x → IsAtLeast form (neg_ℤ num) den x
 at_most_turned form x num den h =
     let t = value_opposite form x den in
-    let r = times_turned num (entry x 0) in
+    let r = neg_product num (entry x 0) in
     omega (arith, ints)
 
 at_least_turned : (form x : List ℤ) (low : ℤ) → IsAtLeast form low (pos 1) x → IsAtMost (negated form) (neg_ℤ low) (pos 1) x
 at_least_turned form x low h =
     let t = value_opposite form x (pos 1) in
-    let r = times_turned low (entry x 0) in
+    let r = neg_product low (entry x 0) in
     omega (arith, ints)
 
 value_turned : (form x : List ℤ) (num den : ℤ) → HasValue (negated form) num den x → HasValue form (neg_ℤ num) den x
 value_turned form x num den h =
     let t = value_opposite form x den in
-    let r = times_turned num (entry x 0) in
+    let r = neg_product num (entry x 0) in
     omega (arith, ints)
 
 abs_turned : (a : ℤ) → unsigned_abs (neg_ℤ a) ≡ unsigned_abs a

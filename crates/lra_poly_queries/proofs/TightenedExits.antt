@@ -2,11 +2,12 @@
 use Rattle.std.proofs.Common.{◌≡◌, ℕ, zero, suc, Bool, List, [], ◌∷◌, ◌++◌, append-nil, length, drop, ap, refl, sym, ◌∙◌, subst, true, false, ◌≢◌, ◌-◌, take, map, get_or, int_div, IsTrue, ◌↔◌, ℤ, pos}
 use Rattle.std.proofs.Common.{negsuc, ◌+ℤ◌, ◌*ℤ◌, ◌<ℤ◌, ◌≤ℤ◌, unsigned_abs, arith}
 use Rattle.std.proofs.{lemmas.Int.ints, lemmas.List.take_all, lemmas.List.Elements.All-cons, lemmas.List.Elements.All-tail}
-use Rattle.std.specs.{Int.◌∣◌, Int.int_div_euclid, Int.int_rem_euclid, List.All}
-use Rattle.lra_linear_spec.specs.{Descriptions.equality, Descriptions.inequality, OperationStrain.unit_row, Polyhedra.falsity, Range.InRange, Vectors.entry, Vectors.negated, Vectors.zeros}
-use Rattle.lra_linear_spec.proofs.{Lines.zeros_length, LowestTerms.signed_quotient_is, Ring.ring, Ring.v, Ring.◌⊕◌, Ring.◌⊗◌}
+use Rattle.std.specs.{Int.int_div_euclid, Int.int_rem_euclid, List.All}
+use Rattle.lra_linear_spec.specs.{Descriptions.equality, Descriptions.inequality, OperationStrain.unit_row, Polyhedra.falsity, Range.InRange, Vectors.negated, Vectors.zeros}
+use Rattle.lra_linear_spec.proofs.{Lines.zeros_length, Ring.ring, Ring.v, Ring.◌⊕◌, Ring.◌⊗◌}
 use Rattle.lra_row.specs.Rows.{IsRowGcd}
-use Rattle.lra_row.proofs.{Ratio.euclid, Ratio.rem_bounds, RowLemmas.divided, RowLemmas.divided_in_range, RowLemmas.lowest_divided, RowLemmas.lowest_same, RowLemmas.quotient_signed}
+use Rattle.lra_row.proofs.{Ratio.euclid, Ratio.rem_bounds, RowLemmas.divided, RowLemmas.divided_in_range, RowLemmas.lowest_divided, RowLemmas.lowest_same}
+use Rattle.lra_row.proofs.RowLemmas.{divided_times}
 use Rattle.lra_poly_queries.specs.Tightened.{IsTightened}
 use Rattle.lra_poly_queries.proofs.TightenedRows.{as_it_is, at_least_tightened, equality_tightened, no_store_tightened}
 
@@ -50,11 +51,6 @@ quotient_below c d h n =
     low a (negsuc r) c e h n = absurd (omega (arith, ints, h))
 
 -- ---- the quotients of the coefficients
-multiples : (cs : List ℤ) (d : ℕ) → ((j : ℕ) → d ∣ unsigned_abs (entry cs j)) → (j : ℕ) →
-    pos d *ℤ entry (divided (pos d) cs) j ≡ entry cs j
-multiples [] d all j = ring (v (pos d) ⊗ v (pos 0)) (v (pos 0)) (omega arith)
-multiples (c ∷ cs) d all zero = ap (λ (q : ℤ). pos d *ℤ q) (quotient_signed c d) ∙ signed_quotient_is d c (all 0)
-multiples (c ∷ cs) d all (suc j) = multiples cs d (λ i. all (suc i)) j
 
 -- ---- the exits
 rounded : (n : ℕ) (c q d : ℤ) (cs ds : List ℤ) (equal : Bool) → pos 1 <ℤ d → length cs ≡ n →
@@ -68,14 +64,14 @@ rounded n c q (pos d) cs ds false big w g e eq exact =
     subst (λ (t : List ℤ). IsTightened n (inequality (c ∷ cs)) (inequality (q ∷ t))) (sym e)
     (subst (λ (z : ℤ). IsTightened n (inequality (c ∷ cs)) (inequality (z ∷ divided (pos d) cs))) (sym eq)
     (at_least_tightened n c (int_div_euclid c (pos d)) cs (divided (pos d) cs) d (omega (arith, ints, big))
-    (l.same_length ∙ w) (multiples cs d g.divides) (quotient_low c (pos d) some) (quotient_above c (pos d) some) l.lowest))
+    (l.same_length ∙ w) (divided_times cs d g.divides) (quotient_low c (pos d) some) (quotient_above c (pos d) some) l.lowest))
 rounded n c q (pos d) cs ds true big w g e eq exact =
     let l = lowest_divided cs (pos d) g big in
     let some : pos 0 <ℤ pos d = omega (arith, ints, big) in
     subst (λ (t : List ℤ). IsTightened n (equality (c ∷ cs)) (equality (q ∷ t))) (sym e)
     (subst (λ (z : ℤ). IsTightened n (equality (c ∷ cs)) (equality (z ∷ divided (pos d) cs))) (sym eq)
     (equality_tightened n c (int_div_euclid c (pos d)) cs (divided (pos d) cs) d (omega (arith, ints, big))
-    (multiples cs d g.divides) (quotient_exact c (pos d) some (exact refl)) l.lowest))
+    (divided_times cs d g.divides) (quotient_exact c (pos d) some (exact refl)) l.lowest))
 
 met_nowhere : (n : ℕ) (c d : ℤ) (cs t : List ℤ) (equal : Bool) → pos 1 <ℤ d → length cs ≡ n →
     IsRowGcd cs (unsigned_abs d) → equal ≡ true → ¬ (int_rem_euclid c d ≡ pos 0) → t ≡ falsity n →
@@ -86,7 +82,7 @@ met_nowhere n c (pos d) cs t equal big w g k fails e =
     subst (λ (r : List ℤ). IsTightened n (record { row = c ∷ cs; equal = equal }) (inequality r)) (sym e)
     (subst (λ (b : Bool). IsTightened n (record { row = c ∷ cs; equal = b }) (inequality (falsity n))) (sym k)
     (no_store_tightened n c (int_div_euclid c (pos d)) cs (divided (pos d) cs) d (omega (arith, ints, big))
-    (multiples cs d g.divides) (quotient_below c (pos d) some fails) (quotient_above c (pos d) some)))
+    (divided_times cs d g.divides) (quotient_below c (pos d) some fails) (quotient_above c (pos d) some)))
 
 tight_already : (n : ℕ) (c d : ℤ) (cs t : List ℤ) (equal : Bool) → IsRowGcd cs (unsigned_abs d) → pos 0 ≤ℤ d →
     ¬ (pos 1 <ℤ d) → t ≡ c ∷ cs →

@@ -11,6 +11,7 @@ use Rattle.lra_systems.specs.LinearSystems.{LinearSystem, constraints, rows_by_k
 use Rattle.lra_linear_spec.proofs.Membership.{contains_cases, contains_none, filter_from, filter_has}
 use Rattle.lra_linear_spec.proofs.{Ring.mul_nonnegative, Ring.ring, Ring.v, Ring.◌⊕◌, Ring.◌⊗◌, Widening.valid_decides}
 use Rattle.lra_linear_spec.proofs.Signs.{add_nonnegative}
+use Rattle.lra_linear_spec.proofs.Descriptions.{holds_at_least}
 use Rattle.lra_poly.specs.Outcomes.{Becomes, IfExact, IfFlagged}
 use Rattle.lra_poly.specs.{declared.outcome.Outcome.Outcome, declared.outcome.Outcome.TheVariants.Exact, declared.outcome.Outcome.TheVariants.Flagged}
 use Rattle.lra_poly.proofs.PolyLemmas.{becomes_same}
@@ -129,12 +130,8 @@ never_itself r = by_value (is_tighter r r) refl
 tighter_holds : (n : ℕ) (s r : LinearRow) (x : List ℤ) → IsPoint n x → is_tighter s r ≡ true → Holds s x → Holds r x
 tighter_holds n s r x point h holds =
     let (unequal, low) = tighter_parts s r h in
-    let least : pos 0 ≤ℤ product s.row x = at_least s.equal (product s.row x) holds in
+    let least : pos 0 ≤ℤ product s.row x = holds_at_least s.equal (product s.row x) holds in
     subst (λ b. HoldsWith b (product r.row x)) (sym unequal) (lower_holds n s.row r.row x point (lower_said s.row r.row low) least)
-  where
-    at_least : (b : Bool) (z : ℤ) → HoldsWith b z → pos 0 ≤ℤ z
-    at_least true z e = from_zero z e
-    at_least false z e = e
 
 -- ---- fewer rows are tighter than a tighter one
 no_more : {A : Type 0} (t u : A → Bool) (xs : List A) → ((x : A) → t x ≡ true → u x ≡ true) → length (filter t xs) ≤ length (filter u xs)

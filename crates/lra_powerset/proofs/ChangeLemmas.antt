@@ -2,6 +2,7 @@
 use Rattle.std.proofs.Common.{◌≡◌, ◌≢◌, ◌⊎◌, ℕ, zero, suc, ◌≤◌, List, [], ◌∷◌, ◌++◌, length, refl, ap, sym, subst, ◌∙◌, inl, inr, arith, append_assoc, append-nil, length-append}
 use Rattle.lra_domain.specs.Abstraction.{Abstraction, TransfersTo, Joins, worse}
 use Rattle.lra_domain.specs.{Actions.Action, Actions.dims_after, Laws.Laws, Laws.BaseLaws, declared.Exactness.Exactness, declared.Exactness.TheVariants.Exact, declared.Exactness.TheVariants.Flagged}
+use Rattle.lra_domain.proofs.Worse.{exact_parts}
 use Rattle.lra_powerset.specs.Content.{SetContent, nonempty_parts, with_nonempty, PartFits}
 use Rattle.lra_powerset.specs.{Abstraction.set_abstraction, Joins.CollapsesTo, Joins.CollapseStrains, ListLemmas.each_map, Lists.EachPart, Lists.SomePart, Lists.PartByPart, Outcomes.HaveDims}
 use Rattle.lra_powerset.specs.{Outcomes.IsAppended, Outcomes.IsCollapsed, Outcomes.AreChanged, Reduction.ReducesAfter, Values.PartsIncluded, Values.SetTransferred, Values.SetStrains}
@@ -66,10 +67,6 @@ more_covers {V} m pl step p q ps qs one two a c (v ∷ vs) d =
     (inside_both m.leq (nonempty_parts m (v ∷ [])) (nonempty_parts m vs) (nonempty_parts m (q ∷ [])) qs
     (with_filled_inside m.leq (m.parts v) (m.parts q) v q (pl.partless_leq v q covered) covered) (c.covers vs d.1))
 
-worse_exact : (a b : Exactness) → worse a b ≡ Exact → (a ≡ Exact) × (b ≡ Exact)
-worse_exact Exact b e = (refl, e)
-worse_exact Flagged b e = let wrong : ⊥ = cc in absurd wrong
-
 worse_flagged : (a b : Exactness) → worse a b ≡ Flagged → (a ≡ Flagged) ⊎ ((a ≡ Exact) × (b ≡ Flagged))
 worse_flagged Exact b e = inr (refl, e)
 worse_flagged Flagged b e = inl refl
@@ -88,7 +85,7 @@ changed_more {V} m l pl step p q ps qs one two a dims c = record {
   left = ap (λ (xs : List V). nonempty_parts m (q ∷ []) ++ xs) c.left ∙ sym (with_filled_more (m.parts q) q (nonempty_parts m c.changed));
   keeps = (record { keeps = a.keeps; dims = dims; formed = a.formed }, c.keeps);
   covers = more_covers m pl step p q ps qs one two a c;
-  exact = λ e. let both = worse_exact one two e in (a.exact both.0, c.exact both.1);
+  exact = λ e. let both = exact_parts one two e in (a.exact both.0, c.exact both.1);
   flagged = λ e. more_flagged m step p q ps qs one two a c (worse_flagged one two e);
   few = omega (arith, c.few, with_filled_few (m.parts q) q, length-append (nonempty_parts m (q ∷ [])) qs);
   fit = λ n d. each_append (PartFits m (dims_after step n)) (nonempty_parts m (q ∷ [])) qs
@@ -173,7 +170,7 @@ set_meets {V} m l pl step old new one two qs dims cap few alike c s = record {
     covered = subst (λ (xs : List V). PartsIncluded m.leq xs new.parts) c.left s.parts;
   };
   covers = λ v d. (d.dims ∙ sym dims, set_covers m pl step (dims_after step old.dims) old one two qs new.parts few c s v d);
-  exact = λ e. set_exact m step (dims_after step old.dims) old new one two qs dims cap c s (worse_exact one two e);
+  exact = λ e. set_exact m step (dims_after step old.dims) old new one two qs dims cap c s (exact_parts one two e);
   flagged = λ e. set_flagged m step (dims_after step old.dims) old one two qs new.parts c s (worse_flagged one two e);
 }
 

@@ -2,6 +2,7 @@
 use Rattle.std.proofs.Common.{◌≡◌, ◌⊎◌, ℕ, zero, suc, ◌≤◌, ◌<◌, List, [], ◌∷◌, ◌++◌, length, refl, sym, subst, inl, inr, arith}
 use Rattle.lra_domain.specs.Abstraction.{Abstraction, Joins, worse}
 use Rattle.lra_domain.specs.{Laws.BaseLaws, declared.Exactness.Exactness, declared.Exactness.TheVariants.Exact, declared.Exactness.TheVariants.Flagged}
+use Rattle.lra_domain.proofs.Worse.{exact_parts}
 use Rattle.lra_powerset.specs.Joins.{JoinsOnStrains, LastTwoJoin, LastTwoStrain, CollapsesTo, CollapseStrains}
 use Rattle.lra_powerset.specs.Outcomes.{IsReduced, IsMerged, LastTwoBecomeJoin, IsCollapsed}
 use Rattle.lra_powerset.specs.{Content.PartFits, ListLemmas.each_map, Lists.EachPart, Lists.SomePart, Reduction.Reduces, Single.join_same, Single.leaves_same, Values.PartsIncluded}
@@ -162,10 +163,6 @@ merged_each m pl ps mid j c each = each_map (λ p. SomePart (m.leq p) mid) (λ p
 pub merged_none : {V H : Type 0} (m : Abstraction V H) → BaseLaws m → (a : V) → m.well_formed a → IsMerged m a [] Exact a
 merged_none m pl a fine = record { formed = fine; first = pl.leq_reflexive a; others = tt; exact = λ e. refl; flagged = λ e. cc }
 
-worse_exact : (a b : Exactness) → worse a b ≡ Exact → (a ≡ Exact) × (b ≡ Exact)
-worse_exact Exact b e = (refl, e)
-worse_exact Flagged b e = let wrong : ⊥ = cc in absurd wrong
-
 merge_flagged : {V H : Type 0} (m : Abstraction V H) (a p b : V) (ps : List V) (one two : Exactness) → Joins m a p one b
     → (two ≡ Flagged → JoinsOnStrains m b ps) → worse one two ≡ Flagged
     → m.join_strains a p ⊎ ((c : V) × m.joined a p c × JoinsOnStrains m c ps)
@@ -178,6 +175,6 @@ merged_more m pl a p b ps one two j t more = record {
   formed = more.formed;
   first = pl.leq_transitive a b j t.left more.first;
   others = (pl.leq_transitive p b j t.right more.first, more.others);
-  exact = λ e. let both = worse_exact one two e in (b, t.exact both.0, more.exact both.1);
+  exact = λ e. let both = exact_parts one two e in (b, t.exact both.0, more.exact both.1);
   flagged = λ e. merge_flagged m a p b ps one two t more.flagged e;
 }

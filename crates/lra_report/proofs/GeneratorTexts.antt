@@ -123,7 +123,7 @@ values_end value [] zs u = refl
 values_end value (n ∷ ns) [] u = refl
 values_end value (n ∷ ns) (z ∷ zs) u = refl
 
-value_pieces : (a t r u : List ℕ) → ((a ++ t) ++ r) ++ u ≡ a ++ (t ++ (r ++ u))
+pub value_pieces : (a t r u : List ℕ) → ((a ++ t) ++ r) ++ u ≡ a ++ (t ++ (r ++ u))
 value_pieces a t r u = ap (λ x. x ++ u) (append_assoc a t r) ∙ append_assoc a (t ++ r) u ∙ ap (λ x. a ++ x) (append_assoc t r u)
 
 -- the first of the values, without its name

@@ -12,6 +12,7 @@ use Rattle.lra_report.specs.{Report.PointReport, Report.Verdict, Report.Report, 
 use Rattle.lra_row_text.specs.Texts.{text_line}
 use Rattle.lra_report.proofs.Fronts.{first_same, rest_same, both_same}
 use Rattle.lra_report.proofs.{NameTexts.are_shown, Numbers.IsShort, Numbers.decimal_same, Outcomes.outcome_same, StateTexts.letter, StateTexts.line_pieces, StateTexts.state_same}
+use Rattle.lra_report.proofs.GeneratorTexts.{value_pieces}
 use Rattle.lra_options.specs.declared.options.Options.{Options}
 
 -- points -------------------------------------------------------------------------
@@ -19,9 +20,6 @@ use Rattle.lra_options.specs.declared.options.Options.{Options}
 points_letter : (ps : List PointReport) (u : List ℕ) → letter u ≡ 0 → letter (flat_map point_text ps ++ u) ≡ 0
 points_letter [] u h = h
 points_letter (p ∷ ps) u h = refl
-
-point_pieces : (a s r u : List ℕ) → ((a ++ s) ++ r) ++ u ≡ a ++ (s ++ (r ++ u))
-point_pieces a s r u = simp append_assoc
 
 points_same : (outside : List (List ℕ)) (ls : List Labelled) (number : ℕ) (sites : List Site) (ps qs : List PointReport) (u v : List ℕ) →
     AllByRecursion (λ s. AreWords (live_names outside ls s)) sites → AreListed outside ls number sites ps → AreListed outside ls number sites qs →
@@ -39,8 +37,8 @@ points_same outside ls number (s ∷ sites) (p ∷ ps) (q ∷ qs) u v hw lp lq h
     let text_p : point_text p ≡ head ++ state_text names p.state = ap point_text lp.0 in
     let text_q : point_text q ≡ head ++ state_text names q.state = ap point_text lq.0 in
     let here : head ++ (state_text names p.state ++ (rest_p ++ u)) ≡ head ++ (state_text names q.state ++ (rest_q ++ v)) =
-    sym (ap (λ t. (t ++ rest_p) ++ u) text_p ∙ point_pieces head (state_text names p.state) rest_p u) ∙ e ∙ ap (λ t. (t ++ rest_q) ++ v) text_q ∙
-    point_pieces head (state_text names q.state) rest_q v in
+    sym (ap (λ t. (t ++ rest_p) ++ u) text_p ∙ value_pieces head (state_text names p.state) rest_p u) ∙ e ∙ ap (λ t. (t ++ rest_q) ++ v) text_q ∙
+    value_pieces head (state_text names q.state) rest_q v in
     let names_p : p.names ≡ names = ap (λ (x : PointReport). x.names) lp.0 in
     let names_q : q.names ≡ names = ap (λ (x : PointReport). x.names) lq.0 in
     let first = state_same names p.state q.state (rest_p ++ u) (rest_q ++ v) (are_shown (live_names outside ls s) hw.0)

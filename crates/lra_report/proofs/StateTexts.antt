@@ -6,6 +6,7 @@ use Rattle.lra_row_text.specs.Texts.{text_line, row_text, generator_text, rows_t
 use Rattle.lra_row_text.specs.{Lines.row_line, Lines.generator_line, Part.ReportGenerator, Part.Part, Rows.ReportRow}
 use Rattle.lra_report.specs.{Report.Invariant, ReportText.further_parts_text, ReportText.state_text, Spelled.IsSpelledRow, Spelled.IsSpelledGenerator, Spelled.IsReadablePart}
 use Rattle.lra_report.proofs.{Fronts.AreShownNames, Fronts.rest_same, Fronts.both_same, GeneratorTexts.generator_same, RowTexts.row_same, RowTexts.row_not_true}
+use Rattle.lra_report.proofs.GeneratorTexts.{value_pieces}
 
 -- the first letter of a line of a state, behind its two blanks; 0 elsewhere
 abbrev pub letter : List ℕ → ℕ
@@ -108,9 +109,6 @@ past_end u h = record { no_row = λ e. no_letters 0 114 refl (sym h ∙ e); no_g
 past_or : (t : List ℕ) → IsPast (text_line (codes "  or") ++ t)
 past_or t = record { no_row = no_letters 111 114 refl; no_generator = no_letters 111 103 refl }
 
-or_pieces : (a b c u : List ℕ) → ((a ++ b) ++ c) ++ u ≡ a ++ (b ++ (c ++ u))
-or_pieces a b c u = simp append_assoc
-
 past_further : (ns : Names) (ps : List Part) (u : List ℕ) → letter u ≡ 0 → IsPast (further_parts_text ns ps ++ u)
 past_further ns [] u h = past_end u h
 past_further ns (p ∷ ps) u h = record { no_row = no_letters 111 114 refl; no_generator = no_letters 111 103 refl }
@@ -123,7 +121,7 @@ further_same ns [] (q ∷ qs) u v hn hp hq lu lv e = absurd (no_letters 0 111 re
 further_same ns (p ∷ ps) [] u v hn hp hq lu lv e = absurd (no_letters 0 111 refl (sym lv ∙ ap letter (sym e)))
 further_same ns (p ∷ ps) (q ∷ qs) u v hn hp hq lu lv e =
     let or = text_line (codes "  or") in
-    let here = append_cancel_left or _ _ (sym (or_pieces or (part_text ns p) (further_parts_text ns ps) u) ∙ e ∙ or_pieces or (part_text ns q) (further_parts_text ns qs) v) in
+    let here = append_cancel_left or _ _ (sym (value_pieces or (part_text ns p) (further_parts_text ns ps) u) ∙ e ∙ value_pieces or (part_text ns q) (further_parts_text ns qs) v) in
     let first = part_same ns p q (further_parts_text ns ps ++ u) (further_parts_text ns qs ++ v) hn hp.0 hq.0 (past_further ns ps u lu) (past_further ns qs v lv) here in
     let further = further_same ns ps qs u v hn hp.1 hq.1 lu lv first.1 in
     (both_same first.0 further.0, further.1)

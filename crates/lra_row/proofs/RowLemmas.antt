@@ -46,7 +46,7 @@ pub divided_in_range : (xs : List ℤ) (d : ℤ) → pos 1 <ℤ d → All InRang
 divided_in_range xs (pos g) h k = all_divided xs g (omega (arith, ints, h)) k
 divided_in_range xs (negsuc g) h k = absurd (omega (arith, ints, h))
 
-divided_times : (xs : List ℤ) (g : ℕ) → ((j : ℕ) → g ∣ unsigned_abs (entry xs j)) → (j : ℕ) → pos g *ℤ entry (divided (pos g) xs) j ≡ entry xs j
+pub divided_times : (xs : List ℤ) (g : ℕ) → ((j : ℕ) → g ∣ unsigned_abs (entry xs j)) → (j : ℕ) → pos g *ℤ entry (divided (pos g) xs) j ≡ entry xs j
 divided_times [] g d j = ring (v (pos g) ⊗ v (pos 0)) (v (pos 0)) (omega arith)
 divided_times (x ∷ xs) g d zero = ap (λ q. pos g *ℤ q) (quotient_signed x g) ∙ signed_quotient_is g x (d 0)
 divided_times (x ∷ xs) g d (suc j) = divided_times xs g (λ i. d (suc i)) j

@@ -3,6 +3,7 @@ use Rattle.std.proofs.Common.{◌≡◌, ◌∙◌, ◌≤◌, ◌<◌, ◌+◌,
 use Rattle.std.proofs.lemmas.List.Elements.{Contains-append_cases, Contains-append_left, Contains-append_right}
 use Rattle.std.proofs.{lemmas.Bool.cases_lt, lemmas.List.at_drop_all, lemmas.List.at_drop_more, lemmas.Option.none-some, lemmas.Option.same_Some}
 use Rattle.std.specs.{List.Contains, Prelude.Some, Prelude.slice_get}
+use Rattle.lra_program.proofs.AccessLaws.{get_right}
 use Rattle.lra_linear_spec.proofs.Membership.{contains_none}
 use Rattle.lra_threads_source.specs.Listed.{one_by_one}
 
@@ -64,12 +65,6 @@ front_get [] ys n low = absurd (omega (arith, low))
 front_get (x ∷ xs) ys zero low = refl
 front_get (x ∷ xs) ys (suc n) low = front_get xs ys n (omega (arith, low))
 
-back_get : {A : Type 0} (xs ys : List A) (n : ℕ) → slice_get (xs ++ ys) (length xs + n) ≡ slice_get ys n
-back_get {A} [] ys n = let none : 0 + n ≡ n = omega arith in ap (λ (m : ℕ). slice_get ys m) none
-back_get {A} (x ∷ xs) ys n =
-    let more : suc (length xs) + n ≡ suc (length xs + n) = omega arith in
-    ap (λ (m : ℕ). slice_get (x ∷ (xs ++ ys)) m) more ∙ back_get xs ys n
-
 -- at which place
 pub in_turn_at : {A B : Type 0} (tell : ℕ → A → List B) (size : ℕ → ℕ) (j : ℕ) (xs : List A)
     → ((i : ℕ) (y : A) → slice_get xs i ≡ Some y → length (tell (j + i) y) ≡ size (j + i))
@@ -89,7 +84,7 @@ in_turn_at {A} {B} tell size j (y ∷ ys) sizes (suc k) x there n low =
     let next : j + suc k ≡ suc j + k = omega arith in
     let long : length (tell j y) ≡ size j = subst (λ (m : ℕ). length (tell m y) ≡ size m) here (sizes 0 y refl) in
     ap (λ (m : ℕ). slice_get (tell j y ++ one_by_one tell (suc j) ys) m) (omega (arith, long))
-    ∙ back_get (tell j y) (one_by_one tell (suc j) ys) (sizes_from size (suc j) k + n)
+    ∙ get_right (tell j y) (one_by_one tell (suc j) ys) (sizes_from size (suc j) k + n)
     ∙ in_turn_at tell size (suc j) ys
     (λ i z at. subst (λ (m : ℕ). length (tell m z) ≡ size m) (omega arith) (sizes (suc i) z at)) k x there n (subst (λ (m : ℕ). n < size m) next low)
     ∙ ap (λ (m : ℕ). slice_get (tell m x) n) (sym next)

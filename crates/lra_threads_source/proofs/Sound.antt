@@ -11,12 +11,13 @@ use Rattle.lra_resolution_spec.specs.{LiveNames.globals_named, Resolve.resolved_
 use Rattle.lra_program.specs.{Program.Function, Program.Program, ProgramViews.function_or, Sites.Site, Sites.sites_of}
 use Rattle.lra_operations.specs.{Agree.IsInlinedTree, Agree.point_of, Tree.Node}
 use Rattle.lra_report.specs.declared.verdict_kinds.VerdictKind.TheVariants.{Assertion, Access}
-use Rattle.lra_report.specs.{Listing.AreListed, Listing.listed_verdict, Report.InvariantHolds, Report.Invariant, Report.PointReport, Report.Verdict, declared.verdict_kinds.VerdictKind.VerdictKind}
+use Rattle.lra_report.specs.{Listing.listed_verdict, Report.InvariantHolds, Report.Invariant, Report.PointReport, Report.Verdict, declared.verdict_kinds.VerdictKind.VerdictKind}
 use Rattle.lra_front_end.proofs.Named.{globals_as_many}
 use Rattle.lra_report_build.specs.AnalysisResults.{access_verdicts, access_verdicts_at, site_at, state_of, verdict_at}
 use Rattle.lra_report_build.specs.Shown.{shown_state}
 use Rattle.lra_linear_spec.proofs.ListPlaces.{contains_at, there_within, flat_map_from}
 use Rattle.lra_analyse_source.proofs.Handing.{image_of}
+use Rattle.lra_analyse_source.proofs.Reports.{listed_length}
 use Rattle.lra_interleavings.specs.Interleavings.{AtThread, FailsThread, ThreadWritesValue, OutOfBoundsThread}
 use Rattle.lra_threads_fixpoint.specs.{Interference.interval_at, Interference.threads_interference, Rounds.ThreadsFixpoint}
 use Rattle.lra_threads_analysis.specs.Found.{IsThreadResultOf, thread_finding, access_verdicts_of, thread_values, verdicts_of}
@@ -30,12 +31,6 @@ use Rattle.lra_threads_source.proofs.InTurn.{first_at, first_from, first_has, sa
 use Rattle.lra_threads_source.proofs.{FlaggedPoints.all_end_found, FlaggedPoints.told_low, FlaggedPoints.verdict_low, Readying.zip_at, Readying.zip_long}
 
 -- lists --------------------------------------------------------------------------------------------------------------
-
-listed_long : (outside : List (List ℕ)) (ls : List Labelled) (k : ℕ) (ss : List Site) (ps : List PointReport) → AreListed outside ls k ss ps → length ps ≡ length ss
-listed_long outside ls k [] [] listed = refl
-listed_long outside ls k [] (p ∷ ps) listed = absurd listed
-listed_long outside ls k (s ∷ ss) [] listed = absurd listed
-listed_long outside ls k (s ∷ ss) (p ∷ ps) listed = ap suc (listed_long outside ls (suc k) ss ps listed.2)
 
 -- numbers ------------------------------------------------------------------------------------------------------------
 
@@ -104,7 +99,7 @@ module _ (t : FileTree) (end : ThreadsFixpoint ThreadResult) (holds : HoldsInter
           let as_many = shows.as_many in
           let (found, is_found) = there_within end.found i (omega (arith, below, as_many)) in
           length-map y (point_in_thread (points_before t i) (suc i))
-          ∙ listed_long (globals_named t.parts) (labels_of t) 1 (thread_sites t i) y (shows.are_listed i found y is_found here).listed
+          ∙ listed_length (globals_named t.parts) (labels_of t) 1 (thread_sites t i) y (shows.are_listed i found y is_found here).listed
 
 -- verdicts -----------------------------------------------------------------------------------------------------------
 

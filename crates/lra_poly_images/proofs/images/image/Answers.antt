@@ -4,7 +4,8 @@ use Rattle.lra_linear_spec.specs.{Descriptions.Con, OperationStrain.ImageStrains
 use Rattle.lra_linear_forms.specs.Form.{form_row}
 use Rattle.lra_poly.specs.Outcomes.{Becomes}
 use Rattle.lra_poly.proofs.PolyLemmas.{exactly}
-use Rattle.lra_poly_images.proofs.{BackImages.row_width, KeptLists.flagged_since}
+use Rattle.lra_poly_images.proofs.GivenUp.{flagged_anyway}
+use Rattle.lra_poly_images.proofs.BackImages.{row_width}
 use Rattle.lra_poly_images.proofs.images.image.Goals as goal
 
 pub convert_image-requires-clause-form : goal.convert_image-requires-clause-form
@@ -29,4 +30,4 @@ returns-clause-becomes c =
 pub returns-clause-stays : goal.returns-clause-stays
 returns-clause-stays c =
     let stays = rw c.in-None.is at c.in_ok-made.ensures.none in
-    flagged_since _ c.in_ok-outcome-in-None.outcome stays
+    flagged_anyway _ c.in_ok-outcome-in-None.outcome stays

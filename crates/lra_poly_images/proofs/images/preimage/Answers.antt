@@ -5,7 +5,8 @@ use Rattle.lra_linear_spec.specs.{Descriptions.Con, OperationStrain.PreimageStra
 use Rattle.lra_poly.specs.Outcomes.{Becomes}
 use Rattle.lra_linear_forms.specs.Form.{form_row}
 use Rattle.lra_poly.proofs.PolyLemmas.{exactly}
-use Rattle.lra_poly_images.proofs.{BackImages.preimage_made, BackImages.row_width, KeptLists.flagged_since, KeptLists.stays_back_for}
+use Rattle.lra_poly_images.proofs.GivenUp.{flagged_anyway}
+use Rattle.lra_poly_images.proofs.{BackImages.preimage_made, BackImages.row_width, KeptLists.stays_back_for}
 use Rattle.lra_poly_images.specs.FormedPreimages.{IsOfFormed}
 use Rattle.lra_poly_images.proofs.images.preimage.Goals as goal
 
@@ -35,9 +36,9 @@ returns-clause-becomes c =
 pub returns-clause-stays : goal.returns-clause-stays
 returns-clause-stays c =
     let stays = rw c.in-None.is at c.in_ok-made.ensures.none in
-    flagged_since _ c.in_ok-outcome-in-None.outcome (stays_back_for c.args.p.now c.args.x (form_row c.args.form.now) c.in_ok-row.row c.in_ok-row.ensures stays)
+    flagged_anyway _ c.in_ok-outcome-in-None.outcome (stays_back_for c.args.p.now c.args.x (form_row c.args.form.now) c.in_ok-row.row c.in_ok-row.ensures stays)
 
 pub returns-clause-formed : goal.returns-clause-formed
 returns-clause-formed c =
     let formed = subst (λ (f : List ℤ). IsOfFormed (suc c.args.x) f c.args.p.now c.convert_preimage.new.p) c.in_ok-row.ensures c.in_ok-outcome-in-None.ensures.formed in
-    flagged_since _ c.in_ok-outcome-in-None.outcome formed
+    flagged_anyway _ c.in_ok-outcome-in-None.outcome formed
