@@ -9,6 +9,7 @@ use Rattle.lra_dbm.proofs.CellLemmas.{opposite_below, inside_or_out, length-writ
 use Rattle.lra_dbm.proofs.Clears.{in_pair, half_opposite, opposite_plus, opposite_minus}
 use Rattle.std.proofs.lemmas.Bool.{or_parts}
 use Rattle.lra_dbm.proofs.{EntryLemmas.le_same, EntryLemmas.le_trans, Lowering.within_range_fits, Lowering.within_range_same, Strong.opposite_twice}
+use Rattle.lra_dbm.proofs.Paths.{any_true}
 
 -- ---- one more entry of a row
 
@@ -229,15 +230,6 @@ module _ (n : ℕ) (flips : Bool) (x : ℕ) (c : ℤ) (old : Cells) (is : IsMatr
 
 -- ---- numbers that pass
 
-some_below : (f : ℕ → Bool) (k : ℕ) → any_below f k ≡ true → (i : ℕ) × (i < k) × (f i ≡ true)
-some_below f zero h = absurd (cc)
-some_below f (suc k) h = decide (any_below f k) refl (some_below f k)
-  where
-    decide : (t : Bool) → any_below f k ≡ t → (any_below f k ≡ true → (i : ℕ) × (i < k) × (f i ≡ true)) → (i : ℕ) ×
-        (i < suc k) × (f i ≡ true)
-    decide true e before = let r = before e in (r.0, (let q = r.1 in omega arith), r.2)
-    decide false e before = (k, omega arith, sym (ap (λ t. t || f k) e) ∙ h)
-
 none_below : (f : ℕ → Bool) (k i : ℕ) → any_below f k ≡ false → i < k → f i ≡ false
 none_below f zero i h l = absurd (omega arith)
 none_below f (suc k) i h l = elim (eqb_tells i k) [
@@ -250,7 +242,7 @@ RowPasses n flips x c m i = any_below (passes_at flips x c m i) (2 * n)
 
 row_passes : (n : ℕ) (flips : Bool) (x : ℕ) (c : ℤ) (m : Entries) (i : ℕ) → i < 2 * n →
     RowPasses n flips x c m i ≡ true → ShiftPasses n flips x c m
-row_passes n flips x c m i h e = let r = some_below (passes_at flips x c m i) (2 * n) e in (i, r.0, h, r.1, r.2)
+row_passes n flips x c m i h e = let r = any_true (passes_at flips x c m i) (2 * n) e in (i, r.0, h, r.1, r.2)
 
 none_passes : (n : ℕ) (flips : Bool) (x : ℕ) (c : ℤ) (old : Cells) → IsMatrix n old →
     RowPasses n flips x c (entries n old) (2 * x) ≡ false

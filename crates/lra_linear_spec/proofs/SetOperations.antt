@@ -36,7 +36,7 @@ cleared_length (x ∷ r) zero = refl
 cleared_length (x ∷ r) (suc k) = ap suc (cleared_length r k)
 
 -- the product with a sum of multiples of rows
-blend_product : (a b : ℤ) (us vs x : List ℤ) → length us ≡ length vs → product (blend a b us vs) x ≡ (a *ℤ product us x) +ℤ (b *ℤ product vs x)
+pub blend_product : (a b : ℤ) (us vs x : List ℤ) → length us ≡ length vs → product (blend a b us vs) x ≡ (a *ℤ product us x) +ℤ (b *ℤ product vs x)
 blend_product a b us vs x e =
     product_comm (blend a b us vs) x ∙ dot_same x (entry (blend a b us vs)) (λ j. (a *ℤ entry us j) +ℤ (b *ℤ entry vs j)) (entry_blend a b us vs e) ∙ dot_linear x a b (entry us) (entry vs) ∙
     ap (λ z. (a *ℤ z) +ℤ (b *ℤ product x vs)) (product_comm x us) ∙ ap (λ z. (a *ℤ product us x) +ℤ (b *ℤ z)) (product_comm x vs)

@@ -205,7 +205,7 @@ echelon_unique n (r ∷ rows) (r' ∷ rows') (p ∷ ps) (p' ∷ ps') w w' ech ec
     (cc, cc)
 
 -- ---- an echelon form has at most as many rows as columns
-leads_inside : (r : List ℤ) (p : ℕ) → HasPivot r p → p < length r
+pub leads_inside : (r : List ℤ) (p : ℕ) → HasPivot r p → p < length r
 leads_inside r p l = elim (cases_lt p (length r)) [ inl h ↦ h | inr h ↦ absurd (not_both (entry r p) l.here (entry_past r p h)) ]
 
 -- no more rows than columns after the one that is passed

@@ -7,20 +7,16 @@ use Rattle.lra_linear_spec.specs.Polyhedra.{HasPoint, IsPolyhedron, Polyhedron}
 use Rattle.lra_linear_spec.specs.{Cones.Generated, Cones.all_rows, Echelon.IsEchelon, Echelon.HasPivot, Echelon.Spanned, Kinds.is_equality, Points.IsEmptySet, Points.IsPoint, SetOperations.ValidOn}
 use Rattle.lra_linear_spec.specs.{Vectors.dot, Vectors.entry, Vectors.negated, Vectors.product, declared.ConKind.ConKind, declared.ConKind.TheVariants.Eq, declared.ConKind.TheVariants.Ge}
 use Rattle.lra_linear_spec.proofs.CanonicalForms.{lines_are_all, spanned_in_cone, spanned_negative}
-use Rattle.lra_linear_spec.proofs.Products.{dot_minus, entry_negated, entry_past, negated_dot, negated_length, product_comm, dot_first}
+use Rattle.lra_linear_spec.proofs.Products.{dot_minus, entry_negated, negated_dot, negated_length, product_comm, dot_first}
 use Rattle.lra_linear_spec.proofs.Signs.{between_opposites, not_both, opposite_of_zero, times_positive, zero_at_least}
 use Rattle.lra_linear_spec.proofs.{Combinations.generated_same, Descriptions.in_system, LinearMaps.generated_nonneg, Membership.contains_head, Membership.contains_tail, OneSpelling.cone_solved}
 use Rattle.lra_linear_spec.proofs.{OneSpelling.given_has, Polyhedra.con_gen, Polyhedra.generators_lines, Polyhedra.generators_rays, SetOperations.has_vertex, SetOperations.valid_on_rows}
+use Rattle.lra_linear_spec.proofs.Spans.{leads_inside}
 use Rattle.lra_duality.proofs.PolyhedronLemmas.{given_width, with_point}
 use Rattle.lra_systems.specs.LinearSystems.{LinearSystem, constraints, rows_by_kind}
 use Rattle.lra_poly_queries.specs.Shapes.{AffineDimension}
 
 -- ---- an echelon form none of whose rows leads in column 0 has fewer rows than columns
-leads_inside : (r : List ℤ) (p : ℕ) → HasPivot r p → p < length r
-leads_inside r p l = elim (cases_lt p (length r)) [
-  | inl h ↦ h
-  | inr h ↦ absurd (not_both (entry r p) l.here (entry_past r p h))
-]
 
 fewer_above : (w lo : ℕ) (rows : List (List ℤ)) (ps : List ℕ) → ((t : List ℤ) → Contains rows t → length t ≡ w) →
     IsEchelon rows ps → ((t : List ℤ) → Contains rows t → ¬ (HasPivot t 0)) →

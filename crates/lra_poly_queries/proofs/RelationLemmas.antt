@@ -7,23 +7,16 @@ use Rattle.lra_linear_spec.specs.Polyhedra.{HasPoint, IsPolyhedron, Polyhedron, 
 use Rattle.lra_linear_spec.specs.{Points.IsPoint, SetOperations.ValidOn, Vectors.blend, Vectors.entry, Vectors.negated, Vectors.product, Widening.holds_with}
 use Rattle.lra_linear_spec.proofs.Descriptions.{FromGiven, gen_generated, generated_gen, system_from, system_has}
 use Rattle.lra_linear_spec.proofs.Membership.{contains_cases, contains_none, all_from, list_all_at, list_all_from}
-use Rattle.lra_linear_spec.proofs.Products.{blend_length, dot_linear, dot_same, entry_blend, entry_negated, negated_dot, negated_length, product_comm}
+use Rattle.lra_linear_spec.proofs.Products.{blend_length, entry_blend, entry_negated, negated_dot, negated_length, product_comm}
 use Rattle.lra_linear_spec.proofs.Signs.{above_zero, add_nonnegative, between_opposites, cases_sign, not_both, opposite_of_zero, positive_is_nonnegative, times_positive, zero_at_least}
 use Rattle.lra_linear_spec.proofs.{Combinations.generated_row, LinearMaps.generated_nonneg, Lines.zeros_length, OneSpelling.positivity_product, Polyhedra.con_gen, Polyhedra.generators_are_generators}
 use Rattle.lra_linear_spec.proofs.{Ring.mul_nonnegative, Ring.ring, Ring.v, Ring.⊖, Ring.◌⊕◌, Ring.◌⊗◌, SetOperations.has_vertex, SetOperations.valid_on_rows, Widening.valid_decides}
+use Rattle.lra_linear_spec.proofs.SetOperations.{blend_product}
 use Rattle.lra_duality.proofs.PolyhedronLemmas.{falsity_is_empty}
 use Rattle.lra_poly_queries.specs.Relations.{AreMissed, HoldsNowhere, IsRelation, MissesZero, StaysAbove, StaysBelow}
 use Rattle.lra_poly_queries.specs.{declared.relation.Missed.Missed, declared.relation.Relation.Relation}
 
 -- ---- products with sums of multiples
-pub blend_product : (a b : ℤ) (us vs x : List ℤ) → length us ≡ length vs →
-    product (blend a b us vs) x ≡ (a *ℤ product us x) +ℤ (b *ℤ product vs x)
-blend_product a b us vs x e =
-    product_comm (blend a b us vs) x
-    ∙ dot_same x (entry (blend a b us vs)) (λ j. (a *ℤ entry us j) +ℤ (b *ℤ entry vs j)) (entry_blend a b us vs e)
-    ∙ dot_linear x a b (entry us) (entry vs)
-    ∙ ap (λ (z : ℤ). (a *ℤ z) +ℤ (b *ℤ product x vs)) (product_comm x us)
-    ∙ ap (λ (z : ℤ). (a *ℤ product us x) +ℤ (b *ℤ z)) (product_comm x vs)
 
 product_blend : (a b : ℤ) (c x y : List ℤ) → length x ≡ length y →
     product c (blend a b x y) ≡ (a *ℤ product c x) +ℤ (b *ℤ product c y)

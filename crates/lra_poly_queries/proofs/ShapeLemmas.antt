@@ -16,7 +16,7 @@ use Rattle.lra_linear_spec.proofs.{Ring.◌⊗◌, SetOperations.has_vertex, Set
 use Rattle.lra_duality.proofs.PolyhedronLemmas.{falsity_is_empty, given_width}
 use Rattle.lra_description_pair.proofs.OwnRows.{none_of}
 use Rattle.lra_systems.specs.LinearSystems.{FitKinds, FitsKind, LinearSystem, constraints, generators, rows_by_kind}
-use Rattle.lra_poly_queries.proofs.RelationLemmas.{blend_product}
+use Rattle.lra_linear_spec.proofs.SetOperations.{blend_product}
 use Rattle.lra_poly_queries.specs.Shapes.{HasBound, IsBounded, IsUniverse}
 
 -- ---- an inequality that holds at all points
