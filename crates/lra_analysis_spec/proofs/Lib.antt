@@ -1,4 +1,5 @@
 -- A derivation without a flag is the written iteration, and the first flag stands where the written iteration strains.
+pub mod FlagLaws
 pub mod Transfer
 pub mod Unflagged
 -- Forms and tests mean what their expressions and comparisons do.

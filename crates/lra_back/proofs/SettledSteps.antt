@@ -4,15 +4,12 @@ use Rattle.std.proofs.{lemmas.List.set-get_or, lemmas.Option.get_or_from_slice_g
 use Rattle.lra_domain.specs.declared.Exactness.TheVariants.{Exact, Flagged}
 use Rattle.lra_domain.specs.{Actions.Action, declared.Exactness.Exactness, declared.Mode.Mode, declared.Mode.TheVariants.Widen}
 use Rattle.lra_analysis_spec.specs.Pass.{noted}
+use Rattle.lra_analysis_spec.proofs.FlagLaws.{noted_exact}
 use Rattle.lra_back.specs.Preconditions.{PreOfPaths, PreOfAllPoints, IsNext}
 use Rattle.lra_back.specs.{Operations.BackwardOperations, Rounds.IsUpdated, Rounds.Task, Rounds.seed_at, Settled.AreSettled, Settled.IsSettled, Settled.Settles}
 use Rattle.lra_back.proofs.HeadSteps.{get_set_other}
 
 -- flags ----------------------------------------------------------------------------------------------------------------
-
-noted_exact : (p : ℕ) (f : Option ℕ) → noted p Exact f ≡ f
-noted_exact p None = refl
-noted_exact p (Some q) = refl
 
 -- what adds no flag adds none behind another
 still_noted : (q p : ℕ) (d e : Exactness) (f : Option ℕ) → noted q d f ≡ f → noted q d (noted p e f) ≡ noted p e f

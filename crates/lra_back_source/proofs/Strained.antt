@@ -1,23 +1,19 @@
 -- Where nothing is flagged what is shown is what is defined; a flag stands where that strains.
-use Rattle.std.proofs.Common.{◌≡◌, ◌∙◌, ℕ, suc, List, [], ◌∷◌, refl, ap, sym, subst, inl, inr}
+use Rattle.std.proofs.Common.{◌≡◌, ◌∙◌, ℕ, suc, List, refl, ap, sym, subst, inl, inr}
 use Rattle.std.proofs.lemmas.Option.{none-some, same_Some}
 use Rattle.std.specs.Prelude.{Option, None, Some, option_map}
 use Rattle.lra_program.specs.Sites.{sites_of}
 use Rattle.lra_operations.specs.CheckedOperations.{accessing_ops}
 use Rattle.lra_report.specs.BackText.{BackReport}
-use Rattle.lra_analysis_spec.specs.{Accesses.OpInside, Analysis.IsSolution, Judging.Finding, Judging.first_flagged}
+use Rattle.lra_analysis_spec.specs.{Accesses.OpInside, Analysis.IsSolution, Judging.first_flagged}
 use Rattle.lra_analysis_spec.specs.Operations as iteration
+use Rattle.lra_analysis_spec.proofs.FlagLaws.{flag_stays}
 use Rattle.lra_certificate_spec.specs.Claims.{program_of}
 use Rattle.lra_poly_domain.specs.{Abstraction.polyhedron_abstraction, Backward.polyhedron_backward}
 use Rattle.lra_analyse_source.proofs.Found.{none_before}
 use Rattle.lra_back.specs.{BackwardAnalysis.BackwardAnalysis, Operations.exact_back_operations, Operations.lossy_back_operations, Operations.straining_back_operations}
 use Rattle.lra_back_source.specs.BackReports.{FlaggedBacksStrain, IsBackReportOf, IsDefinedBack, IsWrittenForward, StrainsAt, UnflaggedBacksAreDefined}
 use Rattle.lra_back_source.proofs.Flags.{first_stays, none_first}
-
--- a flag that stands before accesses are judged stays
-judged_stays : {A : Type 0} (q : ℕ) (js : List (Finding A)) → first_flagged (Some q) js ≡ Some q
-judged_stays q [] = refl
-judged_stays q (j ∷ js) = judged_stays q js
 
 -- a flag that has no number isn't there
 pub unflagged : (o : Option ℕ) → option_map suc o ≡ None → o ≡ None
@@ -70,7 +66,7 @@ module _ (source : List ℕ) (p : ℕ) (r : BackReport) (x : IsBackReportOf sour
 
   behind_is : (k : ℕ) → x.found.ahead.iteration_flag ≡ Some k → x.found.flagged ≡ Some k
   behind_is k is = x.found.ahead.accessed.flags ∙ ap (λ (f : Option ℕ). first_flagged f x.found.ahead.accessed.found) is
-      ∙ judged_stays k x.found.ahead.accessed.found
+      ∙ flag_stays k x.found.ahead.accessed.found
 
   pub strains : (q : ℕ) → r.flagged ≡ Some (suc q) → StrainsAt x.constants (program_of x.program) x.program.operations p q
   strains q is = by_iteration x.found.ahead.iteration_flag refl

@@ -5,6 +5,7 @@ use Rattle.std.specs.Prelude.{◌-ℤ◌, pos, IfOk, Result}
 use Rattle.lra_linear_forms.specs.{Form.Form, declared.test.Test.Test}
 use Rattle.lra_base.specs.{Operators.below, declared.operators.Comparison.TheVariants.Below, declared.refusals.Place.Place}
 use Rattle.lra_domain.specs.{Abstraction.Abstraction, Abstraction.worse, declared.Exactness.Exactness, declared.Exactness.TheVariants.Exact, declared.Exactness.TheVariants.Flagged}
+use Rattle.lra_domain.proofs.Worse.{worse_behind}
 use Rattle.lra_program.specs.{Program.Element, Value.◌>>=◌}
 use Rattle.lra_bounds_checks.specs.{BoundsChecks.AreWide, BoundsChecks.IsEachTold, Listed.access_view, declared.listing.Access.Access}
 use Rattle.lra_analysis_spec.specs.{Accesses.AccessJudged, Accesses.EachJudged, Accesses.outside, Linear.at_least_zero, Linear.comparison_test, Linear.less_by, Operations.lossy_operations}
@@ -29,10 +30,6 @@ outside_wide (Result.Err e) f count n wide is = tt
 
 -- several accesses by one value -----------------------------------------------------------------------------------------
 
-worst_in_turn : (so_far one rest : Exactness) → worse so_far (worse one rest) ≡ worse (worse so_far one) rest
-worst_in_turn Exact one rest = refl
-worst_in_turn Flagged one rest = refl
-
 module _ {V H : Type 0} (m : Abstraction V H) (v : V) (base : ℕ) where
   abbrev Are : List Element → List (Place × Bool) → Exactness → Type 0
   Are xs js e = EachJudged m (lossy_operations m) v base xs js e
@@ -55,7 +52,7 @@ module _ {V H : Type 0} (m : Abstraction V H) (v : V) (base : ℕ) where
       are = is ∙ ap (λ (js : List (Place × Bool)). js ++ (x.place, b) ∷ []) held.are ∙ append_assoc old held.before ((x.place, b) ∷ []);
       all = λ js e later.
           let here = held.all ((x.place, b) ∷ js) (worse c e) (b, js, c, e, judged, later, refl, refl) in
-          let flags = subst (Are whole (held.before ++ (x.place, b) ∷ js)) (worst_in_turn so_far c e) here in
+          let flags = subst (Are whole (held.before ++ (x.place, b) ∷ js)) (worse_behind so_far c e) here in
           subst (λ (ks : List (Place × Bool)). Are whole ks (worse (worse so_far c) e)) (sym (append_assoc held.before ((x.place, b) ∷ []) js)) flags;
     }
 

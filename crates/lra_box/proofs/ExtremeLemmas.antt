@@ -73,7 +73,7 @@ far_down n (negsuc x) (negsuc r) h k = let g : suc r ≤ suc x = omega (arith, i
     grown : (n y : ℕ) → y ≤ (suc n) * y
     grown n y = grind arith
 
-flip : (n : ℕ) (x : ℤ) → negsuc n *ℤ x ≡ pos (suc n) *ℤ neg_ℤ x
+pub flip : (n : ℕ) (x : ℤ) → negsuc n *ℤ x ≡ pos (suc n) *ℤ neg_ℤ x
 flip n (pos zero) = grind (arith, ints)
 flip n (pos (suc k)) = grind (arith, ints)
 flip n (negsuc k) = grind (arith, ints)

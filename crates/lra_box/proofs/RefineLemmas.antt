@@ -5,7 +5,7 @@ use Rattle.std.specs.{Int.int_div_euclid, Prelude.◌+ℤ◌, Prelude.◌*ℤ◌
 use Rattle.lra_linear_spec.specs.Vectors.{product}
 use Rattle.lra_box.specs.{Bounds.full_interval, Bounds.BoundHolds, Bounds.InInterval, Bounds.InBounds, Refine.tightened, Refine.raised, Refine.lowered, Refine.others_most, Refine.refined}
 use Rattle.lra_box.specs.{Refine.RefinePasses, Sums.end_sum_holds, declared.interval.Interval.Interval, declared.interval.Side.TheVariants.Low, declared.interval.Side.TheVariants.High}
-use Rattle.lra_box.proofs.BoxLemmas.{in_length}
+use Rattle.lra_box.proofs.{BoxLemmas.in_length, ExtremeLemmas.flip}
 
 -- q * d <= a for the quotient q, and a < (q + 1) * d
 quotient : (a d : ℕ) → ((suc d) * (a / suc d) ≤ a) × (a < (suc d) * (a / suc d + 1))
@@ -26,14 +26,9 @@ floor_low n (negsuc a) (negsuc b) h = absurd (omega (arith, ints))
 
 floor_high : (n : ℕ) (m x : ℤ) → pos 0 ≤ℤ ((negsuc n *ℤ x) +ℤ m) → x ≤ℤ int_div_euclid m (pos (suc n))
 floor_high n m x h =
-    let flip : negsuc n *ℤ x ≡ pos (suc n) *ℤ neg_ℤ x = negated n x in
-    let low = floor_low n m (neg_ℤ x) (rw (← flip) h) in
+    let turned : negsuc n *ℤ x ≡ pos (suc n) *ℤ neg_ℤ x = flip n x in
+    let low = floor_low n m (neg_ℤ x) (rw (← turned) h) in
     omega (arith, ints)
-  where
-    negated : (n : ℕ) (x : ℤ) → negsuc n *ℤ x ≡ pos (suc n) *ℤ neg_ℤ x
-    negated n (pos zero) = grind (arith, ints)
-    negated n (pos (suc k)) = grind (arith, ints)
-    negated n (negsuc k) = grind (arith, ints)
 
 raised_holds : (o : Option ℤ) (b x : ℤ) → BoundHolds Low o x → b ≤ℤ x → raised o b ≤ℤ x
 raised_holds None b x h k = k

@@ -2,6 +2,7 @@
 use Rattle.std.proofs.Common.{◌≡◌, ℕ, ◌<◌, ◌≤◌, ◌+◌, List, [], ◌∷◌, length, drop, get_or, suc, add-one, drop-cons, refl, sym, ap, subst, ◌∙◌}
 use Rattle.std.proofs.lemmas.List.{drop_all}
 use Rattle.lra_domain.specs.{Abstraction.Abstraction, Abstraction.worse, declared.Exactness.Exactness, declared.Exactness.TheVariants.Exact, declared.Exactness.TheVariants.Flagged}
+use Rattle.lra_domain.proofs.Worse.{worse_behind}
 use Rattle.lra_analysis_spec.specs.{Operations.lossy_operations, Pass.AreJoined}
 use Rattle.lra_pass_results.specs.Outcome.{AllHave}
 
@@ -16,10 +17,6 @@ pub record JoinLoop {V H : Type 0} (m : Abstraction V H) (first : V) (all rest :
 -- the next, and those behind it
 item_at : {X : Type 0} (xs : List X) (i : ℕ) (x : X) → i < length xs → x ≡ get_or xs i x → drop i xs ≡ x ∷ drop (i + 1) xs
 item_at {X} xs i x below at = drop-cons xs i x below ∙ ap (λ (y : X). y ∷ drop (suc i) xs) (sym at) ∙ rw add-one refl
-
-worse_behind : (a b c : Exactness) → worse a (worse b c) ≡ worse (worse a b) c
-worse_behind Exact b c = refl
-worse_behind Flagged b c = refl
 
 worse_exact : (e : Exactness) → worse e Exact ≡ e
 worse_exact Exact = refl

@@ -14,6 +14,7 @@ use Rattle.lra_analysis_spec.specs.Pass.{PassResult, noted, goes_on, in_turn, ju
 use Rattle.lra_analysis_spec.specs.{Linearization.LinearizedFits, Linearization.linearized, Live.live_after, LiveLimit.most_live, MovesOf.number_moves, Operations.lossy_operations, Plan.Plan}
 use Rattle.lra_analysis_spec.specs.{UnderInterference.absorbed, declared.linearization.Linearized.Linearized}
 use Rattle.lra_analysis_spec.proofs.{DivisionLemmas.seen_fits, Takes.worse_exact, Takes.worse_worse}
+use Rattle.lra_analysis_spec.proofs.FlagLaws.{noted_exact}
 use Rattle.lra_transfer.specs.{Changes.Does, declared.splits.Kept.Kept}
 use Rattle.lra_pass_results.specs.Outcome.{ended, outcome_view, running_on, AreInTurn, IsPassed, JumpsFit}
 use Rattle.lra_pass_results.specs.{Dimensions.ArmsJumpWith, Dimensions.JumpsWith, Dimensions.TreeFits, LoopCache.HasLoops, LoopCache.MayRecall, LoopCache.Remembers, LoopCache.StaysKept}
@@ -84,10 +85,6 @@ module _ {V H : Type 0} (m : Abstraction V H) (s : Linearized) (arms : List Arm)
       subst (λ (y : Exactness). MatchesNone (lossy_operations m) base e (entries_of (arms_of (map arm_view arms))) first y v) (sym all.2) all.1
 
 -- labels --------------------------------------------------------------------------------------------------------------
-
-pub noted_exact : (q : ℕ) (f : Option ℕ) → noted q Exact f ≡ f
-noted_exact q None = refl
-noted_exact q (Some p) = refl
 
 module _ {V H : Type 0} (m : Abstraction V H) where
   pub default_entered : (base : ℕ) (e : Expr) (l : CaseLabel) (v other : V) (k : Kept V) → l ≡ Default → k ≡ record { value = other; exactness = Exact }

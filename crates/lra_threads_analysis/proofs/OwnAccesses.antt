@@ -1,5 +1,5 @@
 -- The accesses of a thread's own tree are those of the opened one; flags of accesses stand behind those of the iteration.
-use Rattle.std.proofs.Common.{◌≡◌, ◌∙◌, ◌⊎◌, ℕ, List, [], ◌∷◌, Bool, Option, None, Some, refl, ap, sym, subst, inl, inr}
+use Rattle.std.proofs.Common.{◌≡◌, ◌∙◌, ◌⊎◌, ℕ, List, Bool, Option, None, Some, refl, ap, sym, subst, inl, inr}
 use Rattle.std.proofs.lemmas.Option.{none-some}
 use Rattle.lra_box.specs.{Abstraction.box_abstraction, Content.BoxContent, Laws.box_laws}
 use Rattle.lra_base.specs.declared.refusals.Place.{Place}
@@ -8,6 +8,7 @@ use Rattle.lra_operations.specs.{CheckedOperations.OpAtPoint, CheckedOperations.
 use Rattle.lra_analysis_spec.specs.Operations.{exact_operations, lossy_operations, straining_operations}
 use Rattle.lra_analysis_spec.specs.{Accesses.JudgesAccesses, Accesses.OpInside, Instrumented.instrumented, Judging.Finding, Judging.Finds, Judging.first_flagged}
 use Rattle.lra_analysis_spec.proofs.OneAccess.{accesses_written, accesses_strained}
+use Rattle.lra_analysis_spec.proofs.FlagLaws.{flag_stays}
 use Rattle.lra_threads_instrument.proofs.InstrumentedTrees.{asks_opened}
 
 abbrev Told : Type 0
@@ -23,10 +24,6 @@ judged_own n g h values before last inside opens judged =
     judged
 
 -- flags ------------------------------------------------------------------------------------------------------------
-
-flag_stays : {A : Type 0} (q : ℕ) (js : List (Finding A)) → first_flagged (Some q) js ≡ Some q
-flag_stays q [] = refl
-flag_stays q (j ∷ js) = flag_stays q js
 
 none_first : {A : Type 0} (before last : Option ℕ) (js : List (Finding A)) → last ≡ first_flagged before js → last ≡ None → before ≡ None
 none_first None last js is none = refl
