@@ -1,3 +1,3 @@
--- What calls of domains that never strain owe; lists of changes.
+-- What calls of domains that never exceed a limit must guarantee; lists of changes.
 pub use Rattle.lra_domain.proofs.ExactCalls
 pub use Rattle.lra_domain.proofs.ChangeLists

@@ -90,7 +90,7 @@ pub rank_falls : {E : Type 0} (p : EachEntry E) → EntryFacts p → (old next n
 rank_falls p f old next new e miss is = rw is (inr (inr (inr (refl, refl, refl, number_falls p f old.nothing next.nothing old.entries next.entries e miss))))
 
 -- ---- rows
--- the columns from one on are those of a store that stands behind them
+-- the columns from one on are those of a store that comes after them
 abbrev pub Behind : ℕ → List ℤ → List ℤ → Type 0
 Behind column s x = (j : ℕ) → entry x (column + j) ≡ entry s j
 

@@ -1,4 +1,4 @@
--- Calls on the polyhedra of two sets, told of the sets. (That sets which are the same have the same polyhedron is
+-- Calls on the polyhedra of two sets, reported of the sets. (That sets which are the same have the same polyhedron is
 -- `same_polyhedron`.)
 use Rattle.std.proofs.Common.{◌≡◌, ℕ, subst}
 use Rattle.lra_linear_spec.specs.{Descriptions.Con, Points.PointSet, Points.IsWithin, Polyhedra.Polyhedron, Polyhedra.IsPolyhedronOf, SetOperations.Meet, SetOperations.Union, SetOperations.Hull}

@@ -1,5 +1,5 @@
 -- Domains with an entry for each dimension, and a mark of those values that have no store: what the author gives of an
--- entry, and the domain that follows. A test tells nothing.
+-- entry, and the domain that follows. A test says nothing.
 use Rattle.std.specs.Cmp.Lexicographic.{pointwise}
 use Rattle.std.specs.Prelude.{◌≡◌, ◌≤◌, ◌<◌, ◌^◌, ◌↔◌, ℕ, ◌+◌, ◌-◌, ℤ, pos, Bool, true, false, not, ◌&&◌, ◌||◌, List}
 use Rattle.std.specs.Prelude.{[], ◌∷◌, ◌++◌, length, replicate, slice_set, take, IsTrue}

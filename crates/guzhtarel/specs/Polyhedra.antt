@@ -1,4 +1,4 @@
--- Closed polyhedra: what a value shows, what its operations tell, widenings, and where they strain.
+-- Closed polyhedra: what a value shows, what its operations report, widenings, and where they exceed a limit.
 pub use Rattle.lra_linear_spec.specs.Polyhedra
 pub use Rattle.lra_linear_spec.specs.Representable
 pub use Rattle.lra_linear_spec.specs.Widening

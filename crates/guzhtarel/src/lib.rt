@@ -2,10 +2,10 @@
 //!
 //! The names that most users need stand here; the crates they come from stand beside them whole, as `poly` or `maps`.
 //! What their clauses cite stands in rooms below `specs`: `Linear` (rows, points, sets of points), `Lists`, `Forms`,
-//! `Polyhedra`, `Domains` (what the trait owes, changes, domains that never strain), `PolyhedronDomain`, `Boxes`,
-//! `Octagons`, `Sets`, `Texts`; for domains of one's own `Entries` and `EntryDomains`. Lemmas for proofs over them are
-//! in `proofs`: `Ranks`, `Calls`, `Rows`, `RowValues`, `PointSets`, `SameSets`, `PolyhedraOf`, `EntryChanges`,
-//! `EntryDomains`.
+//! `Polyhedra`, `Domains` (what the trait must guarantee, changes, domains that never exceed a limit),
+//! `PolyhedronDomain`, `Boxes`, `Octagons`, `Sets`, `Texts`; for domains of one's own `Entries` and `EntryDomains`.
+//! Lemmas for proofs over them are in `proofs`: `Ranks`, `Calls`, `Rows`, `RowValues`, `PointSets`, `SameSets`,
+//! `PolyhedraOf`, `EntryChanges`, `EntryDomains`.
 #![tactic(auto)]
 
 pub use lra_box as boxes;

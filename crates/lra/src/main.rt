@@ -13,7 +13,8 @@ use std::rt::Env;
 
 /// The words of the command line, the program's name first.
 ///
-/// Without memory for them there is [`Status::Memory`]; a word that isn't UTF-8 is [`Status::Usage`], and it is told.
+/// Without memory for them there is [`Status::Memory`]; a word that isn't UTF-8 is [`Status::Usage`], and it is
+/// reported.
 fn words_of(rt: &(impl Env + AllocGlobal + Eprint)) -> Result<Vec<String>, Status> {
     match env::args(rt) {
         Ok(words) => words.collect(rt.alloc()).map_err(|_| Status::Memory),
@@ -28,12 +29,12 @@ fn words_of(rt: &(impl Env + AllocGlobal + Eprint)) -> Result<Vec<String>, Statu
     }
 }
 
-/// Tells why the input of this name can't be read. Where that can't be told, the exit status still does.
+/// Says why the input of this name can't be read. Where that can't be reported, the exit status still does.
 fn tell_fault(rt: &HostRuntime, name: &str, error: Error) {
     let _ = eprintln!(rt; "lra: {name}: {error}");
 }
 
-/// Runs the words' command over the reader, and tells why it couldn't be read, where that is so.
+/// Runs the words' command over the reader, and says why it couldn't be read, where that is so.
 fn run_over<R: Read + Drop>(rt: &HostRuntime, words: &[String], name: &str, reader: R) -> Status {
     let mut source = RealSource::new(reader);
     let mut sink = RealSink::new(rt.stdout());
@@ -70,7 +71,7 @@ fn show(rt: &HostRuntime, text: &str) -> ExitCode {
     }
 }
 
-/// Answers the words as `run` does, and tells why they aren't taken.
+/// Answers the words as `run` does, and says why they aren't accepted.
 fn refuse(rt: &HostRuntime, words: &[String], why: &str) -> Status {
     let status = run_input(rt, words);
     let _ = eprint!(rt; "{why}");

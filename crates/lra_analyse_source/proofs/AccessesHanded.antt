@@ -1,5 +1,5 @@
--- Which accesses are inside, handed to whoever lists it: at each point at which the tree accesses arrays something is told of
--- each access, at the place where its array is named.
+-- Which accesses are inside, handed to whoever lists it: at each point at which the tree accesses arrays something is
+-- reported about each access, at the place where its array is named.
 use Rattle.std.proofs.Common.{◌≡◌, ◌∙◌, ◌<◌, ◌++◌, ℕ, zero, suc, List, [], ◌∷◌, length, map, Option, Some, None, Bool, true, false, cond, refl, sym, ap, ap₂, subst, arith, eq-eqb}
 use Rattle.std.proofs.{lemmas.Bool.eqb-true, lemmas.List.append-nil, lemmas.List.map-append, lemmas.Option.none-some, lemmas.Option.same_Some}
 use Rattle.std.specs.{List.Contains, List.flat_map, Prelude.IsTrue, Prelude.nat_eq, Prelude.nat_lt, Prelude.slice_get}
@@ -25,7 +25,7 @@ place_told j = j.0
 abbrev named_at : Element → Place
 named_at x = x.place
 
--- what is told of these accesses is told at their places
+-- what is reported about these accesses is reported at their places
 abbrev ArePlaced : List Element → List (Place × Bool) → Type 0
 ArePlaced xs js = map place_told js ≡ map named_at xs
 

@@ -88,7 +88,7 @@ module _ (asks : Op → Bool) where
 
 -- what is found --------------------------------------------------------------------------------------------------------
 
--- where nothing is flagged behind, nothing is before
+-- where nothing is flagged after, nothing is before
 first_none : {A : Type 0} (f : Option ℕ) (js : List (Finding A)) → first_flagged f js ≡ None → f ≡ None
 first_none f [] e = e
 first_none f (j ∷ js) e = none_noted j.point j.exactness f (first_none (noted j.point j.exactness f) js e)
@@ -129,7 +129,7 @@ module _ {V H A : Type 0} (ops : Operations V H) (Told : Op → V → A → Exac
         omega (arith, order, left, right);
   }
 
-  -- a first flag behind stands at a point, or is an earlier one
+  -- a first flag after stands at a point, or is an earlier one
   pub flagged_below : (n : ℕ) → length values ≡ n → ((q : ℕ) → flagged ≡ Some q → q < n) → (q : ℕ) → behind ≡ Some q → q < n
   flagged_below n many low q is =
       go j.found flagged low (λ k among. subst (λ (i : ℕ). k.point < i) many (point_below k among)) q (sym j.flags ∙ is)

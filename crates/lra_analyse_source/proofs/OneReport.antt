@@ -97,7 +97,7 @@ module _ (vs us fs gs : List (ℕ × Bool)) (ones others : List (ℕ × List (Pl
       let (q, also, same, there) = one_told own ys k n i b y in
       agree p a b has (subst (λ (l : ℕ). Contains ys (l, b)) (equal q p n same is) there)
 
-  -- one access is told once
+  -- one access is reported once
   same_access : (k : VerdictKind) (n i : ℕ) (a b : Bool) → Contains (flat_map reported_accesses ones) (k, n, i, a)
       → Contains (flat_map reported_accesses others) (k, n, i, b) → a ≡ b
   same_access k n i a b x y =
@@ -106,7 +106,7 @@ module _ (vs us fs gs : List (ℕ × Bool)) (ones others : List (ℕ × List (Pl
       let lists : js ≡ ks = three p js ks has (subst (λ (l : ℕ). Contains others (l, ks)) (equal q p n same number) too) in
       ap (λ (j : Place × Bool). j.1) (same_Some (here, a) (there, b) (sym first ∙ ap (λ (l : List (Place × Bool)). slice_get l i) lists ∙ second))
 
-  -- of which kind a verdict is told
+  -- of which kind a verdict is reported
   abbrev Rest : List (ℕ × Bool) → List (ℕ × List (Place × Bool)) → List ReportedVerdict
   Rest xs js = map (reported_verdict Fit) xs ++ flat_map reported_accesses js
 
@@ -190,8 +190,8 @@ module _ {V H : Type 0} (m : Abstraction V H) {shown : V → Invariant} {o : Opt
   pub unflagged_first : x.flagged ≡ None
   unflagged_first = unflagged_before m (lossy_operations m) o.fits x.tree x.values x.flagged x.fitting x.overflow_flag unflagged_behind x.judged
 
--- two reports that tell the written iteration of one program show the same states, and the same of each assertion, of what
--- fits and of each access
+-- two reports that show the written iteration of one program show the same states, and the same of each assertion, of
+-- what fits and of each access
 pub record SayTheSame (r s : Report) : Type 0 where
   pub states : map state_of r.points ≡ map state_of s.points
   pub verdicts : SayOne (map reported_of r.verdicts) (map reported_of s.verdicts)

@@ -1,4 +1,5 @@
--- A report that lists a program's points, whose states are of canonical lists with numbers of the range, is told by its text.
+-- A report that lists a program's points, whose states are of canonical lists with numbers of the range, is given by
+-- its text.
 use Rattle.std.proofs.Common.{◌≡◌, ℕ, suc, ◌<◌, List, [], ◌∷◌, length, map, Option, Some, None, refl, sym, ap, ◌∙◌, subst, arith}
 use Rattle.std.specs.{List.AllByRecursion, Prelude.slice_get, Prelude.option_map}
 use Rattle.lra_syntax.specs.{Labels.Labelled, Labels.labels_of, Trees.FileTree}

@@ -256,14 +256,14 @@ is_told m shown o constants t g sites values verdicts flagged fitting behind ins
         let same : length sites ≡ length (sites_of (resolve t)) = ap length has.points in
         omega (arith, there, few, same)
 
--- verdicts that are told as they were handed on
+-- verdicts that are reported as they were handed on
 pub told_so : (told : List ReportedVerdict) (vs us fs gs : List (ℕ × Bool)) (ones others : List (ℕ × List (Place × Bool))) → told ≡ reported_all vs fs ones
     → vs ≡ us → fs ≡ gs → ones ≡ others → told ≡ reported_all us gs others
 told_so told vs us fs gs ones others is one two three =
     is ∙ ap (λ (l : List (ℕ × Bool)). reported_all l fs ones) one
     ∙ ap₂ (λ (l : List (ℕ × Bool)) (k : List (ℕ × List (Place × Bool))). reported_all us l k) two three
 
--- it shows these values and tells these verdicts
+-- it shows these values and reports these verdicts
 pub tells_solution : {V H : Type 0} (m : Abstraction V H) (shown : V → Invariant) (asked : Bool) (g : Node) (values : List V) (verdicts : List (ℕ × Bool))
     (flagged : Option ℕ) (fitting : List (ℕ × Bool)) (behind : Option ℕ) (inside : List (ℕ × List (Place × Bool))) (states : List Invariant) (r : Report)
     → JudgesIf m (lossy_operations m) asked g values flagged fitting behind → states ≡ map shown values → map state_of r.points ≡ states

@@ -1,4 +1,5 @@
--- A report that lists a program's points, tells what the iteration found, and shows values as they are, is right, and is a report of its source.
+-- A report that lists a program's points, says what the iteration found, and shows values as they are, is right, and is
+-- a report of its source.
 use Rattle.std.proofs.Common.{◌≡◌, ℕ, zero, suc, ℤ, ◌≤◌, ◌<◌, List, [], ◌∷◌, length, Option, Some, None, Bool, true, false, ◌++◌, map, inl, inr, refl, sym, ap, ◌∙◌, subst, arith}
 use Rattle.std.proofs.{lemmas.List.Elements.Contains-append_cases, lemmas.Option.none-some, lemmas.Option.same_Some, lemmas.Option.slice_get-map}
 use Rattle.std.specs.{List.AllByRecursion, List.Contains, List.flat_map, Prelude.slice_get, Prelude.option_map, Prelude.IsTrue}
@@ -94,7 +95,7 @@ module _ {V H : Type 0} (m : Abstraction V H) (laws : Laws m) (shown : V → Inv
       inside_holds V H m laws (plan_of settings constants) (resolve t) x.globals x.tree x.result x.derived agrees x.values x.verdicts x.flagged x.solves
       x.accesses x.inside x.overflow_flag x.last x.accessed q s js n place site found inner strays
 
-  -- each verdict is told of one that was found, of its kind, its number and which of its kind it is
+  -- each verdict is reported of one that was found, of its kind, its number and which of its kind it is
   told_there : (k : ℕ) (v : Verdict) → slice_get r.verdicts k ≡ Some v → Contains (reported_all x.verdicts x.fitting x.inside) (reported_of v)
   told_there k v listed = subst (λ (ts : List ReportedVerdict). Contains ts (reported_of v)) x.proved
       (contains_at (map reported_of r.verdicts) k (reported_of v) (slice_get-map reported_of r.verdicts k ∙ ap (option_map reported_of) listed))

@@ -21,7 +21,7 @@ module _ (V H : Type 0) (m : Abstraction V H) where
     derivation_covers (none, first, e, universal, values, pass) draws = begun_covers m laws set P good g none first e r universal values pass draws
 
     module _ (derived : LossyIteration m set P g r) (agrees : Agrees P g) (values : List V) (verdicts : List (ℕ × Bool)) (flagged : Option ℕ) (solves : IsSolution m r values verdicts flagged) where
-      -- where a run comes to a point, the value there has its store
+      -- where a run reaches a point, the value there has its store
       pub held_there : (q : ℕ) (s : Site) (store : List ℤ) → slice_get (sites_of P) q ≡ Some s → At P (point_of s) store
           → (v : V) × (slice_get values q ≡ Some v) × Has m v store × (length store ≡ m.dims v)
       held_there q s store there at =

@@ -1,4 +1,4 @@
--- What a tree's report is told to be, as the answer of its source.
+-- What a tree's report is reported to be, as the answer of its source.
 use Rattle.std.proofs.Common.{ℕ, ℤ, ◌≤◌, List, refl, arith}
 use Rattle.lra_syntax.specs.{Grammar.Spells, Trees.FileTree}
 use Rattle.lra_options.specs.declared.options.Options.{Options}
@@ -12,7 +12,7 @@ use Rattle.lra_analyse_source.proofs.Reports.{sound, is_report}
 
 module _ {V H : Type 0} (m : Abstraction V H) (laws : Laws m) (shown : V → Invariant) (o : Options) (constants : List ℤ) (source : List ℕ) (t : FileTree)
     (r : Report) (has : HasTree source t) (own : HasConstants source constants) (is : IsReportOfTree m shown o constants t r) (some : 1 ≤ o.parts) where
-  -- a source whose tree's report is told
+  -- a source whose tree's report is reported
   pub is_answered : IsAnalysisReportOver m shown o source r
   is_answered =
       let taken : Accepts Spells source t = accepted source t has is.names is.straight is.within in

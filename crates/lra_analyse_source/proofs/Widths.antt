@@ -1,4 +1,4 @@
--- A program's tree comes to each point with as many variables as live there.
+-- A program's tree reaches each point with as many variables as live there.
 use Rattle.std.proofs.Common.{◌≡◌, ℕ, suc, ◌+◌, ◌-◌, ◌≤◌, List, length, Option, Bool, true, refl, sym, ap, ◌∙◌, subst, arith}
 use Rattle.std.proofs.lemmas.Option.{same_Some}
 use Rattle.lra_program.specs.{Program.Cond, Program.Call, Program.Rvalue, Program.Stmt, Program.Cases, Program.BlockItems, Program.Program, Receivers.result_receiver, Sites.Site, Sites.sites_of}

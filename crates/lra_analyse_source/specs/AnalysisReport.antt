@@ -1,4 +1,4 @@
--- What a report tells of the iteration over a program: what is shown of each point's value, the verdicts, the first
+-- What a report says of the iteration over a program: what is shown of each point's value, the verdicts, the first
 -- flagged point.
 use Rattle.std.specs.Prelude.{◌≡◌, ℕ, suc, ℤ, List, map, Bool, Option, None, Some, option_map}
 use Rattle.lra_base.specs.declared.refusals.Place.{Place}
@@ -31,16 +31,16 @@ pub record ReportsIteration {V H : Type 0} (m : Abstraction V H) (shown : V → 
   pub flagged : Option ℕ
   pub solves : IsSolution m result values verdicts flagged
   -- a derivation with drops; without a flag the written iteration; the first flag is where the written iteration
-  -- strains
+  -- exceeds a limit
   pub derived : LossyIteration m (plan_of settings constants) P tree result
   pub written : flagged ≡ None → ExactIteration m (plan_of settings constants) P tree result
   pub strained : (q : ℕ) → flagged ≡ Some q → StrainsAtPoint m (plan_of settings constants) P tree q
   -- each value is shown as it is: the rows of its state mean it
   pub are_shown : AreShown m settings.domain shown values
-  -- and the report tells it
+  -- and the report shows it
   pub states : map (λ (p : PointReport). p.state) r.points ≡ map shown values
-  -- what fits, where it is asked for, and the first flag behind that; without a flag by what the written iteration
-  -- leaves; a first flag there is where what it leaves strains
+  -- what fits, where it is asked for, and the first flag after that; without a flag by what the written iteration
+  -- leaves; a first flag there is where what it leaves exceeds a limit
   pub fitting : List (ℕ × Bool)
   pub overflow_flag : Option ℕ
   pub judged : JudgesIf m (lossy_operations m) settings.fits tree values flagged fitting overflow_flag
@@ -48,7 +48,7 @@ pub record ReportsIteration {V H : Type 0} (m : Abstraction V H) (shown : V → 
       JudgesIf m (exact_operations m) settings.fits tree values None fitting None
   pub judged_strained : (q : ℕ) → flagged ≡ None → overflow_flag ≡ Some q →
       JudgesIf m (straining_operations m) settings.fits tree values None fitting (Some q)
-  -- which accesses lie inside their arrays, and the first flag behind all that; so, too, by what the written iteration
+  -- which accesses lie inside their arrays, and the first flag after all that; so, too, by what the written iteration
   -- leaves
   pub inside : List (ℕ × List (Place × Bool))
   pub last : Option ℕ

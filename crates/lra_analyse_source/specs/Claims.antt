@@ -1,4 +1,4 @@
--- What follows of the tree of a well-formed program, and of a report that tells an analysis.
+-- What follows of the tree of a well-formed program, and of a report that states an analysis.
 use Rattle.std.specs.Prelude.{◌≡◌, ◌≤◌, ℕ, ℤ, List, length, None}
 use Rattle.lra_syntax.specs.{Grammar.Spells, Trees.FileTree}
 use Rattle.lra_program.specs.{Program.Program, Sites.sites_of, WellFormed.IsWellFormed}

@@ -1,4 +1,4 @@
--- What a source deserves: its one refusal (`Refuse`), or a report of it that tells the analysis.
+-- What a source must get: its one refusal (`Refuse`), or a report of it that states the analysis.
 use Rattle.std.specs.{List.AllByRecursion, Prelude.ℕ, Prelude.suc, Prelude.ℤ, Prelude.List, Prelude.length}
 use Rattle.lra_options.specs.declared.options.Domain.TheVariants.{Poly, Box, Oct}
 use Rattle.lra_options.specs.{declared.options.Domain.Domain, declared.options.Options.Options}
@@ -21,8 +21,8 @@ use Rattle.lra_analyse_source.specs.AnalysisReport.{ReportsIteration}
 abbrev pub AreCanonical : Options → Report → Type 0
 AreCanonical o r = AllByRecursion (λ (p : PointReport). IsCanonicalState o.domain (length p.names) p.state) r.points
 
--- a report of the source that tells an analysis over a domain with this meaning, by the source's constants, with
--- canonical lists over polyhedra; it is told by its text, which has numbers of the range and each part as wide as its
+-- a report of the source that reports an analysis over a domain with this meaning, by the source's constants, with
+-- canonical lists over polyhedra; it is given by its text, which has numbers of the range and each part as wide as its
 -- point has names
 pub record IsAnalysisReportOver {V H : Type 0} (m : Abstraction V H) (shown : V → Invariant) (o : Options)
     (source : List ℕ)
@@ -53,7 +53,7 @@ ForDomain Oct say = say _ _ octagon_abstraction (shown_state octagon_abstraction
 abbrev pub ForOptions : Options → DomainProperty → Type 0
 ForOptions o say = ForDomain o.domain (WithParts o.parts say)
 
--- the report tells an analysis of the program, which has these constants, over these
+-- the report shows an analysis of the program, which has these constants, over these
 abbrev pub ReportsAnalysis : Options → List ℤ → Program → Report → Type 0
 ReportsAnalysis o constants P r = ForOptions o (λ V H m shown. ReportsIteration m shown o constants P r)
 

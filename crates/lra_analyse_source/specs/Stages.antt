@@ -11,8 +11,8 @@ use Rattle.lra_report_build.specs.AnalysisResults.{reported_all, reported_of}
 use Rattle.lra_domain.specs.Abstraction.{Abstraction}
 use Rattle.lra_analyse_source.specs.{AnalysisReport.ReportsIteration, SourceReports.AreCanonical}
 
--- a report that lists the points of an accepted source's tree, tells what an analysis of its program found, by
--- canonical lists over polyhedra, and is told by its text
+-- a report that lists the points of an accepted source's tree, says what an analysis of its program found, by
+-- canonical lists over polyhedra, and is given by its text
 pub record IsReportOfTree {V H : Type 0} (m : Abstraction V H) (shown : V → Invariant) (o : Options)
     (constants : List ℤ)
     (t : FileTree) (r : Report) : Type 0 where
@@ -26,7 +26,7 @@ pub record IsReportOfTree {V H : Type 0} (m : Abstraction V H) (shown : V → In
   pub canonical : AreCanonical o r
   pub readable : IsReadable r
 
--- at each point it shows the value that was found there, and on each assertion the verdict; beside these it tells what
+-- at each point it shows the value that was found there, and on each assertion the verdict; beside these it says what
 -- fits, and where that isn't asked for nothing, and which accesses lie inside their arrays
 pub record ReportsSolution {V : Type 0} (shown : V → Invariant) (fits : Bool) (values : List V)
     (verdicts : List (ℕ × Bool)) (r : Report) : Type 0 where

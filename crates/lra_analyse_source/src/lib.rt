@@ -1,4 +1,4 @@
-//! What a source deserves: its one refusal, or its report.
+//! What a source must get: its one refusal, or its report.
 //!
 //! [`analyse_source`] goes on from the tree of operations that `lra_front_end` reads: iteration, states, report.
 //! `proofs/` joins the laws of the parts: the text of an answer makes one report; the tree of operations of a

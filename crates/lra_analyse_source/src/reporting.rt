@@ -26,7 +26,7 @@ use lra_report::Report;
 use lra_report_build::{Findings, Outline, Show, list, states_of};
 use std::alloc::{AllocError, Global};
 
-/// Which operations of a tree fit, where it is asked for; else nothing is told, and nothing done.
+/// Which operations of a tree fit, where it is asked for; else nothing is reported, and nothing done.
 fn judge_if<D: AbstractDomain>(
     alloc: Global,
     asked: bool,

@@ -94,7 +94,7 @@ fn analyse_parts<D: Show + BaseDomain>(
 }
 
 /// The report of a source over the domain and the number of parts that the options name, or its one refusal; memory may
-/// be wanting. A source past the limit of 65,536 bytes is refused by its first bytes, so that no more than one byte
+/// run out. A source past the limit of 65,536 bytes is refused by its first bytes, so that no more than one byte
 /// past the limit need be given.
 pub fn analyse_source(alloc: Global, options: Options, bytes: &[u8]) -> Result<Report, SourceError>
     requires parts { 1 ≤ options.parts }

@@ -78,7 +78,8 @@ module _ {V H : Type 0} (m : Abstraction V H) (ops : Operations V H) (v : V) whe
       OpInside m ops gets_input v ((at 32, b) ∷ (at 40, c) ∷ []) (worse e Exact)
   target_first b c e one two = (b, (at 40, c) ∷ [], e, Exact, one, (c, [], Exact, Exact, two, (refl, refl), refl, refl), refl, refl)
 
-  -- where neither test leaves a part the access is inside. Catches one that is never inside, and one told by one test alone
+  -- where neither test leaves a part the access is inside. Catches one that is never inside, and one given by one test
+  -- alone
   neither_test : (tests : Test × Test) (under over : V) (c d : Exactness) → ops.changed (test_action tests.0) v c under →
       ops.changed (test_action tests.1) v d over → m.parts under ≡ [] → m.parts over ≡ [] → IndexJudged m ops v (Some tests) true (worse c d)
   neither_test tests under over c d one two low high = (under, over, c, d, one, two, (λ so. inr (low, high), λ so. refl), refl)
@@ -122,7 +123,7 @@ module _ {V H : Type 0} (m : Abstraction V H) (ops : Operations V H) (v : V) whe
 
 -- flags ----------------------------------------------------------------------------------------------------------------
 
--- the first by number of point, behind what is flagged before
+-- the first by number of point, after what is flagged before
 abbrev some_findings : List (Finding (List (Place × Bool)))
 some_findings = record { point = 2; answer = (at 27, true) ∷ (at 32, false) ∷ []; exactness = Exact } ∷ record
     { point = 4; answer = (at 38, false) ∷ []; exactness = Flagged } ∷ []

@@ -59,7 +59,7 @@ told_right : {A : Type 0} (xs ys zs : List A) (x : A) (k n : ℕ) → zs ≡ xs 
 told_right {A} xs ys zs x k n is behind told =
     sym (get_right xs ys k) ∙ ap (slice_get (xs ++ ys)) (sym behind) ∙ ap (λ (l : List A). slice_get l n) (sym is) ∙ told
 
--- what is told of accesses; the n-th is told to be inside
+-- what is reported about accesses; the n-th is reported to be inside
 abbrev Told : Type 0
 Told = List (Place × Bool)
 

@@ -144,7 +144,7 @@ module _ (V H : Type 0) (ops : Operations V H) (set : Plan) (Good : V → Type 0
   from_good live None w nothing h = keeps.void live w nothing
   from_good live (Some running) w same h = subst Good (sym same) h
 
-  -- where others act, what comes behind has the property, too
+  -- where others act, what comes after has the property, too
   module _ (admission : Absorption V) (admits : (v : V) (e : Exactness) (w : V) → admission v e w → Good v → Good w) where
     mutual
       pub pass_good_among : (tree : Node) (f : Option ℕ) (v : V) (r : PassResult V) → PassUnder V H ops admission set tree f v r → Good v → AreGood r

@@ -1,4 +1,4 @@
--- What a pass with drops owes: its values have all stores of the tree's runs.
+-- What a pass with drops must guarantee: its values have all stores of the tree's runs.
 use Rattle.std.specs.{List.Contains, Prelude.◌≡◌, Prelude.ℕ, Prelude.ℤ, Prelude.List, Prelude.Some, Prelude.Bool}
 use Rattle.lra_base.specs.{Operators.equal, declared.case_labels.CaseLabel.CaseLabel}
 use Rattle.lra_program.specs.{Program.Expr, Step.State, Step.environment_at, Step.Op, Step.run_op, Value.value_of, Value.compares}
@@ -36,7 +36,7 @@ ValuesKeep {V} m = (base : ℕ) (e : Expr) (z : ℤ) (wanted : Bool) (v : V) (x 
     → (s : State) (y : ℤ) (left : List ℤ) →
     Has m v s.store → value_of e (environment_at base s) s.draws ≡ Some (y, left) → compares equal y z ≡ wanted → Has m w s.store
 
--- the result has the stores of the tree's runs from this state: behind the tree, at its jumps, at its points and where
+-- the result has the stores of the tree's runs from this state: after the tree, at its jumps, at its points and where
 -- an assertion fails
 pub record Covers {V H : Type 0} (m : Abstraction V H) (g : Node) (s : State) (r : PassResult V) : Type 0 where
   pub ends : (t : State) → Completes g s normal t → Has m r.normal t.store

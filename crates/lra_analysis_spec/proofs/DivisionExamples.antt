@@ -75,7 +75,7 @@ third = refl
 third_dims : dims_moved (moves_of 1 (store_value 0 (variable_at 0 Long) (binary over x (literal Int 3)))) 1 ≡ 1
 third_dims = refl
 
--- the tests of an `int` stand behind the join, once: catches them in each case
+-- the tests of an `int` come after the join, once: catches them in each case
 int_behind : moves_of 1 (store_value 0 (variable_at 0 Int) (binary modulo x (literal Int 3)))
     ≡ first_then (in_cases 1 (x_by (pos 3)) (assign 0 (form (pos 0) (pos 0 ∷ pos 0 ∷ pos 1 ∷ []))))
     (first_then (make (test Ge (form (pos 2147483648) (pos 1 ∷ [])))) (make (test Ge (form (pos 2147483647) (negsuc 0 ∷ [])))))

@@ -207,7 +207,7 @@ module _ (d : Division) (step : Action) (s next u : List ℤ) (h : Divides d (le
     (next, led, gone),
   )
 
-  -- what the action does behind the store with both, without the two
+  -- what the action does after the store with both, without the two
   pub cases_lead : MayLead (in_cases (length s) d step) s u
   cases_lead = in_one (one_case a k h.some)
 

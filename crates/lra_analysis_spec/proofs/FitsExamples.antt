@@ -37,8 +37,8 @@ formless_divides_not d = d
 
 -- conversions ------------------------------------------------------------------------------------------------------------
 
--- a `long` that an `int` gets; the result of a `long` function that an `int` gets is converted behind its `return`, as an
--- `int`'s is, too; what nobody gets isn't
+-- a `long` that an `int` gets; the result of a `long` function that an `int` gets is converted after its `return`, as
+-- an `int`'s is, too; what nobody gets isn't
 long_converted : converts_to Long (variable_at 0 Int) ≡ true
 long_converted = refl
 

@@ -70,7 +70,7 @@ has_quotient t f x y n q r =
     ap (λ (b : Bool). if b then None else number t (int_div x y) >>= λ _. number t (f x y)) (not_zero y n) ∙
     ap (λ (o : Option ℤ). o >>= λ _. number t (f x y)) (there t (int_div x y) q) ∙ there t (f x y) r
 
--- a number of 32 bits comes to every receiver
+-- a number of 32 bits reaches every receiver
 way_open : (w : ConversionChain) (z : ℤ) → fits Int z ≡ true → lets_through w z ≡ true
 way_open Wide z e = refl
 way_open Short z e = e
@@ -234,7 +234,7 @@ module _ {V H : Type 0} (m : Abstraction V H) (laws : Laws m) (s : Environment) 
         (last_so c (split_so bs (xs ++ ys) (c ∷ []) is all).1)) stop
     expr_goes (element a at e) bs draws judged all stops = expr_goes e bs draws judged all stops
 
-    -- nor the conversion behind it
+    -- nor the conversion after it
     conversion_goes : (b : Bool) (e : Expr) (ys : List Bool) (draws : List ℤ) (r : ℤ × List ℤ) → ConversionJudged m v s.base b e ys → AllSo ys → value_of e s
         draws ≡ Some r → b ≡ true → fits Int r.0 ≡ true
     conversion_goes false e ys draws r judged all ran is = cc
@@ -293,7 +293,7 @@ module _ {V H : Type 0} (m : Abstraction V H) (laws : Laws m) (s : Environment) 
 -- operations -------------------------------------------------------------------------------------------------------------
 
 module _ {V H : Type 0} (m : Abstraction V H) (laws : Laws m) where
-  -- behind an element's index
+  -- after an element's index
   still_held : (base : ℕ) (x : Element) (v : V) (s n : State) → Has m v s.store → aim base x s ≡ Some n → Has m v n.store
   still_held base x v s n held aimed = subst (λ (xs : List ℤ). Has m v xs) (sym (aim_keeps base x s n aimed)) held
 

@@ -35,7 +35,7 @@ get_longer [] more k z e = cc
 get_longer (x ∷ xs) more zero z e = e
 get_longer (x ∷ xs) more (suc k) z e = get_longer xs more k z e
 
--- with more variables behind
+-- with more variables after
 abbrev longer : Environment → List ℤ → Environment
 longer s more = record s { store = s.store ++ more }
 
@@ -93,7 +93,7 @@ below_holds : (w z : ℤ) → z ≤ℤ pos 2147483647 → (w ≡ pos 2147483647 
 below_holds w z high (inl e) = rw (e, ← minus_is (pos 2147483647) z) (omega (arith, ints, high))
 below_holds w z high (inr e) = rw e (omega (arith, ints))
 
--- what gives a variable a number of its type passes the tests behind it
+-- what gives a variable a number of its type passes the tests after it
 within_type_keeps : (t : NumberType) (p : Moves) (n : ℕ) (s u : List ℤ) (x : ℕ) (z : ℤ) → n ≡ length u → MayBeAt u x z → fits t z ≡ true → MayLead p s u → MayLead (within_type t n x p) s u
 within_type_keeps Long p n s u x z e there fit led = led
 within_type_keeps Int p n s u x z e there fit led =
@@ -116,7 +116,7 @@ set_last : (xs : List ℤ) (z : ℤ) → slice_set (xs ++ z ∷ []) (length xs) 
 set_last [] z = refl
 set_last (x ∷ xs) z = ap (λ (ys : List ℤ). x ∷ ys) (set_last xs z)
 
--- a new variable with the value of an argument that is evaluated without the variables behind
+-- a new variable with the value of an argument that is evaluated without the variables after
 argument_leads : (s : Environment) (t : NumberType) (e : Expr) (more draws left : List ℤ) (z : ℤ) → value_of e s draws ≡ Some (z, left) → fits t z ≡ true
     → (let all : List ℤ = s.store ++ more in
     MayLead (within_type t (suc (length all)) (length all) (append_set (length all) (linearized (suc (length all)) s.base e))) all (all ++ z ∷ []))

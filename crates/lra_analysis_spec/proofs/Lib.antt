@@ -25,13 +25,13 @@ mod DivisionExamples
 mod ThresholdExamples
 mod FitsExamples
 mod AccessesExamples
--- What moves do behind others.
+-- What moves do after others.
 pub mod Takes
 -- Moves say what lists of actions and conditions said apart.
 mod MovesAgree
 pub mod OneTree
 pub mod OneIteration
--- The same values tell one thing of what is judged: of any, of what fits, of accesses.
+-- The same values report one thing of what is judged: of any, of what fits, of accesses.
 pub mod OneJudging
 pub mod OneJudgement
 pub mod OneAccess

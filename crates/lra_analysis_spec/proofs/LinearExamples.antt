@@ -1,4 +1,4 @@
--- Linear forms, tests and given rows. Which slip an example would catch stands beside it.
+-- Linear forms, tests and widening thresholds. Which slip an example would catch stands beside it.
 use Rattle.std.proofs.Common.{◌≡◌, ℤ, pos, negsuc, List, [], ◌∷◌, Some, None, true, refl}
 use Rattle.std.specs.Int.Signed.{le_z_yes}
 use Rattle.lra_base.specs.Operators.{plus, minus, times, over, below, above, at_least, differs}
@@ -55,7 +55,7 @@ test_past_words : (truth_of (compare below x y) at_ends [] ≡ Some (true, [])) 
     × TestHolds (record { expr = form (negsuc 0) (negsuc 0 ∷ pos 1 ∷ []); kind = Ge }) at_ends.store
 test_past_words = (refl, refl, le_z_yes tt)
 
--- x < 1 || y < 2: catches rows of the opposite of x < 1, of which the right side is told as well
+-- x < 1 || y < 2: catches rows of the opposite of x < 1, of which the right side is reported as well
 given_by_or : (guard_thresholds 2 0 (either_of (compare below x (literal Int 1)) (compare below y (literal Int 2)))).rows ≡
     (pos 0 ∷ negsuc 0 ∷ pos 0 ∷ []) ∷ (pos 1 ∷ negsuc 0 ∷ pos 0 ∷ [])
     ∷ (pos 1 ∷ pos 0 ∷ negsuc 0 ∷ []) ∷ (pos 2 ∷ pos 0 ∷ negsuc 0 ∷ []) ∷ []

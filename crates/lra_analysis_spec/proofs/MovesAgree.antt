@@ -38,7 +38,7 @@ set_step live x (Linear f) = act (assign x f)
 set_step live x (Divided d f) = in_both live d (assign x f)
 set_step live x Unseen = act (forget x)
 
--- a least change other than a condition, as a list of steps; behind what gives an `int` its value two tests
+-- a least change other than a condition, as a list of steps; after what gives an `int` its value two tests
 abbrev pub within_steps : NumberType → ℕ → ℕ → List Step → List Step
 within_steps Long live x steps = steps
 within_steps Int live x steps = steps ++ act (action.test Ge (above_least Int live x)) ∷ act (action.test Ge (below_greatest Int live x)) ∷ []
@@ -105,7 +105,7 @@ pushed_rows live base (jumps_caught a b) = pushed_rows live base a ++ pushed_row
 pushed_rows live base (one_or a opposed b) = pushed_rows live base a ++ pushed_rows live base b
 
 module _ (V H : Type 0) (ops : Operations V H) where
-  -- one action behind the other
+  -- one action after the other
   abbrev pub AreActed : List Action → V → Exactness → V → Type 0
   AreActed [] v e w = (w ≡ v) × (e ≡ Exact)
   AreActed (step ∷ steps) v e w = (x : V) × (c d : Exactness) × ops.changed step v c x × AreActed steps x d w × (e ≡ worse c d)
@@ -115,7 +115,7 @@ module _ (V H : Type 0) (ops : Operations V H) where
   IsDone (two_cases xs ys) v e w =
       (one two : V) × (c d i : Exactness) × AreActed xs v c one × AreActed ys v d two × ops.joined one two i w × (e ≡ worse (worse c d) i)
 
-  -- one step behind the other
+  -- one step after the other
   abbrev pub AreDone : List Step → V → Exactness → V → Type 0
   AreDone [] v e w = (w ≡ v) × (e ≡ Exact)
   AreDone (step ∷ steps) v e w = (x : V) × (c d : Exactness) × IsDone step v c x × AreDone steps x d w × (e ≡ worse c d)
@@ -246,7 +246,7 @@ module _ (V H : Type 0) (ops : Operations V H) where
       (λ h. o.0 (c.0 h), λ h. c.1 (o.1 h))
   set_made live x Unseen v e w = one_made (forget x) v e w
 
-  -- one list behind the other
+  -- one list after the other
   split : (before later : List Step) (v : V) (e : Exactness) (w : V) → Done (before ++ later) v e w ↔
       ((x : V) × (c d : Exactness) × Done before v c x × Done later x d w × (e ≡ worse c d))
   split [] later v e w = (

@@ -43,7 +43,7 @@ twice_opposed = refl
 in_turn : guard 2 0 true (both_of (compare equal x y) (compare below x input)) ≡ first_then (make (is_0 (pos 0) (pos 1) (negsuc 0))) stay
 in_turn = refl
 
--- written out, a join has one case for each side, and what comes behind it is in both
+-- written out, a join has one case for each side, and what comes after it is in both
 joined_then : cases (first_then (join_of (make (forget 0)) stay) (make less)) ≡ (forget 0 ∷ less ∷ []) ∷ (less ∷ []) ∷ []
 joined_then = refl
 

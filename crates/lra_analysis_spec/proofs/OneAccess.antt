@@ -1,5 +1,5 @@
--- Where each operation has one result, the same values tell one thing of accesses; and what is judged of them with drops is
--- what is defined, as far as nothing is flagged.
+-- Where each operation has one result, the same values report one thing of accesses; and what is judged of them with
+-- drops is what is defined, as far as nothing is flagged.
 use Rattle.std.proofs.Common.{◌≡◌, ◌∙◌, ℕ, List, [], ◌∷◌, ◌++◌, Option, Some, None, Bool, refl, sym, subst}
 use Rattle.lra_linear_forms.specs.declared.test.Test.{Test}
 use Rattle.lra_domain.specs.{Abstraction.Abstraction, Laws.Laws, declared.Exactness.Exactness, declared.Exactness.TheVariants.Exact}
@@ -107,7 +107,8 @@ module _ {V H : Type 0} (m : Abstraction V H) (b : Operations V H) (Keeps : Exac
       behind
       fine j
 
--- without a flag what is judged is so by the written iteration's operations; a first flag is where one of them strains
+-- without a flag what is judged is so by the written iteration's operations; a first flag is where one of them exceeds
+-- a limit
 pub accesses_written : {V H : Type 0} (m : Abstraction V H) → Laws m → (g : Node) (values : List V) (flagged : Option ℕ) (inside : List (ℕ × Told))
     (behind : Option ℕ) → behind ≡ None → JudgesAccesses m (lossy_operations m) g values flagged inside behind →
     JudgesAccesses m (exact_operations m) g values flagged inside behind

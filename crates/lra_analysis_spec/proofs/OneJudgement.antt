@@ -1,5 +1,5 @@
--- Where each operation has one result, the same values tell one thing of what fits; and what is judged with drops is what
--- is defined, as far as nothing is flagged.
+-- Where each operation has one result, the same values report one thing of what fits; and what is judged with drops is
+-- what is defined, as far as nothing is flagged.
 use Rattle.std.proofs.Common.{◌≡◌, ◌∙◌, ℕ, List, [], ◌∷◌, Option, None, Bool, true, false, refl, sym, ap}
 use Rattle.std.specs.{List.list_all, Prelude.◌↔◌, Prelude.IsTrue}
 use Rattle.lra_domain.specs.{Abstraction.Abstraction, Laws.Laws, declared.Exactness.Exactness, declared.Exactness.TheVariants.Exact}
@@ -103,7 +103,8 @@ module _ {V H : Type 0} (m : Abstraction V H) (b : Operations V H) (Keeps : Exac
       finds_moved m b Keeps Fine matters moves same_dims (OpFits m (lossy_operations m)) (OpFits m b) fits_moved (computing_ops None g) values flagged fitting
       behind fine j
 
--- without a flag what is judged is so by the written iteration's operations; a first flag is where one of them strains
+-- without a flag what is judged is so by the written iteration's operations; a first flag is where one of them exceeds
+-- a limit
 pub judged_written : {V H : Type 0} (m : Abstraction V H) → Laws m → (b : Bool) (g : Node) (values : List V) (flagged : Option ℕ) (fitting : List (ℕ × Bool))
     (behind : Option ℕ) → behind ≡ None
     → JudgesIf m (lossy_operations m) b g values flagged fitting behind → JudgesIf m (exact_operations m) b g values flagged fitting behind

@@ -1,5 +1,6 @@
--- Whatever is told of operations: where each operation has one result and one thing is told of it, the same values tell one
--- thing; and what is judged with drops is judged so by other operations, as far as what is flagged matters.
+-- Whatever is reported of operations: where each operation has one result and one thing is reported about it, the same
+-- values report one thing; and what is judged with drops is judged so by other operations, as far as what is flagged
+-- matters.
 use Rattle.std.proofs.Common.{◌≡◌, ◌∙◌, ℕ, List, [], ◌∷◌, Option, Some, None, Bool, true, false, refl, sym, subst, inl, inr}
 use Rattle.std.proofs.lemmas.Option.{same_Some}
 use Rattle.std.specs.Prelude.{Contains}
@@ -12,7 +13,7 @@ use Rattle.lra_analysis_spec.specs.Judging.{Finding, first_flagged, CondAnswers,
 use Rattle.lra_analysis_spec.specs.{MovesOf.moves_of, Operations.Operations, Operations.lossy_operations, Pass.noted, Pass.Filters}
 use Rattle.lra_analysis_spec.proofs.{OneIteration.Single, OneIteration.one_made, OneIteration.one_left, Transfer.Matters, Transfer.Transfers, Transfer.made, Transfer.leaves}
 
--- what is told of both sides of a comparison, and of what is compared with 0
+-- what is reported about both sides of a comparison, and of what is compared with 0
 abbrev pub OfBoth : Type 0 → Type 0 → Type 1
 OfBoth V A = ℕ → Expr → Expr → V → List A → Exactness → Type 0
 
@@ -90,7 +91,7 @@ module _ {V H : Type 0} (m : Abstraction V H) (b : Operations V H) (Keeps : Exac
   declared_moved (Some t) v e w k h =
       same_dims (λ ops. Declares ops (Some t) v e w) (made V H (lossy_operations m) b Keeps Fine matters moves (moves_of (m.dims v) (append t)) v e w k h)
 
-  -- what is flagged behind the first of them
+  -- what is flagged after the first of them
   all_kept : {A : Type 0} (js : List (Finding A)) (f : Option ℕ) → Fine (first_flagged f js) → Fine f × ((j : Finding A) → Contains js j → Keeps j.exactness)
   all_kept [] f k = (k, λ j h. absurd (contains_none j h))
   all_kept {A} (x ∷ js) f k =

@@ -1,4 +1,4 @@
--- A program has one tree of operations: the statement, where it stands and the points behind it leave no choice.
+-- A program has one tree of operations: the statement, where it stands and the points after it leave no choice.
 use Rattle.std.proofs.Common.{◌≡◌, ◌∙◌, ℕ, suc, List, length, Option, Some, None, refl, sym, ap, subst}
 use Rattle.std.proofs.lemmas.Option.{same_Some, none-some}
 use Rattle.lra_base.specs.declared.number_types.NumberType.{NumberType}
@@ -10,7 +10,7 @@ use Rattle.lra_operations.specs.Inlined.{as_return_call, as_end, as_end_value, a
 use Rattle.lra_operations.specs.Inlined.{as_statement, as_fresh, as_given, is_loop, as_value, as_result, is_call}
 use Rattle.lra_operations.specs.{Agree.IsInlinedTree, Tree.Node, Tree.Arms}
 
--- the same tree, and the same number behind it
+-- the same tree, and the same number after it
 abbrev Same : Node → Node → ℕ → ℕ → Type 0
 Same g h q r = (g ≡ h) × (q ≡ r)
 

@@ -36,7 +36,7 @@ argument t e = record { number_type = t; value = e }
 abbrev variable : NumberType → ℤ → GlobalVariable
 variable t z = record { number_type = t; value = z }
 
--- behind what gives an `int` its value: x + 2^31 >= 0, 2^31 - 1 - x >= 0
+-- after what gives an `int` its value: x + 2^31 >= 0, 2^31 - 1 - x >= 0
 abbrev of_int : Moves → List ℤ → List ℤ → Moves
 of_int p one contrary = first_then p (first_then (make (test Ge (form (pos 2147483648) one))) (make (test Ge (form (pos 2147483647) contrary))))
 
@@ -53,7 +53,7 @@ push_int : moves_of 1 (push 0 (argument Int input ∷ [])) ≡
     first_then (of_int (first_then (make (embed 1)) (make (forget 1))) (pos 0 ∷ pos 1 ∷ []) (pos 0 ∷ negsuc 0 ∷ [])) stay
 push_int = refl
 
--- an `int` behind a draw and behind an assignment, a `long` behind none
+-- an `int` after a draw and after an assignment, a `long` after none
 int_fresh : moves_of 0 (append Int) ≡ of_int (make (embed 1)) (pos 1 ∷ []) (negsuc 0 ∷ [])
 int_fresh = refl
 
@@ -92,7 +92,7 @@ first_stays = refl
 modes : (mode_at limited 1 ≡ Join) × (mode_at limited 0 ≡ Limited) × (mode_at standard 0 ≡ Widen) × (mode_at (by_thresholds []) 0 ≡ Tightest)
 modes = (refl, refl, refl, refl)
 
--- a loop's own end comes before what broke out; a call's end behind what returned
+-- a loop's own end comes before what broke out; a call's end after what returned
 abbrev two_jumps : PassResult ℕ
 two_jumps = record { entries = []; normal = 9; breaks = 1 ∷ 2 ∷ []; continues = []; returns = 3 ∷ 4 ∷ []; flag = None }
 

@@ -1,4 +1,4 @@
--- Moves behind what came before, with the exactness of all of it.
+-- Moves after what came before, with the exactness of all of it.
 use Rattle.std.proofs.Common.{◌≡◌, refl, sym, ap, subst, ◌∙◌}
 use Rattle.std.specs.Prelude.{◌↔◌}
 use Rattle.lra_domain.specs.Moves.{Moves, stay, first_then, join_of}
@@ -43,6 +43,6 @@ module _ {V H : Type 0} (ops : Operations V H) (v : V) (d : Exactness) (w : V) (
         (x, y, worse d a, worse d b, i, (a, one, refl), (b, two, refl), joined, is ∙ ap (worse d) worst ∙ sym (worse_both d a b i)),
   )
 
--- behind nothing that is flagged
+-- after nothing that is flagged
 pub takes_made : {V H : Type 0} (ops : Operations V H) (p : Moves) (v : V) (w : V) (e : Exactness) → Takes ops p v Exact w e → AreMade ops p v e w
 takes_made ops p v w e (c, made, is) = subst (λ (a : Exactness). AreMade ops p v a w) (sym is) made

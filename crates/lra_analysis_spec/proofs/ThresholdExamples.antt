@@ -59,8 +59,9 @@ around_wide = refl
 abbrev less : ℕ → Cond
 less n = compare below x_var (literal Int n)
 
--- for (..; x < 1; (a call with assume x < 2)) { if (x < 3) assert(x < 4); else while (x < 5) ; x = x + 7; }: the loop's own, then its step, then its
--- body; catches a step behind its body, as the tree has it, and a condition that is left out in a branch, a loop or a call
+-- for (..; x < 1; (a call with assume x < 2)) { if (x < 3) assert(x < 4); else while (x < 5) ; x = x + 7; }: the loop's
+-- own, then its step, then its body; catches a step after its body, as the tree has it, and a condition that is left
+-- out in a branch, a loop or a call
 abbrev step_tree : Node
 step_tree = seq (act 2 (push 1 [])) (catch 2 returned (seq (act 3 (test 0 (less 2) true)) (act 2 (truncate_to 1))))
 

@@ -59,7 +59,7 @@ unflagged_is_written {V} {H} m laws set P g r (none, first, e, universal, values
       p.1,
     )
 
--- the first flagged operation strains on the operands of the written iteration
+-- the first flagged operation exceeds a limit on the operands of the written iteration
 pub flagged_strains : {V H : Type 0} (m : Abstraction V H) → Laws m → (set : Plan) (P : Program) (g : Node) (r : PassResult V) (q : ℕ) → LossyIteration m set P g r → r.flag ≡ Some q →
     StrainsAtPoint m set P g q
 flagged_strains {V} {H} m laws set P g r q (none, first, e, universal, values, pass) is =

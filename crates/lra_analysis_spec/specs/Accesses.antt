@@ -69,11 +69,11 @@ module _ {V H : Type 0} (m : Abstraction V H) (ops : Operations V H) where
   OpInside (truncate_to n) v js e = EachJudged v 0 [] js e
   OpInside (test base c wanted) v js e = CondInside base c v js e
 
-  -- by the values at the points: what is told of each, in their order
+  -- by the values at the points: what is reported about each, in their order
   abbrev pub InsideAtPoint : List V → OpAtPoint → List (Place × Bool) → Exactness → Type 0
   InsideAtPoint values a js e = AnswerAtPoint ops OpInside values a js e
 
-  -- all of a tree: what is found at the points where it accesses arrays; flags come behind all that is flagged before
+  -- all of a tree: what is found at the points where it accesses arrays; flags come after all that is flagged before
   abbrev pub JudgesAccesses : Node → List V → Option ℕ → List (ℕ × List (Place × Bool)) → Option ℕ → Type 0
   JudgesAccesses g values flagged inside behind =
       Finds ops OpInside (accessing_ops None g) values flagged inside behind

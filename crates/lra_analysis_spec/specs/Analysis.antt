@@ -19,11 +19,11 @@ Iteration {V} {H} ops set P g r =
 abbrev pub ExactIteration : {V H : Type 0} → Abstraction V H → Plan → Program → Node → PassResult V → Type 0
 ExactIteration m set P g r = Iteration (exact_operations m) set P g r
 
--- one in which operations that strain may have dropped something
+-- one in which operations that exceed a limit may have dropped something
 abbrev pub LossyIteration : {V H : Type 0} → Abstraction V H → Plan → Program → Node → PassResult V → Type 0
 LossyIteration m set P g r = Iteration (lossy_operations m) set P g r
 
--- an operation of this point strains on the operands that the written iteration has there
+-- an operation of this point exceeds a limit on the operands that the written iteration has there
 abbrev pub StrainsAtPoint : {V H : Type 0} → Abstraction V H → Plan → Program → Node → ℕ → Type 0
 StrainsAtPoint {V} m set P g q = (r : PassResult V) × Iteration (straining_operations m) set P g r × (r.flag ≡ Some q)
 

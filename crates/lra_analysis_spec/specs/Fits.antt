@@ -26,10 +26,10 @@ IsDivisor None = ⊥
 IsDivisor (Some f) = IsTrue (is_constant f) × (f.constant ≢ pos 0) × (f.constant ≢ negsuc 0)
 
 module _ {V H : Type 0} (m : Abstraction V H) where
-  -- what one value tells ---------------------------------------------------------------------------------------------
+  -- what one value says ----------------------------------------------------------------------------------------------
 
   module _ (v : V) where
-    -- what is told of the form's values lies in the type
+    -- what is reported about the form's values lies in the type
     abbrev pub LiesIn : NumberType → Option Form → Type 0
     LiesIn t None = ⊥
     LiesIn t (Some f) = (l h : ℤ) × m.bounded v f (Some l) (Some h) × IsTrue (fits t l) × IsTrue (fits t h)
@@ -73,7 +73,7 @@ module _ {V H : Type 0} (m : Abstraction V H) where
     ArgumentsJudged (a ∷ rest) bs = (xs ys : List Bool) × GivenJudged (parameter_of a.number_type) a.value xs ×
         ArgumentsJudged rest ys × (bs ≡ xs ++ ys)
 
-    -- an element's index, and what is computed behind it
+    -- an element's index, and what is computed after it
     abbrev pub IndexJudged : Expr → (List Bool → Type 0) → List Bool → Type 0
     IndexJudged e behind bs = (xs ys : List Bool) × ExprJudged e xs × behind ys × (bs ≡ xs ++ ys)
 
@@ -111,11 +111,11 @@ module _ {V H : Type 0} (m : Abstraction V H) where
     abbrev pub JudgedAtPoint : List V → OpAtPoint → Bool → Exactness → Type 0
     JudgedAtPoint values a b e = AnswerAtPoint ops OpFits values a b e
 
-    -- all of a tree: what is found at the points where it computes; flags come behind all of the iteration's
+    -- all of a tree: what is found at the points where it computes; flags come after all of the iteration's
     abbrev pub Judges : Node → List V → Option ℕ → List (ℕ × Bool) → Option ℕ → Type 0
     Judges g values flagged fitting behind = Finds ops OpFits (computing_ops None g) values flagged fitting behind
 
-    -- where it is asked for; else nothing is told, and nothing done
+    -- where it is asked for; else nothing is reported, and nothing done
     abbrev pub JudgesIf : Bool → Node → List V → Option ℕ → List (ℕ × Bool) → Option ℕ → Type 0
     JudgesIf true g values flagged fitting behind = Judges g values flagged fitting behind
     JudgesIf false g values flagged fitting behind = (fitting ≡ []) × (behind ≡ flagged)

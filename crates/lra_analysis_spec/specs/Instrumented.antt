@@ -40,7 +40,7 @@ abbrev mutual
 
 module _ {A : Type 0} (name : ℕ → A) (may : State → State → Type 0) where
   abbrev mutual
-    -- a run of the tree from the first trail gives the variable at the place x a value at the point p; so it goes on
+    -- a run of the tree from the first trace gives the variable at the place x a value at the point p; so it goes on
     -- with the second
     pub WritesVariable : Node → Trace A → ℕ → ℕ → Trace A → Type 0
     WritesVariable empty a p x b = ⊥

@@ -22,7 +22,7 @@ pub record Finding (A : Type 0) : Type 0 where
 abbrev pub answer_of : {A : Type 0} → Finding A → ℕ × A
 answer_of j = (j.point, j.answer)
 
--- the first flagged point, behind what is flagged so far
+-- the first flagged point, after what is flagged so far
 abbrev pub first_flagged : {A : Type 0} → Option ℕ → List (Finding A) → Option ℕ
 first_flagged f [] = f
 first_flagged f (j ∷ js) = first_flagged (noted j.point j.exactness f) js
@@ -32,7 +32,7 @@ abbrev pub AnswersUnlessUnreachable : {V H : Type 0} → Abstraction V H → V �
 AnswersUnlessUnreachable m v b so = IsTrue b ↔ (IsUnreachable m v ⊎ so)
 
 module _ {V H : Type 0} (ops : Operations V H) where
-  -- conditions, by what is told of both sides of a comparison, and of what is compared with 0
+  -- conditions, by what is reported about both sides of a comparison, and of what is compared with 0
   module _ {A : Type 0} (Both : ℕ → Expr → Expr → V → List A → Exactness → Type 0)
       (One : ℕ → Expr → V → List A → Exactness → Type 0) where
     abbrev pub CondAnswers : ℕ → Cond → V → List A → Exactness → Type 0
@@ -46,12 +46,12 @@ module _ {V H : Type 0} (ops : Operations V H) where
         CondAnswers base c v xs f × Filters ops base c false v g w × CondAnswers base d w ys h × (bs ≡ xs ++ ys) ×
         (e ≡ worse (worse f g) h)
 
-  -- behind the new variable, where there is one
+  -- after the new variable, where there is one
   abbrev pub Declares : Option NumberType → V → Exactness → V → Type 0
   Declares None v e w = (w ≡ v) × (e ≡ Exact)
   Declares (Some t) v e w = OpTransfer ops (append t) v e w
 
-  -- operations that are asked, by what is told of an operation and the value that it has
+  -- operations that are asked, by what is reported about an operation and the value that it has
   module _ {A : Type 0} (Told : Op → V → A → Exactness → Type 0) where
     -- one of them, by the values at the points
     abbrev pub AnswerAtPoint : List V → OpAtPoint → A → Exactness → Type 0
@@ -63,7 +63,7 @@ module _ {V H : Type 0} (ops : Operations V H) where
     IsFoundOn asked values j = (a : OpAtPoint) × Contains asked a × (a.point ≡ j.point) ×
         AnswerAtPoint values a j.answer j.exactness
 
-    -- all of them: what is found at the points where it is asked, in the order of their numbers; flags come behind all
+    -- all of them: what is found at the points where it is asked, in the order of their numbers; flags come after all
     -- that is flagged before
     pub record Finds (asked : List OpAtPoint) (values : List V) (flagged : Option ℕ) (answers : List (ℕ × A))
         (behind : Option ℕ) : Type 0 where

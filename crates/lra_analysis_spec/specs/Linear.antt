@@ -56,7 +56,7 @@ variable_form live place = record { constant = pos 0; coefficients = slice_set (
 abbrev pub live_form : ℕ → ℕ → Option Form
 live_form live place = if nat_lt place live then Some (variable_form live place) else None
 
--- with so many live variables, of which the call's own come behind the first `base`; none where the expression isn't
+-- with so many live variables, of which the call's own come after the first `base`; none where the expression isn't
 -- linear: an element of an array has none
 abbrev pub form_of : ℕ → ℕ → Expr → Option Form
 form_of live base (literal t n) = fitting (constant_form live (pos n))

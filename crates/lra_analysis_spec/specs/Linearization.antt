@@ -1,7 +1,7 @@
 -- What an analysis sees of the numbers that a program computes: a linear form, where the expression has one. A linear
--- form A divided by a constant k above 0 has none, but whole numbers tell of it more than that it is any: A is
+-- form A divided by a constant k above 0 has none, but whole numbers say of it more than that it is any: A is
 -- k*t + r for the quotient t and what is left, r, and r has the sign of A and lies nearer to 0 than k. So t and r are
--- taken as two variables behind the live ones, first t, then r, and what is seen is a linear form over all of them.
+-- taken as two variables after the live ones, first t, then r, and what is seen is a linear form over all of them.
 use Rattle.std.specs.Prelude.{◌≡◌, ◌≤ℤ◌, ⊤, ℕ, ◌+◌, ℤ, pos, negsuc, neg_ℤ, ◌-ℤ◌, ◌&&◌, if◌then◌else◌, List, [], ◌∷◌}
 use Rattle.std.specs.Prelude.{◌++◌, length, Option, Some, None, int_le, int_div, int_rem}
 use Rattle.lra_linear_forms.specs.Form.{Form, form_value, opposite_form}
@@ -77,11 +77,11 @@ linearized_from (Some f) o = Linear f
 linearized_from None (Some (d, h)) = Divided d h
 linearized_from None None = Unseen
 
--- with so many live variables, of which the call's own come behind the first `base`
+-- with so many live variables, of which the call's own come after the first `base`
 abbrev pub linearized : ℕ → ℕ → Expr → Linearized
 linearized live base e = linearized_from (form_of live base e) (share_of live base e)
 
--- over so many variables: a form has a coefficient for each of them, and for the two behind them where they are there
+-- over so many variables: a form has a coefficient for each of them, and for the two after them where they are there
 abbrev pub LinearizedFits : Linearized → ℕ → Type 0
 LinearizedFits (Linear f) n = length f.coefficients ≡ n
 LinearizedFits (Divided d f) n = Divides d n × (length f.coefficients ≡ n + 2)
@@ -111,7 +111,7 @@ linearized_difference live base a b = subtracted (linearized live base a) (linea
 
 -- what is seen is right -------------------------------------------------------------------------------------------
 
--- the store with the quotient and with what is left behind it
+-- the store with the quotient and with what is left after it
 abbrev pub with_both : Division → List ℤ → List ℤ
 with_both d s =
     s ++ int_div (form_value d.numerator s) d.divisor ∷ int_rem (form_value d.numerator s) d.divisor ∷ []

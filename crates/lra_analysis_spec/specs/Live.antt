@@ -1,10 +1,10 @@
--- How many variables live behind a least change, and behind a tree of operations.
+-- How many variables live after a least change, and after a tree of operations.
 use Rattle.std.specs.Prelude.{ℕ, suc, ◌+◌, ◌-◌, length}
 use Rattle.lra_program.specs.Step.{Op, append, fill, store_value, store_element, havoc, push, push_for, truncate_to}
 use Rattle.lra_program.specs.Step.{test}
 use Rattle.lra_operations.specs.Tree.{Node, empty, probe, point, act, check, seq, choose, iterate, catch, leave, select}
 
--- how many variables live behind the change of a store with so many
+-- how many variables live after the change of a store with so many
 abbrev pub live_after_op : Op → ℕ → ℕ
 live_after_op (append t) n = suc n
 live_after_op (fill a) n = n
@@ -16,7 +16,7 @@ live_after_op (push_for base x given) n = n + length given
 live_after_op (truncate_to k) n = n - (n - k)
 live_after_op (test base c wanted) n = n
 
--- so many live behind a tree at whose beginning n live
+-- so many live after a tree at whose beginning n live
 abbrev pub live_after : Node → ℕ → ℕ
 live_after empty n = n
 live_after (probe here what) n = n

@@ -1,4 +1,4 @@
--- What moves do to a value: nothing, an action of the domain, one thing behind the other, or what one leaves joined
+-- What moves do to a value: nothing, an action of the domain, one thing after the other, or what one leaves joined
 -- with what another leaves.
 use Rattle.std.specs.Prelude.{◌≡◌}
 use Rattle.lra_domain.specs.Moves.{Moves, stay, make, first_then, join_of}

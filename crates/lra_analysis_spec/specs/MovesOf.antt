@@ -1,10 +1,10 @@
 -- The moves of a program's least changes and of its conditions, over so many live variables. An assignment of a linear
 -- form assigns, that of a division does so in two cases, where what is divided is at least 0 and where it is below 0,
--- and joins them; any other one forgets. Of what arrays hold nothing is told, so an element that is read forgets, and
--- one that gets a value changes nothing. Behind each that an `int` gets, and behind its declaration, stand the tests
+-- and joins them; any other one forgets. Of what arrays hold nothing is reported, so an element that is read forgets,
+-- and one that gets a value changes nothing. After each that an `int` gets, and after its declaration, stand the tests
 -- that it lies within 32 bits. Conditions (Cousot and Halbwachs 1978): `!` is pushed to the comparisons; a
 -- comparison tests, where its difference is linear, and in the two cases, where one side is a division and the other
--- one linear; `&&` is the one behind the other; `||` joins what the left side leaves with what the right side leaves
+-- one linear; `&&` is the one after the other; `||` joins what the left side leaves with what the right side leaves
 -- where the left one is false.
 use Rattle.std.specs.Prelude.{ℕ, zero, suc, ◌-◌, ℤ, pos, negsuc, neg_ℤ, ◌-ℤ◌, List, [], ◌∷◌, Bool, true, false, not}
 use Rattle.std.specs.Prelude.{Option, None, Some, replicate, slice_set}
@@ -36,7 +36,7 @@ abbrev pub in_turn : List Action → Moves
 in_turn [] = stay
 in_turn (step ∷ steps) = first_then (make step) (in_turn steps)
 
--- where A is at least 0: t and r come behind the live variables, and 0 <= r, r <= k - 1, A = k*t + r
+-- where A is at least 0: t and r come after the live variables, and 0 <= r, r <= k - 1, A = k*t + r
 abbrev pub first_case : ℕ → Division → List Action
 first_case live d = action.test Ge d.numerator ∷ embed 2 ∷ action.test Ge (remainder_form live)
     ∷ action.test Ge (behind_form live (d.divisor -ℤ pos 1) (pos 0) (negsuc 0)) ∷ action.test Eq (left_over d) ∷ []
@@ -134,7 +134,7 @@ below_greatest t live x = record {
   coefficients = slice_set (replicate live (pos 0)) x (negsuc 0);
 }
 
--- Behind what gives the variable a value, where so many live then: an `int` lies within 32 bits. Nothing is tested of
+-- After what gives the variable a value, where so many live then: an `int` lies within 32 bits. Nothing is tested of
 -- 64 bits, which every number of a store has.
 abbrev pub within_type : NumberType → ℕ → ℕ → Moves → Moves
 within_type Long live x p = p
@@ -149,7 +149,7 @@ set_to live x (Linear f) = make (assign x f)
 set_to live x (Divided d f) = in_cases live d (assign x f)
 set_to live x Unseen = make (forget x)
 
--- a new variable that gets this value, behind so many
+-- a new variable that gets this value, after so many
 abbrev pub append_set : ℕ → Linearized → Moves
 append_set live v = first_then (make (embed 1)) (set_to (suc live) live v)
 
@@ -160,7 +160,7 @@ push_all live base (a ∷ rest) = first_then
     (within_type a.number_type (suc live) live (append_set live (linearized (suc live) base a.value)))
     (push_all (suc live) base rest)
 
--- the variable of this type is set so; nothing is told of an element
+-- the variable of this type is set so; nothing is reported about an element
 abbrev pub set_cell : ℕ → NumberType → Cell → Linearized → Moves
 set_cell live t (Variable x) v = within_type t live x (set_to live x v)
 set_cell live t (Waiting p) v = stay

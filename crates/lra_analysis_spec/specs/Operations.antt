@@ -1,6 +1,6 @@
 -- The operations of which an iteration is made. Each is a relation of its operands, its exactness and its result, so
 -- that one definition of the iteration serves for the written one, for one in which operations may be flagged, and for
--- where one strains.
+-- where one exceeds a limit.
 use Rattle.std.specs.Prelude.{◌≡◌, ℕ}
 use Rattle.lra_systems.specs.LinearSystems.{LinearSystem}
 use Rattle.lra_linear_spec.specs.declared.ConKind.{ConKind}
@@ -16,7 +16,8 @@ pub record Operations (V H : Type 0) : Type 1 where
   pub bottom : ℕ → ℕ → V → Type 0
   pub changed : Action → V → Exactness → V → Type 0
   pub joined : V → V → Exactness → V → Type 0
-  -- a loop's head starts with a value and the given rows; it is stable under the next value, or grows by it; its value
+  -- a loop's head starts with a value and the widening thresholds; it is stable under the next value, or grows by it;
+  -- its value
   pub started : V → LinearSystem ConKind → H → Type 0
   pub stays : H → V → Mode → Type 0
   pub grown : H → V → Mode → Exactness → H → Type 0
@@ -36,7 +37,7 @@ exact_operations m = record {
   valued = λ h e v. (e ≡ Exact) × m.valued h v;
 }
 
--- an operation that strains on the operands that it has may be flagged; its result then covers the defined one.
+-- an operation that exceeds a limit on the operands that it has may be flagged; its result then covers the defined one.
 -- Operands and results have the dimensions that they must have, and results are held; a result has the caps that all
 -- its operands have
 abbrev pub lossy_operations : {V H : Type 0} → Abstraction V H → Operations V H
@@ -55,8 +56,8 @@ lossy_operations m = record {
   valued = λ h e v. Values m h e v × (m.dims v ≡ m.head_dims h) × CapsWithin (m.head_capped h) (m.capped v);
 }
 
--- an operation that strains may be flagged, and then gives anything: so what comes before the first flag is as it is
--- defined, and the first flagged operation strains on the operands that the written iteration has there
+-- an operation that exceeds a limit may be flagged, and then gives anything: so what comes before the first flag is as
+-- it is defined, and the first flagged operation exceeds a limit on the operands that the written iteration has there
 abbrev pub straining_operations : {V H : Type 0} → Abstraction V H → Operations V H
 straining_operations m = record {
   dims = m.dims;

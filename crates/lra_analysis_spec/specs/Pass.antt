@@ -24,7 +24,7 @@ pub data PassEntry (V : Type 0) : Type 0 where
   -- what was there when at the point of the first number the variable at this place had got a value
   recorded : ℕ → ℕ → V → PassEntry V
 
--- what a pass gives: its entries in the order in which they are found, the value behind the tree, the values of its
+-- what a pass gives: its entries in the order in which they are found, the value after the tree, the values of its
 -- jumps in text order, and the point of the first flagged operation, where there is one
 pub record PassResult (V : Type 0) : Type 0 where
   pub entries : List (PassEntry V)
@@ -88,8 +88,8 @@ in_turn r s v f = record {
   flag = f;
 }
 
--- the first of the values that come out behind a catch, and the others: a loop's own end comes before its jumps, a
--- call's behind them
+-- the first of the values that come out after a catch, and the others: a loop's own end comes before its jumps, a
+-- call's after them
 abbrev pub first_of_call : {V : Type 0} → List V → V → V × List V
 first_of_call [] normal = (normal, [])
 first_of_call (v ∷ vs) normal = (v, vs ++ normal ∷ [])
@@ -140,7 +140,7 @@ abbrev pub JoinsRunning : {V H : Type 0} → Operations V H → Option V → V �
 JoinsRunning ops None u x w = (w ≡ u) × (x ≡ Exact)
 JoinsRunning ops (Some running) u x w = ops.joined running u x w
 
--- behind the last arm: what runs there; where no label is `default`, what has no match joins it
+-- after the last arm: what runs there; where no label is `default`, what has no match joins it
 abbrev pub ComesOut : {V H : Type 0} → Operations V H → Bool → Option V → V → Exactness → V → Type 0
 ComesOut ops has_default None other x w = (w ≡ other) × (x ≡ Exact)
 ComesOut ops true (Some running) other x w = (w ≡ running) × (x ≡ Exact)
@@ -168,7 +168,7 @@ module _ (V H : Type 0) (ops : Operations V H) where
     abbrev pub LoopRoundFromHead : H → Transformer V
     LoopRoundFromHead h f v r = (e : Exactness) × ops.valued h e v × LoopRoundFrom (noted q e f) v r
 
-    -- the head becomes each of the later ones, until what its pass leaves behind the body lies in it: this value and
+    -- the head becomes each of the later ones, until what its pass leaves after the body lies in it: this value and
     -- result are of that pass. The first `left` rounds join, the others widen
     abbrev pub AscendingIteration : Widening → ℕ → Option ℕ → H → List H → V → PassResult V → Type 0
     AscendingIteration widening left f h [] v r =
@@ -178,8 +178,8 @@ module _ (V H : Type 0) (ops : Operations V H) where
         × LoopRoundFromHead h f u s × ops.grown h s.normal (mode_at widening left) e next ×
         AscendingIteration widening (left - 1) (noted q e s.flag) next later v r
 
-    -- so many times the value at the head becomes the join of the first one with what its pass left behind the body,
-    -- and is passed anew; the last pass stays
+    -- so many times the value at the head becomes the join of the first one with what its pass left after the body,
+    -- and is passed again; the last pass stays
     abbrev pub DescendingIteration : ℕ → V → V → PassResult V → V → PassResult V → Type 0
     DescendingIteration zero first u s v r = (v ≡ u) × (r ≡ s)
     DescendingIteration (suc more) first u s v r =
@@ -187,7 +187,7 @@ module _ (V H : Type 0) (ops : Operations V H) where
         × ops.joined first s.normal e next × LoopRoundFrom (noted q e s.flag) next t
         × DescendingIteration more first next t v r
 
--- what others may do is taken in: of the value before, the exactness, and the value behind
+-- what others may do is added: of the value before, the exactness, and the value after
 abbrev pub Absorption : Type 0 → Type 1
 Absorption V = V → Exactness → V → Type 0
 

@@ -1,11 +1,11 @@
--- How a program is passed: what an iteration is told of the options, and the thresholds of its loops.
+-- How a program is passed: what an iteration is given of the options, and the thresholds of its loops.
 use Rattle.std.specs.Prelude.{ℕ, ℤ, zero, suc, List, Option, None, Some, if◌then◌else◌}
 use Rattle.lra_domain.specs.declared.Mode.{Mode}
 use Rattle.lra_domain.specs.declared.Mode.TheVariants.{Join, Widen, Limited, Tightest}
 use Rattle.lra_options.specs.declared.options.Options.{Options}
 
--- how loops grow once they don't join any more: taking no given row in, limited by those of their own conditions, or by
--- thresholds, for which the program has these constants
+-- how loops grow once they don't join any more: taking no widening threshold in, limited by those of their own
+-- conditions, or by thresholds, for which the program has these constants
 pub data Widening : Type 0 where
   standard : Widening
   limited : Widening

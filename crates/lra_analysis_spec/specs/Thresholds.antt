@@ -52,7 +52,7 @@ op_rows live (truncate_to n) = []
 op_rows live (test base c wanted) = condition_rows live base c
 
 -- around each condition of a tree, in text order, of those in calls that are written out too; the loop, of whose
--- variables so many live, lies around it. A loop's step stands before its body in the text, and behind it in the tree
+-- variables so many live, lies around it. A loop's step stands before its body in the text, and after it in the tree
 abbrev mutual
   pub rows_in : ℕ → Node → List (List ℤ)
   rows_in live empty = []
@@ -107,7 +107,7 @@ has_small_numbers row = list_all (λ z. nat_le (unsigned_abs z) (2 ^ 31)) row
 abbrev pub is_among : List (List ℤ) → List ℤ → Bool
 is_among rows row = list_any (λ other. pointwise int_eq other row) rows
 
--- the rows so far with one more behind them, unless it is among them, or has a large number
+-- the rows so far with one more after them, unless it is among them, or has a large number
 abbrev pub with_threshold_row : List (List ℤ) → List ℤ → List (List ℤ)
 with_threshold_row so row = if has_small_numbers row && not (is_among so row) then so ++ row ∷ [] else so
 

@@ -1,4 +1,4 @@
--- The iteration among others: whenever they may act, what they may do to stores is taken in.
+-- The iteration among others: whenever they may act, what they may do to stores is added.
 use Rattle.std.specs.Prelude.{◌≡◌, ℕ, None, Some}
 use Rattle.lra_domain.specs.Interference.{Interference, Absorbs}
 use Rattle.lra_domain.specs.declared.Exactness.TheVariants.{Exact, Flagged}
@@ -13,15 +13,15 @@ use Rattle.lra_analysis_spec.specs.{Moves.AreMade, MovesOf.first_values, Plan.Pl
 abbrev pub absorbed_exactly : {V : Type 0} → Interference V → Absorption V
 absorbed_exactly o v e w = (e ≡ Exact) × o.done v w
 
--- with drops, where it strains; the result has the dimensions and the caps of the value
+-- with drops, where it exceeds a limit; the result has the dimensions and the caps of the value
 abbrev pub absorbed : {V H : Type 0} → Interference V → Abstraction V H → Absorption V
 absorbed o m v e w = Absorbs o m v e w × (m.dims w ≡ m.dims v) × CapsWithin (m.capped v) (m.capped w)
 
--- flagged, with anything, where it strains
+-- flagged, with anything, where it exceeds a limit
 abbrev pub absorbed_straining : {V : Type 0} → Interference V → Absorption V
 absorbed_straining o v e w = (e ≡ Exact → o.done v w) × (e ≡ Flagged → o.strains v)
 
--- the pass among others of an iteration in which what strains may have dropped something
+-- the pass among others of an iteration in which what exceeds a limit may have dropped something
 abbrev pub LossyPass : {V H : Type 0} → Interference V → Abstraction V H → Plan → Node → Transformer V
 LossyPass {V} {H} o m = PassUnder V H (lossy_operations m) (absorbed o m)
 
@@ -33,7 +33,7 @@ IterationUnder {V} {H} ops admission set P g r =
     AreMade ops (first_values 0 P.globals) none e first
     × PassUnder V H ops admission set g (noted 0 e None) first r
 
--- the written iteration, and one in which what strains may have dropped something
+-- the written iteration, and one in which what exceeds a limit may have dropped something
 abbrev pub ExactIterationUnder : {V H : Type 0} → Interference V → Abstraction V H → Plan → Program → Node →
     PassResult V → Type 0
 ExactIterationUnder o m set P g r = IterationUnder (exact_operations m) (absorbed_exactly o) set P g r
@@ -42,7 +42,7 @@ abbrev pub LossyIterationUnder : {V H : Type 0} → Interference V → Abstracti
     PassResult V → Type 0
 LossyIterationUnder o m set P g r = IterationUnder (lossy_operations m) (absorbed o m) set P g r
 
--- an operation of this point, or others there, strain on what the written iteration has there
+-- an operation of this point, or others there, exceeds a limit on what the written iteration has there
 abbrev pub StrainsUnder : {V H : Type 0} → Interference V → Abstraction V H → Plan → Program → Node → ℕ → Type 0
 StrainsUnder {V} o m set P g q =
     (r : PassResult V) × IterationUnder (straining_operations m) (absorbed_straining o) set P g r ×

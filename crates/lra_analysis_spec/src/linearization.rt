@@ -42,7 +42,7 @@ impl Division {
 pub enum Linearized {
     /// A linear form over the live variables.
     Linear(LinExpr),
-    /// One over these and two more behind them: the quotient of the division, then what it leaves.
+    /// One over these and two more after them: the quotient of the division, then what it leaves.
     Divided(Division, LinExpr),
     /// Nothing: it may be any.
     Unseen,

@@ -169,7 +169,7 @@ module _ {V H : Type 0} (m : Abstraction V H) (globals others : List GlobalVaria
       (subst (λ (g : List GlobalVariable). is ≡ true ↔ NothingLeftAtStart m g sites tree items) one
       (subst (λ (s : List Site). is ≡ true ↔ NothingLeftAtStart m others s tree items) two left))
 
--- too many paths are told as such
+-- too many paths are reported as such
 pub too_many : {A : Type 0} (r : Result A BackFailure) (f : PathsFailure) (q : ℕ) → IsErrAnd r (λ e. e ≡ failed_by f) → r ≡ Err (TooMany q)
     → f ≡ paths_failure.TooMany q
 too_many (Ok x) f q from is = cc

@@ -20,7 +20,7 @@ after_few (test kind f) n few can = few
 after_few (embed k) n few can = can
 after_few (remove_last k) n few can = omega arith
 
--- the change there can be made, and leaves what stands behind it
+-- the change there can be made, and leaves what comes after it
 record IsAlong (step : Action) (n m : ℕ) : Type 0 where
   pub can : CanBeMade step n
   pub few : n ≤ 2 ^ 30

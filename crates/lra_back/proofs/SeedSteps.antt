@@ -1,4 +1,4 @@
--- Where going back begins: the one stretch from a point to where its assertion is false.
+-- Where going back begins: the one segment from a point to where its assertion is false.
 use Rattle.std.proofs.Common.{◌≡◌, ℕ, suc, List, [], ◌∷◌, ◌++◌, map, take, drop, Option, None, Some, Bool, true, false, ◌&&◌, cond, nat_eq, refl, sym, ap, ◌∙◌, slice_get, flat_map, filter}
 use Rattle.std.proofs.{lemmas.Grind.flat_map-append, lemmas.List.append-nil, lemmas.List.map-append, lemmas.List.take-append-drop, lemmas.List.Elements.filter-append}
 use Rattle.lra_program.specs.{Program.Cond, Step.test}
@@ -17,7 +17,7 @@ denials p xs = filter (λ segment. nat_eq segment.source p && same_goal segment.
 abbrev pub denials_in : ℕ → List TreeSegment → List Segment
 denials_in p ss = denials p (flat_map met ss)
 
--- of one stretch
+-- of one segment
 on : (b : Bool) (x : Segment) → b ≡ true → cond b (x ∷ []) [] ≡ x ∷ []
 on true x is = refl
 on false x is = cc

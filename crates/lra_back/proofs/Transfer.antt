@@ -1,4 +1,5 @@
--- What is found with drops says of what is defined: without a flag it is that, and what is flagged first strains there.
+-- What is found with drops says of what is defined: without a flag it is that, and what is flagged first exceeds a
+-- limit there.
 use Rattle.std.proofs.Common.{◌≡◌, ℕ, List, Option, None}
 use Rattle.lra_domain.specs.{Abstraction.Abstraction, Backward.BackwardAbstraction, Laws.Laws, declared.Exactness.TheVariants.Exact}
 use Rattle.lra_program.specs.{Sites.Site, declared.program.GlobalVariable.GlobalVariable}

@@ -16,7 +16,7 @@ use Rattle.lra_back.specs.Rounds.{Task, AreStarted, Rounds, AreBackwardValues}
 
 -- assertions -------------------------------------------------------------------------------------------------------
 
--- right behind its point, to where its condition is false
+-- right after its point, to where its condition is false
 abbrev pub violation_segment : ℕ → ℕ → Cond → Segment
 violation_segment p base c =
     record { source = p; to_goal = record { ops = does (test base c false) ∷ []; goal = violates p } }
@@ -95,7 +95,7 @@ NothingLeftAtStart {V} m globals sites g values = (q : ℕ) (v : V) → slice_ge
 
 -- runs that fail ----------------------------------------------------------------------------------------------------
 
--- some run comes to the point with the store, and goes on to where the assertion at the other one is false
+-- some run reaches the point with the store, and goes on to where the assertion at the other one is false
 pub record FailsFrom (P : Program) (assertion p : Point) (store : List ℤ) : Type 0 where
   pub there : Config
   pub reached : Reaches P there

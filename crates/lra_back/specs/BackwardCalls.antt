@@ -43,7 +43,7 @@ Fits path n k = (n ≤ 2 ^ 30) × AllCanBeMade path n × (dims_after_actions pat
 abbrev pub AllFit : List (List Action) → ℕ → ℕ → Type 0
 AllFit paths n k = (path : List Action) → Contains paths path → Fits path n k
 
--- from the value behind the path, gone over, and met with the forward value at the path's source
+-- from the value after the path, gone over, and met with the forward value at the path's source
 abbrev pub PreAlongMet : {V H : Type 0} → BackwardOperations V H → V → V → List Action → Exactness → V → Type 0
 PreAlongMet {V} ops forward v path e w =
     (u : V) × (d i : Exactness) × PreAlong ops path v d u × ops.meet u forward i w × (e ≡ worse d i)
@@ -132,7 +132,7 @@ abbrev pub violates_at : ℕ → End → Bool
 violates_at p (exits h) = false
 violates_at p (reaches goal) = same_goal goal (violates p)
 
--- the stretch leads from the point to where its assertion is false
+-- the segment leads from the point to where its assertion is false
 abbrev pub is_violation : ℕ → TreeSegment → Bool
 is_violation p s = is_source p s.source && violates_at p s.end
 

@@ -1,6 +1,6 @@
 -- The operations of which going back is made: those of an iteration, what was so before an assignment or a test, and
 -- meets. Each is a relation of its operands, its exactness and its result, so that one definition serves for what is
--- written, for what drops something where it is flagged, and for where it strains.
+-- written, for what drops something where it is flagged, and for where it exceeds a limit.
 use Rattle.std.specs.Prelude.{◌≡◌}
 use Rattle.lra_domain.specs.Actions.{Action, assign, forget, test, embed, remove_last}
 use Rattle.lra_domain.specs.Backward.{BackwardAbstraction, TransfersBackTo, MeetsBoth}
@@ -11,7 +11,7 @@ use Rattle.lra_analysis_spec.specs.Operations.{Operations}
 
 pub record BackwardOperations (V H : Type 0) : Type 1 where
   pub forward : Operations V H
-  -- from the value behind an assignment or a test to the one before it
+  -- from the value after an assignment or a test to the one before it
   pub pre : Action → V → Exactness → V → Type 0
   pub meet : V → V → Exactness → V → Type 0
 
@@ -23,8 +23,8 @@ exact_back_operations m b = record {
   meet = λ u v e w. (e ≡ Exact) × b.met u v w;
 }
 
--- one that strains on the operands that it has may be flagged; its result then covers the defined one, and has all
--- stores that it must have
+-- one that exceeds a limit on the operands that it has may be flagged; its result then covers the defined one, and has
+-- all stores that it must have
 abbrev pub lossy_back_operations : {V H : Type 0} → Abstraction V H → BackwardAbstraction V → BackwardOperations V H
 lossy_back_operations m b = record {
   forward = forward.lossy_operations m;
@@ -42,7 +42,7 @@ straining_back_operations m b = record {
   meet = λ u v e w. (e ≡ Exact → b.met u v w) × (e ≡ Flagged → b.meet_strains u v);
 }
 
--- from the value behind any change to the one before it: what was forgotten may have been anything, what was embedded
+-- from the value after any change to the one before it: what was forgotten may have been anything, what was embedded
 -- goes, what was removed comes again with any value
 abbrev pub PreOfAction : {V H : Type 0} → BackwardOperations V H → Action → V → Exactness → V → Type 0
 PreOfAction ops (assign x f) v e w = ops.pre (assign x f) v e w

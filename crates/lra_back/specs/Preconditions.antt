@@ -5,7 +5,7 @@ use Rattle.lra_domain.specs.{Abstraction.worse, Actions.Action, declared.Exactne
 use Rattle.lra_analysis_spec.specs.Pass.{JoinsRunning, RunsFrom}
 use Rattle.lra_back.specs.Operations.{BackwardOperations, PreOfAction}
 
--- from the value behind the changes to the one before them: over the last of them first
+-- from the value after the changes to the one before them: over the last of them first
 abbrev pub PreAlong : {V H : Type 0} → BackwardOperations V H → List Action → V → Exactness → V → Type 0
 PreAlong ops [] v e w = (w ≡ v) × (e ≡ Exact)
 PreAlong {V} ops (step ∷ steps) v e w =

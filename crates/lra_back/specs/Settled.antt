@@ -27,7 +27,7 @@ pub record AreSettled {V H : Type 0} (ops : BackwardOperations V H) (task : roun
   pub count : length settled ≡ length task.forward
   pub each : (p : ℕ) → slice_get settled p ≡ Some true → IsSettled ops task heads f p
 
--- Behind a turn of the point: where its head was stable, it may be marked if the round widens; else neither it nor any
+-- After a turn of the point: where its head was stable, it may be marked if the round widens; else neither it nor any
 -- point from which paths lead to it is marked.
 abbrev pub Settles : {V : Type 0} → rounds.Task V → Mode → ℕ → Bool → List Bool → List Bool → Type 0
 Settles task mode p true old new = (length new ≡ length old) × ((q : ℕ) → slice_get new q ≡ Some true →

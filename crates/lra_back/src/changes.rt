@@ -7,7 +7,7 @@ ghost use Rattle.lra_back.specs.{BackwardCalls.reversed, Operations.PreOfAction,
 use lra_domain::{Backward, Change, Exactness};
 use std::alloc::AllocError;
 
-/// From the value behind the change to the one before it: what was forgotten may have been anything, what was embedded
+/// From the value after the change to the one before it: what was forgotten may have been anything, what was embedded
 /// goes, what was removed comes again with any value.
 pub fn pre_of_action<D: Backward>(value: &mut D, change: &Change) -> Result<Exactness, AllocError>
     requires { CanBeMade (reversed (action_of change.now)) (D.abstraction.dims value.old) }

@@ -28,7 +28,7 @@ pub struct Joined<D> {
     pub exactness: Exactness,
 }
 
-/// From the value behind the path to the one before it, met with the forward value there.
+/// From the value after the path to the one before it, met with the forward value there.
 fn go_over<D: Backward>(
     value: &mut D,
     path: &[&Change],

@@ -105,7 +105,7 @@ impl<D: Backward> Task<'_, D> {
         }
     }
 
-    /// Behind a turn of the point, which left its head stable or not.
+    /// After a turn of the point, which left its head stable or not.
     fn settle(&self, mode: Mode, point: usize, stable: bool, settled: &mut Vec<bool>)
         requires task { IsTask D.abstraction self.now }
         requires count { length settled.old.items ≡ length self.now.sources.items }

@@ -25,7 +25,7 @@ pub struct Asserted<'g> {
     pub condition: &'g Cond,
 }
 
-/// Whether the stretch leads from the point to where its assertion is false.
+/// Whether the segment leads from the point to where its assertion is false.
 fn is_violation(stretch: &TreeSegment<'_>, point: usize) -> bool
     ensures { result ≡ is_violation point (tree_segment_view stretch.now) }
 {

@@ -1,4 +1,5 @@
--- In the tree of a program one way leads from each asserting point to where its condition is false, right behind the point.
+-- In the tree of a program one way leads from each asserting point to where its condition is false, right after the
+-- point.
 use Rattle.std.proofs.Common.{◌≡◌, ℕ, suc, ◌<◌, ◌≤◌, List, [], ◌∷◌, ◌++◌, map, filter, Option, Some, None, Bool, true, false, cond, inl, inr, refl, sym, ap, ◌∙◌, subst, arith, append-nil}
 use Rattle.std.proofs.lemmas.List.Elements.{All-nil, All-cons, All-head, All-tail, All-append, All-map, All-weaker, All-contains_itself, filter-append}
 use Rattle.std.proofs.{Math.Bool.and-false, lemmas.Bool.cases_lt, lemmas.Bool.eqb-true, lemmas.Bool.eq-eqb, lemmas.Option.slice_get_within}

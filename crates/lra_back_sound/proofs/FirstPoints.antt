@@ -21,12 +21,12 @@ use Rattle.lra_back_sound.specs.Fitting.{IsFirst, OnePointIsFirst, NothingLeftAt
 abbrev way_to : ℕ → GoalSegment
 way_to q = record { ops = []; goal = comes_to q }
 
--- the tree comes to no point, and does nothing
+-- the tree reaches no point, and does nothing
 record IsIdle (g : Node) : Type 0 where
   enters : enter g ≡ []
   ends : through g normal ≡ [] ∷ []
 
--- it comes to this point first, and doesn't end before
+-- it reaches this point first, and doesn't end before
 record StopsAt (g : Node) (q : ℕ) : Type 0 where
   enters : enter g ≡ way_to q ∷ []
   ends : through g normal ≡ []

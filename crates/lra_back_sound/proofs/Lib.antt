@@ -9,6 +9,6 @@ pub mod MadeLists
 pub mod MadeMoves
 pub mod MadeWays
 pub mod PathsMade
--- What the trees of programs owe to going back.
+-- What the trees of programs must guarantee to going back.
 pub mod Assertions
 pub mod FirstPoints

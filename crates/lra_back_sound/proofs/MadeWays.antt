@@ -39,7 +39,7 @@ exits_same returned broken e = absurd (let no : false ≡ true = e in cc)
 exits_same returned continued e = absurd (let no : false ≡ true = e in cc)
 exits_same returned returned e = refl
 
--- what is owed ---------------------------------------------------------------------------------------------------------
+-- what must hold ------------------------------------------------------------------------------------------------------
 
 module _ (T : List Site) where
   -- where n live, it leads to the goal with as many as live there
@@ -174,7 +174,7 @@ module _ (T : List Site) where
           (λ same. all_one (PassFits (leave l k) n (jump j)) [] (n, (sym (exits_same j k same), refl), refl))
           (λ apart. All-nil (PassFits (leave l k) n (jump j)))
 
-  -- one behind the other -------------------------------------------------------------------------------------------------
+  -- one after the other -----------------------------------------------------------------------------------------------
   module _ (a b : Node) (n : ℕ) (x : WaysFit a n) (y : WaysFit b (live_after a n)) where
     abbrev between : ℕ
     between = live_after a n

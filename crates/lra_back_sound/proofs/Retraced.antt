@@ -1,4 +1,4 @@
--- Going back over a path keeps each store from which the path may lead into the value behind it.
+-- Going back over a path keeps each store from which the path may lead into the value after it.
 use Rattle.std.proofs.Common.{◌≡◌, ℕ, ◌+◌, ◌-◌, ◌≤◌, ℤ, List, [], ◌∷◌, ◌++◌, length, take, drop, set, get_or, sym, ap, ◌∙◌, subst, arith}
 use Rattle.std.proofs.Math.Seq.{take-append_seam}
 use Rattle.std.proofs.lemmas.List.{length-append, length-set, set-get_or, set-set, take-append-drop, length-take-le}
@@ -29,7 +29,7 @@ removed_back k s t few e =
     ap length parts ∙ length-append (take (length s - k) s) (drop (length s - k) s) in
     (drop (length s - k) s, omega (arith, kept, long, few), parts ∙ ap (λ u. u ++ drop (length s - k) s) (sym e))
 
--- how many numbers a store has behind a change
+-- how many numbers a store has after a change
 length_behind : (step : Action) (s t : List ℤ) → CanBeMade step (length s) → Leads step s t → length t ≡ dims_after step (length s)
 length_behind (assign x f) s t fits e = ap length e ∙ length-set s x (form_value f s)
 length_behind (forget x) s t fits (k, e) = ap length e ∙ length-set s x k

@@ -1,4 +1,4 @@
--- What going back from an assertion owes to the runs that fail there.
+-- What going back from an assertion must guarantee to the runs that fail there.
 use Rattle.std.specs.Prelude.{◌≡◌, ℕ, ℤ, List, Some, Option, slice_get}
 use Rattle.lra_domain.specs.{Abstraction.Abstraction, Backward.BackwardAbstraction, Gammas.InGamma}
 use Rattle.lra_program.specs.{Program.Program, Run.At, Run.Fails, Sites.Site, Sites.sites_of, WellFormed.IsWellFormed}

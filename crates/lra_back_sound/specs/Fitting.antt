@@ -1,4 +1,4 @@
--- What the trees of programs owe to going back.
+-- What the trees of programs must guarantee to going back.
 use Rattle.std.specs.Prelude.{◌≡◌, ◌≢◌, ◌≤◌, ◌↔◌, ℕ, List, [], length, Some, slice_get}
 use Rattle.lra_domain.specs.Abstraction.{Abstraction}
 use Rattle.lra_program.specs.declared.program.GlobalVariable.{GlobalVariable}
@@ -11,14 +11,14 @@ use Rattle.lra_path_segments.specs.Segments.{comes_to}
 use Rattle.lra_paths.specs.Paths.{actions_between}
 use Rattle.lra_back.specs.BackwardAnalysis.{AreAsserted, NothingLeftAtStart, PathsFit}
 
--- a tree whose operations can be made, and which comes to its points with as many variables as live there, has paths
+-- a tree whose operations can be made, and which reaches its points with as many variables as live there, has paths
 -- that can be made where the globals are no more than may live
 abbrev pub TreesHavePathsThatFit : Type 0
 TreesHavePathsThatFit = (globals : List GlobalVariable) (sites : List Site) (g : Node) →
     length globals ≤ most_live → TreeFits g (length globals) → PointsHave sites g (length globals) →
     PathsFit globals sites g
 
--- right behind each point that asserts its condition may be false, and no other condition is
+-- right after each point that asserts its condition may be false, and no other condition is
 abbrev pub AssertionsHaveViolations : Type 0
 AssertionsHaveViolations = (P : Program) (g : Node) → IsInlinedTree P g → AreAsserted (sites_of P) g
 

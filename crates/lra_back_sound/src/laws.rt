@@ -11,13 +11,13 @@ pub fn backward_is_sound<D: Backward>()
     ensures { BackwardIsSound D.abstraction D.backward_abstraction }
 {}
 
-/// A tree whose operations can be made, and which comes to its points with as many variables as live there, has paths
+/// A tree whose operations can be made, and which reaches its points with as many variables as live there, has paths
 /// that can be made where the globals are no more than may live.
 pub fn paths_fit()
     ensures { TreesHavePathsThatFit }
 {}
 
-/// Each point that asserts has one way to where its condition is false, right behind it.
+/// Each point that asserts has one way to where its condition is false, right after it.
 pub fn assertions_have_violations()
     ensures { AssertionsHaveViolations }
 {}

@@ -1,5 +1,5 @@
-//! Laws: what going back from an assertion owes to the runs that fail there, and what trees of programs owe to going
-//! back. Each of these functions does nothing, and its contract is the theorem.
+//! Laws: what going back from an assertion must guarantee to the runs that fail there, and what trees of programs must
+//! guarantee to going back. Each of these functions does nothing, and its contract is the theorem.
 #![tactic(auto)]
 
 mod laws;

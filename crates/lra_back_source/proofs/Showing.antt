@@ -42,7 +42,7 @@ pub same_parts : (n : ℕ) (state : Invariant) → AllByRecursion (ShowsPart Pol
 same_parts n [] tell = tt
 same_parts n (part ∷ parts) tell = (tell.0.1, same_parts n parts tell.1)
 
--- rows and generators of each state tell the same points
+-- rows and generators of each state describe the same points
 pub same_points : (t : FileTree) (values : List Polyhedron) (points : List PointReport) → ShowsAtPoints t values points
     → AllByRecursion HasSamePointsAt points
 same_points t values points shows =

@@ -1,4 +1,4 @@
--- What a source deserves that is gone back over from one of its assertions: what is left at each point of the stores
+-- What a source must get that is gone back over from one of its assertions: what is left at each point of the stores
 -- from which it may fail, and whether it is proved; or why there is no such answer. Points are counted from 0 here; a
 -- report's numbers are one more.
 use Rattle.std.specs.Prelude.{◌≡◌, ◌↔◌, ◌⊎◌, ℕ, suc, ℤ, List, [], map, Bool, true, Option, None, Some}
@@ -39,7 +39,7 @@ pub record ShowsAtPoints (t : FileTree) (values : List Polyhedron) (points : Lis
   pub are_shown : AreShown polyhedron_abstraction Poly shown_polyhedron values
 
 -- The point is an assertion of a program with few paths; what the forward analysis finds is gone back over from there,
--- behind its flags. Proved the assertion is exactly where nothing is left at the points to which paths from the start
+-- after its flags. Proved the assertion is exactly where nothing is left at the points to which paths from the start
 -- lead.
 pub record IsBackwardFinding (constants : List ℤ) (P : Program) (g : Node) (p : ℕ) (values : List Polyhedron)
     (last : Option ℕ) (holds : Bool) : Type 0 where
@@ -52,7 +52,7 @@ pub record IsBackwardFinding (constants : List ℤ) (P : Program) (g : Node) (p 
       values last
   pub proved : (holds ≡ true) ↔ NothingLeftAtStart polyhedron_abstraction P.globals (sites_of P) g values
 
--- and so it is told of a source
+-- and so it is reported of a source
 pub record IsBackReportOf (source : List ℕ) (p : ℕ) (r : BackReport) : Type 0 where
   pub program : IsProgram source
   pub constants : List ℤ
@@ -82,7 +82,7 @@ pub record IsProvedAtFirst (P : Program) (g : Node) (r : BackReport) : Type 0 wh
   pub is_first : IsFirst P g first
   pub exactly : (x : PointReport) → slice_get r.points first ≡ Some x → ((r.proved ≡ true) ↔ (x.state ≡ []))
 
--- the values of the written iteration, in which nothing strains
+-- the values of the written iteration, in which nothing exceeds a limit
 pub record IsWrittenForward (constants : List ℤ) (P : Program) (g : Node) (forward : List Polyhedron) : Type 0 where
   pub result : PassResult Polyhedron
   pub written : ExactIteration polyhedron_abstraction (forward_plan constants) P g result
@@ -98,7 +98,7 @@ pub record IsDefinedBack (constants : List ℤ) (P : Program) (g : Node) (p : �
       g forward None p values None
   pub states : map (λ (x : PointReport). x.state) r.points ≡ map shown_polyhedron values
 
--- an access of an array that is judged by these values strains at the point q
+-- an access of an array that is judged by these values exceeds a limit at the point q
 pub record StrainsInAccess (constants : List ℤ) (P : Program) (g : Node) (q : ℕ) : Type 0 where
   pub forward : List Polyhedron
   pub written : IsWrittenForward constants P g forward
@@ -115,8 +115,8 @@ pub record StrainsBack (constants : List ℤ) (P : Program) (g : Node) (p q : �
       (sites_of P) g forward None p values
       (Some q)
 
--- an operation of the point q strains, and all before it is exact: of the written iteration, of what is judged of
--- accesses behind it, or of going back behind these
+-- an operation of the point q exceeds a limit, and all before it is exact: of the written iteration, of what is judged
+-- of accesses after it, or of going back after these
 abbrev pub StrainsAt : List ℤ → Program → Node → ℕ → ℕ → Type 0
 StrainsAt constants P g p q = StrainsAtPoint polyhedron_abstraction (forward_plan constants) P g q ⊎
     (StrainsInAccess constants P g q ⊎ StrainsBack constants P g p q)
@@ -134,7 +134,7 @@ UnflaggedBacksAreDefined = (source : List ℕ) (p : ℕ) (r : BackReport) → (x
     r.flagged ≡ None →
     IsDefinedBack x.constants (program_of x.program) x.program.operations p r
 
--- and the number of a flag is that of a point of which an operation strains
+-- and the number of a flag is that of a point of which an operation exceeds a limit
 abbrev pub FlaggedBacksStrain : Type 0
 FlaggedBacksStrain = (source : List ℕ) (p : ℕ) (r : BackReport) → (x : IsBackReportOf source p r) → (q : ℕ) →
     r.flagged ≡ Some (suc q) → StrainsAt x.constants (program_of x.program) x.program.operations p q

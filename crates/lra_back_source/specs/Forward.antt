@@ -15,9 +15,9 @@ use Rattle.lra_poly_domain.specs.Abstraction.{polyhedron_abstraction}
 abbrev pub forward_plan : List ℤ → Plan
 forward_plan constants = plan_of default_options constants
 
--- The values at the points, and the first flagged point: the flags of accesses of arrays stand behind the iteration's.
--- What is judged of accesses isn't told; without a flag it is judged by what the written iteration leaves, and a first
--- flag there is where that strains.
+-- The values at the points, and the first flagged point: the flags of accesses of arrays come after the iteration's.
+-- What is judged of accesses isn't reported; without a flag it is judged by what the written iteration leaves, and a
+-- first flag there is where that exceeds a limit.
 pub record IsForward (constants : List ℤ) (P : Program) (g : Node) (values : List Polyhedron) (flagged : Option ℕ)
     : Type 0 where
   pub verdicts : List (ℕ × Bool)

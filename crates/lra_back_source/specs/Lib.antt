@@ -1,4 +1,4 @@
--- In the order in which they are to be read: what is gone back over, what a source deserves that is gone back over, and
+-- In the order in which they are to be read: what is gone back over, what a source must get that is gone back over, and
 -- what stands for errors.
 pub mod Forward
 pub mod BackReports

@@ -140,7 +140,7 @@ fn flag_of(flagged: Option<usize>) -> Option<u32>
 }
 
 /// What going back over a source from the assertion at a point finds, or its one refusal; points are counted from 0.
-/// Memory may be wanting. A source past the limit of 65,536 bytes is refused by its first bytes, so that no more than
+/// Memory may run out. A source past the limit of 65,536 bytes is refused by its first bytes, so that no more than
 /// one byte past the limit need be given.
 pub fn back_source(alloc: Global, point: usize, bytes: &[u8]) -> Result<BackReport, BackError>
     requires bound { length bytes.now + 1 < 2 ^ 32 }

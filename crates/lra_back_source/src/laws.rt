@@ -11,13 +11,13 @@ pub fn backs_are_sound()
 {}
 
 /// Without a flag what is shown is what is defined, over the values of the written iteration; the number of a flag is
-/// that of a point of which an operation strains.
+/// that of a point of which an operation exceeds a limit.
 pub fn backs_are_defined()
     ensures unflagged { UnflaggedBacksAreDefined }
     ensures flagged { FlaggedBacksStrain }
 {}
 
-/// The rows and the generators of each state tell the same points.
+/// The rows and the generators of each state describe the same points.
 pub fn backs_have_same_points()
     ensures { BacksHaveSamePoints }
 {}

@@ -10,7 +10,7 @@ abbrev pub place_from : Place → List ℕ → Place
 place_from p [] = p
 place_from p (c ∷ cs) = place_from (next_place p c) cs
 
--- the place of the byte behind these, which begin the text
+-- the place of the byte after these, which begin the text
 abbrev pub place_after : List ℕ → Place
 place_after bytes = place_from (record { line = 1; column = 1 }) bytes
 

@@ -1,4 +1,4 @@
--- What is told of an answer that may be a refusal.
+-- What is reported about an answer that may be a refusal.
 use Rattle.std.specs.Prelude.{Result, Ok, Err, ⊤}
 use Rattle.lra_base.specs.declared.error.SourceError.TheVariants.{Refused, Memory}
 use Rattle.lra_base.specs.{declared.error.SourceError.SourceError, declared.refusals.Refusal.Refusal}

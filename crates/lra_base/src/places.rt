@@ -8,7 +8,7 @@ use crate::refusals::Place;
 /// The most bytes that a source or a script may have.
 pub const GREATEST_LENGTH: usize = 65_536;
 
-/// The place of the byte behind these, which begin a source or a script.
+/// The place of the byte after these, which begin a source or a script.
 pub fn place_after(bytes: &[u8]) -> Place
     requires { length bytes.now + 1 < 2 ^ 32 }
     ensures { result ≡ place_after bytes.now }

@@ -63,7 +63,7 @@ count_front f zero = swapped (cond (f 0) 1 0)
     swapped m = omega arith
 count_front f (suc n) = moved (count_to f (suc n)) (cond (f 0) 1 0) (count_to (λ k. f (suc k)) n) (cond (f (suc n)) 1 0) (count_front f n)
 
--- the first m, and those behind them
+-- the first m, and those after them
 count_split : (f : ℕ → Bool) (m n : ℕ) → count_to f (m + n) ≡ count_to f m + count_to (λ j. f (m + j)) n
 count_split f m zero = ap (count_to f) (none m) ∙ sym (none (count_to f m))
   where
@@ -74,7 +74,7 @@ count_split f m (suc n) = ap (count_to f) (one_more m n) ∙ moved (count_to f (
     one_more : (m n : ℕ) → m + suc n ≡ suc (m + n)
     one_more m n = omega arith
 
--- the values of a list, and false ones behind them
+-- the values of a list, and false ones after them
 count_values : (values : List Bool) (n : ℕ) → length values ≤ n → true_count values ≡ count_to (value_at values) n
 count_values [] n h = sym (count_none (value_at []) n (λ k. refl))
 count_values (x ∷ values) zero h = absurd (omega (arith, h))

@@ -105,7 +105,7 @@ pub append_widths : (w v : ℕ) (rows more : List (List Bool)) → v ≡ w → A
     (rows ++ more)
 append_widths w v rows more e h k = All-append (λ (r : List Bool). length r ≡ w) rows more h (subst (λ (n : ℕ). All (λ (r : List Bool). length r ≡ n) more) e k)
 
--- what was put behind is taken out again
+-- what was put after is removed again
 pub taken_back : (first wider back : Matrix) (more : List (List Bool)) (n : ℕ) → n ≡ length first.rows → wider ≡ record first { rows = first.rows ++ more } →
     back ≡ record wider { rows = take n wider.rows } → back ≡ first
 taken_back first wider back more n en ew eb =

@@ -1,4 +1,4 @@
--- Rows taken out in place: those that stay are swapped to the front, one after the other.
+-- Rows removed in place: those that stay are swapped to the start, one after the other.
 use Rattle.std.proofs.Common.{◌≡◌, ℕ, ◌+◌, ◌<◌, ◌≤◌, Bool, true, false, cond, List, [], ◌∷◌, ◌++◌, length, get_or, take, drop, refl, ap, sym, ◌∙◌, subst, ◌-◌, arith}
 use Rattle.std.proofs.lemmas.List.{ext_get_or, length-take-le, length-drop, get_or-take, get_or-drop, take_more, take_all, append-nil, drop-drop}
 use Rattle.std.proofs.{lemmas.List.Edits.swapped_from_swap, lemmas.List.Edits.length-swap, lemmas.List.Elements.All-cons, lemmas.List.Elements.All-head, lemmas.List.Elements.All-tail}

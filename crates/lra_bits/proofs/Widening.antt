@@ -1,11 +1,11 @@
--- One more truth value behind the others.
+-- One more truth value after the others.
 use Rattle.std.proofs.Common.{◌≡◌, ◌≢◌, ℕ, zero, suc, ◌+◌, ◌/◌, ◌%◌, ◌<◌, ◌≤◌, Bool, true, false, List, [], ◌∷◌, ◌++◌, length, get_or, set, refl, ap, sym, ◌∙◌, arith}
 use Rattle.std.proofs.lemmas.List.{ext_get_or, length-append}
 use Rattle.std.specs.{Int.bit_at, Prelude.◌==◌}
 use Rattle.lra_bits.specs.{TruthValues.value_at, Words.bit_of, Words.unpacked, Words.words_needed}
 use Rattle.lra_bits.proofs.Packing.{length_unpacked, value_unpacked, all_packed}
 
--- a default behind a list changes nothing that is read
+-- a default after a list changes nothing that is read
 default_end : {X : Type 0} (xs : List X) (d : X) (k : ℕ) → get_or (xs ++ d ∷ []) k d ≡ get_or xs k d
 default_end [] d zero = refl
 default_end [] d (suc k) = refl

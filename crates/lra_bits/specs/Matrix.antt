@@ -14,7 +14,7 @@ unmarked marks [] = []
 unmarked [] (r ∷ rows) = r ∷ rows
 unmarked (m ∷ marks) (r ∷ rows) = cond m (unmarked marks rows) (r ∷ unmarked marks rows)
 
--- each row with a value behind it
+-- each row with a value after it
 abbrev pub lengthened_rows : List (List Bool) → List Bool → List (List Bool)
 lengthened_rows [] last = []
 lengthened_rows (r ∷ rows) [] = []

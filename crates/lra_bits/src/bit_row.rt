@@ -117,7 +117,7 @@ impl BitRow {
         }
     }
 
-    // One more value, false, behind the others.
+    // One more value, false, after the others.
     fn widen(&mut self) -> Result<(), AllocError>
         ensures widened { OnOk result (self.new ≡ self.old ++ false ∷ []) }
         ensures unchanged { OnErr result (self.new ≡ self.old) }
@@ -133,7 +133,7 @@ impl BitRow {
         Ok(())
     }
 
-    /// Puts a truth value behind the others.
+    /// Puts a truth value after the others.
     pub fn push(&mut self, v: bool) -> Result<(), AllocError>
         ensures pushed { OnOk result (self.new ≡ self.old ++ v ∷ []) }
         ensures unchanged { OnErr result (self.new ≡ self.old) }
@@ -155,7 +155,7 @@ impl BitRow {
         self.width += 1;
     }
 
-    /// Puts a truth value behind the others, in a word that is there. Takes no memory.
+    /// Puts a truth value after the others, in a word that is there. Takes no memory.
     pub fn push_within(&mut self, v: bool)
         requires room { length self.old % 64 ≢ 0 }
         requires few { length self.old + 1 < 2 ^ 64 }
@@ -204,7 +204,7 @@ impl BitRow {
     }
 }
 
-// Puts the places below `count` of the bits of the word at `at` behind what is there.
+// Puts the places below `count` of the bits of the word at `at` after what is there.
 fn push_places(
     places: &mut Vec<usize>,
     word: u64,

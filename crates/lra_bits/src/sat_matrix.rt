@@ -82,7 +82,7 @@ impl SatMatrix {
         rows
     }
 
-    /// Puts a row behind the others.
+    /// Puts a row after the others.
     pub fn add_row(&mut self, row: BitRow) -> Result<(), AllocError>
         requires { length row ≡ self.old.width }
         ensures added { OnOk result (self.new ≡ record self.old { rows = self.old.rows ++ row ∷ [] }) }
@@ -107,7 +107,7 @@ impl SatMatrix {
         self.rows.truncate(kept);
     }
 
-    // The rows with a value behind each.
+    // The rows with a value after each.
     fn lengthened(&self, last: &BitRow) -> Result<Vec<BitRow>, AllocError>
         requires { length last.now ≡ length self.now.rows }
         ensures { IfOk result (λ rows. rows.items ≡ lengthened_rows self.now.rows last.now) }
@@ -135,7 +135,7 @@ impl SatMatrix {
         self.width += 1;
     }
 
-    // A further column, by rows that are made anew.
+    // A further column, by rows that are made again.
     fn push_anew(&mut self, last: &BitRow) -> Result<(), AllocError>
         requires each { length last.now ≡ length self.old.rows }
         requires few { self.old.width + 1 < 2 ^ 64 }
@@ -151,7 +151,7 @@ impl SatMatrix {
         Ok(())
     }
 
-    /// Puts a value behind each row: a further column. Memory is taken for each 64th column alone; where there is none,
+    /// Puts a value after each row: a further column. Memory is taken for each 64th column alone; where there is none,
     /// the matrix stays as it was.
     pub fn push_column(&mut self, last: &BitRow) -> Result<(), AllocError>
         requires { length last.now ≡ length self.old.rows }
@@ -172,7 +172,7 @@ impl SatMatrix {
         Ok(())
     }
 
-    /// Puts the rows of another matrix behind its own. Want of memory leaves it as it was.
+    /// Puts the rows of another matrix after its own. Running out of memory leaves it as it was.
     pub fn append(&mut self, more: SatMatrix) -> Result<(), AllocError>
         requires { more.width ≡ self.old.width }
         ensures appended { OnOk result
@@ -185,15 +185,15 @@ impl SatMatrix {
         Ok(())
     }
 
-    // Keeps so many rows at the front.
+    // Keeps so many rows at the start.
     fn truncate(&mut self, count: usize)
         ensures { self.new ≡ record self.old { rows = take count self.old.rows } }
     {
         self.rows.truncate(count);
     }
 
-    /// Puts further rows behind its own and a value behind each, and takes out those that are marked as gone. Want of
-    /// memory leaves the matrix as it was.
+    /// Puts further rows after its own and a value after each, and takes out those that are marked as gone. Running out
+    /// of memory leaves the matrix as it was.
     pub fn exchange(
         &mut self,
         more: SatMatrix,
@@ -322,7 +322,7 @@ impl SatMatrix {
     }
 }
 
-// Puts a value behind each row, in words that are there.
+// Puts a value after each row, in words that are there.
 fn push_values(rows: &mut [BitRow], last: &BitRow)
     requires each { length last.now ≡ length rows.old }
     requires room { All (λ r. length r % 64 ≢ 0) rows.old }

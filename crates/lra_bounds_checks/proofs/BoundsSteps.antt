@@ -34,7 +34,7 @@ module _ {V H : Type 0} (m : Abstraction V H) (v : V) (base : ℕ) where
   abbrev Are : List Element → List (Place × Bool) → Exactness → Type 0
   Are xs js e = EachJudged m (lossy_operations m) v base xs js e
 
-  -- those before this one are told: with what is told of the others all is
+  -- those before this one are reported: with what is reported about the others all is
   pub record AreToldSoFar (whole : List Element) (old : List (Place × Bool)) (left : List Element) (so_far : Exactness) (new : List (Place × Bool))
       : Type 0 where
     pub before : List (Place × Bool)

@@ -22,9 +22,9 @@ pub any_accesses : (c : Cond) (ds : List Cond) → cond_accesses (any_of c ds) �
 any_accesses c [] = sym (append-nil (cond_accesses c))
 any_accesses c (d ∷ ds) = ap (λ (xs : List Element). cond_accesses c ++ xs) (any_accesses d ds)
 
--- behind others --------------------------------------------------------------------------------------------------------
+-- after others --------------------------------------------------------------------------------------------------------
 
--- the one behind them, and then the other
+-- the one after them, and then the other
 pub both_behind : (old mid new xs ys zs : List Element) → mid ≡ old ++ xs → new ≡ mid ++ ys → zs ≡ xs ++ ys → new ≡ old ++ zs
 both_behind old mid new xs ys zs one two is =
     two ∙ ap (λ (us : List Element). us ++ ys) one ∙ append_assoc old xs ys ∙ ap (λ (us : List Element). old ++ us) (sym is)
@@ -44,7 +44,7 @@ one_behind before old new x y xs zs so_far is same all =
 
 -- rows -----------------------------------------------------------------------------------------------------------------
 
--- what is listed so far, with what the rest has, is the whole; the next of the row comes behind
+-- what is listed so far, with what the rest has, is the whole; the next of the row comes after
 pub next_behind : {A : Type 0} (own : A → List Element) (rest : List A → List Element) → ((x : A) (xs : List A) → rest (x ∷ xs) ≡ own x ++ rest xs)
     → (so_far new whole : List Element) (row : List A) (i : ℕ) (x : A) → i < length row → x ≡ get_or row i x → so_far ++ rest (drop i row) ≡ whole →
     new ≡ so_far ++ own x → new ++ rest (drop (i + 1) row) ≡ whole

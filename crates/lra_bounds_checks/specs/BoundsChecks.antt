@@ -13,7 +13,7 @@ AreWide n None = ⊤
 AreWide n (Some tests) = (length tests.0.expr.coefficients ≡ n) × (length tests.1.expr.coefficients ≡ n)
 
 module _ {V H : Type 0} (m : Abstraction V H) where
-  -- what is told of each access, and of those of an operation, came behind the others
+  -- what is reported about each access, and of those of an operation, came after the others
   abbrev pub IsEachTold : V → ℕ → List Element → List (Place × Bool) → Exactness → List (Place × Bool) → Type 0
   IsEachTold v base xs old e new = HasAnswers (λ js. EachJudged m (lossy_operations m) v base xs js e) old new
 

@@ -8,7 +8,7 @@ use Rattle.lra_bounds_checks.specs.declared.listing.Access.{Access}
 abbrev pub access_view : Access → Element
 access_view x = record { array = x.array; place = x.place; index = expr_view x.index.now }
 
--- the accesses of a chain's operands behind the first, and of a row of conditions
+-- the accesses of a chain's operands after the first, and of a row of conditions
 abbrev pub operand_accesses : List (Operator × Expr) → List Element
 operand_accesses [] = []
 operand_accesses (o ∷ os) = expr_accesses o.1 ++ operand_accesses os

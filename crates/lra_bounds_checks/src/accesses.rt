@@ -24,8 +24,8 @@ use lra_overflow_checks::{Leaf, Question, Surroundings, Verdict, judge_condition
 use lra_program::Expr;
 use std::alloc::{AllocError, Global};
 
-/// Of accesses it is told which lie inside their arrays: of each the place where its array is named, and whether it is
-/// inside.
+/// Of accesses it is reported which lie inside their arrays: of each the place where its array is named, and whether it
+/// is inside.
 pub struct BoundsCheck;
 
 /// Whether nothing is left of the value where the test holds, and whether what is left is exact.
@@ -102,7 +102,7 @@ fn judge_access<D: Domain>(
     judge_tests(around.alloc, value, &tests)
 }
 
-/// What is told of each access comes behind the others.
+/// What is reported about each access comes after the others.
 fn judge_each<D: Domain>(
     around: Surroundings,
     value: &D,
@@ -122,7 +122,7 @@ fn judge_each<D: Domain>(
     Ok(so_far)
 }
 
-/// What is told of the accesses of an expression comes behind the others.
+/// What is reported about the accesses of an expression comes after the others.
 fn judge_expression<D: Domain>(
     around: Surroundings,
     e: &Expr,
@@ -183,7 +183,7 @@ fn judge_all<D: Domain>(
     judge_each(around, value, all.as_slice(), told)
 }
 
-/// What is told of the accesses of a least change comes behind the others.
+/// What is reported about the accesses of a least change comes after the others.
 fn judge_change<D: Domain>(
     alloc: Global,
     op: &Op,
@@ -214,7 +214,7 @@ fn judge_change<D: Domain>(
     }
 }
 
-/// What is told of the accesses of what is done comes behind the others.
+/// What is reported about the accesses of what is done comes after the others.
 fn judge_doing<D: Domain>(
     alloc: Global,
     doing: OpRef<'_>,

@@ -13,16 +13,16 @@ use lra_operations::Node;
 use lra_overflow_checks::find;
 use std::alloc::{AllocError, Global};
 
-/// What is judged at the points at which arrays are accessed: the points' numbers in order, each with what is told of
-/// its accesses in the order of their evaluation, the place where the array is named and whether the access is inside;
-/// and the first flagged point, behind all that is flagged so far.
+/// What is judged at the points at which arrays are accessed: the points' numbers in order, each with what is reported
+/// about its accesses in the order of their evaluation, the place where the array is named and whether the access is
+/// inside; and the first flagged point, after all that is flagged so far.
 #[derive(Drop)]
 pub struct BoundsVerdicts {
     pub verdicts: Vec<(usize, Vec<(Place, bool)>)>,
     pub flagged: Option<usize>,
 }
 
-/// Which accesses of a tree are inside, by the values at its points; behind what is flagged so far.
+/// Which accesses of a tree are inside, by the values at its points; after what is flagged so far.
 pub fn judge_accesses<D: Domain>(
     alloc: Global,
     tree: &Node,

@@ -1,6 +1,6 @@
 //! The accesses of arrays that an operation evaluates, in their order, with the tests that an index is outside its
-//! array; and which accesses lie inside their arrays, as the values at the points of a program's tree tell it, for any
-//! domain.
+//! array; and which accesses lie inside their arrays, as the values at the points of a program's tree report it, for
+//! any domain.
 #![tactic(auto)]
 
 mod accesses;

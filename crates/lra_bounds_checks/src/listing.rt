@@ -22,7 +22,7 @@ pub struct Access<'a> {
     pub index: &'a Expr,
 }
 
-/// The accesses of an expression come behind the others.
+/// The accesses of an expression come after the others.
 #[cycle(expressions)]
 pub fn push_accesses<'a>(e: &'a Expr, all: &mut Vec<Access<'a>>) -> Result<(), AllocError>
     ensures { OnOk result (map access_view all.new.items ≡
@@ -47,7 +47,7 @@ pub fn push_accesses<'a>(e: &'a Expr, all: &mut Vec<Access<'a>>) -> Result<(), A
     }
 }
 
-/// Those of a chain's operands behind the first.
+/// Those of a chain's operands after the first.
 #[cycle(expressions)]
 fn push_operands<'a>(
     operations: &'a [Operation],

@@ -9,7 +9,7 @@ use Rattle.lra_box.specs.{declared.interval.Interval.Interval, declared.interval
 pub ends_here : (side : Side) (a : ℤ) (is : List Interval) → IsEndFrom side a [] is (Some a)
 ends_here side a is = inl (λ x. x, refl)
 
--- what passes behind a product that fits
+-- what passes after a product that fits
 passes_on : (side : Side) (a b c p : ℤ) (i : Interval) (cs : List ℤ) (is : List Interval) → end_product side c i ≡ Some p
     → ¬ EndProductPasses side c i → b ≡ a +ℤ p → InRange b → SumPasses side a (c ∷ cs) (i ∷ is) → SumPasses side b cs is
 passes_on side a b c p i cs is product fits sum inside (inl x) = absurd (fits x)

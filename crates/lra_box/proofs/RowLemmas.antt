@@ -165,7 +165,7 @@ has_unequal n k false i r e (inr (h, is, row)) =
 
 -- ---- those of all intervals, from place k on
 
--- some interval, p places behind place k, is as Q says
+-- some interval, p places after place k, is as Q says
 abbrev SomePlace : (ℕ → Interval → Type 0) → ℕ → List Interval → Type 0
 SomePlace Q k is = (p : ℕ) × (i : Interval) × (slice_get is p ≡ Some i) × Q (k + p) i
 

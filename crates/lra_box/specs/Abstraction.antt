@@ -24,7 +24,7 @@ top_box n = record { dims = n; bounds = Some (replicate n full_interval) }
 abbrev pub BoxWithin : BoxContent → BoxContent → Type 0
 BoxWithin a b = (a.dims ≡ b.dims) × BoundsWithin a.bounds b.bounds
 
--- an inclusion answers what is so, and never strains
+-- an inclusion answers what is so, and never exceeds a limit
 abbrev pub BoxAnswers : BoxContent → BoxContent → Included → Type 0
 BoxAnswers h a Yes = BoxWithin a h
 BoxAnswers h a No = ¬ BoxWithin a h

@@ -79,7 +79,7 @@ EndProductPasses High (pos (suc n)) i = TimesPasses (pos (suc n)) i.high
 EndProductPasses Low (negsuc n) i = TimesPasses (negsuc n) i.high
 EndProductPasses High (negsuc n) i = TimesPasses (negsuc n) i.low
 
--- a product or a partial sum passes the range; the sum ends at its first absent term, and nothing passes behind it
+-- a product or a partial sum passes the range; the sum ends at its first absent term, and nothing passes after it
 abbrev pub SumPasses : Side → ℤ → List ℤ → List Interval → Type 0
 SumPasses side a [] is = ⊥
 SumPasses side a (c ∷ cs) [] = ⊥

@@ -1,4 +1,4 @@
--- What a box tells of the least and the greatest value of a form: the ends by which an assignment of the form sets the
+-- What a box says of the least and the greatest value of a form: the ends by which an assignment of the form sets the
 -- bounds, and none where a number passes the range on the way.
 use Rattle.std.specs.Prelude.{◌≡◌, ◌⊎◌, ℤ, ◌+ℤ◌, List, Option, None, Some}
 use Rattle.lra_linear_spec.specs.Range.{InRange}
@@ -12,11 +12,11 @@ abbrev pub IsEndFrom : Side → ℤ → List ℤ → List Interval → Option �
 IsEndFrom side a cs is o =
     ((¬ SumPasses side a cs is) × (o ≡ end_sum side a cs is)) ⊎ (SumPasses side a cs is × (o ≡ None))
 
--- the least or the greatest value of the form over the intervals, as it is told
+-- the least or the greatest value of the form over the intervals, as it is stated
 abbrev pub IsEnd : Side → Form → List Interval → Option ℤ → Type 0
 IsEnd side f is o = IsEndFrom side f.constant f.coefficients is o
 
--- both; an empty box tells none
+-- both; an empty box says none
 abbrev pub BoundsTell : Option (List Interval) → Form → Option ℤ → Option ℤ → Type 0
 BoundsTell None f l h = (l ≡ None) × (h ≡ None)
 BoundsTell (Some is) f l h = IsEnd Low f is l × IsEnd High f is h

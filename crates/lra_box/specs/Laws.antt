@@ -37,7 +37,7 @@ partless_within n k None b w e = refl
 partless_within n k (Some is) None w e = absurd w
 partless_within n k (Some is) (Some js) w e = cc
 
--- ---- what is told of a form
+-- ---- what is reported about a form
 
 low_above : (o : Option ℤ) (z : ℤ) → BoundHolds Low o z → IsLowerBound o z
 low_above None z h = tt
@@ -47,7 +47,7 @@ high_under : (o : Option ℤ) (z : ℤ) → BoundHolds High o z → IsUpperBound
 high_under None z h = tt
 high_under (Some u) z h = h
 
--- the end that is told is on its side of the form's value at each store
+-- the end that is reported is on its side of the form's value at each store
 pub end_holds : (side : Side) (f : Form) (is : List Interval) (o : Option ℤ) (s : List ℤ)
     → length f.coefficients ≡ length is → InBounds is s → IsEnd side f is o → BoundHolds side o (form_value f s)
 end_holds side f is o s wide inside (inl (fits, same)) =

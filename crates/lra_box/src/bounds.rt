@@ -288,7 +288,7 @@ pub fn grow_bounds(
     }
 }
 
-/// The least and the greatest value of the form within the bounds, as they are told.
+/// The least and the greatest value of the form within the bounds, as they are stated.
 pub fn bounds_of(bounds: &Bounds, e: &LinExpr) -> (Option<i128>, Option<i128>)
     requires { BoundsFit (length e.now.coefficients) (bounds_view bounds.now) }
     ensures { BoundsTell (bounds_view bounds.now) e.now result.0 result.1 }

@@ -118,7 +118,7 @@ pub made_of : (n : ℕ) (P : PointSet) (Strains : Loss → Type 0) (p : Polyhedr
 made_of n P Strains p Exact fine b = b.exact
 made_of n P Strains p (Flagged loss) fine b = record { dimensions = b.dims; formed = fine; within = b.within; loss = loss; strains = b.flagged }
 
--- as the code tells it
+-- as the code states it
 pub made_as_told : (n : ℕ) (P : PointSet) (Strains : Loss → Type 0) (p q : Polyhedron) (outcome : Outcome) (flagged : Bool) → q ≡ p → flagged ≡ is_flagged outcome → IsRepresentable p →
     Becomes n P Strains p outcome → IsMadeOf n P Strains flagged q
 made_as_told n P Strains p q outcome flagged same tells fine b =

@@ -16,7 +16,7 @@ use Rattle.lra_duality.proofs.MaximumLemmas.{never_both}
 use Rattle.lra_calc.specs.Views.{IsPlacedInclusion, IsPlacedMaximum}
 use Rattle.lra_calc.proofs.MakingLemmas.{all_tail}
 
--- ---- the first member that is told
+-- ---- the first member that is reported
 -- the places are one, and so are the members
 abbrev SamePlace : {A : Type 0} → List A → A → List A → A → Type 0
 SamePlace xs x ys y = (length xs ≡ length ys) × (x ≡ y)
@@ -132,7 +132,7 @@ same_value n m d c above e p q =
     at_each n m d c e (suc zero) = ring (v (pos c) ⊗ v (pos d)) (v (pos d) ⊗ v (pos c)) (omega arith)
     at_each n m d c e (suc (suc j)) = ring (v (pos c) ⊗ v (pos 0)) (v (pos d) ⊗ v (pos 0)) (omega arith)
 
--- a greatest value is at most any other that is told
+-- a greatest value is at most any other that is reported
 at_most : (form : List ℤ) (generators : List LinearRow) (n d m c : ℤ) (i j : ℕ) → IsGreatest form generators n d i → IsGreatest form generators m c j → (n *ℤ c) ≤ℤ (m *ℤ d)
 at_most form generators n d m c i j h k =
     let g = h.first.member in

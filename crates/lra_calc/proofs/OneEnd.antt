@@ -33,7 +33,7 @@ set_here number None = (number, refl)
 same_session : (s t : Session) → (let r : Result Session Fault = Ok s in r) ≡ Ok t → s ≡ t
 same_session s t e = cc
 
--- a line that is carried out had a result, and what that brings stands behind it
+-- a line that is carried out had a result, and what that brings comes after it
 brought : {A : Type 0} (step : A → Session) (given : Result A Fault) (t : Session) → Ok t ≡ session_after step given → (a : A) × (given ≡ Ok a) × (t ≡ step a)
 brought step (Ok a) t e = (a, refl, same_session t (step a) e)
 brought step (Err f) t e = absurd (cc)
@@ -49,7 +49,7 @@ form_keeps : (number : ℕ) (s t : Session) (form : Option Line) → AfterForm n
 form_keeps number s t None h k = absurd (cc)
 form_keeps number s t (Some line) h k = line_keeps number s t line h k
 
--- what stands behind the line, or that it is refused
+-- what comes after the line, or that it is refused
 abbrev Goes : ℕ → Option Session → Result Session Fault → (Option Session → Type 0) → End → Type 0
 Goes number s r Later end = ((v : Session) × (r ≡ Ok v) × Later (Some v)) ⊎ ((f : Fault) × (r ≡ Err f) × (end ≡ Err (stopped number s f)))
 
@@ -221,7 +221,7 @@ made_and_refused r q v f e d a = subst (λ (x : Result Session Fault). AlikeResu
 refused_and_made : (r q : Result Session Fault) (v : Session) (f : Fault) → r ≡ Err f → q ≡ Ok v → AlikeResults r q → ⊥
 refused_and_made r q v f e d a = subst (λ (x : Result Session Fault). AlikeResults (Err f) x) d (subst (λ (x : Result Session Fault). AlikeResults x q) e a)
 
--- a line and those behind it
+-- a line and those after it
 one_step : (form : Option Line) (number : ℕ) (s : Option Session) (e f : End) (P Q : Option Session → Type 0) (r q : Result Session Fault) → AfterForm number s form r → AfterForm number s form q →
     ((v : Session) → P (Some v) → IsFlagged v → ⊥) → ((v : Session) → Q (Some v) → IsFlagged v → ⊥) → ((v : Session) → P (Some v) → Q (Some v) → e ≡ f) → Goes number s r P e → Goes number s q Q f →
     e ≡ f

@@ -1,4 +1,5 @@
--- Whether a script is refused, and why, is told by its lines alone, whatever its sets are made as, unless a set isn't in the other that it is widened by.
+-- Whether a script is refused, and why, is given by its lines alone, whatever its sets are made as, unless a set isn't
+-- in the other that it is widened by.
 use Rattle.std.proofs.Common.{◌≡◌, ◌+◌, ℕ, suc, Bool, true, false, cond, nat_eq, nat_lt, List, [], ◌∷◌, length, map, refl, ap, sym, subst, bytes_eq, nat_le, ◌&&◌, arith, Option, Some, None, Result}
 use Rattle.std.proofs.Common.{Ok, Err}
 use Rattle.std.specs.{List.All, Prelude.is_some, Prelude.IfSome}
@@ -98,7 +99,7 @@ question_agrees s t (Maximise name form) r q a h k =
     set_agrees _ _ name _ _ r q (a.names name)
     (λ p u b c x y. unless_agrees _ _ _ _ r q (width_agrees (length form) s.dims t.dims a.dims) (answers_agree _ _ _ _ _ _ r q) x y) h k
 
--- ---- faults that words tell
+-- ---- faults that words report
 abbrev IsToldResult : {A : Type 0} → Result A Fault → Type 0
 IsToldResult (Ok a) = Unit {0}
 IsToldResult (Err fault) = IsDeterminedByWords fault
@@ -337,6 +338,6 @@ told_by_length : (b : Bool) (script : List ℕ) (x : Result (List ℕ) Refusal) 
 told_by_length true script x never h = subst IsDeterminedByLines (sym h) tt
 told_by_length false script x never h = subst IsDeterminedByLines (sym h.is) (end_told (lines script) 1 None h.end never h.carries_out)
 
--- the lines alone tell each answer to a script that widens nothing
+-- the lines alone report each answer to a script that widens nothing
 pub never_widens : (script : List ℕ) (x : Result (List ℕ) Refusal) → NeverWidens script → AnswersTo script x → IsDeterminedByLines x
 never_widens script x never h = told_by_length (nat_lt greatest_length (length script)) script x never h

@@ -83,7 +83,7 @@ shown_texts : (polyhedron_text (record { dims = 1; rows = []; generators = gener
 unfolding digits
 shown_texts = (refl, refl)
 
--- a list that strains: catches a flag that is forgotten
+-- a list that exceeds a limit: catches a flag that is forgotten
 strained_line : (p : Polyhedron) → p.dims ≡ 1 → IsRepresentable p
     → IsWithin 1 (points_of (inequality (pos 170141183460469231731687303715884105727 ∷ pos 1 ∷ []) ∷ inequality (pos 0 ∷ pos 2 ∷ []) ∷ [])) (points_of p.rows)
     → Gives (codes "dims 1" ∷ codes "con P >= 170141183460469231731687303715884105727 1 ; >= 0 2" ∷ []) (Ok (text (codes "flagged at line 2" ∷ [])))
@@ -208,7 +208,7 @@ wrong_dimensions = (
   (_, record { result = Ok (started 1); after = refl; goes_on = record { result = _; after = record { outcome = _; told = refl; is = refl }; goes_on = refl } }, refl),
 )
 
--- catches a name that is asked for behind the numbers, and a fault of form that is found last
+-- catches a name that is asked for after the numbers, and a fault of form that is found last
 first_causes : refused_after_dims (UnknownName (codes "Z")) (codes "holds Z 1") × refused_after_dims (UnknownName (codes "Z")) (codes "show Z") × refused_after_dims BadLine (codes "holds Z 0")
     × refused_after_dims BadLine (codes "gen P ray 0 1 ; point 0 1")
 first_causes = (
@@ -236,7 +236,7 @@ empty_script : AnswersTo [] (Ok (text (codes "flagged 0" ∷ [])))
 unfolding greatest_length
 empty_script = record { end = Ok None; carries_out = refl; is = refl }
 
--- catches the two numbers exchanged, and a name that is not told
+-- catches the two numbers exchanged, and a name that is not reported
 refused_texts : (script_refusal_text (AtLine (record { number = 4; fault = WrongDimension 3 2 })) ≡ text (codes "refused line 4 WrongDimension 3 2" ∷ []))
     × (script_refusal_text (AtLine (record { number = 4; fault = UnknownName (codes "Z") })) ≡ text (codes "refused line 4 UnknownName Z" ∷ []))
     × (script_refusal_text (AtLine (record { number = 12; fault = BadLine })) ≡ text (codes "refused line 12 BadLine" ∷ []))

@@ -65,7 +65,7 @@ pub some_rows : (b : Bool) (rs gs : List (List ℤ)) → b ≡ nat_eq (length rs
 some_rows b [] gs e f same = let wrong : nat_eq 0 0 ≡ false = sym e ∙ f in cc
 some_rows b (r ∷ rs) gs e f same = subst (λ (l : List (List ℤ)). 0 < length l) same (omega arith)
 
--- the rows are written behind a text, then the generators
+-- the rows are written after a text, then the generators
 pub written : (p : Polyhedron) (c : LinearSystem ConKind) (g : LinearSystem GenKind) (rs : List (List ℤ)) (ks : List GenKind) (names : List (List ℕ)) (dims : ℕ) (old between new : List ℕ)
     → constraints c ≡ p.rows → generators g ≡ p.generators → FitKinds g.rows g.kinds → rs ≡ g.rows → ks ≡ g.kinds → length ks ≡ length g.rows → 0 < length g.rows → names ≡ variables dims →
     dims ≡ p.dims
@@ -142,7 +142,7 @@ fits_there g gs rows kinds i r e same also f h is =
     subst (λ (x : List ℤ). FitsKind (get_or kinds i gen.Point) x) (sym (is ∙ ap (λ (l : List (List ℤ)). get_or l i r) same))
     (subst (λ (l : List GenKind). FitsKind (get_or l i gen.Point) (get_or g.rows i r)) (sym also) (zip_fits g.rows g.kinds i r (count_as g gs i e h) f))
 
--- the text of the generator, as the code tells it
+-- the text of the generator, as the code states it
 pub generator_told : (p : Polyhedron) (g : LinearSystem GenKind) (rows : List (List ℤ)) (kinds : List GenKind) (names : List (List ℕ)) (dims i : ℕ) (r : List ℤ) (text : List ℕ) →
     generators g ≡ p.generators →
     rows ≡ g.rows → kinds ≡ g.kinds → FitKinds g.rows g.kinds → i < length p.generators → r ≡ get_or rows i r → names ≡ variables dims → dims ≡ p.dims →

@@ -16,7 +16,7 @@ not_exact : (o : Outcome) → IfExact ⊥ o → is_flagged o ≡ true
 not_exact Exact h = absurd h
 not_exact (Flagged loss) h = refl
 
--- a widening that was made, as the code tells it
+-- a widening that was made, as the code states it
 pub made_widens : (p q r x : Polyhedron) (P : PointSet) (Strains : Loss → Type 0) (o : Outcome) (flagged : Bool) → x ≡ r → flagged ≡ is_flagged o →
     IsRepresentable r →
     Becomes p.dims P Strains r o → LiesOrIsGivenUp p q r o
@@ -40,7 +40,7 @@ outside_widens p q Told widen_error.Memory (Refused f) h t = absurd t
 outside_widens p q Told (widen_error.NotIncluded place) Memory h t = tt
 outside_widens p q Told widen_error.Memory Memory h t = tt
 
--- the generator that is told is one of them
+-- the generator that is reported is one of them
 pub refusal_placed : (p q : Polyhedron) (w : WidenError) → IsRefusal p q w → IsPlacedRefusal (length p.generators) w
 refusal_placed p q (widen_error.NotIncluded place) h = inclusion_placed q.rows p.generators (inclusion.No place) h
 refusal_placed p q widen_error.Memory h = tt

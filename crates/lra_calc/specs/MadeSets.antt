@@ -1,5 +1,5 @@
--- The sets that lines make: without a flag by the canonical lists of exactly the points that the line tells. A flagged
--- one may have further points, and there what was given strains.
+-- The sets that lines make: without a flag by the canonical lists of exactly the points that the line reports. A
+-- flagged one may have further points, and there what was given exceeds a limit.
 use Rattle.std.specs.Prelude.{◌≡◌, ℕ, ℤ, Bool, true, false, List, []}
 use Rattle.lra_linear_spec.specs.Descriptions.{LinearRow, Con as points_of, Gen as generated_by}
 use Rattle.lra_linear_spec.specs.OperationStrain.{FromRowsStrains, FromGeneratorsStrains, MeetStrains, HullStrains}
@@ -14,7 +14,7 @@ use Rattle.lra_script.specs.declared.recipes.Mapping.TheVariants.{Image, Preimag
 use Rattle.lra_script.specs.{declared.recipes.Combination.Combination, declared.recipes.Mapping.Mapping}
 
 -- the canonical lists of a set that has all points of P, within the limit of a description and with numbers of the
--- range; what was given strains
+-- range; what was given exceeds a limit
 pub record IsFlaggedOf (n : ℕ) (P : PointSet) (Strains : Loss → Type 0) (p : Polyhedron) : Type 0 where
   pub dimensions : p.dims ≡ n
   pub formed : IsRepresentable p
@@ -53,7 +53,7 @@ IsCombined how n p q = IsMadeOf n (combined_sets how n p q) (CombiningStrains ho
 abbrev pub IsWidened : ℕ → Polyhedron → Polyhedron → Bool → Polyhedron → Type 0
 IsWidened n p q = IsMadeOf n (widening.StandardWidening p q) (StandardStrains p q)
 
--- limited: of these the points at which each given row holds that is valid on both
+-- limited: of these the points at which each widening threshold holds that is valid on both
 abbrev pub IsLimited : ℕ → List LinearRow → Polyhedron → Polyhedron → Bool → Polyhedron → Type 0
 IsLimited n given p q = IsMadeOf n (widening.LimitedWidening p q given) (LimitedStrains p q given)
 

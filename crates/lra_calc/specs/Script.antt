@@ -1,7 +1,7 @@
 -- What a script may write: its lines are carried out one after the other, and the first that is refused is answered in
 -- place of all. A line that makes a set makes its canonical lists, so that what is shown depends on the set alone. Only
--- where what it gives strains may it make those of a larger set; then it is flagged. So a script that isn't flagged has
--- one answer.
+-- where what it gives exceeds a limit may it make those of a larger set; then it is flagged. So a script that isn't
+-- flagged has one answer.
 use Rattle.std.specs.Prelude.{◌≡◌, ◌+◌, ℕ, suc, ℤ, pos, negsuc, Bool, true, false, ◌&&◌, nat_eq, nat_lt, nat_le, List}
 use Rattle.std.specs.Prelude.{[], ◌∷◌, ◌++◌, length, take, map, codes, bytes_eq, if◌then◌else◌, Option, Some, None}
 use Rattle.std.specs.{Fmt.decimal, List.All, Map.update, Prelude.Result, Prelude.Ok, Prelude.Err}
@@ -32,7 +32,7 @@ pub data Fault : Type 0 where
   -- what is to be widened isn't in the other set; the text of its first generator outside
   NotIncluded : List ℕ → Fault
 
--- behind `dims`: what each name stands for, if it was made; what was printed, and the first line that was flagged
+-- after `dims`: what each name stands for, if it was made; what was printed, and the first line that was flagged
 pub record Session : Type 0 where
   pub dims : ℕ
   pub made : List ℕ → Option Polyhedron
@@ -55,7 +55,7 @@ abbrev pub Unless : {A : Type 0} → Option Fault → (Result A Fault → Type 0
 Unless (Some fault) Told result = result ≡ Err fault
 Unless None Told result = Told result
 
--- what is told of the set that the name stands for; refused where none was made
+-- what is reported about the set that the name stands for; refused where none was made
 abbrev pub WithSet : {A : Type 0} → List ℕ → Option Polyhedron → (Polyhedron → Result A Fault → Type 0)
     → Result A Fault → Type 0
 WithSet name None Told result = result ≡ Err (UnknownName name)
@@ -95,13 +95,13 @@ pub record Made : Type 0 where
   pub flagged : Bool
   pub polyhedron : Polyhedron
 
--- made as told
+-- made as stated
 abbrev pub MakesSet : (Bool → Polyhedron → Type 0) → Result Made Fault → Type 0
 MakesSet Told (Ok made) = Told made.flagged made.polyhedron
 MakesSet Told (Err fault) = ⊥
 
--- of P widened by Q: what is told, where P is in Q; else refused with the first generator of P outside Q; all points,
--- flagged, where a product passes before that is known
+-- of P widened by Q: what is reported, where P is in Q; else refused with the first generator of P outside Q; all
+-- points, flagged, where a product passes before that is known
 abbrev pub WidenedBy : ℕ → Polyhedron → (Bool → Polyhedron → Type 0) → Inclusion → Result Made Fault → Type 0
 WidenedBy n p Told inclusion.Yes result = MakesSet Told result
 WidenedBy n p Told (inclusion.No place) result = result ≡ Err (NotIncluded (generator_at p place))
@@ -214,19 +214,19 @@ printed_by number a s = record s {
   flagged = flagged_by number a.wide s.flagged;
 }
 
--- what stands behind a line that gave this, or why it is refused
+-- what comes after a line that gave this, or why it is refused
 abbrev pub session_after : {A : Type 0} → (A → Session) → Result A Fault → Result Session Fault
 session_after step (Ok a) = Ok (step a)
 session_after step (Err fault) = Err fault
 
--- the line has such a result, and behind it stands what the result brings
+-- the line has such a result, and after it stands what the result brings
 pub record Brings {A : Type 0} (Told : Result A Fault → Type 0) (step : A → Session)
     (result : Result Session Fault) : Type 0 where
   pub outcome : Result A Fault
   pub told : Told outcome
   pub is : result ≡ session_after step outcome
 
--- what stands behind a line, or why it is refused
+-- what comes after a line, or why it is refused
 abbrev pub AfterLine : ℕ → Session → Line → Result Session Fault → Type 0
 AfterLine number s (Dims n) result = result ≡ Err BadLine
 AfterLine number s (Make name recipe) result = Brings (MadeBy s recipe) (λ m. made_as number name m s) result
@@ -265,7 +265,7 @@ abbrev pub GoesOn : ℕ → Option Session → Result Session Fault → (Option 
 GoesOn number s (Err fault) Later end = end ≡ Err (stopped number s fault)
 GoesOn number s (Ok t) Later end = Later (Some t)
 
--- the line of this number is carried out, then those behind it
+-- the line of this number is carried out, then those after it
 pub record Performs (number : ℕ) (s : Option Session) (line : List ℕ) (Later : Option Session → Type 0)
     (end : End) : Type 0 where
   pub result : Result Session Fault
@@ -335,7 +335,7 @@ HasOneEnd script =
     (e f : End) → CarriesOut 1 None (lines script) e → CarriesOut 1 None (lines script) f
     → IsUnflagged (last_session e) → IsUnflagged (last_session f) → e ≡ f
 
--- a flagged set may be larger, so whether a set is in another isn't told by the lines alone; all other faults are
+-- a flagged set may be larger, so whether a set is in another isn't given by the lines alone; all other faults are
 abbrev pub IsDeterminedByWords : Fault → Type 0
 IsDeterminedByWords BadLine = Unit {0}
 IsDeterminedByWords (UnknownName name) = Unit {0}

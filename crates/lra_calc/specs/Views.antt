@@ -44,7 +44,7 @@ answered holds.Yes = Some true
 answered (holds.No place) = Some false
 answered (holds.Wide place) = None
 
--- a generator that is told is one of so many
+-- a generator that is reported is one of so many
 abbrev pub IsPlacedInclusion : ℕ → Inclusion → Type 0
 IsPlacedInclusion count inclusion.Yes = Unit {0}
 IsPlacedInclusion count (inclusion.No place) = place < count
@@ -83,19 +83,19 @@ fault_of (fault.UnknownName name) = script.UnknownName (string_bytes name)
 fault_of (fault.WrongDimension count needed) = script.WrongDimension count needed
 fault_of (fault.NotIncluded generator) = script.NotIncluded (string_bytes generator)
 
--- refused, since no set was made under the name; want of memory says nothing
+-- refused, since no set was made under the name; running out of memory says nothing
 abbrev pub IsUnknown : List ℕ → Option Polyhedron → LineError → Type 0
 IsUnknown name set (line_error.Refused f) = (set ≡ None) × (fault_of f ≡ script.UnknownName name)
 IsUnknown name set line_error.Memory = Unit {0}
 
--- refused with the generator that is outside; want of memory says nothing
+-- refused with the generator that is outside; running out of memory says nothing
 abbrev pub NamesOutside : Polyhedron → WidenError → LineError → Type 0
 NamesOutside p (widen_error.NotIncluded place) (line_error.Refused f) =
     fault_of f ≡ script.NotIncluded (generator_at p place)
 NamesOutside p widen_error.Memory (line_error.Refused f) = ⊥
 NamesOutside p error line_error.Memory = Unit {0}
 
--- the answer is one that the definition allows; want of memory says nothing
+-- the answer is one that the definition allows; running out of memory says nothing
 abbrev pub Gives : {A B : Type 0} → (A → B) → Result A LineError → (Result B script.Fault → Type 0) → Type 0
 Gives view (Ok a) Told = Told (Ok (view a))
 Gives view (Err (line_error.Refused f)) Told = Told (Err (fault_of f))
@@ -116,7 +116,7 @@ StepsTo number s line (Err (calc_error.Refused (refusal.Line at f))) =
 StepsTo number s line (Err (calc_error.Refused (refusal.TooLong place))) = ⊥
 StepsTo number s line (Err calc_error.Memory) = Unit {0}
 
--- all lines leave this session, or the one told is refused
+-- all lines leave this session, or the one reported is refused
 abbrev pub Ends : Result (Option S.Session) CalcError → (script.End → Type 0) → Type 0
 Ends (Ok t) Told = Told (Ok (option_map session_of t))
 Ends (Err (calc_error.Refused (refusal.Line at f))) Told =
@@ -124,7 +124,7 @@ Ends (Err (calc_error.Refused (refusal.Line at f))) Told =
 Ends (Err (calc_error.Refused (refusal.TooLong place))) Told = ⊥
 Ends (Err calc_error.Memory) Told = Unit {0}
 
--- the output is one of those told, or the refusal
+-- the output is one of those reported, or the refusal
 abbrev pub Answers : Result (Vec ℕ Global) CalcError → (Result (List ℕ) script.Refusal → Type 0) → Type 0
 Answers (Ok output) Told = Told (Ok output.items)
 Answers (Err (calc_error.Refused r)) Told = Told (Err (refusal_of r))

@@ -62,7 +62,7 @@ fn perform(
     }
 }
 
-/// What stands behind the line of a number, which may be skipped.
+/// What comes after the line of a number, which may be skipped.
 fn take_line(
     alloc: Global,
     number: usize,
@@ -106,7 +106,7 @@ fn push_flag(printed: &mut String, flagged: Option<usize>) -> Result<(), AllocEr
     }
 }
 
-/// What is written behind the last line.
+/// What is written after the last line.
 fn output_of(alloc: Global, session: Option<Session>) -> Result<Vec<u8>, AllocError>
     ensures { IfOk result (λ output. output.items ≡ spec.output (option_map session_of session)) }
 {
@@ -132,8 +132,8 @@ fn run(alloc: Global, bytes: &[u8]) -> Result<Vec<u8>, CalcError>
 #[tactic(auto, using(crate::proofs::SessionLemmas::membership_tells))]
 pub fn script(alloc: Global, bytes: &[u8]) -> Result<Vec<u8>, CalcError>
     ensures answer { Answers result (spec.AnswersTo bytes.now) }
-    // Whether a script is refused, and why, is told by its lines alone, but for sets that are widened and aren't in the
-    // other; and a script of which no line is flagged has one answer.
+    // Whether a script is refused, and why, is given by its lines alone, but for sets that are widened and aren't in
+    // the other; and a script of which no line is flagged has one answer.
     ensures one_refusal { (a b : Result (List ℕ) spec.Refusal) → spec.AnswersTo bytes.now a →
         spec.AnswersTo bytes.now b → spec.IsDeterminedByLines a → spec.IsDeterminedByLines b → spec.AgreesWith a b }
     ensures without_widenings { spec.NeverWidens bytes.now → (a : Result (List ℕ) spec.Refusal) →

@@ -21,7 +21,7 @@ use lra_script::{Combination, Constraint, Generator, Line, Mapping, Question, Re
 use std::alloc::{AllocError, Global};
 use std::collections::BTreeMap;
 
-/// A script behind its `dims`: what each name stands for, what was printed, and the first line that was flagged.
+/// A script after its `dims`: what each name stands for, what was printed, and the first line that was flagged.
 #[derive(Drop)]
 pub struct Session {
     pub dims: usize,
@@ -30,7 +30,7 @@ pub struct Session {
     pub flagged: Option<usize>,
 }
 
-/// The first flagged line behind a line, which is flagged or not.
+/// The first flagged line after a line, which is flagged or not.
 fn find_flagged(number: usize, is_flagged: bool, flagged: Option<usize>) -> Option<usize>
     ensures { result ≡ script.flagged_by number is_flagged flagged }
 {
@@ -351,7 +351,7 @@ impl Session {
         Ok(())
     }
 
-    /// Carries out a line behind `dims`.
+    /// Carries out a line after `dims`.
     pub fn carry_out(&mut self, alloc: Global, number: usize, line: &Line) -> Result<(), LineError>
         requires session { IsSession self.old }
         requires line { IsLine line.now }

@@ -86,7 +86,7 @@ row_pointed w form generators rows matrix s r k gen =
     (d.meets r (Contains-append_left rows (both_ways form) r k) g.row has)
     (generated_nonneg g.row (all_rows form rows) (λ j. neg_ℤ (entry r j)) (λ t n. d.meets t n g.row has) gen))
 
--- ---- the matrix tells which row is tight wherever another is
+-- ---- the matrix says which row is tight wherever another is
 tight_from : (w : ℕ) (form : List (List ℤ)) (generators : List LinearRow) (rows : List (List ℤ)) (matrix : Matrix) → IsSaturation w form generators rows matrix → (i k : ℕ) → i < length rows →
     k < length rows →
     IsSubset (get_or matrix.rows i []) (get_or matrix.rows k []) → TightToo (system_of generators) (entry (get_or rows i [])) (entry (get_or rows k []))

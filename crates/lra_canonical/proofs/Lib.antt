@@ -1,4 +1,4 @@
--- Lemmas on rows: chains of reductions, what solutions tell, orders; and worked rows.
+-- Lemmas on rows: chains of reductions, what solutions report, orders; and worked rows.
 pub mod Chains
 pub mod Solutions
 pub mod Extension

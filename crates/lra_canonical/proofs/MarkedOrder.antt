@@ -23,7 +23,7 @@ rows_sorted order ms up k d low h =
     ap (λ (x : List ℤ). is_lt (cmp_by order x (get_or (rows_in ms) k d))) (row_at ms (k + 1) d no_mark n) ∙
     ap (λ (y : List ℤ). is_lt (cmp_by order (get_or ms (k + 1) no_mark).row y)) (row_at ms k d no_mark (omega (arith, n))) ∙ up k no_mark low n
 
--- in another order the same rows stand, and what is told of each goes with it
+-- in another order the same rows stand, and what is reported about each goes with it
 pub rows_shuffled : (xs ys : List Marked) → IsPermutation xs ys → IsPermutation (rows_in xs) (rows_in ys)
 rows_shuffled xs ys p = IsPermutation-map (λ (m : Marked). m.row) xs ys p
 

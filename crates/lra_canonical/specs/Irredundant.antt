@@ -1,4 +1,4 @@
--- Inequalities without the redundant ones, told from which generators they are tight at (Le Verge 1992, Fukuda and
+-- Inequalities without the redundant ones, reported from which generators they are tight at (Le Verge 1992, Fukuda and
 -- Prodon 1996).
 use Rattle.std.specs.Prelude.{◌≡◌, ◌≢◌, ◌↔◌, ℕ, ◌<◌, ◌≤◌, ℤ, pos, ◌≤ℤ◌, Bool, true, false, List, [], length}
 use Rattle.std.specs.{List.Contains, Prelude.slice_index_or}
@@ -40,7 +40,7 @@ pub record IsCovered (bits : List (List Bool)) (marks : List Bool) (i : ℕ) : T
   pub inside : other < length bits
   pub by : IsCoveredBy bits marks i other
 
--- The marks after the first i rows: what the rows generate, with any form of which the matrix tells, those that stay
+-- The marks after the first i rows: what the rows generate, with any form of which the matrix reports, those that stay
 -- generate; and of the first i rows none that stays is covered.
 pub record AreMarks (rows : List (List ℤ)) (matrix : Matrix) (marks : List Bool) (i : ℕ) : Type 0 where
   pub as_many : length marks ≡ length rows
@@ -67,7 +67,7 @@ pub record IsIrredundant (w : ℕ) (form rows kept : List (List ℤ)) : Type 0 w
       ((u : List ℤ) → length u ≡ w → Solutions form rows u ↔ Solutions lines others u) →
       (lines ≡ form) × ((r : List ℤ) → Contains others r ↔ Contains kept r) × (length others ≡ length kept)
 
--- whatever form and generators the matrix tells of
+-- whatever form and generators the matrix says of
 abbrev pub WithoutRedundant : List (List ℤ) → Matrix → List (List ℤ) → Type 0
 WithoutRedundant rows matrix kept =
     (w : ℕ) (form : List (List ℤ)) (generators : List LinearRow) → IsSaturation w form generators rows matrix →

@@ -75,7 +75,7 @@ pub record FirstPassing (form : List (List ℤ)) (r : List ℤ) (e : E.Excess) :
   pub cancels : ¬ (entry last (pivot line) ≡ pos 0)
   pub passes : checked_clearing line last ≡ Err e
 
--- an excess is the first of the chain, and so the strain of a reduction; want of memory says nothing
+-- an excess is the first of the chain, and so the strain of a reduction; running out of memory says nothing
 abbrev pub IsFirstExcess : List (List ℤ) → List ℤ → RowError → Type 0
 IsFirstExcess form r (Excess e) = FirstPassing form r e
 IsFirstExcess form r Memory = Unit {0}

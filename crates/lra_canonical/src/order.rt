@@ -48,7 +48,7 @@ fn compare_by(order: Order, left: &Row, right: &Row) -> Ordering
 }
 
 /// Puts the rows in order. Lists with the same rows, each as often, become equal, with `Pivots` where the pivots
-/// differ. Want of memory leaves the list as it was.
+/// differ. Running out of memory leaves the list as it was.
 pub fn canonical_order(rows: &mut Vec<Row>, order: Order) -> Result<(), AllocError>
     ensures same { IsPermutation rows.old.items rows.new.items }
     ensures sorted { OnOk result (IsSorted (cmp_by order) rows.new.items) }
@@ -66,8 +66,8 @@ pub struct Marked {
     pub bits: BitRow,
 }
 
-/// Puts marked rows in the order of their rows; what goes with each goes with it. Want of memory leaves the list as it
-/// was.
+/// Puts marked rows in the order of their rows; what goes with each goes with it. Running out of memory leaves the list
+/// as it was.
 pub fn order_marked(marked: &mut Vec<Marked>, order: Order) -> Result<(), AllocError>
     ensures same { IsPermutation marked.old.items marked.new.items }
     ensures sorted { OnOk result (IsSorted (cmp_by order) (rows_in marked.new.items)) }

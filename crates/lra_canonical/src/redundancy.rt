@@ -1,4 +1,4 @@
-//! Inequalities without the redundant ones, told from which generators they are tight at.
+//! Inequalities without the redundant ones, reported from which generators they are tight at.
 
 ghost use Rattle.std.specs.Prelude.{◌≡◌, ◌<◌, ◌≤◌, ◌↔◌, length, IsTrue, IfOk, OnOk, OnErr};
 ghost use Rattle.lra_bits.specs.{Matrix.unmarked, Transposed.AreColumns};
@@ -106,10 +106,10 @@ pub fn remove_marked(rows: &mut Vec<Row>, gone: &BitRow)
     rows.truncate(kept);
 }
 
-/// Takes out the redundant inequalities, and their rows of the matrix. Where row `i` of the matrix tells at which
+/// Takes out the redundant inequalities, and their rows of the matrix. Where row `i` of the matrix reports at which
 /// generators row `i` is tight, the rows that stay have the same solutions, and lists with the same solutions get the
 /// same rows. A row goes where another one that is left is tight wherever it is (Le Verge 1992, Fukuda and Prodon
-/// 1996); no number is computed. Want of memory leaves both lists as they were.
+/// 1996); no number is computed. Running out of memory leaves both lists as they were.
 pub fn drop_redundant(rows: &mut Vec<Row>, saturation: &mut SatMatrix) -> Result<(), AllocError>
     requires { length saturation.old.rows ≡ length rows.old.items }
     ensures kept { OnOk result (AreKept rows.old.items rows.new.items saturation.old saturation.new) }

@@ -1,4 +1,4 @@
--- What lines show, as the code tells it of a path's track.
+-- What lines show, as the code states it of a path's track.
 use Rattle.std.proofs.Common.{◌≡◌, ◌+◌, ◌++◌, ◌∷◌, [], ℕ, zero, suc, ℤ, Bool, true, false, List, drop, Option, Some, None, Result, Ok, Err, refl, ap, sym, ◌∙◌, subst, add-one}
 use Rattle.std.proofs.lemmas.Option.{same_Some, none-some}
 use Rattle.std.specs.Prelude.{if◌then◌else◌, slice_get, codes, MatchOption}
@@ -123,7 +123,7 @@ module _ (a : PathPremises) (t : PathCheck) (is : IsPathCheck a.live a.rows a.pa
       by true = dead_is l
       by false = target_is target l
 
--- ---- what the code tells, part by part
+-- ---- what the code reports, part by part
 pub told_as : {A B : Type 0} (view : A → B) (j k : Judged B) (result : Result A VerifyError) → j ≡ k → IsJudgedAs view j result → IsJudgedAs view k result
 told_as {A = A} {B = B} view j k result e told = subst (λ (x : Judged B). IsJudgedAs view x result) e told
 

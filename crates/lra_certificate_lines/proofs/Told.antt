@@ -1,4 +1,4 @@
--- What the code tells of lines, passed on from one part to the whole.
+-- What the code says of lines, passed on from one part to the whole.
 use Rattle.std.proofs.Common.{◌≡◌, ◌+◌, ◌++◌, ℕ, suc, true, false, List, [], ◌∷◌, length, refl, ap, sym, ◌∙◌, subst, append_assoc, append-nil, ℤ, Option, Some, None, Ok, Err}
 use Rattle.lra_linear_spec.specs.{Descriptions.LinearRow, Kinds.is_equality, declared.ConKind.ConKind}
 use Rattle.lra_systems.specs.LinearSystems.{LinearSystem, constraints}

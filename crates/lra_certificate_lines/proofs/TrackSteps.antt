@@ -14,7 +14,7 @@ use Rattle.lra_certificate_lines.specs.{PathCheckViews.ArePathFactsOf, declared.
 use Rattle.lra_multipliers.proofs.CheckSteps.{length_zeros}
 use Rattle.lra_certificate_spec.proofs.{WalkedRows.symbols_width, WalkedWidths.wide_walk}
 
--- ---- a row with zeros behind it
+-- ---- a row with zeros after it
 pub padded_more : (row old new : List ℤ) → length row ≤ length old → old ≡ row ++ zeros (length old - length row) → new ≡ old ++ pos 0 ∷ [] →
     new ≡ row ++ zeros (length new - length row)
 padded_more row old new h o p =

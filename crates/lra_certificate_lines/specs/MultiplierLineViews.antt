@@ -8,7 +8,7 @@ use Rattle.lra_certificate_spec.specs.{Judged.multipliers_in, Lines.left_at}
 abbrev pub read_view : List ℕ → MultiplierLine → Multipliers × Left
 read_view bytes r = (multipliers_view r.multipliers, left_at bytes r.after)
 
--- the multipliers of the next line, and what is left behind it
+-- the multipliers of the next line, and what is left after it
 abbrev pub given_on : Option Multipliers → Left → Judged (Multipliers × Left)
 given_on None l = refuses l.number bad_line
 given_on (Some m) l = Ok (m, after_line l)

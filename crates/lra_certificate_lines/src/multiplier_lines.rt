@@ -21,7 +21,7 @@ pub struct MultiplierLine {
     pub after: usize,
 }
 
-/// The multipliers that a line spells behind this word, over so many premises.
+/// The multipliers that a line spells after this word, over so many premises.
 fn multipliers_in(
     alloc: Global,
     line: &[u8],

@@ -64,7 +64,7 @@ fn first_word(text: &[u8]) -> Option<&[u8]>
     Some(word)
 }
 
-/// The numbers of a text, each behind one space, where they are so many.
+/// The numbers of a text, each after one space, where they are so many.
 fn spaced_numbers(alloc: Global, text: &[u8], count: usize) -> Result<Option<Vec<i128>>, AllocError>
     ensures numbers { IfOk result (λ r. option_items r ≡
         so_many count (spaced_numbers (words_of text.now))) }
@@ -91,7 +91,7 @@ fn spaced_numbers(alloc: Global, text: &[u8], count: usize) -> Result<Option<Vec
     }
 }
 
-/// The numbers behind a text with which the line begins, each behind one space, where they are so many.
+/// The numbers after a text with which the line begins, each after one space, where they are so many.
 pub fn numbers_behind(
     alloc: Global,
     line: &[u8],

@@ -26,7 +26,7 @@ use lra_row::{Row, RowError};
 use lra_systems::ConSys;
 use std::alloc::{AllocError, Global};
 
-/// The premises of a path's lines, and the rows of the variables behind it.
+/// The premises of a path's lines, and the rows of the variables after it.
 #[derive(Drop)]
 pub struct PathFacts {
     pub premises: ConSys,
@@ -268,7 +268,7 @@ impl PathCheck {
         take_answer(bytes, at, behind, answer)
     }
 
-    /// Where the next line begins behind the claims of a row: an equality has two, its row and then minus that.
+    /// Where the next line begins after the claims of a row: an equality has two, its row and then minus that.
     fn show_row(
         &self,
         alloc: Global,
@@ -295,7 +295,7 @@ impl PathCheck {
         }
     }
 
-    /// Where the next line begins behind the claims of the rows, in order.
+    /// Where the next line begins after the claims of the rows, in order.
     fn show_rows(
         &self,
         alloc: Global,
@@ -322,7 +322,7 @@ impl PathCheck {
         Ok(next)
     }
 
-    /// Where the next line begins behind what is said of the path: that nothing goes along it.
+    /// Where the next line begins after what is said of the path: that nothing goes along it.
     pub fn show_dead(&self, alloc: Global, bytes: &[u8], at: usize) -> Result<usize, VerifyError>
         requires whole { IsWhole self.now }
         requires short { length bytes.now < 2 ^ 31 }
@@ -334,7 +334,7 @@ impl PathCheck {
         self.show(alloc, bytes, at, b"dead", None)
     }
 
-    /// Where the next line begins behind what is said of the path: that nothing goes along it, or claim by claim; an
+    /// Where the next line begins after what is said of the path: that nothing goes along it, or claim by claim; an
     /// empty target has one claim.
     pub fn show_target(
         &self,

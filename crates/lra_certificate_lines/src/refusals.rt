@@ -10,7 +10,7 @@ use std::alloc::{AllocError, AllocFailed};
 /// Why a line is refused.
 #[derive(Clone, Copy, Debug, PartialEq, Eq)]
 pub enum LineFault {
-    /// The input has more bytes than are taken.
+    /// The input has more bytes than are accepted.
     TooLong,
     /// The line hasn't the form that stands there.
     BadLine,
@@ -41,7 +41,7 @@ pub enum VerifyRefusal {
     Source(Refusal),
     /// Too many paths lead from the source of this number to one point, or to where one assertion is false.
     Paths(u32),
-    /// The line of this number behind the source is refused.
+    /// The line of this number after the source is refused.
     Line(u32, LineFault),
 }
 

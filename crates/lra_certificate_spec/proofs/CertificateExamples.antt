@@ -88,7 +88,7 @@ passes_range = refl
 constant_passes : checked is_three (negsuc 2 ∷ pos 1 ∷ []) (times (pos 1) (negsuc 170141183460469231731687303715884105727) (pos 1)) ≡ wide
 constant_passes = refl
 
--- paths: an assignment, a value of which nothing is told, a test of that, and dimensions that come and go
+-- paths: an assignment, a value of which nothing is reported, a test of that, and dimensions that come and go
 assigned_three : executed_path 1 (assign 0 (record { constant = pos 3; coefficients = pos 0 ∷ [] }) ∷ []) ≡ Ok
     (record { forms = (pos 3 ∷ pos 0 ∷ []) ∷ []; tests = []; free = 2 })
 assigned_three = refl
@@ -109,7 +109,7 @@ come_and_gone : executed_path 1 (embed 2 ∷ remove_last 1 ∷ []) ≡ Ok (recor
 })
 come_and_gone = refl
 
--- the head: the source's bytes, and what stands behind its line feed
+-- the head: the source's bytes, and what comes after its line feed
 head_is : head_of (codes "certificate bytes 1" ++ 10 ∷ codes "$" ++ 10 ∷ codes "end") ≡ Some (record { source = codes "$"; rest = codes "end" })
 head_is = refl
 

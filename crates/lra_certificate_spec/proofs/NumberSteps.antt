@@ -160,7 +160,7 @@ pub no_word : (text : List ℕ) → starts_with nat_eq text (32 ∷ []) ≡ fals
 no_word [] h = inl refl
 no_word (b ∷ bs) h = inr (not_behind b bs (other_byte b h))
 
--- the word behind the space, as it is cut off
+-- the word after the space, as it is cut off
 pub word_cut : (text rest word : List ℕ) (n : ℕ) → starts_with nat_eq text (32 ∷ []) ≡ true → rest ≡ drop 1 text → n ≡ position_or_len is_space rest → word ≡
     take n rest →
     IsWordOf text word

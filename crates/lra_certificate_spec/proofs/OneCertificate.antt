@@ -1,4 +1,5 @@
--- A text is that of at most one certificate that meets its program: its head tells the source, so both have one program, and what stands behind it the rest.
+-- A text is that of at most one certificate that meets its program: its head reports the source, so both have one
+-- program, and what comes after it the rest.
 use Rattle.std.proofs.{Common.◌≡◌, Common.◌≤◌, Common.ℕ, Common.pos, Common.List, Common.length, Common.ap, Common.sym, Common.◌∙◌, Common.subst, Common.arith, Common.Some, lemmas.Option.same_Some}
 use Rattle.lra_base.specs.Places.{greatest_length}
 use Rattle.lra_linear_spec.specs.Range.{InRange}
@@ -22,7 +23,7 @@ head_by x = record { source = x.certificate.source; rest = body_of x }
 head_is : (bytes : List ℕ) (x : IsCertificate bytes) → head_of bytes ≡ Some (head_by x)
 head_is bytes x = ap head_of x.text ∙ head_read x.certificate.source (body_of x) (source_short x.certificate.source x.program.read.not_long)
 
--- with this source and this text behind it
+-- with this source and this text after it
 abbrev Over : List ℕ → Certificate → List ℕ → Type 0
 Over body c source = (x : IsProgram source) × Certifies (program_of x) x.operations c × (body ≡ body_text (paths_of (program_of x) x.operations) c)
 

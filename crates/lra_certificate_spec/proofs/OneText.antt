@@ -1,5 +1,5 @@
--- Two certificates that meet one program and have one text behind the head are one: what is read of a text is one, so what is left behind each piece is
--- one too, and a piece has one text.
+-- Two certificates that meet one program and have one text after the head are one: what is read of a text is one, so
+-- what is left after each piece is one too, and a piece has one text.
 use Rattle.std.proofs.Common.{◌≡◌, ◌<◌, ◌^◌, ℕ, ℤ, List, [], ◌∷◌, ◌++◌, length, get_or, refl, ap, sym, ◌∙◌, subst, arith, append_assoc, None, Some}
 use Rattle.std.proofs.{lemmas.List.append_cancel_left, lemmas.List.append_cancel_right, lemmas.List.Splits.join_with_byte-slice_split, lemmas.Option.same_Some, lemmas.Option.slice_get_within}
 use Rattle.std.specs.{List.AllByRecursion, List.join_with_byte, List.flat_map, Prelude.codes}
@@ -22,7 +22,7 @@ use Rattle.lra_certificate_spec.proofs.{ReadPaths.AreRows, ReadText.ok_same, Sou
 pieces_same : (r s : List ℕ) → pieces_of r ≡ pieces_of s → r ≡ s
 pieces_same r s e = sym (join_with_byte-slice_split 10 r) ∙ ap (λ (p : List (List ℕ)). join_with_byte 10 p) e ∙ join_with_byte-slice_split 10 s
 
--- what is left behind what is read
+-- what is left after what is read
 rest_same : (j : Judged Left) (r s : List ℕ) → Read j r → Read j s → r ≡ s
 rest_same j r s (m, e, p) (n, f, q) = pieces_same r s (sym p ∙ ap (λ (x : Left). x.pieces) (ok_same m n (sym e ∙ f)) ∙ q)
 
@@ -88,7 +88,7 @@ from_same : (live : ℕ) (path : Path) (source target : RowsAtPoint) (x y : Evid
 from_same live path None target x y h k u v e = h ∙ sym k
 from_same live path (Some rows) target x y h k u v e = evidence_same (record { live = live; rows = rows; path = path }) target x y h k u v e
 
--- one piece, where what is left behind it is one
+-- one piece, where what is left after it is one
 piece_same : (x y : Evidence) (r s : List ℕ) → (evidence_text x ≡ evidence_text y → x ≡ y) → evidence_text x ++ r ≡ evidence_text y ++ s → r ≡ s →
     (x ≡ y) × (r ≡ s)
 piece_same x y r s same e rest =
@@ -196,7 +196,7 @@ module _ (P : Program) (g : Node) (states : List RowsAtPoint) (fit : (p : ℕ) �
         let more = listing_same ones twos h.1 k.1 u.1 v.1 x.1 in
         (λ i. x.0 i ∷ more i)
 
--- ---- the whole behind the head
+-- ---- the whole after the head
 pub one_body : (P : Program) (g : Node) (c d : Certificate) → Certifies P g c → Certifies P g d → length (sites_of P) < 10 ^ 63 → c.source ≡ d.source →
     body_text (paths_of P g) c ≡ body_text (paths_of P g) d → c ≡ d
 one_body P g c d h k small sources e =

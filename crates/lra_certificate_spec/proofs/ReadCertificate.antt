@@ -1,4 +1,4 @@
--- Lines that are taken are those of a certificate that meets its program.
+-- Lines that are accepted are those of a certificate that meets its program.
 use Rattle.std.proofs.Common.{◌≡◌, ◌⊎◌, ◌<◌, ◌≤◌, ◌+◌, ℕ, zero, suc, ℤ, pos, negsuc, Bool, true, false, List, [], ◌∷◌, ◌++◌, length, take, drop, get_or, refl, ap, sym, ◌∙◌, subst, arith, inl, inr}
 use Rattle.std.proofs.{Common.append_assoc, Common.append-nil, Common.Option, Common.Some, Common.None, Common.Ok, Common.nat_eq, lemmas.Bool.eqb-true, lemmas.Bool.cases_lt, lemmas.List.drop_all}
 use Rattle.std.proofs.{lemmas.List.Splits.join_with_byte-slice_split, lemmas.List.Sums.split_at_first, lemmas.List.Sums.passes_at_first, lemmas.Option.same_Some, lemmas.Option.none-some}
@@ -14,7 +14,7 @@ use Rattle.lra_certificate_spec.specs.{Claims.IsProgram, Claims.program_of, Clai
 use Rattle.lra_certificate_spec.proofs.ReadText.{ok_same, then_is, numbers_text_is, judged_states_text}
 use Rattle.lra_certificate_spec.proofs.{ReadPaths.paths_said, ReadPaths.listed_said, ReadPaths.end_said, SourceRows.sources_fit, SourceRows.denials_denied}
 
--- ---- behind the head
+-- ---- after the head
 abbrev pub as_certificate : List ℕ → List RowsAtPoint → List Evidence → List ListedAssertion → Certificate
 as_certificate source states paths asserted = record { source = source; states = states; paths = paths; asserted = asserted }
 

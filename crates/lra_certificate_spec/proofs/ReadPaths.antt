@@ -31,7 +31,7 @@ line_is : (o : Option (List ℕ)) (word : List ℕ) (m : Multipliers) → 0 < le
 line_is None word m h e = absurd (let c = ap length e in let d = length-append word (multipliers_text [] m) in omega (arith, h, c, d))
 line_is (Some line) word m h e = ap Some e
 
--- what a line gives that is taken
+-- what a line gives that is accepted
 pub record Taken (a : PathPremises) (word : List ℕ) (claim : SymbolicState → Result (List ℤ) Excess) (l next : Left) : Type 0 where
   pub m : Multipliers
   pub w : SymbolicState

@@ -1,4 +1,4 @@
--- The text of a certificate that meets its program is read, and taken with its numbers.
+-- The text of a certificate that meets its program is read, and accepted with its numbers.
 use Rattle.std.proofs.Common.{◌≡◌, ◌⊎◌, ◌<◌, ◌≤◌, ◌+◌, ◌^◌, ℕ, zero, suc, ℤ, pos, Bool, true, false, List, [], ◌∷◌, ◌++◌, length, take, drop, get_or, refl, ap, sym, ◌∙◌, subst, arith, inl, inr}
 use Rattle.std.proofs.Common.{append_assoc, append-nil, Option, Some, None, Ok, nat_eq, length-append}
 use Rattle.std.proofs.{Math.Seq.take-append_seam, Math.Seq.drop-append-add, lemmas.Bool.cases_lt, lemmas.Fmt.decimal_is_IsNumeral_wide, lemmas.Grind.common_steps, lemmas.List.Sums.position_or_len_is}
@@ -181,7 +181,7 @@ module _ (P : Program) (g : Node) (states : List RowsAtPoint) (fit : (p : ℕ) �
             numbers = h.numbers.1;
           }) e)))
 
--- ---- the whole behind the head
+-- ---- the whole after the head
 pub edges_other : (paths : List Path) (ls : List Evidence) (rest : List ℕ) → IsOther rest → IsOther (edges_text paths ls ++ rest)
 edges_other [] ls rest k = k
 edges_other (path ∷ paths) [] rest k = k

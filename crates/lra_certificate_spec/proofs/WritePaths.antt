@@ -1,4 +1,4 @@
--- Paths and assertions that are written are read again, and taken.
+-- Paths and assertions that are written are read again, and accepted.
 use Rattle.std.proofs.Common.{◌≡◌, ℕ, suc, ℤ, Bool, false, List, [], ◌∷◌, ◌++◌, length, drop, refl, ap, sym, ◌∙◌, subst, arith, append_assoc, append-nil, Option, Some, None, Result, Ok}
 use Rattle.std.specs.{Fmt.decimal, List.AllByRecursion, List.flat_map, Prelude.if◌then◌else◌, Prelude.codes}
 use Rattle.lra_linear_spec.specs.{Descriptions.LinearRow, Descriptions.system_of, declared.Excess.Excess}

@@ -29,7 +29,7 @@ row_begins g = by g.equal
     by true = refl
     by false = refl
 
--- the rows are read, and what is left is what stands behind them
+-- the rows are read, and what is left is what comes after them
 abbrev pub RowsRead : ℕ → ℕ → List LinearRow → List ℕ → List (List ℕ) → Type 0
 RowsRead live n gs rest pieces = (m : Left) × (judged_rows live n pieces ≡ Ok (gs, m)) × (m.pieces ≡ pieces_of rest)
 

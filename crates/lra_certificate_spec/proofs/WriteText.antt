@@ -144,7 +144,7 @@ multipliers_read word premises m h e =
     x) (h.0, (h.1, h.2)))
 
 -- ---- lines
--- the text and what is left behind it stand there
+-- the text and what is left after it stand there
 abbrev pub pieces_of : List ℕ → List (List ℕ)
 pieces_of bytes = slice_split (λ b. nat_eq b 10) bytes
 

@@ -67,7 +67,7 @@ head_text source = text_line (numbered_text (codes "certificate bytes") (length 
 abbrev pub end_text : List ℕ
 end_text = text_line (codes "end")
 
--- behind the source
+-- after the source
 abbrev pub body_text : List Path → Certificate → List ℕ
 body_text paths c = states_text 1 c.states ++ edges_text paths c.paths ++ flat_map listed_text c.asserted ++ end_text
 

@@ -73,7 +73,7 @@ IsShownInfeasible a m =
     (w : SymbolicState) × (executed_path a.live a.path.actions ≡ Ok w)
     × IsAnswer (premises_of a w) (contradiction a) m yes
 
--- the row of the target holds behind the path
+-- the row of the target holds after the path
 abbrev pub IsClaimImplied : PathPremises → List ℤ → Multipliers → Type 0
 IsClaimImplied a claim m = (w : SymbolicState) × (row : List ℤ) × (executed_path a.live a.path.actions ≡ Ok w)
     × (composed (width_of a.live a.path.actions) claim w.forms ≡ Ok row) × IsAnswer (premises_of a w) row m yes

@@ -41,7 +41,7 @@ abbrev pub RowsHoldAt : Option (List LinearRow) → List ℤ → Type 0
 RowsHoldAt None store = ⊥
 RowsHoldAt (Some rows) store = Con rows (pos 1 ∷ store)
 
--- in all runs the rows hold at their points, no run comes to an empty point, and no listed assertion is false
+-- in all runs the rows hold at their points, no run reaches an empty point, and no listed assertion is false
 pub record RowsHold (P : Program) (c : Certificate) : Type 0 where
   pub rows : (q : ℕ) (s : Site) (store : List ℤ) → slice_get (sites_of P) q ≡ Some s → At P (point_of s) store →
       RowsHoldAt (state_or_empty (slice_get c.states q)) store
@@ -97,7 +97,7 @@ pub data VerifyAnswer : Type 0 where
   paths_refused : ℕ → VerifyAnswer
   line_refused : Refused → VerifyAnswer
 
--- what an input deserves: exactly one answer, in this order
+-- what an input must get: exactly one answer, in this order
 abbrev pub VerifiesTo : List ℕ → VerifyAnswer → Type 0
 VerifiesTo bytes (verified points proved) = IsVerified bytes points proved
 VerifiesTo bytes (source_refused cause place) = (h : Head) × HasHead bytes h × Refuse Spells h.source cause place
@@ -109,7 +109,7 @@ VerifiesTo bytes (line_refused r) =
     ⊎ ((h : Head) × HasHead bytes h × (x : IsProgram h.source) × AreFewPaths (program_of x) x.operations
     × (judged (program_of x) x.operations h.rest ≡ Err r))
 
--- the lines are taken exactly where the input is a certificate that meets its program, with its numbers
+-- the lines are accepted exactly where the input is a certificate that meets its program, with its numbers
 pub record JudgedSo (bytes : List ℕ) (h : Head) (x : IsProgram h.source) (points proved : ℕ) : Type 0 where
   pub short : length bytes ≤ greatest_certificate
   pub head : head_of bytes ≡ Some h

@@ -1,5 +1,5 @@
 -- The lines of an input that is to be a certificate: the first that is refused, and why; or the numbers of points and
--- of listed assertions. Lines are counted from 1 behind the source. In one line the form comes first, with how many
+-- of listed assertions. Lines are counted from 1 after the source. In one line the form comes first, with how many
 -- numbers stand there, how they are spelled and their range; then whether a product or a sum passes the range, of a
 -- form in symbols before the check's; then whether the line shows its claim.
 use Rattle.std.specs.List.{list_all, slice_split, starts_with, before_first, after_first}
@@ -68,7 +68,7 @@ numbers_in (word ∷ words) = then_number (number_in word) (numbers_in words)
 abbrev pub words_of : List ℕ → List (List ℕ)
 words_of line = slice_split (λ b. nat_eq b 32) line
 
--- the numbers behind the text, each behind one space, where they are so many
+-- the numbers after the text, each after one space, where they are so many
 abbrev pub so_many : ℕ → Option (List ℤ) → Option (List ℤ)
 so_many n None = None
 so_many n (Some zs) = if nat_eq (length zs) n then Some zs else None
@@ -84,7 +84,7 @@ numbers_after text n line = if starts_with nat_eq line text
 
 -- lines ------------------------------------------------------------------------------------------------------------
 
--- the lines that are left, and the number of the first of them; what stands behind the last line feed is no line
+-- the lines that are left, and the number of the first of them; what comes after the last line feed is no line
 pub record Left : Type 0 where
   pub number : ℕ
   pub pieces : List (List ℕ)
@@ -278,7 +278,7 @@ module _ (P : Program) (g : Node) (states : List RowsAtPoint) where
       (λ next. one_more (judged_listed (suc q) sites next))
       else judged_listed (suc q) sites l
 
--- `end`, and nothing behind it
+-- `end`, and nothing after it
 abbrev pub is_nothing : List (List ℕ) → Bool
 is_nothing [] = true
 is_nothing ([] ∷ []) = true
@@ -295,7 +295,7 @@ counted points r = then_judged (judged_end r.1) (λ m. Ok (points, r.0))
 abbrev pub lines_left : List ℕ → Left
 lines_left bytes = record { number = 1; pieces = slice_split (λ b. nat_eq b 10) bytes }
 
--- what stands behind the source
+-- what comes after the source
 abbrev pub judged : Program → Node → List ℕ → Judged (ℕ × ℕ)
 judged P g bytes =
     then_judged (judged_states 1 (sites_of P) (lines_left bytes)) (λ r.
@@ -308,7 +308,7 @@ pub record Head : Type 0 where
   pub source : List ℕ
   pub rest : List ℕ
 
--- so many bytes, and a line feed behind them
+-- so many bytes, and a line feed after them
 abbrev pub has_feed : Option ℕ → Bool
 has_feed None = false
 has_feed (Some b) = nat_eq b 10

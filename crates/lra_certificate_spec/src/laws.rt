@@ -4,18 +4,18 @@ ghost use Rattle.lra_certificate_spec.specs.Claims.{CertificatesHold, Certificat
 ghost use Rattle.lra_certificate_spec.specs.Claims.{OneCertificate};
 
 /// What a certificate that meets its program says of stores is kept along all paths, and where that holds in all runs
-/// its rows do, nothing comes to its empty points, and none of its listed assertions is false.
+/// its rows do, nothing reaches its empty points, and none of its listed assertions is false.
 pub fn certificates_are_inductive()
     ensures { CertificatesAreInductive }
 {}
 
-/// Of a text that is a certificate the rows hold at their points in all runs of its program, no run comes to an empty
+/// Of a text that is a certificate the rows hold at their points in all runs of its program, no run reaches an empty
 /// point, and no listed assertion is ever false.
 pub fn certificates_hold()
     ensures { CertificatesHold }
 {}
 
-/// The lines behind the head are taken exactly where the input is a certificate that meets its program, with its
+/// The lines after the head are accepted exactly where the input is a certificate that meets its program, with its
 /// numbers.
 pub fn judged_exactly()
     ensures { JudgedExactly }

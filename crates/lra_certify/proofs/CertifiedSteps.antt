@@ -251,7 +251,7 @@ module _ (P : Program) (g : Node) (w : AnnotatedProgram) (ways : IsAnnotatedProg
   certified proved old bytes nothing listable h =
       all_certified proved bytes listable (subst (λ (t : List ℕ). AddsBody w proved t bytes) nothing h)
 
-  -- the first path that strains
+  -- the first path that exceeds a limit
   assertion_is : (proved : List ℕ) (q : ℕ) → Stops (IsListed w) (written.AssertionStops w) proved q →
       Stops (IsListedFound P g states) (AssertionStops P g states) proved q
   assertion_is proved q h = record {

@@ -96,7 +96,7 @@ module _ (g : PathFacts) (row : List ℤ) where
   abbrev claims : Bool → List (List ℤ)
   claims equal = with_row equal row []
 
-  -- behind the row itself
+  -- after the row itself
   abbrev behind : Bool → List (List ℤ)
   behind equal = cond equal (negated row ∷ []) []
 

@@ -334,7 +334,7 @@ pub list_first : (paths : List (Vec (Bor Change) Global)) (i : ℕ) (p : Vec (Bo
 list_first paths i p steps h is e =
     lists_next paths i p h is ∙ ap (λ (s : List Action). s ∷ lists_done (drop (i + 1) paths)) (sym e)
 
--- ---- a path from a source that isn't empty, as its lines are told
+-- ---- a path from a source that isn't empty, as its lines are reported
 module _ (w : AnnotatedProgram) (path : Path) (n : ℕ) (from to : RowsAtPoint) (live_is : n ≡ live_by (sites_in w) path.source)
     (from_is : from ≡ state_from (states_in w) path.source) (to_is : to ≡ state_to (states_in w) path.goal) where
   pub path_adds : {X : Type 0} (old middle new : List ℕ) → middle ≡ old ++ text_line (edge_text path) → (r : Result X PathFailure) →

@@ -1,4 +1,4 @@
--- Lines of rows, of points and of multipliers, one behind the other.
+-- Lines of rows, of points and of multipliers, one after the other.
 use Rattle.std.proofs.Common.{◌≡◌, ◌≤◌, ◌<◌, ◌+◌, ◌++◌, ◌∷◌, [], ℕ, suc, ℤ, List, length, map, Option, Some, None, codes, refl, ap, sym, ◌∙◌, subst, Result, Ok, Err, OnOk, IfSome, drop, take}
 use Rattle.std.proofs.{Common.slice_index_or, Common.drop-cons, Common.option_copied, Common.arith, Common.add-one, Common.append_assoc, Common.append-nil, Math.Seq.take-suc, lemmas.List.take_all}
 use Rattle.std.proofs.{lemmas.List.Elements.All-contains, lemmas.List.Elements.All-append, lemmas.List.Elements.All-cons, lemmas.List.Elements.All-nil, lemmas.Result.on_ok_weaker}

@@ -26,7 +26,7 @@ composed_at n k cs forms row u w e =
 abbrev pub point_at : List ℤ → SymbolicState → List ℤ
 point_at u w = entry u 0 ∷ values u w.forms
 
--- the tests so far hold, and the steps lead from the values of the forms to those behind them
+-- the tests so far hold, and the steps lead from the values of the forms to those after them
 abbrev GoesBack : List ℤ → List Action → SymbolicState → SymbolicState → Type 0
 GoesBack u steps w x = Con w.tests u × PointLeadsAll steps (point_at u w) (point_at u x)
 
@@ -124,7 +124,7 @@ product_behind [] u k = dot_zeros k (entry u)
 product_behind (c ∷ cs) [] k = product_none (c ∷ cs ++ zeros k) ∙ sym (product_none (c ∷ cs))
 product_behind (c ∷ cs) (y ∷ ys) k = ap (λ (z : ℤ). (c *ℤ y) +ℤ z) (product_behind cs ys k)
 
--- a row with zeros behind it holds at a point where the row does at the first columns
+-- a row with zeros after it holds at a point where the row does at the first columns
 pub padded_holds : (width live : ℕ) (g : LinearRow) (u : List ℤ) → length g.row ≡ suc live → Holds (padded width g) u → Holds g (take (suc live) u)
 padded_holds width live g u e h =
     subst (λ (z : ℤ). HoldsWith g.equal z)

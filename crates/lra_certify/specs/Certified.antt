@@ -1,5 +1,5 @@
--- What is written of a program: the text of a certificate that meets it, with given rows and listed assertions; or why
--- there is none.
+-- What is written of a program: the text of a certificate that meets it, with widening thresholds and listed
+-- assertions; or why there is none.
 use Rattle.std.specs.Prelude.{◌≡◌, ◌<◌, ℕ, ⊤, true, List, [], ◌∷◌, Some, slice_get, Contains}
 use Rattle.lra_program.specs.{Program.Program, Sites.Site, Sites.sites_of}
 use Rattle.lra_operations.specs.Tree.{Node}
@@ -43,7 +43,7 @@ pub record IsCertified (P : Program) (g : Node) (states : List RowsAtPoint) (pro
   pub paths_first : AllZip (IsEvidenceFor (sites_of P) states) (paths_of P g) paths
   pub asserted_first : AllZip (IsListedFound P g states) proved asserted
 
--- a path that strains, to all before which there is evidence: edges before assertions
+-- a path that exceeds a limit, to all before which there is evidence: edges before assertions
 pub record StopsAtEdge (P : Program) (g : Node) (states : List RowsAtPoint) (p q : ℕ) : Type 0 where
   pub path : Path
   pub source : path.source ≡ p

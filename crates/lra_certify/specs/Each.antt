@@ -17,7 +17,7 @@ each_text show [] ys = []
 each_text show (x ∷ xs) [] = []
 each_text show (x ∷ xs) (y ∷ ys) = show x y ++ each_text show xs ys
 
--- what has been found of each has come behind a text
+-- what has been found of each has come after a text
 pub record AddsEach {A B : Type 0} (Is : A → B → Type 0) (show : A → B → List ℕ) (xs : List A) (old new : List ℕ)
     : Type 0 where
   pub found : List B

@@ -51,7 +51,7 @@ IsEvidenceFrom live path (Some rows) target evidence =
 
 -- strain -------------------------------------------------------------------------------------------------------------
 
--- the claim passes over the symbols, or its multipliers strain
+-- the claim passes over the symbols, or its multipliers exceed a limit
 abbrev pub ClaimStrains : PathPremises → SymbolicState → List ℤ → Type 0
 ClaimStrains a w claim = ((e : Excess) × (claim_of a claim w ≡ Err e))
     ⊎ ((row : List ℤ) × (claim_of a claim w ≡ Ok row) × MultipliersStrain (premises_of a w) row)
@@ -60,7 +60,7 @@ abbrev pub claims_to : RowsAtPoint → List (List ℤ)
 claims_to None = []
 claims_to (Some rows) = system_of rows
 
--- multipliers strain: those of -1 >= 0 or, where none show that, of a claim; or that claim passes
+-- multipliers exceed a limit: those of -1 >= 0 or, where none show that, of a claim; or that claim passes
 abbrev pub EvidenceStrains : PathPremises → RowsAtPoint → SymbolicState → Type 0
 EvidenceStrains a target w = MultipliersStrain (premises_of a w) (contradiction a)
     ⊎ (IsNotShownInfeasible a × (claim : List ℤ) × Contains (claims_to target) claim × ClaimStrains a w claim)
@@ -70,7 +70,7 @@ abbrev pub PathStrains : PathPremises → RowsAtPoint → Type 0
 PathStrains a target = ((e : Excess) × (executed_path a.live a.path.actions ≡ Err e))
     ⊎ ((w : SymbolicState) × (executed_path a.live a.path.actions ≡ Ok w) × EvidenceStrains a target w)
 
--- nothing is computed of a path from a source where nothing comes, so it never strains, whatever its forms are
+-- nothing is computed of a path from a source where nothing comes, so it never exceeds a limit, whatever its forms are
 abbrev pub StrainsFrom : ℕ → Path → RowsAtPoint → RowsAtPoint → Type 0
 StrainsFrom live path None target = ⊥
 StrainsFrom live path (Some rows) target = PathStrains (record { live = live; rows = rows; path = path }) target
@@ -86,6 +86,6 @@ abbrev pub StrainsAlong : List Site → List RowsAtPoint → Path → Type 0
 StrainsAlong sites states path =
     StrainsFrom (live_by sites path.source) path (state_from states path.source) (state_to states path.goal)
 
--- one path strains, and to all before it there is evidence
+-- one path exceeds a limit, and to all before it there is evidence
 abbrev pub StopsIn : List Site → List RowsAtPoint → List Path → Path → Type 0
 StopsIn sites states paths path = Stops (IsEvidenceFor sites states) (StrainsAlong sites states) paths path

@@ -1,4 +1,4 @@
--- Lines of one path as the code writes them, over its premises and the rows of the variables behind it.
+-- Lines of one path as the code writes them, over its premises and the rows of the variables after it.
 use Rattle.std.specs.Prelude.{◌≡◌, ◌⊎◌, ◌++◌, ◌≤ℤ◌, suc, ℤ, pos, ℕ, List, ◌∷◌, map, codes, Result, Ok, Err, Option}
 use Rattle.std.specs.Prelude.{None, Some, Contains}
 use Rattle.lra_linear_spec.specs.{Descriptions.Con, Descriptions.system_of, Points.IsPoint, Points.IsEmptySet}
@@ -66,7 +66,7 @@ IsLineFailure g claim NotImplied = IsNotShown g claim
 IsLineFailure g claim Strained = LineStrains g claim
 IsLineFailure g claim Memory = Unit {0}
 
--- a fact of what strains, unless memory was wanting
+-- a fact of what exceeds a limit, unless memory ran out
 abbrev pub IfStrained : Type 0 → PathFailure → Type 0
 IfStrained X of_path.Strained = X
 IfStrained X of_path.Memory = Unit {0}
@@ -98,7 +98,7 @@ IsEvidence g None (implies ms) = ⊥
 IsEvidence g (Some rows) (implies ms) =
     IsNotShown g None × AllZip (IsClaimLine g) (system_of rows) ms
 
--- what is said has come behind a text
+-- what is said has come after a text
 pub record AddsEvidence (Is : Evidence → Type 0) (old new : List ℕ) : Type 0 where
   pub evidence : Evidence
   pub is : Is evidence

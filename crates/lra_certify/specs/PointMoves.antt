@@ -12,7 +12,7 @@ PointLeads (test kind e) x y = Holds (record { row = form_row e; equal = is_equa
 PointLeads (embed k) x y = (added : List ℤ) × (length added ≡ k) × (y ≡ x ++ added)
 PointLeads (remove_last k) x y = y ≡ take (suc (length x - suc k)) x
 
--- one behind the other
+-- one after the other
 abbrev pub PointLeadsAll : List Action → List ℤ → List ℤ → Type 0
 PointLeadsAll [] x y = y ≡ x
 PointLeadsAll (step ∷ steps) x y = (z : List ℤ) × PointLeads step x z × PointLeadsAll steps z y

@@ -81,7 +81,7 @@ SomeDeadStops live rows lists =
 abbrev pub SomePathStops : AnnotatedProgram → List Path → Type 0
 SomePathStops w paths = (path : Path) × StopsIn (sites_in w) (states_in w) paths path
 
--- which path strains
+-- which path exceeds a limit
 abbrev pub IsAt : StrainedAt → Path → Type 0
 IsAt (Edge p q) path = (path.source ≡ p) × (path.goal ≡ comes_to q)
 IsAt (Assertion q) path = path.goal ≡ violates q

@@ -1,4 +1,4 @@
-//! The lines behind the source of a certificate.
+//! The lines after the source of a certificate.
 
 ghost use Rattle.std.specs.List.{All};
 ghost use Rattle.std.specs.Prelude.{◌≡◌, ◌<◌, ◌^◌, map, length, OnOk, IfOk, IfErr, string_bytes};
@@ -21,7 +21,7 @@ use lra_systems::ConSys;
 use lra_verify::{AnnotatedProgram, all_sources};
 use std::alloc::Global;
 
-/// Appends all lines behind the source, with these assertions listed.
+/// Appends all lines after the source, with these assertions listed.
 fn push_body(
     text: &mut String,
     alloc: Global,
@@ -43,7 +43,7 @@ fn push_body(
     Ok(())
 }
 
-/// The lines behind the source of a certificate that has these rows at the points of the program, none where nothing
+/// The lines after the source of a certificate that has these rows at the points of the program, none where nothing
 /// comes there, and lists the assertions at these points; or the first path to which no multipliers are found.
 pub fn certify(
     alloc: Global,

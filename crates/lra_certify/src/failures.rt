@@ -8,7 +8,7 @@ use std::alloc::AllocError;
 /// Why the lines of a path aren't written.
 #[derive(Clone, Copy, Debug, PartialEq, Eq)]
 pub enum PathFailure {
-    /// A form of the path passes, or the conversion for multipliers strains.
+    /// A form of the path passes, or the conversion for multipliers exceeds a limit.
     Strained,
     Memory,
 }
@@ -24,8 +24,8 @@ impl From<AllocError> for PathFailure {
     }
 }
 
-/// Which path strains: one from a source to a point, or one to where the assertion at a point is false. Points are
-/// numbered from 0 here; the source 0 is the start, and points are the sources from 1 on.
+/// Which path exceeds a limit: one from a source to a point, or one to where the assertion at a point is false. Points
+/// are numbered from 0 here; the source 0 is the start, and points are the sources from 1 on.
 #[derive(Clone, Copy, Debug, PartialEq, Eq)]
 pub enum StrainedAt {
     Edge(usize, usize),

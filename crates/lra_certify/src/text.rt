@@ -22,7 +22,7 @@ use lra_systems::ConSys;
 use std::alloc::AllocError;
 use std::fmt::Write;
 
-/// Appends the numbers, each behind a space.
+/// Appends the numbers, each after a space.
 fn push_numbers(text: &mut String, numbers: &[i128]) -> Result<(), AllocError>
     ensures { OnOk result (string_bytes text.new ≡ string_bytes text.old ++
         numbers_text numbers.now) }

@@ -92,7 +92,7 @@ module _ (t : FileTree) (g : Node) (sites : List Site) (has : HasInlinedTree t g
       ∙ wide q v value s (ap (λ (l : List Site). slice_get l q) (sym has.points) ∙ site)
       ∙ sym (ap live_of site)
 
--- what is told of lines by states and assertions that are the same, of a program that is the same
+-- what is reported about lines by states and assertions that are the same, of a program that is the same
 module _ (P Q : Program) (g : Node) (is : P ≡ Q) where
   pub few_so : {X E : Type 0} (r : Result X E) → OnOk r (AreFewPaths P g) → OnOk r (AreFewPaths Q g)
   few_so (Ok x) h = subst (λ (p : Program). AreFewPaths p g) is h

@@ -27,7 +27,7 @@ use Rattle.lra_certify_source.proofs.{Listing.proved_there, TakenSteps.in_state,
 same_row : (x y : List ℤ) → y ≡ x → SamePoint y x
 same_row x y e = subst (λ (z : List ℤ). SamePoint z x) (sym e) (λ j. refl)
 
--- a divisor with numbers behind it
+-- a divisor with numbers after it
 point_by : (n : ℕ) (d : ℤ) (xs ys : List ℤ) → IsPoint n (d ∷ xs) → (m : ℕ) → length ys ≡ m → IsPoint m (d ∷ ys)
 point_by n d xs ys p m wide = record { width = ap suc wide; divisor = p.divisor }
 

@@ -1,4 +1,4 @@
--- What is written is a certificate; and a path that strains leads to a point.
+-- What is written is a certificate; and a path that exceeds a limit leads to a point.
 use Rattle.std.proofs.Common.{◌≡◌, ◌∙◌, ◌≤◌, ◌<◌, ℕ, List, [], ◌∷◌, ◌++◌, length, map, refl, ap, ap₂, sym, subst, arith}
 use Rattle.std.proofs.{lemmas.List.Elements.Contains-append_right, lemmas.Option.slice_get_within}
 use Rattle.std.specs.{List.flat_map, Prelude.Contains}

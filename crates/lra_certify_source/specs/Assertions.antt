@@ -1,4 +1,4 @@
--- The assertions among a report's verdicts. Certificates tell of these alone, and so does the status with which they
+-- The assertions among a report's verdicts. Certificates say of these alone, and so does the status with which they
 -- are written: of what fits, and of accesses, they say nothing.
 use Rattle.std.specs.List.{filter}
 use Rattle.std.specs.Prelude.{ℕ, List, Bool, true, false, ◌&&◌, not, map, count_by}

@@ -1,4 +1,4 @@
--- What a source deserves that is to be certified: a certificate with the rows, the empty points and the proved
+-- What a source must get that is to be certified: a certificate with the rows, the empty points and the proved
 -- assertions of its report; or why it has none.
 use Rattle.std.specs.Prelude.{◌≡◌, ◌<◌, ◌^◌, ℕ, suc, ⊤, List, [], ◌∷◌, ◌++◌, map, Option, None, Some, option_map}
 use Rattle.lra_syntax.specs.Grammar.{Spells}
@@ -62,7 +62,7 @@ CertifiedAreCertificates = (source : List ℕ) (r : Report) (bytes : List ℕ) �
 
 -- refusals ---------------------------------------------------------------------------------------------------------
 
--- with the rows and the proved assertions of this report a path strains
+-- with the rows and the proved assertions of this report a path exceeds a limit
 pub record IsStrainedAt (source : List ℕ) (r : Report) (at : StrainedAt) : Type 0 where
   pub answered : IsAnalysisReport certify_options source r
   pub states : List RowsAtPoint
@@ -70,7 +70,7 @@ pub record IsStrainedAt (source : List ℕ) (r : Report) (at : StrainedAt) : Typ
   pub handed : IsHanded source r states proved
   pub stops : StopsAt (program_of handed.program) handed.program.operations states proved at
 
--- its own refusal; too many paths from the source of this number; or strain with a report that it deserves
+-- its own refusal; too many paths from the source of this number; or a limit exceeded with a report that it must get
 abbrev pub IsCertifyRefusalOf : List ℕ → CertifyRefusal → Type 0
 IsCertifyRefusalOf source (Source r) = Refuse Spells source r.cause r.place
 IsCertifyRefusalOf source (Paths p) = (x : IsProgram source) × HasTooManyPaths (program_of x) x.operations p
@@ -82,7 +82,7 @@ ManyAreRefused = (source : List ℕ) (x : IsProgram source) (p : ℕ) → HasToo
     ((r : Report) (bytes : List ℕ) → IsCertificateOf source r bytes → ⊥)
     × ((refusal : CertifyRefusal) → IsCertifyRefusalOf source refusal → refusal ≡ Paths p)
 
--- a path that strains leads to a point that a number of 31 bits counts
+-- a path that exceeds a limit leads to a point that a number of 31 bits counts
 abbrev pub HasSmallPoint : CertifyRefusal → Type 0
 HasSmallPoint (Source r) = ⊤
 HasSmallPoint (Paths p) = ⊤

@@ -1,5 +1,5 @@
 -- In the order in which they are to be read: the options, what is taken of an analysis, the assertions of a report,
--- what the report shows, and what a source deserves that is to be certified.
+-- what the report shows, and what a source must get that is to be certified.
 pub mod Settings
 pub mod Extraction
 pub mod Assertions

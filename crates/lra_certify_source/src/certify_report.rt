@@ -71,7 +71,7 @@ fn push_head(text: &mut String, length: usize) -> Result<(), AllocError>
     writeln!(text, "certificate bytes {length}")
 }
 
-/// A certificate of a source, with these lines behind it.
+/// A certificate of a source, with these lines after it.
 fn text_of(alloc: Global, source: &[u8], body: &str) -> Result<Vec<u8>, AllocError>
     ensures { IfOk result (λ text. text.items ≡ head_text source.now ++ body.now) }
 {
@@ -84,7 +84,7 @@ fn text_of(alloc: Global, source: &[u8], body: &str) -> Result<Vec<u8>, AllocErr
     Ok(text)
 }
 
-/// The lines behind the source, by what the iteration found of its program.
+/// The lines after the source, by what the iteration found of its program.
 fn certify_solution(
     alloc: Global,
     front: &AcceptedSource,
@@ -134,8 +134,8 @@ fn solve(alloc: Global, front: &AcceptedSource) -> Result<Solution<Polyhedron>, 
     Ok(solution)
 }
 
-/// The certificate of a source, with the report of its analysis without narrowing; or its one refusal. Memory may be
-/// wanting. A source past the limit of 65,536 bytes is refused by its first bytes, so that no more than one byte past
+/// The certificate of a source, with the report of its analysis without narrowing; or its one refusal. Memory may run
+/// out. A source past the limit of 65,536 bytes is refused by its first bytes, so that no more than one byte past
 /// the limit need be given.
 pub fn certify_source(alloc: Global, bytes: &[u8]) -> Result<CertifiedReport, CertifyError>
     requires { length bytes.now + 1 < 2 ^ 32 }

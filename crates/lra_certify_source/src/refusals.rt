@@ -11,7 +11,7 @@ pub enum CertifyRefusal {
     Source(Refusal),
     /// More than 1,024 paths lead from the source of this number to one point, or to where one assertion is false.
     Paths(usize),
-    /// A form of this path passes, or its multipliers strain.
+    /// A form of this path passes, or its multipliers exceed a limit.
     Strained(StrainedAt),
 }
 

@@ -4,7 +4,7 @@ use Rattle.std.specs.Prelude.{Option, Some, None}
 use Rattle.lra_base.specs.Places.{greatest_length}
 use Rattle.lra_command_answers.specs.{Statuses.Ends, Statuses.refused, Statuses.source_statuses, declared.status.Status.Status}
 
--- with values in their ranges, a limit of bytes, what its input deserves, and the statuses of its answers: all of them,
+-- with values in their ranges, a limit of bytes, what its input must get, and the statuses of its answers: all of them,
 -- and by the bytes
 pub record IsAnswering (ranges : Type 0) (limit : Option ℕ) (deserves : List ℕ → List ℕ → Status → Type 0) (statuses : List Status) (calls : List ℕ → List Status → Type 0) : Type 0 where
   -- the limit is far below what numbers of 32 bits count

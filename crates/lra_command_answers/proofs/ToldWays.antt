@@ -1,4 +1,4 @@
--- From what a source deserves of which something is told to how a call ends that answers it.
+-- From what a source must get of which something is reported to how a call ends that answers it.
 use Rattle.std.proofs.Common.{◌≡◌, ◌≤◌, ◌<◌, ℕ, List, ◌∷◌, ◌++◌, length, take, subst, sym, arith, inl, inr}
 use Rattle.std.proofs.{lemmas.Grind.common_steps, lemmas.List.take-append-le}
 use Rattle.std.specs.Prelude.{Some}
@@ -12,7 +12,7 @@ use Rattle.lra_command_answers.specs.Statuses.{Ends, reported, refused, source_s
 use Rattle.lra_command_answers.specs.{SourceAnswers.AnswersSourceWith, SourceAnswers.AllowedSourceStatuses, declared.status.Status.Status, declared.status.Status.TheVariants.Refused}
 use Rattle.lra_command_answers.proofs.Answering.{IsAnswering, small, past}
 
--- it is told of accepted sources alone, and with these statuses
+-- it is reported of accepted sources alone, and with these statuses
 pub record IsTelling (Tells : List ℕ → List ℕ → Status → Type 0) (told : List Status) : Type 0 where
   pub accepted : (bytes text : List ℕ) (status : Status) → Tells bytes text status → (t : FileTree) × Accepts Spells bytes t
   pub ends : (bytes text : List ℕ) (status : Status) → Tells bytes text status → Ends told status
@@ -38,7 +38,7 @@ longer_refused bytes rest _ _ long (bad_tree tokens t c p l lexed is e) = absurd
 
 -- answers -------------------------------------------------------------------------
 
--- a source that is refused deserves its refusal's text
+-- a source that is refused must get its refusal's text
 pub deserves_refusal : (Tells : List ℕ → List ℕ → Status → Type 0) (bytes text : List ℕ) (c : Cause) (at : Place) (status : Status) → Refuse Spells bytes c at → text ≡ refusal_text c at
     → status ≡ Refused → AnswersSourceWith Tells bytes text status
 deserves_refusal Tells bytes text c at status why written is = inl (record { cause = c; place = at; refused = why; written = written }, is)

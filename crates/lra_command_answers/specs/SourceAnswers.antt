@@ -1,4 +1,5 @@
--- What a source deserves of which a command tells something: the text of its one refusal, or what is told of it.
+-- What a source must get of which a command reports something: the text of its one refusal, or what is reported about
+-- it.
 use Rattle.std.specs.Prelude.{◌≡◌, ◌⊎◌, ℕ, List}
 use Rattle.lra_base.specs.{declared.refusals.Cause.Cause, declared.refusals.Place.Place}
 use Rattle.lra_syntax.specs.{Grammar.Spells, Trees.FileTree}
@@ -15,11 +16,11 @@ pub record IsRefusal (bytes text : List ℕ) : Type 0 where
   pub refused : Refuse Spells bytes cause place
   pub written : text ≡ refusal_text cause place
 
--- the text and the status that a source's bytes deserve, where these are told of it
+-- the text and the status that a source's bytes must get, where these are reported of it
 abbrev pub AnswersSourceWith : (List ℕ → List ℕ → Status → Type 0) → List ℕ → List ℕ → Status → Type 0
 AnswersSourceWith Tells bytes text status = (IsRefusal bytes text × (status ≡ Refused)) ⊎ Tells bytes text status
 
--- by one of these a source is answered: its refusal, where it has one, and where it is accepted what is told, whose
+-- by one of these a source is answered: its refusal, where it has one, and where it is accepted what is reported, whose
 -- statuses these are
 abbrev pub AllowedSourceStatuses : List Status → List ℕ → List Status → Type 0
 AllowedSourceStatuses told bytes among = (HasRefusal bytes × (among ≡ refused))

@@ -9,7 +9,7 @@ abbrev pub Ends : List Status → Status → Type 0
 Ends [] status = ⊥
 Ends (one ∷ more) status = (status ≡ one) ⊎ Ends more status
 
--- a report, or what is told of one, is written
+-- a report, or what is reported about one, is written
 abbrev pub reported : List Status
 reported = Proved ∷ Unknown ∷ []
 

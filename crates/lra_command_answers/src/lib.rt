@@ -1,5 +1,5 @@
-//! What a command answers: a text, and the status with which it is written. To a source of which something is told,
-//! that is what is told of it, or its refusal.
+//! What a command answers: a text, and the status with which it is written. To a source of which something is reported,
+//! that is what is reported about it, or its refusal.
 #![tactic(auto)]
 
 mod answer;

@@ -5,9 +5,10 @@ ghost use Rattle.lra_command_answers.specs.Exit.{exit_of};
 /// How a call of the analyser's `run` ended.
 #[derive(Clone, Copy, Debug, PartialEq, Eq)]
 pub enum Status {
-    /// The report, or what is told of a sample's, is written, and each assertion is proved; or a script's output is.
+    /// The report, or what is reported about a sample's, is written, and each assertion is proved; or a script's output
+    /// is.
     Proved,
-    /// The report, or what is told of a sample's, is written, and some verdict is unknown.
+    /// The report, or what is reported about a sample's, is written, and some verdict is unknown.
     Unknown,
     /// The refusal of the source or the script is written.
     Refused,
@@ -15,7 +16,7 @@ pub enum Status {
     Usage,
     /// The source failed; nothing is written.
     ReadFault,
-    /// The sink failed; a front of the text is written.
+    /// The sink failed; a prefix of the text is written.
     WriteFault,
     /// Memory ran out; nothing is written.
     Memory,

@@ -40,7 +40,7 @@ pub flag_read : (rows : List Row) (so : Option Options) (o : Options) (option : 
     → flag_at (flag_row option).name rows ≡ Some value → with_flag rows so option ≡ Some (set_flag option value o)
 flag_read rows so o option value is read = rw (is, read) refl
 
--- `more` behind `x` is still to be read
+-- `more` after `x` is still to be read
 pub read_on : {A : Type 0} (step : Option Options → A → Option Options) (read next start : Options) (x : A) (xs more all : List A)
     → fold step (Some read) xs ≡ fold step (Some start) all → xs ≡ x ∷ more → step (Some read) x ≡ Some next
     → fold step (Some next) more ≡ fold step (Some start) all

@@ -170,7 +170,7 @@ walk_fault_same s names w (word ∷ rest) =
     or_same _ _ _ _ (turn_same s names w word)
     (ap (λ (v : Walk). walk_fault (in_shape s) names v rest) (walked_same s.rules names w word) ∙ walk_fault_same s names (walked s.rules names w word) rest)
 
--- behind the walk --------------------------------------------------------------------------------
+-- after the walk ---------------------------------------------------------------------------------
 
 default_same : (rows : List Row) (a : Rule) → default_fault rows (in_rule a) ≡ default_fault rows a
 default_same rows a = if_same (has_row a.id rows || is_empty a.defaults) _ _ _ _ refl (ap (or_else (request_kinds (action_of a))) (values_same a a.defaults))

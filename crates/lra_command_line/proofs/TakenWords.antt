@@ -317,7 +317,7 @@ threads_taken parser words e =
 
 -- ---- the whole parse
 
--- the first of a list, or one behind it
+-- the first of a list, or one after it
 first_or : (C : Option Shape → Type 0) (test : Shape → Bool) (a : Shape) (rest : List Shape)
     → (test a ≡ true → C (Some a)) → C (find test rest) → C (find test (a ∷ rest))
 first_or C test a rest on_a later = go (test a) refl
@@ -326,7 +326,7 @@ first_or C test a rest on_a later = go (test a) refl
     go true is = rw is (on_a is)
     go false is = rw is later
 
--- one of the commands without options, or one behind them
+-- one of the commands without options, or one after them
 plain_or : (C : Option Shape → Type 0) (test : Shape → Bool) (shape : PlainCommand → Shape) (cs : List PlainCommand) (rest : List Shape)
     → ((c : PlainCommand) → test (shape c) ≡ true → C (Some (shape c))) → C (find test rest) → C (find test (map shape cs ++ rest))
 plain_or C test shape [] rest on_each later = later

@@ -122,7 +122,7 @@ abbrev pub subcommands : List Subcommand
 subcommands = sub.Analyse ∷ sub.Sample ∷ sub.Back ∷ sub.Threads
     ∷ map sub.Plain plain_commands
 
--- the program, of which a subcommand has to be named, and which tells its version
+-- the program, of which a subcommand has to be named, and which reports its version
 abbrev pub begun : App
 begun =
     let a = new_app (codes "lra") in

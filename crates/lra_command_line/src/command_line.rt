@@ -2,7 +2,7 @@
 //! required, options that stand once each, in any order, and at most one file.
 //!
 //! Each number is declared as a `u64` with its range, so that all numbers are written alike: decimal
-//! digits after at most one plus. Which subcommand takes what is a table; what help tells of it
+//! digits after at most one plus. Which subcommand takes what is a table; what help says of it
 //! stands in `texts`.
 ghost use Rattle.std.specs.Prelude.{◌≡◌, IfOk, false};
 ghost use Rattle.lra_options.specs.OptionRows.{flag_row, number_row};

@@ -2,7 +2,7 @@
 //!
 //! [`words::parse_command`] declares the command line to `clap`, parses the words and answers the command
 //! of the matches; [`requests::read_request`] answers what the program does before its command runs: the file that
-//! is named, help, the version, or why the words aren't taken.
+//! is named, help, the version, or why the words aren't accepted.
 #![tactic(auto)]
 
 mod command_line;

@@ -1,4 +1,4 @@
-//! What help tells, and the version. No clause speaks of these texts: they are only tested.
+//! What help reports, and the version. No clause speaks of these texts: they are only tested.
 
 use crate::command_line::{Argument, Subcommand};
 use crate::commands::PlainCommand;

@@ -382,7 +382,7 @@ pub(crate) fn ask<'a>(alloc: Global, words: &'a [String]) -> Result<Asked<'a>, U
 /// The command that the words give; the first word is the program's name.
 ///
 /// `Usage` comes exactly where the command line doesn't take the words, or where options are among them that can't be
-/// given together; `Memory` only for want of memory. Nothing is printed.
+/// given together; `Memory` only when memory runs out. Nothing is printed.
 pub fn parse_command(alloc: Global, words: &[String]) -> Result<Command, Refusal>
     ensures usage { result ≡ Err Refusal.Usage →
         AsksNone (map string_bytes words.now) × IsRejected (map string_bytes words.now) }

@@ -1,4 +1,4 @@
--- From what a source deserves that is gone back over to what is claimed of its report.
+-- From what a source must get that is gone back over to what is claimed of its report.
 use Rattle.std.proofs.Common.{◌≡◌, ℕ, suc, List, subst, inl, inr}
 use Rattle.std.specs.{Io.KnownBytes.Appends, Prelude.Option}
 use Rattle.lra_certificate_spec.proofs.OneProgram.{accepted_of}

@@ -1,4 +1,4 @@
--- From what a source deserves that is gone back over to how a call ends that answers it.
+-- From what a source must get that is gone back over to how a call ends that answers it.
 use Rattle.std.proofs.Common.{◌≡◌, ◌≤◌, ◌<◌, ℕ, suc, ◌-◌, Bool, true, false, List, ◌++◌, length, refl, sym, subst, arith, inl, inr}
 use Rattle.std.specs.Prelude.{Some, Result, Ok, Err, IfOk}
 use Rattle.lra_base.specs.Places.{greatest_length}

@@ -1,4 +1,4 @@
--- From what an input deserves that is to be a certificate to how a call ends that answers it.
+-- From what an input must get that is to be a certificate to how a call ends that answers it.
 use Rattle.std.proofs.Common.{◌≡◌, ◌∙◌, ◌≤◌, ◌<◌, ◌+◌, ◌^◌, ℕ, List, ◌++◌, length, refl, ap, sym, subst, arith, inl, inr}
 use Rattle.std.proofs.lemmas.Grind.{common_steps}
 use Rattle.std.specs.Prelude.{Some}

@@ -1,4 +1,4 @@
--- From what a source deserves that is to be certified to what is claimed of its certificate.
+-- From what a source must get that is to be certified to what is claimed of its certificate.
 use Rattle.std.proofs.Common.{◌≡◌, ◌∙◌, ◌≤◌, ℕ, suc, List, [], ◌∷◌, length, refl, ap, sym, inl, inr}
 use Rattle.std.proofs.lemmas.List.{length-map}
 use Rattle.std.specs.{Io.KnownBytes.Appends, Prelude.Option}

@@ -1,4 +1,4 @@
--- From what a source deserves that is to be certified to how a call ends that answers it.
+-- From what a source must get that is to be certified to how a call ends that answers it.
 use Rattle.std.proofs.Common.{◌≡◌, ◌<◌, ℕ, List, ◌++◌, length, sym, subst, inl, inr}
 use Rattle.std.specs.Prelude.{Some}
 use Rattle.lra_base.specs.Places.{greatest_length}

@@ -1,4 +1,4 @@
--- From the parts of a call of `run` to the record that tells the whole, and from that to each of its clauses.
+-- From the parts of a call of `run` to the record that states the whole, and from that to each of its clauses.
 use Rattle.std.proofs.Common.{◌≡◌, ◌≢◌, ◌≤◌, ◌<◌, ℕ, List, length, refl, sym, ap, subst, inl, inr, ◌⊎◌, arith}
 use Rattle.std.specs.{Io.KnownBytes.Appends, Io.KnownBytes.Keeps, Prelude.Option, Prelude.Some, Prelude.None, Prelude.Result, Prelude.Ok, Prelude.Err, Prelude.IfOk, Prelude.IsOk}
 use Rattle.lra_io.specs.Causes.{AppendsPart, Rose}
@@ -232,6 +232,6 @@ module _ {words : List (List ℕ)} {t : World} {r : Result Answer NoAnswer} (des
   pub whole : (a : Answer) → r ≡ Ok a → Appends t.held t.held_now a.text.items → t.wrote_now ≡ t.wrote → Ending words t a.status
   whole a is written wrote = ended_by a.status (Ok a) is (inl (written, wrote, refl))
 
-  -- a front of it is
+  -- a prefix of it is
   pub cut : (a : Answer) → r ≡ Ok a → AppendsPart t.held t.held_now a.text.items → t.spare < length a.text.items → Rose t.wrote t.wrote_now → Ending words t WriteFault
   cut a is part longer rose = ended_by WriteFault (Ok a) is (inr (part, longer, rose, refl))

@@ -1,4 +1,4 @@
--- From what a source deserves to what is claimed of its report.
+-- From what a source must get to what is claimed of its report.
 use Rattle.std.proofs.Common.{◌≡◌, ◌∙◌, ℕ, ℤ, List, [], ◌∷◌, length, map, Bool, true, false, ap, refl, sym, subst, inl, inr}
 use Rattle.std.specs.{Io.KnownBytes.Appends, List.AllByRecursion, Prelude.IsTrue, Prelude.Option, Prelude.None, Prelude.Some}
 use Rattle.lra_base.specs.declared.refusals.Place.{Place}

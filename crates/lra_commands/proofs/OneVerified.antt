@@ -1,4 +1,5 @@
--- An input that is to be a certificate deserves one answer: its head is one, and a source has one tree, one tree of operations, or one refusal.
+-- An input that is to be a certificate must get one answer: its head is one, and a source has one tree, one tree of
+-- operations, or one refusal.
 use Rattle.std.proofs.Common.{◌≡◌, ◌∙◌, ◌≤◌, ◌<◌, ℕ, List, length, None, Ok, Err, ap, sym, subst, arith, inl, inr}
 use Rattle.std.proofs.lemmas.Option.{same_Some, none-some}
 use Rattle.lra_base.specs.{declared.refusals.Cause.Cause, declared.refusals.Place.Place}
@@ -19,7 +20,8 @@ abbrev answer_of : Judged (ℕ × ℕ) → VerifyAnswer
 answer_of (Ok r) = verified r.0 r.1
 answer_of (Err r) = line_refused r
 
--- of an input with this head: its source is refused, or more paths than are taken lead from one of its points, or its lines are judged
+-- of an input with this head: its source is refused, or more paths than are accepted lead from one of its points, or
+-- its lines are judged
 data Below (h : Head) (a : VerifyAnswer) : Type 0 where
   refuses : (cause : Cause) (place : Place) → Refuse Spells h.source cause place → a ≡ source_refused cause place → Below h a
   many : (x : IsProgram h.source) (p : ℕ) → HasTooManyPaths (program_of x) x.operations p → a ≡ paths_refused p → Below h a

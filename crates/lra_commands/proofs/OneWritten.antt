@@ -1,4 +1,4 @@
--- Two reports that a source deserves and that are written alike are the same.
+-- Two reports that a source must get and that are written alike are the same.
 use Rattle.lra_command_line.specs.declared.commands.Format.TheVariants.{Lines, Json}
 use Rattle.lra_syntax.specs.Grammar.{Spells}
 use Rattle.lra_resolution_spec.specs.Refuse.{OneAnswer}

@@ -1,4 +1,4 @@
--- From what is read of an input to what that tells of it.
+-- From what is read of an input to what that says of it.
 use Rattle.std.proofs.Common.{◌≡◌, ◌∙◌, ◌<◌, ◌+◌, ◌^◌, ℕ, List, [], ◌++◌, length, refl, sym, arith, append-nil, subst, inl, inr}
 use Rattle.std.specs.{Io.KnownBytes.Consumes, Io.KnownBytes.IsAtEnd, Prelude.Option, Prelude.Some, Prelude.None, Prelude.Result, Prelude.Ok, Prelude.Err, Prelude.IfOk}
 use Rattle.lra_io.specs.ReadErrors.{LosesPrefix, IsWhole, IsPastLimit}
@@ -59,7 +59,7 @@ unread None left not_failed not_done = (refl, not_failed)
 unread (Some n) None not_failed not_done = (([], tt, omega arith), λ done. absurd (not_done done))
 unread (Some n) (Some bytes) not_failed not_done = (([], refl, omega arith), λ done. absurd (not_done done))
 
--- what is read doesn't depend on how it is told
+-- what is read doesn't depend on how it is reported
 pub read_as : {F G D E : Type 0} (limit : Option ℕ) (old new : Option (List ℕ)) → (G → F) → (E → D) → IsRead limit old new F D → IsRead limit old new G E
 read_as None old new failed done r = (r.0, λ g. r.1 (failed g))
 read_as (Some n) old new failed done r = (r.0, λ e. r.1 (done e))

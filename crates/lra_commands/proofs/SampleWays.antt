@@ -1,4 +1,4 @@
--- From the answer to a sample source to what the sample deserves, and from that to how a call ends.
+-- From the answer to a sample source to what the sample must get, and from that to how a call ends.
 use Rattle.std.proofs.Common.{◌≡◌, ℕ, List, subst, inr}
 use Rattle.std.specs.Prelude.{None, Result, Ok, Err, IfOk}
 use Rattle.lra_base.specs.{declared.refusals.Cause.Cause, declared.refusals.Place.Place, declared.refusals.Refusal.Refusal}

@@ -1,4 +1,4 @@
--- From what a script deserves to how a call ends that answers it.
+-- From what a script must get to how a call ends that answers it.
 use Rattle.std.proofs.Common.{◌≡◌, ◌∙◌, ◌≤◌, ◌<◌, ℕ, List, ◌++◌, length, take, refl, ap, sym, subst, arith, inl, inr}
 use Rattle.std.proofs.{lemmas.Grind.common_steps, lemmas.List.take-append-le}
 use Rattle.std.specs.Prelude.{Some, Result, Ok, Err}
@@ -25,7 +25,7 @@ pub ruleset deserving = (deserves_output, deserves_refused)
 too_long_answer : (bytes : List ℕ) → greatest_length < length bytes → script.AnswersTo bytes (Err (script.TooLong (place_after (take greatest_length bytes))))
 too_long_answer bytes long = answer_too_long greatest_length bytes refl long
 
--- more bytes behind those past the limit change nothing
+-- more bytes after those past the limit change nothing
 same_answer : (bytes rest : List ℕ) (answer : Result (List ℕ) script.Refusal) → greatest_length < length bytes → script.AnswersTo bytes answer → script.AnswersTo (bytes ++ rest) answer
 same_answer bytes rest answer long a =
     let longer : greatest_length < length (bytes ++ rest) = grind (arith, common_steps) in

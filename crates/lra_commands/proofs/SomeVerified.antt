@@ -1,5 +1,5 @@
--- Each input that is to be a certificate deserves an answer: its source has one, the paths of its program are few or the least source is found from
--- which more than are taken lead to one goal, and its lines are judged.
+-- Each input that is to be a certificate must get an answer: its source has one, the paths of its program are few or
+-- the least source is found from more of which than are accepted lead to one goal, and its lines are judged.
 use Rattle.std.proofs.Common.{◌≡◌, ◌∙◌, ◌≤◌, ◌<◌, ◌⊎◌, ℕ, zero, suc, List, [], ◌∷◌, length, map, Option, None, Some, Ok, Err, Bool, true, false, cond, refl, ap, sym, subst, arith, inl, inr, slice_get}
 use Rattle.std.proofs.{lemmas.Bool.cases_lt, lemmas.Bool.eqb-true, lemmas.Bool.Decides.nat_tests, lemmas.Option.same_Some, lemmas.Option.none-some}
 use Rattle.std.specs.{List.filter, List.flat_map, Prelude.if◌then◌else◌, Prelude.nat_lt, Prelude.nat_eq, Prelude.◌&&◌}

@@ -1,4 +1,4 @@
--- From a report that a source deserves to how a call ends that answers it.
+-- From a report that a source must get to how a call ends that answers it.
 use Rattle.std.proofs.Common.{◌≡◌, ◌<◌, ℕ, zero, suc, List, refl, sym, subst, arith, inl, inr}
 use Rattle.lra_base.specs.{declared.refusals.Cause.Cause, declared.refusals.Place.Place}
 use Rattle.lra_options.specs.declared.options.Options.{Options}
@@ -23,12 +23,12 @@ some_unknown (suc n) some = refl
 
 pub ruleset counting = (none_unknown, some_unknown)
 
--- a source with a report deserves what is written of it
+-- a source with a report must get what is written of it
 pub deserves_report : (o : Options) (write : Report → List ℕ) (bytes : List ℕ) (r : Report) (text : List ℕ) (status : Status) → IsAnalysisReport o bytes r → text ≡ write r
     → status ≡ report_status (unknown_count r.verdicts) → AnswersSource o write bytes text status
 deserves_report o write bytes r text status answered written counted = inr (record { report = r; answered = answered; written = written; counted = counted })
 
--- a source that is refused deserves the refusal's
+-- a source that is refused must get the refusal's
 pub deserves_refusal : (o : Options) (write : Report → List ℕ) (bytes text : List ℕ) (c : Cause) (at : Place) (status : Status) → Refuse Spells bytes c at → text ≡ refusal_text c at → status ≡ Refused
     → AnswersSource o write bytes text status
 deserves_refusal o write = told.deserves_refusal (IsReport o write)

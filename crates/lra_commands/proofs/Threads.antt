@@ -1,4 +1,4 @@
--- From what a source of several threads deserves to what is claimed of its report.
+-- From what a source of several threads must get to what is claimed of its report.
 use Rattle.std.proofs.Common.{ℕ, List, length, subst, inl, inr}
 use Rattle.std.specs.{Io.KnownBytes.Appends, Prelude.Option}
 use Rattle.lra_threads_fixpoint.proofs.FlagLemmas.{settles}

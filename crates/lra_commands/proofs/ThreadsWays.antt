@@ -1,4 +1,4 @@
--- From what a source of several threads deserves to how a call ends that answers it.
+-- From what a source of several threads must get to how a call ends that answers it.
 use Rattle.std.proofs.Common.{◌≡◌, ◌≤◌, ◌<◌, ℕ, List, ◌++◌, length, take, subst, sym, arith, inl, inr}
 use Rattle.std.proofs.{lemmas.Grind.common_steps, lemmas.List.take-append-le}
 use Rattle.std.specs.Prelude.{Some}

@@ -1,4 +1,4 @@
--- From what an input deserves that is verified to what is claimed of it.
+-- From what an input must get that is verified to what is claimed of it.
 use Rattle.std.proofs.Common.{◌≡◌, ◌∙◌, ℕ, ℤ, List, length, subst, sym}
 use Rattle.std.specs.{Io.KnownBytes.Appends, Prelude.Option, Prelude.None, Prelude.Some, Prelude.slice_get}
 use Rattle.lra_linear_spec.specs.Descriptions.{LinearRow}

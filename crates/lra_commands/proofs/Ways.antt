@@ -1,4 +1,5 @@
--- From what words and their input deserve to what is made of them before the writing, and to the statuses of an answer.
+-- From what words and their input must get to what is made of them before the writing, and to the statuses of an
+-- answer.
 use Rattle.std.proofs.Common.{◌≡◌, ◌<◌, ℕ, List, ◌++◌, length, refl, sym, subst, inl, inr, ◌⊎◌, arith}
 use Rattle.std.specs.Prelude.{Option, Some, None, Result, Ok, Err}
 use Rattle.lra_command_line.specs.{ParsedCommand.Asks, ParsedCommand.AsksNone, ParsedCommand.AsksFor, ParsedCommand.IsRejected, declared.commands.Command.Command}
@@ -83,9 +84,9 @@ unread_memory T limit left = unread limit left (λ f. let wrong : ⊥ = cc in wr
 
 pub ruleset preparing = (deserved_asked, deserved_usage, asked_reads, none_reads, unread_memory)
 
--- what is deserved decides the status -----------------------------------------------
+-- what is required decides the status -----------------------------------------------
 
--- the input that tells its bytes is these bytes
+-- the input that reports its bytes is these bytes
 known_input : (so : List ℕ → Type 0) (left : Option (List ℕ)) (bytes : List ℕ) → IsInput left bytes → IsKnown so left → so bytes
 known_input so None bytes input known = absurd known
 known_input so (Some told) bytes input known = subst so input known
@@ -141,7 +142,7 @@ usage_asked words bytes text status (Some c) asks d is = absurd (own_not_usage s
 pub usage_status : (words : List (List ℕ)) (left : Option (List ℕ)) (text : List ℕ) (status : Status) → IsAnswerToWords words left text status → status ≡ Usage → AsksNone words × IsRejected words
 usage_status words left text status d is = usage_asked words d.bytes text status d.asked d.asks d.answers is
 
--- what the input of the words' command deserves
+-- what the input of the words' command must get
 asked_same : (words : List (List ℕ)) (bytes text : List ℕ) (status : Status) (asked : Option Command) (c : Command) → AsksFor words asked → Asks words c → AnswersCommand asked bytes text status
     → AnswersInput c bytes text status
 asked_same words bytes text status None c asks other d = absurd (asks_not_none words c other asks.0)

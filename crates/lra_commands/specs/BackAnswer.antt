@@ -1,4 +1,4 @@
--- What a source deserves that is gone back over from one of its assertions: what is left at each point of the stores
+-- What a source must get that is gone back over from one of its assertions: what is left at each point of the stores
 -- from which that may fail, or its refusal. Assertions are asked for by the number of their point, from 1.
 use Rattle.std.specs.Fmt.{decimal}
 use Rattle.std.specs.Prelude.{◌≡◌, ◌⊎◌, ℕ, suc, List, ◌++◌, codes, Bool, true, false}
@@ -26,14 +26,14 @@ pub record IsBackRefusal (number p : ℕ) (bytes text : List ℕ) : Type 0 where
   pub refused : IsBackRefusalOf bytes p refusal
   pub written : text ≡ back_refused_text number refusal
 
--- the text is that of a report which the source deserves, and the status tells whether the assertion is proved
+-- the text is that of a report which the source must get, and the status says whether the assertion is proved
 pub record IsBackAnswer (p : ℕ) (bytes text : List ℕ) (status : Status) : Type 0 where
   pub report : BackReport
   pub answers : IsBackReportOf bytes p report
   pub written : text ≡ back_text report
   pub counted : status ≡ back_status report.proved
 
--- the text and the status that a source deserves that is gone back over from the assertion of this number
+-- the text and the status that a source must get that is gone back over from the assertion of this number
 pub record AnswersBack (number : ℕ) (bytes text : List ℕ) (status : Status) : Type 0 where
   pub point : ℕ
   pub numbered : number ≡ suc point

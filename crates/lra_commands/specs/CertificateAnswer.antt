@@ -1,4 +1,4 @@
--- What an input deserves that is to be a certificate.
+-- What an input must get that is to be a certificate.
 use Rattle.std.specs.Fmt.{decimal}
 use Rattle.std.specs.Prelude.{◌≡◌, ◌≤◌, ◌⊎◌, ℕ, List, ◌∷◌, ◌++◌, length, codes}
 use Rattle.lra_row_text.specs.Texts.{text_line}
@@ -28,14 +28,14 @@ answer_status (source_refused cause place) = Refused
 answer_status (paths_refused p) = Refused
 answer_status (line_refused r) = Refused
 
--- the text and the status are those of the answer that the input deserves
+-- the text and the status are those of the answer that the input must get
 pub record AnswersCertificate (bytes text : List ℕ) (status : Status) : Type 0 where
   pub answer : VerifyAnswer
   pub answers : VerifiesTo bytes answer
   pub written : text ≡ verify_answer_text answer
   pub ends : status ≡ answer_status answer
 
--- each input deserves one text and one status
+-- each input must get one text and one status
 abbrev pub EachCertificateAnswer : Type 0
 EachCertificateAnswer = (bytes : List ℕ) →
     ((text : List ℕ) × (status : Status) × AnswersCertificate bytes text status)
@@ -47,7 +47,7 @@ abbrev pub certificate_statuses : List Status
 certificate_statuses = Refused ∷ printed
 
 -- by one of these it is answered: by a refusal where the input is no certificate that meets its program, by what is
--- verified where it is one, of no more bytes than are taken
+-- verified where it is one, of no more bytes than are accepted
 abbrev pub AllowedCertificateStatuses : List ℕ → List Status → Type 0
 AllowedCertificateStatuses bytes among = ((IsCertificate bytes → ⊥) × (among ≡ refused))
     ⊎ (IsCertificate bytes × (length bytes ≤ greatest_certificate) × (among ≡ printed))

@@ -1,4 +1,4 @@
--- What a source deserves that is to be certified: its certificate, or its refusal.
+-- What a source must get that is to be certified: its certificate, or its refusal.
 use Rattle.std.specs.Fmt.{decimal}
 use Rattle.std.specs.Prelude.{◌≡◌, ◌⊎◌, ℕ, suc, List, ◌++◌, codes}
 use Rattle.lra_row_text.specs.Texts.{text_line}
@@ -30,14 +30,14 @@ pub record IsCertifyRefusal (bytes text : List ℕ) : Type 0 where
   pub refused : IsCertifyRefusalOf bytes refusal
   pub written : text ≡ refused_text refusal
 
--- the text is a certificate by a report which the source deserves, and the status is that of the report's assertions
+-- the text is a certificate by a report which the source must get, and the status is that of the report's assertions
 pub record IsCertifyAnswer (bytes text : List ℕ) (status : Status) : Type 0 where
   pub report : Report
   pub answered : IsAnalysisReport certify_options bytes report
   pub certificate : IsCertificateOf bytes report text
   pub counted : status ≡ report_status (unknown_assertions report.verdicts)
 
--- the text and the status that a source deserves that is to be certified
+-- the text and the status that a source must get that is to be certified
 abbrev pub AnswersCertify : List ℕ → List ℕ → Status → Type 0
 AnswersCertify bytes text status =
     (IsCertifyRefusal bytes text × (status ≡ Refused)) ⊎ IsCertifyAnswer bytes text status
@@ -46,6 +46,6 @@ AnswersCertify bytes text status =
 abbrev pub HasManyPaths : List ℕ → Type 0
 HasManyPaths bytes = (x : IsProgram bytes) × (p : ℕ) × HasTooManyPaths (program_of x) x.operations p
 
--- it is refused where it is as a source, or has too many paths; else it may strain
+-- it is refused where it is as a source, or has too many paths; else it may exceed a limit
 abbrev pub AllowedCertifyStatuses : List ℕ → List Status → Type 0
 AllowedCertifyStatuses bytes among = (HasRefusal bytes ⊎ HasManyPaths bytes) × (among ≡ refused)

@@ -1,4 +1,4 @@
--- What each command reads, deserves and may end with: a row for each.
+-- What each command reads, must get and may end with: a row for each.
 use Rattle.std.specs.Prelude.{◌≡◌, ◌⊎◌, ◌<◌, ℕ, List, [], ◌∷◌, length, Option, None, Some, option_and_then}
 use Rattle.lra_base.specs.Places.{greatest_length}
 use Rattle.lra_command_line.specs.declared.commands.Command.{Command}
@@ -25,7 +25,7 @@ limit_of (Plain Calc) = Some greatest_length
 limit_of (Plain Verify) = Some greatest_certificate
 limit_of (Plain Certify) = Some greatest_length
 
--- the text and the status that a command deserves, by these bytes of the input where it reads it
+-- the text and the status that a command must get, by these bytes of the input where it reads it
 abbrev pub AnswersInput : Command → List ℕ → List ℕ → Status → Type 0
 AnswersInput (Analyse options format) bytes text status =
     AnswersSource options (written_report format) bytes text status
@@ -65,12 +65,12 @@ IsTooLong c bytes = (limit : ℕ) × (limit_of c ≡ Some limit) × (limit < len
 abbrev pub asked_limit : Option Command → Option ℕ
 asked_limit asked = option_and_then limit_of asked
 
--- the input tells its bytes, and this is so of them
+-- the input reports its bytes, and this is so of them
 abbrev pub IsKnown : (List ℕ → Type 0) → Option (List ℕ) → Type 0
 IsKnown so None = ⊥
 IsKnown so (Some bytes) = so bytes
 
--- by one of these statuses what the words ask for is answered, whatever its input, or by what that tells: what is too
+-- by one of these statuses what the words ask for is answered, whatever its input, or by what that reports: what is too
 -- long is refused
 abbrev pub AllowedStatuses : Option Command → Option (List ℕ) → List Status → Type 0
 AllowedStatuses None left among = among ≡ Usage ∷ []

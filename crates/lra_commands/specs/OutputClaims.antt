@@ -36,7 +36,7 @@ use Rattle.lra_command_answers.specs.{declared.status.Status.Status, declared.st
 use Rattle.lra_commands.specs.CertificateAnswer.{verified_text, AnswersCertificate}
 use Rattle.lra_commands.specs.{BackAnswer.back_status, Run.IsInput, SourceAnswer.report_status}
 
--- What `write` makes of a report that the input deserves under the options is written whole, and so it is with the
+-- What `write` makes of a report that the input must get under the options is written whole, and so it is with the
 -- input's bytes and this report.
 pub record WritesReport (o : Options) (write : Report → List ℕ) (so : List ℕ → Report → Type 0)
     (left held_old held_new : Option (List ℕ)) : Type 0 where
@@ -47,13 +47,14 @@ pub record WritesReport (o : Options) (write : Report → List ℕ) (so : List �
   pub written : Appends held_old held_new (write report)
   pub is_so : so bytes report
 
--- no run comes to a point that is shown as unreachable
+-- no run reaches a point that is shown as unreachable
 abbrev pub IsNeverReached : Program → PointReport → Type 0
 IsNeverReached P p = p.state ≡ [] → (store : List ℤ) → At P p.point store → ⊥
 
 -- The report lists all points of the accepted source and what is judged of them. Each state holds whenever a run is at
--- its point, no assertion that is marked proved fails, no run stops by a number where all is told to fit, no access
--- that is told to be in bounds is evaluated outside its array, and no point that is shown as unreachable is reached.
+-- its point, no assertion that is marked proved fails, no run stops by a number where all is reported to fit, no access
+-- that is reported to be in bounds is evaluated outside its array, and no point that is shown as unreachable is
+-- reached.
 pub record HoldsInAllRuns (bytes : List ℕ) (r : Report) : Type 0 where
   pub tree : FileTree
   pub accepted : Accepts Spells bytes tree
@@ -61,7 +62,7 @@ pub record HoldsInAllRuns (bytes : List ℕ) (r : Report) : Type 0 where
   pub sound : IsSound (resolve tree) r
   pub unreached : AllByRecursion (IsNeverReached (resolve tree)) r.points
 
--- the report tells what the written iteration finds, whose loops have these constants as thresholds where the options
+-- the report shows what the written iteration finds, whose loops have these constants as thresholds where the options
 -- ask for such: at each point the state that shows its value there, whose rows
 -- mean the value, on each assertion its verdict, where it is asked for at each point at which something is computed
 -- whether all of it fits, and of each access whether it lies inside its array
@@ -91,8 +92,8 @@ pub record IsWrittenUnlessFlagged (o : Options) (bytes : List ℕ) (r : Report) 
   pub own : HasConstants bytes constants
   pub tells : r.flagged ≡ None → ForOptions o (λ V H m shown. ReportsWritten m shown o constants (resolve tree) r)
 
--- A line for each access of an array, in the order in which they are evaluated at each point, tells whether it is in
--- bounds by the values whose states are shown: it is unknown exactly where these leave an index outside. Behind what is
+-- A line for each access of an array, in the order in which they are evaluated at each point, says whether it is in
+-- bounds by the values whose states are shown: it is unknown exactly where these leave an index outside. After what is
 -- flagged of all else stands what is flagged of that.
 pub record ReportsAccessing {V H : Type 0} (m : Abstraction V H) (shown : V → Invariant) (o : Options) (P : Program)
     (r : Report) : Type 0 where
@@ -110,14 +111,14 @@ pub record ReportsAccessing {V H : Type 0} (m : Abstraction V H) (shown : V → 
   pub told : map reported_of r.verdicts ≡ reported_all verdicts fitting inside
   pub flag : r.flagged ≡ option_map suc last
 
--- and no run evaluates an access outside its array that is told to be in bounds
+-- and no run evaluates an access outside its array that is reported to be in bounds
 pub record ReportsAccesses (o : Options) (bytes : List ℕ) (r : Report) : Type 0 where
   pub tree : FileTree
   pub accepted : Accepts Spells bytes tree
   pub right : AllByRecursion (IsRight (resolve tree)) r.verdicts
   pub tells : ForOptions o (λ V H m shown. ReportsAccessing m shown o (resolve tree) r)
 
--- Where it is asked for, a line for each point at which something is computed tells whether all of it fits by the
+-- Where it is asked for, a line for each point at which something is computed says whether all of it fits by the
 -- values whose states are shown: it may overflow exactly where something doesn't.
 pub record ReportsFitting {V H : Type 0} (m : Abstraction V H) (shown : V → Invariant) (o : Options) (P : Program)
     (r : Report) : Type 0 where
@@ -125,7 +126,7 @@ pub record ReportsFitting {V H : Type 0} (m : Abstraction V H) (shown : V → In
   pub flagged : Option ℕ
   pub judged : Judges m (lossy_operations m) beside.tree beside.values flagged beside.fitting beside.flag_before
 
--- and where all of it fits no run stops there by a number; where it isn't asked for nothing is told of it
+-- and where all of it fits no run stops there by a number; where it isn't asked for nothing is reported about it
 pub record ReportsFits (o : Options) (bytes : List ℕ) (r : Report) : Type 0 where
   pub tree : FileTree
   pub accepted : Accepts Spells bytes tree
@@ -138,14 +139,14 @@ pub record ReportsFits (o : Options) (bytes : List ℕ) (r : Report) : Type 0 wh
 abbrev pub ReportsSamePoints : Options → List ℕ → Report → Type 0
 ReportsSamePoints o bytes r = o.domain ≡ Poly → AllByRecursion HasSamePointsAt r.points
 
--- what is told of a report of the sample is written whole, and all of this is claimed of that report
+-- what is reported about a report of the sample is written whole, and all of this is claimed of that report
 abbrev pub WritesSummary : ℕ → ℕ → Option (List ℕ) → Option (List ℕ) → Type 0
 WritesSummary seed size held_old held_new = WritesReport default_options (summary_text seed size)
     (λ source r. HoldsInAllRuns source r × IsWrittenUnlessFlagged default_options source r
     × ReportsSamePoints default_options source r)
     (Some (sample_source seed size)) held_old held_new
 
--- In all runs the rows of a certificate hold whenever a run is at their point, no run comes to a point that is empty
+-- In all runs the rows of a certificate hold whenever a run is at their point, no run reaches a point that is empty
 -- there, and no listed assertion is false. Points are counted from 0.
 pub record IsVerifiedInAllRuns (P : Program) (c : Certificate) : Type 0 where
   pub rows : (q : ℕ) (s : Site) (store : List ℤ) (given : List LinearRow) → slice_get (sites_of P) q ≡ Some s →
@@ -215,12 +216,12 @@ pub record WritesBack (number : ℕ) (left held_old held_new : Option (List ℕ)
 
 -- What is found of the input's threads is written whole. It holds in every interleaving of their steps: the state of a
 -- point whenever its thread is there, whatever the others have done by then; no assertion that is marked proved fails,
--- no access that is told to be in bounds is evaluated outside its array, no thread comes to a point that is shown as
--- unreachable, and whatever value a thread gives a global variable lies in the interval that is told for these two. The
--- status says whether some verdict is unknown. Flagged or not, what is shown of a thread was found of it among what the
--- settled intervals tell of the others: a verdict is unknown exactly where the values that are shown say so. Without a
--- flag all that is shown is as it is defined, round by round; the number of a flag is that of a point of which an
--- operation strains in the written rounds, all before it exact.
+-- no access that is reported to be in bounds is evaluated outside its array, no thread reaches a point that is shown as
+-- unreachable, and whatever value a thread gives a global variable lies in the interval that is reported for these two.
+-- The status says whether some verdict is unknown. Flagged or not, what is shown of a thread was found of it among what
+-- the settled intervals say of the others: a verdict is unknown exactly where the values that are shown say so. Without
+-- a flag all that is shown is as it is defined, round by round; the number of a flag is that of a point of which an
+-- operation exceeds a limit in the written rounds, all before it exact.
 pub record WritesThreads (delay narrow : ℕ) (left held_old held_new : Option (List ℕ)) (status : Status) : Type 0 where
   pub bytes : List ℕ
   pub input : IsInput left bytes

@@ -9,7 +9,7 @@ use Rattle.lra_command_answers.specs.declared.status.Status.TheVariants.{ReadFau
 use Rattle.lra_command_answers.specs.{declared.answer.Answer.Answer, declared.status.Status.Status}
 use Rattle.lra_commands.specs.declared.top_call.NoAnswer.TheVariants as none
 
--- a text that the input of a command deserves with some status
+-- a text that the input of a command must get with some status
 pub record IsInputText (command : Command) (left : Option (List ℕ)) (text : List ℕ) (status : Status) : Type 0 where
   pub bytes : List ℕ
   pub input : IsInput left bytes
@@ -30,7 +30,7 @@ PrepareCause before now (Ok a) = now ≡ before
 PrepareCause before now (Err none.ReadFault) = Rose before now
 PrepareCause before now (Err none.Memory) = now ≡ before
 
--- what a source and a sink tell before a call and after it: bytes left and held, counts of faults, and before it how
+-- what a source and a sink report before a call and after it: bytes left and held, counts of faults, and before it how
 -- many bytes the sink surely takes
 pub record World : Type 0 where
   pub left : Option (List ℕ)

@@ -8,7 +8,7 @@ use Rattle.lra_command_line.specs.declared.commands.Command.{Command}
 use Rattle.lra_commands.specs.Commands.{AnswersInput}
 use Rattle.lra_command_answers.specs.{declared.status.Status.Status, declared.status.Status.TheVariants.Usage}
 
--- all bytes that are left of an input, where it tells them
+-- all bytes that are left of an input, where it reports them
 abbrev pub IsInput : Option (List ℕ) → List ℕ → Type 0
 IsInput None bytes = Unit {0}
 IsInput (Some left) bytes = left ≡ bytes
@@ -21,12 +21,12 @@ IsAsked words (Some c) = Asks words c
 abbrev pub usage_text : List ℕ
 usage_text = text_line (codes "refused usage")
 
--- the text and the status that a command, or none, and the input's bytes deserve
+-- the text and the status that a command, or none, and the input's bytes must get
 abbrev pub AnswersCommand : Option Command → List ℕ → List ℕ → Status → Type 0
 AnswersCommand None bytes text status = (text ≡ usage_text) × (status ≡ Usage)
 AnswersCommand (Some c) bytes text status = AnswersInput c bytes text status
 
--- the text and the status are those that what the words ask for and the input's bytes deserve
+-- the text and the status are those that what the words ask for and the input's bytes must get
 pub record IsAnswerToWords (words : List (List ℕ)) (left : Option (List ℕ)) (text : List ℕ) (status : Status) : Type 0
   where
     pub asked : Option Command
@@ -35,14 +35,14 @@ pub record IsAnswerToWords (words : List (List ℕ)) (left : Option (List ℕ)) 
     pub input : IsInput left bytes
     pub answers : AnswersCommand asked bytes text status
 
--- the deserved text is written whole
+-- the required text is written whole
 pub record WritesAnswer (words : List (List ℕ)) (left held_old held_new : Option (List ℕ)) (status : Status) : Type 0
   where
     pub text : List ℕ
     pub answers : IsAnswerToWords words left text status
     pub written : Appends held_old held_new text
 
--- a front of the deserved text is written, and not all of it; the text is longer than what the sink was sure to take
+-- a prefix of the required text is written, and not all of it; the text is longer than what the sink was sure to take
 pub record WritesPrefix (words : List (List ℕ)) (left held_old held_new : Option (List ℕ)) (spare : ℕ) : Type 0 where
   pub text : List ℕ
   pub status : Status
@@ -50,7 +50,7 @@ pub record WritesPrefix (words : List (List ℕ)) (left held_old held_new : Opti
   pub written : AppendsPart held_old held_new text
   pub longer : spare < length text
 
--- these bytes are taken of the input: all to its end, or one more than the limit
+-- these bytes are read of the input: all to its end, or one more than the limit
 pub record TakesBytes (limit : ℕ) (old new : Option (List ℕ)) (bytes : List ℕ) : Type 0 where
   pub taken : Consumes old new bytes
   pub whole : IsAtEnd new ⊎ (length bytes ≡ limit + 1)

@@ -1,4 +1,4 @@
--- What a script deserves.
+-- What a script must get.
 use Rattle.std.specs.Prelude.{◌≡◌, ◌⊎◌, ℕ, List, ◌∷◌, Ok, Err}
 use Rattle.lra_calc.specs.Script as script
 use Rattle.lra_command_answers.specs.Statuses.{printed, refused}
@@ -11,7 +11,7 @@ pub record IsScriptRefusal (bytes text : List ℕ) : Type 0 where
   pub answers : script.AnswersTo bytes (Err refusal)
   pub written : text ≡ script.script_refusal_text refusal
 
--- the text and the status that a script deserves: one that it may write, or its refusal
+-- the text and the status that a script must get: one that it may write, or its refusal
 abbrev pub AnswersScript : List ℕ → List ℕ → Status → Type 0
 AnswersScript bytes text status =
     (IsScriptRefusal bytes text × (status ≡ Refused)) ⊎ (script.AnswersTo bytes (Ok text) × (status ≡ Proved))

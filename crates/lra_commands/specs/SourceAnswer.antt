@@ -1,4 +1,4 @@
--- What a source deserves: the text of its one refusal, or what is written of a report of it that tells an analysis.
+-- What a source must get: the text of its one refusal, or what is written of a report of it that states an analysis.
 use Rattle.std.specs.Prelude.{◌≡◌, ℕ, zero, suc, List}
 use Rattle.lra_options.specs.declared.options.Options.{Options}
 use Rattle.lra_report.specs.{Report.Report, ReportText.report_text, ReportText.unknown_count}
@@ -20,18 +20,18 @@ abbrev pub report_status : ℕ → Status
 report_status zero = Proved
 report_status (suc n) = Unknown
 
--- the text is what is written of a report which the source deserves under these options, and the status is the report's
+-- the text is what is written of a report which the source must get under these options, and the status is the report's
 pub record IsReport (o : Options) (write : Report → List ℕ) (bytes text : List ℕ) (status : Status) : Type 0 where
   pub report : Report
   pub answered : IsAnalysisReport o bytes report
   pub written : text ≡ write report
   pub counted : status ≡ report_status (unknown_count report.verdicts)
 
--- the text and the status that a source's bytes deserve under these options, where reports are written so
+-- the text and the status that a source's bytes must get under these options, where reports are written so
 abbrev pub AnswersSource : Options → (Report → List ℕ) → List ℕ → List ℕ → Status → Type 0
 AnswersSource o write bytes text status = AnswersSourceWith (IsReport o write) bytes text status
 
--- two reports that a source deserves under one list of options and that are written alike are the same report
+-- two reports that a source must get under one list of options and that are written alike are the same report
 abbrev pub OneWrittenReport : Type 0
 OneWrittenReport = (format : Format) (o : Options) (source : List ℕ) (r s : Report)
     → IsAnalysisReport o source r → IsAnalysisReport o source s → written_report format r ≡ written_report format s →

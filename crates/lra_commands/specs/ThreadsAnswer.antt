@@ -1,4 +1,4 @@
--- What a source of several threads deserves: the text of its one refusal, or of a report of what is found of them, by
+-- What a source of several threads must get: the text of its one refusal, or of a report of what is found of them, by
 -- these two options of the iteration.
 use Rattle.std.specs.Prelude.{◌≡◌, ◌⊎◌, ℕ, List}
 use Rattle.lra_base.specs.{declared.refusals.Cause.Cause, declared.refusals.Place.Place}
@@ -19,14 +19,14 @@ pub record IsThreadsRefusal (bytes text : List ℕ) : Type 0 where
   pub refused : RefuseThreads Spells bytes cause place
   pub written : text ≡ refusal_text cause place
 
--- the text is that of a report which the source deserves, and the status tells whether some verdict is unknown
+-- the text is that of a report which the source must get, and the status says whether some verdict is unknown
 pub record IsThreadsAnswer (delay narrow : ℕ) (bytes text : List ℕ) (status : Status) : Type 0 where
   pub report : ThreadsReport
   pub answers : IsThreadsReportOf delay narrow bytes report
   pub written : text ≡ threads_text report
   pub counted : status ≡ report_status (unknown_count report.verdicts)
 
--- the text and the status that a source's bytes deserve
+-- the text and the status that a source's bytes must get
 abbrev pub AnswersThreads : ℕ → ℕ → List ℕ → List ℕ → Status → Type 0
 AnswersThreads delay narrow bytes text status = (IsThreadsRefusal bytes text × (status ≡ Refused))
     ⊎ IsThreadsAnswer delay narrow bytes text status

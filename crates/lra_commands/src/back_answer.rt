@@ -1,4 +1,4 @@
-// What a source deserves that is gone back over from one of its assertions.
+// What a source must get that is gone back over from one of its assertions.
 ghost use Rattle.std.specs.Fmt.{decimal};
 ghost use Rattle.std.specs.Prelude.{◌≡◌, ◌≤◌, ◌<◌, ◌+◌, ◌++◌, ◌^◌, codes, length, IfOk, OnOk, string_bytes};
 ghost use Rattle.lra_row_text.specs.Texts.{text_line};

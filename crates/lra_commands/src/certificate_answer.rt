@@ -1,4 +1,4 @@
-// What an input deserves that is to be a certificate.
+// What an input must get that is to be a certificate.
 ghost use Rattle.std.specs.Fmt.{decimal};
 ghost use Rattle.std.specs.Prelude.{◌≡◌, ◌++◌, codes, IfOk, OnOk, string_bytes};
 ghost use Rattle.lra_row_text.specs.Texts.{text_line};

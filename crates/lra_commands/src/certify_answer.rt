@@ -1,4 +1,4 @@
-// What a source deserves that is to be certified.
+// What a source must get that is to be certified.
 ghost use Rattle.std.specs.Fmt.{decimal};
 ghost use Rattle.std.specs.Prelude.{◌≡◌, ◌<◌, ◌+◌, ◌++◌, ◌^◌, suc, codes, length, IfOk, OnOk, string_bytes};
 ghost use Rattle.lra_row_text.specs.Texts.{text_line};

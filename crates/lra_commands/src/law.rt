@@ -3,7 +3,7 @@
 ghost use Rattle.lra_commands.specs.CertificateAnswer.{EachCertificateAnswer};
 ghost use Rattle.lra_commands.specs.{BackAnswer.OneBackRefusal, SourceAnswer.OneWrittenReport};
 
-/// Two reports that a source deserves under one list of options and that are written alike, in one format, are the
+/// Two reports that a source must get under one list of options and that are written alike, in one format, are the
 /// same report.
 pub fn one_written_report()
     ensures { OneWrittenReport }
@@ -11,7 +11,7 @@ pub fn one_written_report()
     lra_front_end::one_answer();
 }
 
-/// Each input that is to be a certificate deserves one text and one status.
+/// Each input that is to be a certificate must get one text and one status.
 pub fn each_certificate_answer()
     ensures { EachCertificateAnswer }
 {}

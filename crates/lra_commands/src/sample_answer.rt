@@ -1,4 +1,4 @@
-// What a sample deserves: what is told of its source's report.
+// What a sample must get: what is reported about its source's report.
 ghost use Rattle.std.specs.Prelude.{◌≡◌, ◌≤◌, IfOk};
 ghost use Rattle.lra_report.specs.ReportText.{unknown_count};
 ghost use Rattle.lra_report.specs.View as view;
@@ -14,7 +14,7 @@ use lra_report::Report;
 use lra_sample::{program, summary};
 use std::alloc::{AllocError, Global};
 
-/// What is told of the report of a sample source, and its status.
+/// What is reported about the report of a sample source, and its status.
 fn answer_summary(
     alloc: Global,
     seed: u64,

@@ -1,4 +1,4 @@
-// What a script deserves: its output or its refusal.
+// What a script must get: its output or its refusal.
 ghost use Rattle.std.specs.Prelude.{IfOk};
 ghost use Rattle.lra_commands.specs.ScriptAnswer.{AnswersScript};
 

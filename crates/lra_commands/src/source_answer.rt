@@ -1,4 +1,4 @@
-// What a source deserves: its report, as lines or as JSON, or its refusal.
+// What a source must get: its report, as lines or as JSON, or its refusal.
 ghost use Rattle.std.specs.Prelude.{◌≡◌, ◌≤◌, ◌<◌, ◌+◌, ◌^◌, length, IfOk};
 ghost use Rattle.lra_report.specs.ReportText.{unknown_count};
 ghost use Rattle.lra_report.specs.View as view;

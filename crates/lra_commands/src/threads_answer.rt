@@ -1,4 +1,4 @@
-// What a source of several threads deserves: what is found of them, or its refusal.
+// What a source of several threads must get: what is found of them, or its refusal.
 ghost use Rattle.std.specs.Prelude.{◌≡◌, ◌<◌, ◌+◌, ◌^◌, length, IfOk};
 ghost use Rattle.lra_report.specs.ReportText.{unknown_count};
 ghost use Rattle.lra_threads_source.specs.ThreadsText as told;

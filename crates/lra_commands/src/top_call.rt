@@ -148,7 +148,7 @@ fn answer_words<S: Source, K: Sink>(
     }
 }
 
-/// Reads the words, reads the input of their command, if it reads one, and writes what it deserves: a report, a
+/// Reads the words, reads the input of their command, if it reads one, and writes what it must get: a report, a
 /// summary, an output, a certificate, what is verified, what is left before an assertion fails, what is found of
 /// several threads, or a refusal.
 ///
@@ -159,8 +159,8 @@ pub fn run<S: Source, K: Sink>(
     source: &mut S,
     sink: &mut K,
 ) -> Status
-    // What is written, by status: the text that the words and the input's bytes deserve, whole; or
-    // a front of it, and not all of it; or nothing.
+    // What is written, by status: the text that the words and the input's bytes must get, whole; or
+    // a prefix of it, and not all of it; or nothing.
     ensures written { Ends answered result →
         WritesAnswer (map string_bytes words.now) (S.left source.old) (K.held sink.old)
         (K.held sink.new) result }
@@ -170,9 +170,9 @@ pub fn run<S: Source, K: Sink>(
     ensures nothing { Ends silent result → Keeps (K.held sink.old) (K.held sink.new) }
 
     // Where the words ask for a report and the status is that of one, the one report that the input
-    // deserves and that is written so, in the words' format: it holds in all runs; where nothing is
-    // flagged, it tells what the written iteration finds; over polyhedra rows and generators tell
-    // the same points.
+    // must get and that is written so, in the words' format: it holds in all runs; where nothing is
+    // flagged, it says what the written iteration finds; over polyhedra rows and generators describe the same
+    // points.
     ensures holds { (options : Options) (format : Format) →
         Asks (map string_bytes words.now) (Analyse options format) → Ends reported result →
         WritesReport options (written_report format) HoldsInAllRuns (S.left source.old)
@@ -181,15 +181,15 @@ pub fn run<S: Source, K: Sink>(
         Asks (map string_bytes words.now) (Analyse options format) → Ends reported result →
         WritesReport options (written_report format) (IsWrittenUnlessFlagged options)
         (S.left source.old) (K.held sink.old) (K.held sink.new) }
-    // Where they ask which operations fit: where all that is computed at a point is told to fit, no
-    // run stops there by a number, and that is told exactly where it fits by the values at the
+    // Where they ask which operations fit: where all that is computed at a point is reported to fit, no
+    // run stops there by a number, and that is reported exactly where it fits by the values at the
     // points.
     ensures fits { (options : Options) (format : Format) →
         Asks (map string_bytes words.now) (Analyse options format) → Ends reported result →
         WritesReport options (written_report format) (ReportsFits options) (S.left source.old)
         (K.held sink.old) (K.held sink.new) }
-    // Of each access of an array: where it is told to be in bounds no run evaluates it outside its
-    // array, and that is told exactly where it is so by the values at the points, flagged or not.
+    // Of each access of an array: where it is reported to be in bounds no run evaluates it outside its
+    // array, and that is reported exactly where it is so by the values at the points, flagged or not.
     ensures accesses { (options : Options) (format : Format) →
         Asks (map string_bytes words.now) (Analyse options format) → Ends reported result →
         WritesReport options (written_report format) (ReportsAccesses options) (S.left source.old)
@@ -198,7 +198,7 @@ pub fn run<S: Source, K: Sink>(
         Asks (map string_bytes words.now) (Analyse options format) → Ends reported result →
         WritesReport options (written_report format) (ReportsSamePoints options) (S.left source.old)
         (K.held sink.old) (K.held sink.new) }
-    // Where they ask for a sample, what is told of a report of its source, of which all of this
+    // Where they ask for a sample, what is reported about a report of its source, of which all of this
     // holds.
     ensures sampled { (seed size : ℕ) → Asks (map string_bytes words.now) (Sample seed size) → Ends reported result →
         WritesSummary seed size (K.held sink.old) (K.held sink.new) }
@@ -208,7 +208,7 @@ pub fn run<S: Source, K: Sink>(
     ensures verified { Asks (map string_bytes words.now) (Plain Verify) → result ≡ Status.Proved →
         WritesVerified (S.left source.old) (K.held sink.old) (K.held sink.new) }
     // Where they ask to certify and the status is that of a report, the certificate of a report
-    // that the input deserves, which is verified where it isn't too long.
+    // that the input must get, which is verified where it isn't too long.
     ensures certified { Asks (map string_bytes words.now) (Plain Certify) → Ends reported result →
         WritesCertificate (S.left source.old) (K.held sink.old) (K.held sink.new) result }
     // Where they ask to go back from an assertion and the status is that of a report, at each point
@@ -219,14 +219,14 @@ pub fn run<S: Source, K: Sink>(
         WritesBack number (S.left source.old) (K.held sink.old) (K.held sink.new) result }
     // Where they ask for threads and the status is that of a report, what holds in every
     // interleaving of the threads' steps, with verdicts that are unknown exactly where the values
-    // that are shown say so; where nothing is flagged, it tells what the written rounds find, and
-    // a flag stands at a point of which an operation strains, all before it exact.
+    // that are shown say so; where nothing is flagged, it says what the written rounds find, and
+    // a flag stands at a point of which an operation exceeds a limit, all before it exact.
     ensures threads { (delay narrow : ℕ) →
         Asks (map string_bytes words.now) (Threads delay narrow) → Ends reported result →
         WritesThreads delay narrow (S.left source.old) (K.held sink.old) (K.held sink.new) result }
 
     // With which statuses what the words ask for may end: those of its answer, by what the input
-    // tells of its bytes, or of a fault. (Where a flagged set is widened, both answers to a script
+    // says of its bytes, or of a fault. (Where a flagged set is widened, both answers to a script
     // may be right: which depends on the set.) Usage: only where they ask for no command: the
     // command line doesn't take them, or their options conflict.
     ensures ends { (asked : Option Command) → IsAsked (map string_bytes words.now) asked → (among : List _) →
@@ -239,9 +239,9 @@ pub fn run<S: Source, K: Sink>(
         (result ≢ Status.ReadFault × result ≢ Status.Memory) }
 
     // A fault is the answer only where its count rose; every other answer leaves the counts. Where
-    // nothing fails and memory isn't wanting, there is an answer, written whole: so a source
+    // nothing fails and memory doesn't run out, there is an answer, written whole: so a source
     // without a cause of refusal gets its report, and a script that runs whole its output. A sink
-    // that surely takes each text that is deserved doesn't fail.
+    // that surely takes each text that is required doesn't fail.
     ensures read_fault { RisesAtFault Status.ReadFault (S.faults source.old) (S.faults source.new) result }
     ensures write_fault { RisesAtFault Status.WriteFault (K.faults sink.old) (K.faults sink.new) result }
     ensures complete { (Rose (S.faults source.old) (S.faults source.new) → ⊥) →

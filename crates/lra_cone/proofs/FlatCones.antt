@@ -1,4 +1,4 @@
--- What is told of a cone's lists with a line across.
+-- What is reported about a cone's lists with a line across.
 use Rattle.std.proofs.Common.{◌≡◌, ℕ, ◌<◌, Bool, List, [], length, get_or, map, take, refl, pos, ℤ, inl, inr}
 use Rattle.lra_linear_spec.specs.Vectors.{product}
 use Rattle.lra_double_description.specs.Strains.{IsFlatteningError}
@@ -18,7 +18,7 @@ pub flat_rays_told : (s : ConeContent) (place : ℕ) (of_lines of_rays : List �
 flat_rays_told s place of_lines of_rays line of_cone.Memory t x = tt
 flat_rays_told s place of_lines of_rays line (of_cone.Strained strained) t x = record { line = line; turned = t; told = inr x }
 
--- the cone strains
+-- the cone exceeds a limit
 pub flat_error : (s : ConeContent) → IsCone s → (equal : Bool) (c : List ℤ) (place : ℕ) (of_lines of_rays : List ℤ) (e : C.ConeError) → of_lines ≡ map (product c) s.lines →
     of_rays ≡ map (product c) s.rays → place < length s.lines → IsFlatError s place of_lines of_rays e → IsConeError s equal c e
 flat_error s k equal c place of_lines of_rays of_cone.Memory el er h x = tt

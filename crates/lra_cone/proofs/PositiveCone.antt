@@ -1,4 +1,4 @@
--- The positivity row is taken into the whole space without a strain.
+-- The positivity row is added to the whole space without a strain.
 use Rattle.std.proofs.Common.{◌≡◌, ◌∙◌, ℕ, zero, suc, ◌+◌, ◌<◌, ◌≤◌, ◌⊎◌, inl, inr, ℤ, pos, neg_ℤ, ◌+ℤ◌, ◌*ℤ◌, ◌<ℤ◌, Bool, true, false, cond, List, [], ◌∷◌, ◌++◌, map, ap, refl, subst, sym, arith}
 use Rattle.std.proofs.{Common.Result, Common.Ok, Common.Err, Common.unsigned_abs, lemmas.Int.ints, lemmas.List.append-nil}
 use Rattle.std.specs.List.{Contains}
@@ -144,7 +144,7 @@ positive_case n = record {
 one_ray : row_limit < 1 → ⊥
 one_ray h = omega (arith, h)
 
--- ---- so nothing strains
+-- ---- so nothing exceeds a limit
 pub positive_strains_not : (n : ℕ) (strained : Strained) → IsStrain (whole_space n) false (unit_row n 0) strained → ⊥
 positive_strains_not n (Product member e) x = at_member member.family x.is
   where

@@ -1,4 +1,4 @@
--- Rows taken in one by one: what is told of the losses stays so as further rows come.
+-- Rows added one by one: what is reported about the losses stays so as further rows come.
 use Rattle.std.proofs.Common.{◌≡◌, ℕ, suc, ◌<◌, ◌+◌, List, [], ◌∷◌, ◌++◌, length, get_or, take, refl, ap, sym, ◌∙◌, subst, ℤ, Bool, inl, inr}
 use Rattle.std.proofs.lemmas.List.{append_assoc, append-nil}
 use Rattle.std.proofs.lemmas.List.Elements.{Contains-append_cases, Contains-append_left, Contains-append_right}
@@ -29,7 +29,7 @@ lost_longer : (w : ℕ) (all more : List LinearRow) (losses : List Loss) → IfL
 lost_longer w all more [] s = tt
 lost_longer w all more (loss ∷ later) s = strains_longer w all more loss s
 
--- a cone strains as a list does
+-- a cone exceeds a limit as a list does
 strained_of : (w : ℕ) (chosen : List LinearRow) (further : LinearRow) (lines rays : List (List ℤ)) (cause : Cause) → ConeStrains w further.equal further.row lines rays cause →
     IsStrained w chosen further lines rays cause
 strained_of w chosen further lines rays (Excess e) (inl x) = inl x
@@ -66,7 +66,7 @@ conversion_start s kept losses ek el = record {
   tried = (ek, el);
 }
 
--- ---- the row is taken in
+-- ---- the row is added
 pub conversion_more : (first all kept : List LinearRow) (old new : ConeContent) (losses : List Loss) (after : List LinearRow) (g : LinearRow) → new.dims ≡ old.dims → new.taken ≡ old.taken ++ g ∷ [] →
     after ≡ kept ++ g ∷ [] → IsConversion first all kept old losses →
     IsConversion first (all ++ g ∷ []) after new losses
@@ -110,7 +110,7 @@ lost_end first all kept s [] loss k c e strained =
     first_lost (first ++ all) s loss k (c.taken ∙ ap (λ (l : List LinearRow). first ++ l) (c.whole refl)) e strained
 lost_end first all kept s (earlier ∷ later) loss k c e strained = strains_longer (suc s.dims) (first ++ all) (loss.further ∷ []) earlier c.strain
 
--- as the code tells it: after a row that was left out the cone is as it was
+-- as the code states it: after a row that was left out the cone is as it was
 pub conversion_left_out : (first all kept : List LinearRow) (old new : ConeContent) (losses after : List Loss) (loss : Loss) (g : LinearRow) (strained : Strained) (cause : Cause)
     (taken : List LinearRow) → IsCone new →
     new ≡ old → taken ≡ new.taken →

@@ -1,4 +1,4 @@
--- The cone after a step: both cases give the canonical description of the rows with the one taken in, and its matrix.
+-- The cone after a step: both cases give the canonical description of the rows with the one added, and its matrix.
 use Rattle.std.proofs.Common.{◌≡◌, ℕ, suc, ◌<◌, ◌≤◌, Bool, true, false, cond, not, List, [], ◌∷◌, ◌++◌, length, get_or, map, replicate, refl, ap, sym, ◌∙◌, subst, arith, pos, ℤ, neg_ℤ, ◌<ℤ◌, ◌≤ℤ◌}
 use Rattle.std.proofs.lemmas.List.{get_or-map, length-map, get_or_default, length-append, length-replicate}
 use Rattle.std.proofs.lemmas.List.Elements.{Contains-append_cases, Contains-append_left, Contains-append_right, Contains-get_or}
@@ -21,7 +21,7 @@ use Rattle.lra_cone.proofs.{Cutting.inside_rays, Cutting.unmarked_are, Cutting.c
 abbrev pub taken_last : ConeContent → LinearRow → List (List ℤ) → List (List ℤ) → ConeContent
 taken_last s g lines rays = record { dims = s.dims; taken = s.taken ++ g ∷ []; lines = lines; rays = rays }
 
--- what is met is what the rows with the one taken in describe
+-- what is met is what the rows with the one added describe
 pub cone_of : (s : ConeContent) (g : LinearRow) (lines rays : List (List ℤ)) → IsCone s → IsIntersection (suc s.dims) g.equal g.row (all_rows s.lines s.rays) (all_rows lines rays) →
     IsCanonical lines rays →
     length rays ≤ row_limit → IsCone (taken_last s g lines rays)
@@ -73,7 +73,7 @@ pub line_canonical : (s : ConeContent) (g : LinearRow) (lines rays : List (List 
     IsCanonical lines rays
 line_canonical s g lines rays k x = line_case_kept (suc s.dims) g.equal g.row s.lines s.rays lines rays x k.canonical
 
--- each row taken in is tight at a line, in either direction
+-- each row added is tight at a line, in either direction
 pub line_tight : (s : ConeContent) → IsCone s → (l line : List ℤ) → Contains s.lines line → (l ≡ line) ⊎ (l ≡ negated line) → (c : List ℤ) → Contains (system_of s.taken) c → product c l ≡ pos 0
 line_tight s k l line m sign c i =
     let at : (q : List ℤ) → Contains (both_ways s.lines) q → pos 0 ≤ℤ product c q = λ q o. k.dual.meets q (Contains-append_right s.rays (both_ways s.lines) q o) c i in
@@ -135,7 +135,7 @@ pub ray_canonical : (s : ConeContent) (g : LinearRow) (rays : List (List ℤ)) �
     IsCanonical s.lines rays
 ray_canonical s g rays k flat x = new_canonical (suc s.dims) g.row (system_of s.taken) s.lines s.rays k.dual k.canonical g.equal rays (both_flat g.row s.lines flat) x
 
--- ---- as the code comes to the cases
+-- ---- as the code reaches the cases
 pub flatten_case : (s : ConeContent) (g : LinearRow) (place : ℕ) (line : Across) (of_lines of_rays : List ℤ) (lines rays : List (List ℤ)) → IsCone s → of_lines ≡ map (product g.row) s.lines →
     of_rays ≡ map (product g.row) s.rays → IsLastAcross of_lines (length of_lines) (Some place) →
     IsTurned (get_or s.lines place []) place (get_or of_lines place (pos 0)) line → AreFlatLines line of_lines s.lines lines → AreFlatRays g.equal line of_rays s.rays rays →

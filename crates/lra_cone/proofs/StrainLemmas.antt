@@ -1,4 +1,4 @@
--- What is told of a row that is not taken in, from what the parts of a step tell.
+-- What is reported about a row that is not added, from what the parts of a step report.
 use Rattle.std.proofs.Common.{◌≡◌, ◌≢◌, ℕ, zero, suc, ◌+◌, ◌<◌, ◌≤◌, Bool, true, false, cond, List, [], ◌∷◌, ◌++◌, length, get_or, map, take, refl, ap, sym, ◌∙◌, subst, arith, pos, ℤ, neg_ℤ, ◌<ℤ◌}
 use Rattle.std.proofs.{Common.inl, Common.inr, Common.◌⊎◌, Common.int_lt, Common.Ok, Common.Err, lemmas.Int.ints, lemmas.List.get_or-map, lemmas.List.get_or-take, lemmas.List.length-map}
 use Rattle.std.proofs.{lemmas.List.length-append, lemmas.List.Elements.Contains-append_left, lemmas.List.Elements.Contains-append_right, lemmas.List.Elements.Contains-get_or}
@@ -294,7 +294,7 @@ pub turned_at : (s : ConeContent) (c : List ℤ) (of_lines : List ℤ) (at : ℕ
 turned_at s c of_lines at line e h t =
     subst (λ z. IsTurned (get_or s.lines at []) at z line) (ap (λ (y : List ℤ). get_or y at (pos 0)) e ∙ get_or-map (product c) s.lines at [] (pos 0) h) t
 
--- ---- without places: the cone strains
+-- ---- without places: the cone exceeds a limit
 pub place_in : (rows : List (List ℤ)) (place : ℕ) (r : List ℤ) → StandsAt rows place r → Contains rows r
 place_in rows place r x = subst (Contains rows) x.is (Contains-get_or rows place [] x.inside)
 
@@ -302,7 +302,7 @@ member_in : (s : ConeContent) (family : Family) (place : ℕ) (r : List ℤ) →
 member_in s Lines place r x = Contains-append_right s.rays (both_ways s.lines) r (in_lines s.lines r (place_in s.lines place r x))
 member_in s Rays place r x = Contains-append_left s.rays (both_ways s.lines) r (place_in s.rays place r x)
 
--- what strains a cone of lines and rays when the row c is taken in
+-- When a cone of lines and rays exceeds a limit as the row c is added
 abbrev pub ConeStrains : ℕ → Bool → List ℤ → List (List ℤ) → List (List ℤ) → Cause → Type 0
 ConeStrains w equal c lines rays (cause.Excess e) = ProductPasses c (all_rows lines rays) e ⊎ PairPasses c (all_rows lines rays) e
 ConeStrains w equal c lines rays (cause.TooMany count) = HasTooMany w equal c lines rays count

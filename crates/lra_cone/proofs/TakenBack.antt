@@ -1,4 +1,4 @@
--- A row that was taken in, and is taken out again.
+-- A row that was added, and is removed again.
 use Rattle.std.proofs.Common.{◌≡◌, ◌∙◌, ◌-◌, ◌++◌, ◌∷◌, [], ℕ, ℤ, List, ap, arith, length, subst, sym, take}
 use Rattle.std.proofs.{Math.Seq.take-append_seam, lemmas.List.length-append}
 use Rattle.lra_bits.specs.Matrix.{Matrix}

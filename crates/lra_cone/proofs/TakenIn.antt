@@ -1,4 +1,4 @@
--- What holds of a cone once a row was to be taken in, by what came of it.
+-- What holds of a cone once a row was to be added, by what came of it.
 use Rattle.std.proofs.Common.{◌≡◌, ◌++◌, ◌∷◌, [], suc, ap, Result, Ok, Err}
 use Rattle.std.specs.Result.{OnErr, OnOk}
 use Rattle.lra_linear_spec.specs.{ConeStrain.IsIntersection, Cones.all_rows, Descriptions.LinearRow}

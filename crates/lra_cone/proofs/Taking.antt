@@ -1,4 +1,4 @@
--- A row is taken in last: the system, the matrix, and the case of a line as the code makes it.
+-- A row is added last: the system, the matrix, and the case of a line as the code makes it.
 use Rattle.std.proofs.Common.{◌≡◌, ℕ, zero, suc, ◌+◌, ◌<◌, ◌≤◌, Bool, true, false, List, [], ◌∷◌, ◌++◌, length, get_or, map, take, drop, replicate, refl, ap, sym, ◌∙◌, subst, arith, pos, ℤ, ◌+ℤ◌}
 use Rattle.std.proofs.Common.{◌*ℤ◌, neg_ℤ, ◌<ℤ◌, inl, inr, ◌⊎◌}
 use Rattle.std.proofs.{lemmas.Bool.Decides.Decides-int_eq, lemmas.List.take-map, lemmas.List.get_or_default, lemmas.List.Elements.Contains-append_cases, lemmas.List.Elements.Contains-append_left}
@@ -104,7 +104,7 @@ in_front (suc at) (l ∷ lines) r m = elim (contains_cases l r (take at lines) m
       (in_front at lines r n)
 ]
 
--- where the elements behind a place stand
+-- where the elements after a place stand
 behind : (n : ℕ) (lines : List (List ℤ)) (r : List ℤ) → Contains (drop n lines) r → (k : ℕ) × (n ≤ k) × (k < length lines) × (get_or lines k [] ≡ r)
 behind zero lines r m = (m.0, omega arith, m.1, get_or_default lines m.0 [] r m.1 ∙ m.2)
 behind (suc n) [] r m = absurd (contains_none r m)

@@ -81,7 +81,7 @@ rows_unmarked taken [] (r ∷ rays) = refl
 rows_unmarked taken (true ∷ marks) (r ∷ rays) = rows_unmarked taken marks rays
 rows_unmarked taken (false ∷ marks) (r ∷ rays) = ap (λ (x : List (List Bool)). tight_values taken r ∷ x) (rows_unmarked taken marks rays)
 
--- one more row taken in
+-- one more row added
 pub values_end : (taken : List LinearRow) (g : LinearRow) (r : List ℤ) → tight_values (taken ++ g ∷ []) r ≡ tight_values taken r ++ int_eq (product g.row r) (pos 0) ∷ []
 values_end [] g r = refl
 values_end (x ∷ taken) g r = ap (λ (y : List Bool). int_eq (product x.row r) (pos 0) ∷ y) (values_end taken g r)

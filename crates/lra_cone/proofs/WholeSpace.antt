@@ -35,7 +35,7 @@ column_from start (suc n) j k = elim (contains_cases start j (columns_from (suc 
 ]
 
 -- ---- the echelon form
--- a column before another isn't it, nor behind it
+-- a column before another isn't it, nor after it
 not_before : (i j : ℕ) → Before i j → Before j i ⊎ (j ≡ i) → ⊥
 not_before i j b (inl x) = first b.0 b.1 x.0 x.1
   where

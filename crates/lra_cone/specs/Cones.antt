@@ -6,7 +6,7 @@ use Rattle.lra_linear_spec.specs.ConeStrain.{IsIntersection, row_limit}
 use Rattle.lra_linear_spec.specs.{Canonical.IsCanonical, Cones.all_rows, Cones.AreDual, Descriptions.LinearRow}
 use Rattle.lra_linear_spec.specs.{Descriptions.system_of, OperationStrain.unit_row, Vectors.product}
 
--- The rows taken in so far, each an inequality or an equality, and the lines and rays. Each row has one column more
+-- The rows added so far, each an inequality or an equality, and the lines and rays. Each row has one column more
 -- than there are dimensions.
 pub record ConeContent : Type 0 where
   pub dims : ℕ
@@ -14,14 +14,14 @@ pub record ConeContent : Type 0 where
   pub lines : List (List ℤ)
   pub rays : List (List ℤ)
 
--- The lines and rays are the canonical description of the solutions of the rows taken in, with no more rays than one
+-- The lines and rays are the canonical description of the solutions of the rows added, with no more rays than one
 -- may have.
 pub record IsCone (s : ConeContent) : Type 0 where
   pub dual : AreDual (suc s.dims) (system_of s.taken) (all_rows s.lines s.rays)
   pub canonical : IsCanonical s.lines s.rays
   pub few : length s.rays ≤ row_limit
 
--- for each row taken in, whether it is tight at r (has product 0 with it)
+-- for each row added, whether it is tight at r (has product 0 with it)
 abbrev pub tight_values : List LinearRow → List ℤ → List Bool
 tight_values [] r = []
 tight_values (g ∷ taken) r = int_eq (product g.row r) (pos 0) ∷ tight_values taken r
@@ -30,7 +30,7 @@ abbrev pub saturation_rows : List LinearRow → List (List ℤ) → List (List B
 saturation_rows taken [] = []
 saturation_rows taken (r ∷ rays) = tight_values taken r ∷ saturation_rows taken rays
 
--- a row for each ray, with a column for each row taken in: true where that is tight at the ray
+-- a row for each ray, with a column for each row added: true where that is tight at the ray
 abbrev pub cone_saturation : List LinearRow → List (List ℤ) → Matrix
 cone_saturation taken rays = record { width = length taken; rows = saturation_rows taken rays }
 
@@ -43,11 +43,11 @@ columns_from start (suc n) = start ∷ columns_from (suc start) n
 abbrev pub unit_lines : ℕ → List (List ℤ)
 unit_lines n = map (unit_row n) (columns_from 1 n)
 
--- no row taken in: all vectors
+-- no row added: all vectors
 abbrev pub whole_space : ℕ → ConeContent
 whole_space n = record { dims = n; taken = []; lines = unit_lines n; rays = [] }
 
--- the row is taken in last, and what the old rows describe with it the new ones describe
+-- the row is added last, and what the old rows describe with it the new ones describe
 pub record IsTakenIn (old : ConeContent) (g : LinearRow) (new : ConeContent) : Type 0 where
   pub dims : new.dims ≡ old.dims
   pub taken : new.taken ≡ old.taken ++ g ∷ []

@@ -1,11 +1,11 @@
--- Conversions of lists: the cone of the rows that were taken in one by one.
+-- Conversions of lists: the cone of the rows that were added one by one.
 use Rattle.std.specs.List.{Contains}
 use Rattle.std.specs.Prelude.{◌≡◌, ◌⊎◌, ℕ, suc, List, [], ◌∷◌, ◌++◌}
 use Rattle.lra_linear_spec.specs.{Descriptions.LinearRow, Strain.Loss, Strain.Strains}
 use Rattle.lra_cone.specs.{Cones.ConeContent, Losses.IfLost}
 
--- Behind those taken in all these were tried in their order. Each was taken in, and is kept; or it was left out behind
--- those that were taken in until then, which strain with it: so the next loss tells.
+-- After those added all these were tried in their order. Each was added, and is kept; or it was left out after
+-- those that were added until then, which exceed a limit with it: so the next loss reports.
 abbrev pub AreTried : ℕ → List LinearRow → List LinearRow → List LinearRow → List Loss → Type 0
 AreTried w taken [] kept losses = (kept ≡ []) × (losses ≡ [])
 AreTried w taken (g ∷ all) kept losses =
@@ -13,8 +13,8 @@ AreTried w taken (g ∷ all) kept losses =
     ⊎ ((loss : Loss) × (others : List Loss) × (losses ≡ loss ∷ others) × (loss.chosen ≡ taken) × (loss.further ≡ g)
     × Strains w (taken ++ g ∷ []) loss × AreTried w taken all kept others)
 
--- Behind the first rows all were tried in their order: those kept are among them, and are all where none was left out;
--- the first that was left out strains.
+-- After the first rows all were tried in their order: those kept are among them, and are all where none was left out;
+-- the first that was left out exceeds a limit.
 pub record IsConversion (first all kept : List LinearRow) (cone : ConeContent) (losses : List Loss) : Type 0 where
   pub taken : cone.taken ≡ first ++ kept
   pub among : (g : LinearRow) → Contains kept g → Contains all g

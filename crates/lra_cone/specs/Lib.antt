@@ -1,4 +1,4 @@
--- Cones, what strains them, and conversions of lists.
+-- Cones, the limits that they can exceed, and conversions of lists.
 pub mod Cones
 pub mod Strains
 pub mod Flat

@@ -2,7 +2,7 @@
 use Rattle.std.specs.Prelude.{List, [], ◌∷◌}
 use Rattle.lra_linear_spec.specs.Strain as strain
 
--- the first of the losses is as told; nothing is told of later ones
+-- the first of the losses is as stated; nothing is reported about later ones
 abbrev pub IfLost : (strain.Loss → Type 0) → List strain.Loss → Type 0
 IfLost IsLoss [] = Unit {0}
 IfLost IsLoss (loss ∷ later) = IsLoss loss

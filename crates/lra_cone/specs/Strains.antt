@@ -1,5 +1,5 @@
--- What is told where a cone doesn't take a row in: the rows of the cone with which a number passes the range, or how
--- many rays there would be.
+-- What is reported where a cone doesn't take a row in: the rows of the cone with which a number passes the range, or
+-- how many rays there would be.
 use Rattle.std.specs.Prelude.{◌≡◌, ℕ, suc, ◌⊎◌, neg_ℤ, ℤ, Bool, List, Err}
 use Rattle.lra_linear_spec.specs.declared.Excess as E
 use Rattle.lra_linear_spec.specs.CheckedArithmetic.{checked_product, checked_blend}
@@ -49,7 +49,7 @@ IsStrain s equal c (Product member e) = ProductPassesAt s c member e
 IsStrain s equal c (Pair up down e) = PairPassesAt s c up down e
 IsStrain s equal c (TooMany count) = TooManyRays s equal c count
 
--- as it is told; want of memory says nothing
+-- as it is stated; running out of memory says nothing
 abbrev pub IsConeError : ConeContent → Bool → List ℤ → C.ConeError → Type 0
 IsConeError s equal c (of_cone.Strained strained) = IsStrain s equal c strained
 IsConeError s equal c of_cone.Memory = Unit {0}

@@ -20,7 +20,7 @@ use lra_systems::{ConKind, ConSys, unit};
 use std::alloc::{AllocError, Global};
 use std::marker::Model;
 
-/// The solutions of the rows taken in so far, by lines and rays in their canonical form: none is redundant. The
+/// The solutions of the rows added so far, by lines and rays in their canonical form: none is redundant. The
 /// saturation matrix says which rows are tight at which rays; it is changed with the rays.
 pub struct Cone {
     taken: ConSys,
@@ -65,7 +65,7 @@ struct Flat {
 }
 
 impl Cone {
-    /// All vectors of n + 1 columns: no row is taken in.
+    /// All vectors of n + 1 columns: no row is added.
     pub fn whole(alloc: Global, n: usize) -> Result<Cone, AllocError>
         requires { n < too_many_dimensions }
         ensures { IfOk result (λ cone. cone ≡ whole_space n) }
@@ -83,7 +83,7 @@ impl Cone {
         })
     }
 
-    /// The cone of a description that is at hand: these rows taken in, their lines and rays, and which of them are
+    /// The cone of a description that is at hand: these rows added, their lines and rays, and which of them are
     /// tight at which rays.
     pub fn of_lists(taken: ConSys, lines: Vec<Row>, rays: Vec<Row>, saturation: SatMatrix) -> Cone
         requires cone { IsCone (record {
@@ -116,7 +116,7 @@ impl Cone {
         self.taken.dims()
     }
 
-    /// The rows taken in, in their order.
+    /// The rows added, in their order.
     pub fn taken(&self) -> &ConSys
         ensures dims { result.now.dims ≡ self.now.dims }
         ensures taken { constraints result.now ≡ self.now.taken }
@@ -141,15 +141,15 @@ impl Cone {
         self.rays.as_slice()
     }
 
-    /// Which of the rows taken in are tight at which of the rays.
+    /// Which of the rows added are tight at which of the rays.
     pub fn saturation(&self) -> &SatMatrix
         ensures { result.now ≡ cone_saturation self.now.taken self.now.rays }
     {
         &self.saturation
     }
 
-    /// Takes a row in: the cone becomes that of its vectors at which the row holds. Where that strains, or where there
-    /// is no memory, the cone stays as it was.
+    /// Takes a row in: the cone becomes that of its vectors at which the row holds. Where that exceeds a limit, or
+    /// where there is no memory, the cone stays as it was.
     pub fn add_row(&mut self, row: &Row, kind: ConKind) -> Result<(), ConeError>
         requires { length row.now ≡ suc self.old.dims }
         ensures dims { self.new.dims ≡ self.old.dims }
@@ -200,7 +200,7 @@ impl Cone {
         })
     }
 
-    // Takes a row in where its product with the line at the place, and with none behind it, isn't 0.
+    // Takes a row in where its product with the line at the place, and with none after it, isn't 0.
     fn flatten(
         &mut self,
         row: &Row,
@@ -293,7 +293,7 @@ impl Cone {
     }
 }
 
-/// The cone of the points of n dimensions: the positivity row, which says that column 0 is at least 0, is taken in.
+/// The cone of the points of n dimensions: the positivity row, which says that column 0 is at least 0, is added.
 pub fn positive_cone(alloc: Global, n: usize) -> Result<Cone, AllocError>
     requires { n < too_many_dimensions }
     ensures dims { IfOk result (λ cone. cone.dims ≡ n) }
@@ -301,7 +301,7 @@ pub fn positive_cone(alloc: Global, n: usize) -> Result<Cone, AllocError>
 {
     let mut cone = Cone::whole(alloc, n)?;
     let positivity = unit(alloc, n, 0)?;
-    // all numbers there are 0, 1 or -1, and there is one ray, so nothing strains
+    // all numbers there are 0, 1 or -1, and there is one ray, so nothing exceeds a limit
     match cone.add_row(&positivity, ConKind::Ge) {
         Ok(()) => Ok(cone),
         Err(ConeError::Memory) => Err(AllocError),

@@ -1,4 +1,4 @@
-//! Rows taken in one by one; those that strain the cone are left out.
+//! Rows added one by one; those that exceed a limit of the cone are left out.
 
 ghost use Rattle.std.specs.Prelude.{◌≡◌, ◌++◌, ◌∷◌, [], List, suc, length, ◌<◌, IfOk, OnOk};
 ghost use Rattle.lra_linear_spec.specs.{Descriptions.LinearRow, Kinds.is_equality};
@@ -12,7 +12,7 @@ use lra_row::Row;
 use lra_systems::{ConKind, ConSys};
 use std::alloc::{AllocError, Global};
 
-/// The cone of the rows that were taken in, those of them that came behind its first, and the losses of the others.
+/// The cone of the rows that were added, those of them that came after its first, and the losses of the others.
 #[derive(Drop)]
 pub struct Conversion {
     pub cone: Cone,
@@ -21,7 +21,7 @@ pub struct Conversion {
 }
 
 impl Conversion {
-    // Takes a row in, or leaves it out where it strains the cone.
+    // Takes a row in, or leaves it out where it exceeds a limit of the cone.
     fn take_row(&mut self, alloc: Global, row: &Row, kind: ConKind) -> Result<(), AllocError>
         requires width { length row.now ≡ suc self.old.cone.dims }
         requires dims { self.old.kept.dims ≡ self.old.cone.dims }
@@ -49,7 +49,7 @@ impl Conversion {
     }
 }
 
-/// Takes the rows into the cone in their order. One that strains it is left out, and the next is tried.
+/// Takes the rows into the cone in their order. One that exceeds a limit is left out, and the next is tried.
 pub fn take_rows(alloc: Global, start: Cone, rows: &ConSys) -> Result<Conversion, AllocError>
     requires small { rows.now.dims < too_many_dimensions }
     requires dims { rows.now.dims ≡ start.dims }

@@ -1,4 +1,4 @@
-//! Cones by the double description method: the lines and rays of the solutions of rows that are taken in one by one.
+//! Cones by the double description method: the lines and rays of the solutions of rows that are added one by one.
 //!
 //! What a row makes of them is a step of `lra_double_description`.
 #![tactic(auto)]

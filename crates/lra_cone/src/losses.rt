@@ -35,7 +35,7 @@ impl LossRow {
     }
 }
 
-/// What is told of a row that was left out.
+/// What is reported about a row that was left out.
 #[derive(Drop)]
 pub struct Loss {
     chosen: Vec<LossRow>,

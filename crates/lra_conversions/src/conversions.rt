@@ -49,7 +49,7 @@ pub fn generate(alloc: Global, rows: &ConSys) -> Result<(ConSys, GenSys, Vec<Los
     Ok((kept, generators, losses))
 }
 
-// The generators as rows, and the cone of what is valid on those that were taken in.
+// The generators as rows, and the cone of what is valid on those that were added.
 fn take_generators(alloc: Global, given: &GenSys) -> Result<(ConSys, Conversion), AllocError>
     requires { given.now.dims < too_many_dimensions }
     ensures dims { IfOk result (λ r. (r.0.dims ≡ given.now.dims) × (r.1.cone.dims ≡ given.now.dims)) }
@@ -64,7 +64,7 @@ fn take_generators(alloc: Global, given: &GenSys) -> Result<(ConSys, Conversion)
     Ok((rows, conversion))
 }
 
-/// The constraints of the generators, and the generators that were not taken in. With such a one a number passes the
+/// The constraints of the generators, and the generators that were not added. With such a one a number passes the
 /// range, or there are too many constraints; it counts none the less: of the constraints found without it those stay
 /// that are valid on it. Without a loss the constraints are in canonical order and have the same points, else at least
 /// those; where there is no point, the one constraint is -1 >= 0.

@@ -153,7 +153,7 @@ pub opposite_far : (n i : ℕ) → 2 * n ≤ i → 2 * n ≤ opposite i
 unfolding opposite
 opposite_far n i h = omega arith
 
--- the entries of further variables stand behind those of the first n
+-- the entries of further variables come after those of the first n
 pub place_far : (n i j : ℕ) → (2 * n ≤ i) ⊎ (2 * n ≤ j) → size n ≤ place i j
 place_far n i j far = elim (place_cases i j) as (λ _. size n ≤ place i j) [
   | inl p ↦ (let start = start_grows (2 * n) i (elim far [ inl f ↦ f | inr f ↦ (let q = p.0 in omega arith) ]) in

@@ -266,7 +266,7 @@ none_passes n flips x c old is plus minus a b h k = elim (eqb_tells (a / 2) x) [
           none_below (passes_at flips x c (entries n old) (2 * x + 1)) (2 * n) b minus k
     ]
 
--- both rows were rewritten, and it is told whether a number of them passes
+-- both rows were rewritten, and it is reported whether a number of them passes
 pub both_shifted : (n : ℕ) (flips : Bool) (x : ℕ) (c : ℤ) (old one two : Cells) (plus minus passes : Bool) → x < n →
     IsMatrix n old
     → RowGiven n (shifted_within flips x c (entries n old)) (2 * x) (2 * n) old one →

@@ -181,7 +181,7 @@ same_points n rows list (inr h) =
       λ x point gen. con_tail first rows x (same.1 x point gen),
     )
 
--- as the code tells it
+-- as the code states it
 pub generated : (cone start : ConeContent) (n dims : ℕ) (kept : List LinearRow) (lines rays : List (List ℤ)) (list : LinearSystem GenKind) → IsCone cone → dims ≡ n → cone.dims ≡ start.dims →
     start.dims ≡ dims →
     start.taken ≡ inequality (positivity dims) ∷ [] → cone.taken ≡ start.taken ++ kept →

@@ -1,4 +1,4 @@
--- What is known once generators have been taken in.
+-- What is known once generators have been added.
 use Rattle.std.proofs.Common.{◌≡◌, ◌≢◌, ℕ, zero, suc, ◌<◌, ◌≤◌, Bool, take, Result, Ok, Err, IfOk, List, [], ◌∷◌, ◌++◌, length, map, refl, ap, sym, ◌∙◌, subst, arith, ℤ, inl, inr}
 use Rattle.std.proofs.{lemmas.List.take_all, lemmas.List.Elements.Contains-append_cases}
 use Rattle.std.specs.List.{Contains}
@@ -50,7 +50,7 @@ taken n given rows list start cone kept losses many f m er ek ed es dims c k el 
 gen_none : (n : ℕ) → IsEmptySet n (Gen [])
 gen_none n x point h = nothing_generated n [] x point (λ t m. absurd (contains_none t m)) (gen_generated [] (entry x) h)
 
--- some row was taken in
+-- some row was added
 pub some_taken : (n : ℕ) (taken : List LinearRow) → ¬ (IsEmptySet n (Gen taken)) → 0 < length taken
 some_taken n [] h = absurd (h (gen_none n))
 some_taken n (x ∷ taken) h = omega arith
@@ -65,7 +65,7 @@ pub lost_strain : (n : ℕ) (given : List LinearRow) (list : LinearSystem ConKin
     IfLost (FromGeneratorsStrains n given) after
 lost_strain n given list cone losses after t e = from_generators_strain n given after (subst (IfLost (Strains (suc n) given)) (sym e) t.strain)
 
--- the own list strains
+-- the own list exceeds a limit
 pub own_lost_strain : (n : ℕ) (s : ConeContent) (cause : Cause) (losses after told : List Loss) → s.dims ≡ n → IsCone s → losses ≡ [] → TellsOwnLoss s cause losses after → told ≡ after →
     IsOwnCause s cause → IfLost (FromGeneratorsStrains n s.taken) told
 own_lost_strain n s cause losses after told d k none t et x =
@@ -77,7 +77,7 @@ own_lost_strain n s cause losses after told d k none t et x =
 pub further_rows : (more : LinearSystem GenKind) (rows : LinearSystem ConKind) → rows.rows ≡ more.rows → rows.kinds ≡ map dual_kind more.kinds → constraints rows ≡ generators more
 further_rows more rows er ek = ap (λ (y : List (List ℤ)). rows_by_kind is_equality y rows.kinds) er ∙ ap (rows_by_kind is_equality more.rows) ek ∙ dual_given more.rows more.kinds
 
--- where nothing was lost, all are taken in
+-- where nothing was lost, all are added
 pub further_taken : (more : LinearSystem GenKind) (rows : LinearSystem ConKind) (start cone : ConeContent) (kept : List LinearRow) (losses : List Loss) → rows.rows ≡ more.rows →
     rows.kinds ≡ map dual_kind more.kinds →
     IsConversion start.taken (constraints rows) kept cone losses → losses ≡ [] → cone.taken ≡ start.taken ++ generators more

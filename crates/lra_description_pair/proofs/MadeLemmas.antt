@@ -1,4 +1,4 @@
--- What rows and generators that were tried tell of the polyhedron that is made of them.
+-- What rows and generators that were tried say of the polyhedron that is made of them.
 use Rattle.std.proofs.Common.{◌≡◌, ◌∙◌, ℕ, zero, suc, List, [], ◌∷◌, ◌++◌, ap, drop, inl, inr, refl, subst, sym, take}
 use Rattle.std.specs.List.{Contains}
 use Rattle.lra_linear_spec.specs.{Descriptions.Con, Descriptions.Gen, Descriptions.LinearRow, OperationStrain.FromGeneratorsStrains, OperationStrain.FromRowsStrains, OperationStrain.with_positivity}
@@ -11,7 +11,7 @@ use Rattle.lra_description_pair.specs.{KeptRows.IsOfSome, Made.IsMadeFor, Made.I
 use Rattle.lra_description_pair.proofs.GeneratorPairs.{lost_strain, own_lost_strain, taken_strain}
 use Rattle.lra_description_pair.proofs.PairLosses.{all_of, first_within, from_strain, later_strain, none_of, same_strain, some_loss, still_among, taken_behind, universe_within}
 
--- ---- the rows that were taken into a cone
+-- ---- the rows that were added to a cone
 taken_dims : (n : ℕ) (s : ConeContent) (before after : List Loss) (p : Polyhedron) → IsMadeOf n s before p after → p.dims ≡ n
 taken_dims n s before after p (inl x) = x.made.dimensions
 taken_dims n s before after p (inr x) = x.1.dimensions
@@ -25,7 +25,7 @@ taken_within : (n : ℕ) (s : ConeContent) (before after : List Loss) (p : Polyh
 taken_within n s before after p (inl x) = x.made.points.0
 taken_within n s before after p (inr x) = universe_within n n (drop 1 s.taken) p refl x.1
 
--- without a loss behind it there was none before, and it is that of all of them
+-- without a loss after it there was none before, and it is that of all of them
 taken_exact : (n : ℕ) (s : ConeContent) (before after : List Loss) (p : Polyhedron) → IsMadeOf n s before p after → after ≡ [] →
     (before ≡ []) × IsPolyhedronOf n (Con (drop 1 s.taken)) p
 taken_exact n s before after p (inl x) none = (sym x.told ∙ none, x.made)
@@ -42,7 +42,7 @@ taken_strains n s before after p d (inl x) first all kept c =
 taken_strains n s before after p d (inr x) first all kept c =
     later_strain n s x.0.cause before after d x.0.is_cone x.0.told x.0.is_cause first all kept c
 
--- ---- rows that were tried behind others, positivity foremost
+-- ---- rows that were tried after others, positivity foremost
 tried_strain : (n : ℕ) (first all : List LinearRow) (p : Polyhedron) (losses : List Loss) → IsPositive n first → IsOfTried n first all p losses →
     IfLost (FromRowsStrains n (drop 1 first ++ all)) losses
 tried_strain n first all p losses positive t =

@@ -18,7 +18,7 @@ use Rattle.lra_description_pair.proofs.TightRows.{tight_in, loose_in, rows_from,
 pub filled_end : (f : ℕ → Bool) (n k : ℕ) (bits : List Bool) → k ≡ n → IsFilled f n k bits → IsFilled f n n bits
 filled_end f n k bits e h = subst (λ (i : ℕ). IsFilled f n i bits) e h
 
--- ---- what the values of a row tell
+-- ---- what the values of a row report
 value_of : {K : Type 0} (equal : K → Bool) (rows : List (List ℤ)) (kinds : List K) (place : ℕ) (t : List ℤ) → length rows ≡ length kinds → place < length rows →
     value_at (tight_values (rows_by_kind equal rows kinds) t) place ≡ int_eq (product (get_or rows place []) t) (pos 0)
 value_of equal [] kinds place t n h = absurd (omega (arith, h))

@@ -1,4 +1,4 @@
--- What is told of lost rows.
+-- What is reported about lost rows.
 use Rattle.std.proofs.Common.{◌≡◌, ◌≢◌, ℕ, zero, suc, ◌<◌, Bool, true, false, List, [], ◌∷◌, ◌++◌, length, get_or, drop, refl, ap, sym, ◌∙◌, subst, arith, ℤ, inl, inr, Option, Some, None}
 use Rattle.std.proofs.lemmas.List.{append-nil, get_or_default}
 use Rattle.std.proofs.lemmas.List.Elements.{Contains-append_cases, Contains-append_left, Contains-append_right}
@@ -115,13 +115,13 @@ pub first_within : (n : ℕ) (kept rows : List LinearRow) (P : PointSet) → ((g
     IsWithin n (Con kept) P → IsWithin n (Con rows) P
 first_within n kept rows P among h x point con = h x point (λ g m. con g (among g m))
 
--- ---- as the code tells it, of constraints
+-- ---- as the code states it, of constraints
 pub taken_behind : (n : ℕ) (first rows kept : List LinearRow) (s : ConeContent) (losses : List Loss) → IsPositive n first →
     IsConversion first rows kept s losses → drop 1 s.taken ≡ drop 1 first ++ kept
 taken_behind n first rows kept s losses positive c =
     ap (drop 1) (c.taken ∙ ap (λ (l : List LinearRow). l ++ kept) positive.1) ∙ ap (λ (l : List LinearRow). drop 1 l ++ kept) (sym positive.1)
 
--- rows among others, behind the same
+-- rows among others, after the same
 pub still_among : (front kept rows : List LinearRow) → ((g : LinearRow) → Contains kept g → Contains rows g) → (g : LinearRow) → Contains (front ++ kept) g →
     Contains (front ++ rows) g
 still_among front kept rows among g m = elim (Contains-append_cases front kept g m) [
@@ -132,7 +132,7 @@ still_among front kept rows among g m = elim (Contains-append_cases front kept g
 pub universe_within : (n d : ℕ) (rows : List LinearRow) (p : Polyhedron) → d ≡ n → IsPolyhedronOf d (Con []) p → IsWithin n (Con rows) (Con p.rows)
 universe_within n d rows p e h = subst (λ (m : ℕ). IsWithin m (Con rows) (Con p.rows)) e (λ x point con. h.points.0 x point (con_none x))
 
--- behind the positivity row alone, the list itself
+-- after the positivity row alone, the list itself
 pub none_behind : (n d : ℕ) (taken rows : List LinearRow) → d ≡ n → taken ≡ inequality (positivity d) ∷ [] → drop 1 taken ++ rows ≡ rows
 none_behind n d taken rows e first = ap (λ (l : List LinearRow). drop 1 l ++ rows) first
 
@@ -144,7 +144,7 @@ pub same_strain : (d : ℕ) (s : ConeContent) (losses : List Loss) → s.dims �
     IfLost (Strains (suc d) (first ++ all)) losses
 same_strain d s losses e first all kept c = subst (λ (m : ℕ). IfLost (Strains (suc m) (first ++ all)) losses) e c.strain
 
--- the own list strains
+-- the own list exceeds a limit
 pub later_strain : (d : ℕ) (s : ConeContent) (cause : Cause) (losses after : List Loss) → s.dims ≡ d → IsCone s → TellsOwnLoss s cause losses after →
     IsOwnCause s cause → (first all kept : List LinearRow) → IsConversion first all kept s losses → IfLost (Strains (suc d) (first ++ all)) after
 later_strain d s cause losses after e k t h first all kept c =

@@ -3,5 +3,5 @@ pub mod OwnLists
 pub mod KeptRows
 pub mod Made
 pub mod TriedRows
--- Generators that were taken into a cone.
+-- Generators that were added to a cone.
 pub mod TakenPoints

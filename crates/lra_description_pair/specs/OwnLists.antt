@@ -1,4 +1,4 @@
--- The canonical list of the own kind: of constraints that were taken into a cone the canonical constraints, of
+-- The canonical list of the own kind: of constraints that were added to a cone the canonical constraints, of
 -- generators the canonical generators. Rows that are tight at all rays of the cone come into an echelon form; the
 -- others are reduced by it.
 use Rattle.std.specs.Prelude.{◌≡◌, ◌↔◌, ℕ, suc, ◌+◌, ◌<◌, ◌≤◌, ℤ, pos, Bool, true, cond, List, [], ◌∷◌, ◌++◌, length}
@@ -48,7 +48,7 @@ abbrev pub IsOwnExcess : ConeContent → RowError → Type 0
 IsOwnExcess s (Excess e) = OwnReductionPasses (suc s.dims) s.taken s.rays e
 IsOwnExcess s Memory = Unit {0}
 
--- why no list is told of: a number passes in it, or it has so many rays, and that is too many
+-- why no list is reported of: a number passes in it, or it has so many rays, and that is too many
 abbrev pub IsOwnCause : ConeContent → Cause → Type 0
 IsOwnCause s (of_cause.Excess e) = OwnReductionPasses (suc s.dims) s.taken s.rays e
 IsOwnCause s (of_cause.TooMany count) = OwnTooMany (suc s.dims) (system_of s.taken) count
@@ -74,20 +74,20 @@ AnyReductionExcess form rows Memory = Unit {0}
 abbrev pub IsPositive : ℕ → List LinearRow → Type 0
 IsPositive n taken = (kept : List LinearRow) × (taken ≡ inequality (positivity n) ∷ kept)
 
--- the loss of the own list of the rows taken in, one of which is named
+-- the loss of the own list of the rows added, one of which is named
 pub record IsOwnLoss (s : ConeContent) (reason : Cause) (loss : Loss) : Type 0 where
   pub chosen : loss.chosen ≡ s.taken
   pub further : Contains s.taken loss.further
   pub cause : loss.cause ≡ reason
 
--- behind the losses told before stands that of the own list
+-- after the losses reported before stands that of the own list
 pub record TellsOwnLoss (s : ConeContent) (reason : Cause) (before after : List Loss) : Type 0 where
   pub loss : Loss
   pub told : after ≡ before ++ loss ∷ []
   pub own : IsOwnLoss s reason loss
 
 -- ---- which rows are tight at which others
--- the rays of a cone, and behind them its lines
+-- the rays of a cone, and after them its lines
 abbrev pub columns_of : ConeContent → List (List ℤ)
 columns_of s = s.rays ++ s.lines
 

@@ -10,8 +10,8 @@ use Rattle.lra_descriptions.specs.ShownLists.{ShowsConstraints, ShowsValid}
 use Rattle.lra_description_pair.specs.TriedRows.{IsOfTried, OwnListStrains}
 
 -- The list's constraints hold at the points of the generators: they are those of the cone, after a loss each of its
--- lines and rays that is seen to be valid on all generators. What was lost strains; without a loss all of the
--- generators were taken in.
+-- lines and rays that is seen to be valid on all generators. What was lost exceeds a limit; without a loss all of the
+-- generators were added.
 pub record AreTaken (n : ℕ) (given : List LinearRow) (list : LinearSystem ConKind) (cone : ConeContent)
     (losses : List Loss) : Type 0 where
   pub list_dims : list.dims ≡ n
@@ -26,7 +26,7 @@ pub record AreTaken (n : ℕ) (given : List LinearRow) (list : LinearSystem ConK
   pub exact : losses ≡ [] → ShowsConstraints n cone.lines cone.rays list
   pub valid : losses ≢ [] → ShowsValid n cone.lines cone.rays given list
 
--- ---- behind a loss
+-- ---- after a loss
 -- so many of the constraints are kept, the first ones
 abbrev pub most_kept : ℕ
 most_kept = 64
@@ -36,13 +36,13 @@ pub record IsOfFirst (n : ℕ) (list : List LinearRow) (p : Polyhedron) : Type 0
   pub losses : List Loss
   pub tried : IsOfTried n (with_positivity n []) (take most_kept list) p losses
 
--- the polyhedron of the generators that were taken into the cone; where their canonical list strains, that of
+-- the polyhedron of the generators that were added to the cone; where their canonical list exceeds a limit, that of
 -- constraints that hold at each of them
 abbrev pub IsMadeOfPoints : ℕ → ConeContent → List LinearRow → Polyhedron → List Loss → Type 0
 IsMadeOfPoints n cone list p losses = ((losses ≡ []) × IsPolyhedronOf n (Gen cone.taken) p) ⊎
     (OwnListStrains cone [] losses × IsOfFirst n list p)
 
--- the same, where each of them was taken in; else that of constraints that hold at each
+-- the same, where each of them was added; else that of constraints that hold at each
 pub record IsOfPoints (n : ℕ) (given : List LinearRow) (p : Polyhedron) (losses : List Loss) : Type 0 where
   pub cone : ConeContent
   pub list : LinearSystem ConKind

@@ -1,18 +1,18 @@
--- What becomes of rows that are tried behind others: those that strain are left out, and the polyhedron is that of all
--- others; but where the canonical list of these strains it is that of all points.
+-- What becomes of rows that are tried after others: those that exceed a limit are left out, and the polyhedron is that
+-- of all others; but where the canonical list of these exceeds a limit is that of all points.
 use Rattle.std.specs.Prelude.{◌≡◌, ◌≢◌, ◌⊎◌, ℕ, List, [], drop}
 use Rattle.lra_linear_spec.specs.Polyhedra.{IsPolyhedronOf, Polyhedron}
 use Rattle.lra_linear_spec.specs.{Descriptions.Con, Descriptions.LinearRow, Strain.Loss, declared.Cause.Cause}
 use Rattle.lra_cone.specs.{Cones.ConeContent, Cones.IsCone, Conversions.IsConversion}
 use Rattle.lra_description_pair.specs.OwnLists.{IsOwnCause, TellsOwnLoss}
 
--- the polyhedron of the rows that were taken into the cone, and nothing more is lost
+-- the polyhedron of the rows that were added to the cone, and nothing more is lost
 pub record IsOfTaken (n : ℕ) (cone : ConeContent) (before : List Loss) (p : Polyhedron) (after : List Loss) : Type 0
   where
     pub made : IsPolyhedronOf n (Con (drop 1 cone.taken)) p
     pub told : after ≡ before
 
--- their canonical list strains, as a further loss tells, and it is the polyhedron of all points
+-- their canonical list exceeds a limit, as a further loss reports, and it is the polyhedron of all points
 pub record OwnListStrains (cone : ConeContent) (before after : List Loss) : Type 0 where
   pub is_cone : IsCone cone
   pub cause : Cause
@@ -23,7 +23,7 @@ abbrev pub IsMadeOf : ℕ → ConeContent → List Loss → Polyhedron → List 
 IsMadeOf n cone before p after = IsOfTaken n cone before p after ⊎
     (OwnListStrains cone before after × IsPolyhedronOf n (Con []) p)
 
--- behind the first rows, positivity foremost, all of these were tried in their order
+-- after the first rows, positivity foremost, all of these were tried in their order
 pub record IsOfTried (n : ℕ) (first all : List LinearRow) (p : Polyhedron) (losses : List Loss) : Type 0 where
   pub cone : ConeContent
   pub dims : cone.dims ≡ n
@@ -32,8 +32,8 @@ pub record IsOfTried (n : ℕ) (first all : List LinearRow) (p : Polyhedron) (lo
   pub conversion : IsConversion first all kept cone left
   pub made : IsMadeOf n cone left p losses
 
--- ---- generators behind those of a cone
--- one of them strains when it is tried, or the canonical list of all does
+-- ---- generators after those of a cone
+-- one of them exceeds a limit when it is tried, or the canonical list of all does
 pub record StrainsWhenTried (n : ℕ) (first all : List LinearRow) : Type 0 where
   pub cone : ConeContent
   pub dims : cone.dims ≡ n

@@ -1,4 +1,4 @@
-//! The canonical list of a list's own kind, from the cone that its rows were taken into.
+//! The canonical list of a list's own kind, from the cone that its rows were added to.
 
 ghost use Rattle.std.specs.Prelude.{◌≡◌, ◌++◌, ◌∷◌, [], ℕ, List, ℤ, ◌+◌, ◌<◌, ◌≤◌, length, IfOk, IfErr, OnOk};
 ghost use Rattle.std.specs.Prelude.{slice_index_or};
@@ -30,7 +30,7 @@ fn is_tight(saturation: &SatMatrix, place: usize, ray: usize) -> bool
     }
 }
 
-// At which rays, and lines behind them, the row at the place is tight.
+// At which rays, and lines after them, the row at the place is tight.
 fn tight_where(
     alloc: Global,
     saturation: &SatMatrix,
@@ -75,7 +75,7 @@ impl Parts {
     }
 }
 
-// The row taken in at the place, and at which rays, and lines behind them, it is tight.
+// The row added at the place, and at which rays, and lines after them, it is tight.
 fn read_row(
     alloc: Global,
     cone: &Cone,
@@ -94,7 +94,7 @@ fn read_row(
     Ok((row, bits))
 }
 
-// The parts of the rows taken in.
+// The parts of the rows added.
 fn part_rows(alloc: Global, cone: &Cone) -> Result<Parts, AllocError>
     ensures cone { IsCone cone.now }
     ensures width { IfOk result (λ p.
@@ -166,7 +166,7 @@ pub struct Own {
     pub rays: Vec<Row>,
 }
 
-/// Lines and rays as of `Own`, and at which of the cone's rays, and lines behind them, each of the rays is tight.
+/// Lines and rays as of `Own`, and at which of the cone's rays, and lines after them, each of the rays is tight.
 #[derive(Drop)]
 pub struct MarkedOwn {
     pub lines: Vec<Row>,
@@ -174,7 +174,7 @@ pub struct MarkedOwn {
     pub saturation: SatMatrix,
 }
 
-/// The canonical description of what the rows taken into the cone generate: of constraints the canonical equalities and
+/// The canonical description of what the rows added to the cone generate: of constraints the canonical equalities and
 /// inequalities, of generators the canonical lines and rays, with the matrix of its rays. Or names a number that passes
 /// the range in it.
 pub fn find_marked_list(alloc: Global, cone: &Cone) -> Result<MarkedOwn, RowError>
@@ -199,7 +199,7 @@ pub fn find_marked_list(alloc: Global, cone: &Cone) -> Result<MarkedOwn, RowErro
     })
 }
 
-/// The canonical description of what the rows taken into the cone generate: of constraints the canonical equalities and
+/// The canonical description of what the rows added to the cone generate: of constraints the canonical equalities and
 /// inequalities, of generators the canonical lines and rays. Or names a number that passes the range in it.
 pub fn find_own_list(alloc: Global, cone: &Cone) -> Result<Own, RowError>
     requires { cone.now.dims < too_many_dimensions }
@@ -215,7 +215,7 @@ pub fn find_own_list(alloc: Global, cone: &Cone) -> Result<Own, RowError>
     Ok(Own { lines, rays })
 }
 
-/// The canonical description of what the rows taken into the cone generate, within the limit of a description, with the
+/// The canonical description of what the rows added to the cone generate, within the limit of a description, with the
 /// matrix of its rays; or why there is none: a number passes the range in it, or it has too many rays.
 pub fn limit_own_list(alloc: Global, cone: &Cone) -> Result<Result<MarkedOwn, Cause>, AllocError>
     requires { cone.now.dims < too_many_dimensions }

@@ -202,7 +202,7 @@ fn show_constraints(
     known_constraints(alloc, lines, rays, columns, &positivity, n)
 }
 
-// The polyhedron of the rows that were taken into the cone, of which this is the own list.
+// The polyhedron of the rows that were added to the cone, of which this is the own list.
 fn of_rows(
     alloc: Global,
     n: usize,
@@ -248,7 +248,7 @@ fn of_rows(
     })
 }
 
-// The polyhedron of the generators that were taken into the cone, some of them points, of which this is the own list.
+// The polyhedron of the generators that were added to the cone, some of them points, of which this is the own list.
 fn of_generators(
     alloc: Global,
     n: usize,
@@ -288,7 +288,7 @@ fn of_generators(
     })
 }
 
-// What is told where there is no own list: the last of the rows taken in stands for them.
+// What is reported where there is no own list: the last of the rows added stands for them.
 fn find_own_loss(alloc: Global, cone: &Cone, cause: Cause) -> Result<Loss, AllocError>
     requires { 0 < length cone.now.taken }
     ensures cone { IsCone cone.now }
@@ -300,7 +300,7 @@ fn find_own_loss(alloc: Global, cone: &Cone, cause: Cause) -> Result<Loss, Alloc
     Loss::new(alloc, taken, &rows[last], kinds[last], cause)
 }
 
-// Tells that there is no own list, behind what was lost before.
+// Says that there is no own list, after what was lost before.
 fn push_own_loss(
     losses: &mut Vec<Loss>,
     alloc: Global,
@@ -315,7 +315,7 @@ fn push_own_loss(
     Ok(())
 }
 
-// The polyhedron of the rows that were taken into the cone, behind these losses; all points where a number passes in
+// The polyhedron of the rows that were added to the cone, after these losses; all points where a number passes in
 // its canonical constraints, or there are too many.
 fn of_taken_rows(
     alloc: Global,
@@ -341,8 +341,8 @@ fn of_taken_rows(
     }
 }
 
-/// The polyhedron of the constraints that were taken into a cone behind the positivity row, and of further ones that
-/// are taken in after them; and what was lost of these, as by `from_rows`.
+/// The polyhedron of the constraints that were added to a cone after the positivity row, and of further ones that
+/// are added after them; and what was lost of these, as by `from_rows`.
 pub fn from_cone(
     alloc: Global,
     start: Cone,
@@ -382,10 +382,10 @@ pub fn from_rows(alloc: Global, rows: &ConSys) -> Result<(DescriptionPair, Vec<L
     from_cone(alloc, positive_cone(alloc, n)?, rows)
 }
 
-// At most so many constraints are kept behind a loss: what is generated of them stays small.
+// At most so many constraints are kept after a loss: what is generated of them stays small.
 const MOST_KEPT: usize = 64;
 
-// The first constraints of the list, at most as many as are kept behind a loss.
+// The first constraints of the list, at most as many as are kept after a loss.
 fn first_rows(alloc: Global, list: &ConSys) -> Result<ConSys, AllocError>
     ensures dims { IfOk result (λ kept. kept.dims ≡ list.now.dims) }
     ensures first { IfOk result (λ kept. constraints kept ≡ take most_kept (constraints list.now)) }
@@ -421,7 +421,7 @@ fn enclose_points(
     Ok((pair, losses))
 }
 
-// The polyhedron of the generators that were taken into the cone, some of them points; where a number passes in the
+// The polyhedron of the generators that were added to the cone, some of them points; where a number passes in the
 // canonical ones, or there are too many, that of constraints that hold at each of them.
 fn of_taken_generators(
     alloc: Global,
@@ -449,7 +449,7 @@ fn of_taken_generators(
     }
 }
 
-// The generators, some of them points, taken into a cone, and constraints that hold at each of them.
+// The generators, some of them points, added to a cone, and constraints that hold at each of them.
 fn take_points(alloc: Global, given: &GenSys) -> Result<(Conversion, ConSys), AllocError>
     requires small { given.now.dims < too_many_dimensions }
     requires kinds { FitKinds given.now.rows given.now.kinds }
@@ -487,7 +487,7 @@ fn from_points(alloc: Global, given: &GenSys) -> Result<(DescriptionPair, Vec<Lo
     }
 }
 
-// The polyhedron of the generators that were taken into the cone, some of them points; none where a number passes in
+// The polyhedron of the generators that were added to the cone, some of them points; none where a number passes in
 // the canonical ones, or there are too many.
 fn convert_own_list(
     alloc: Global,
@@ -510,8 +510,8 @@ fn convert_own_list(
     }
 }
 
-/// The polyhedron of the generators that were taken into a cone, and of further ones that are taken in after them, some
-/// of all of them points. None where one of these isn't taken in, or where a number passes in the canonical generators,
+/// The polyhedron of the generators that were added to a cone, and of further ones that are added after them, some
+/// of all of them points. None where one of these isn't added, or where a number passes in the canonical generators,
 /// or there are too many.
 pub fn with_generators(
     alloc: Global,
@@ -543,7 +543,7 @@ pub fn with_generators(
     Ok(pair)
 }
 
-/// The polyhedron of the generators, and what was lost. Where one of them isn't taken in, those of the constraints that
+/// The polyhedron of the generators, and what was lost. Where one of them isn't added, those of the constraints that
 /// are valid on all of them are taken, as where a number passes in the canonical generators, or there are too many.
 /// Without a loss it has the points of the generators, else at least those.
 pub fn from_generators(

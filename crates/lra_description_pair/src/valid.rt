@@ -11,7 +11,7 @@ use lra_systems::{ConKind, ConSys, unit};
 use std::alloc::{AllocError, Global};
 
 /// The constraints of the cone; after a loss those of its lines and rays that are seen to be valid on all rows, which
-/// were to be taken in.
+/// were to be added.
 pub fn valid_list(
     alloc: Global,
     conversion: &Conversion,

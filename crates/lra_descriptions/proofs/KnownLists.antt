@@ -116,7 +116,7 @@ parted_each P b seen x points directions new_points new_directions ep ed before 
     let q = before p.0 in
     (one_of P b x points new_points p.1 ep q.0, other_of P b x directions new_directions p.1 ed q.1)
 
--- ---- put behind one another
+-- ---- put after one another
 pub put_more : {A : Type 0} (f : Marked → A) (first old new : List A) (xs : List Marked) (x : Marked) → old ≡ first ++ map f xs → new ≡ old ++ f x ∷ [] → new ≡
     first ++ map f (xs ++ x ∷ [])
 put_more {A = A} f first old new xs x eo en =

@@ -68,7 +68,7 @@ parted_length (x ∷ rays) = go (int_lt (pos 0) (entry x 0)) (parted_length rays
     go false e = omega (arith, e)
 
 -- ---- without one of the rays
--- a row that isn't told equal is another
+-- a row that isn't reported equal is another
 different : (x row : List ℤ) → is_eq (row_cmp x row) ≡ false → x ≢ row
 different x row f e = never (row_cmp x row) (ap (λ (y : List ℤ). row_cmp x y) (sym e) ∙ tied_itself row_cmp row_cmp_total x) f
   where
@@ -77,7 +77,7 @@ different x row f e = never (row_cmp x row) (ap (λ (y : List ℤ). row_cmp x y)
     never Equal e f = cc
     never Greater e f = cc
 
--- and one that is told equal is the row
+-- and one that is reported equal is the row
 told_equal : (x row : List ℤ) → is_eq (row_cmp x row) ≡ true → x ≡ row
 told_equal x row f = row_cmp_ties x row (equal (row_cmp x row) f)
   where

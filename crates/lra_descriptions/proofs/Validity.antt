@@ -55,7 +55,7 @@ pub unseen_at : {K : Type 0} (equal : K → Bool) (e : Bool) (r : List ℤ) (row
     g ≡ get_or rows i g → ¬ (IsOk (checked_product r g) × HoldsWith e (product r g) × HoldsWith (equal (get_or kinds i d)) (product r g)) → ¬ IsSeenValid e r (rows_by_kind equal rows kinds)
 unseen_at equal e r rows kinds i g d n h eg out seen = out (seen (record { row = g; equal = equal (get_or kinds i d) }) (given_there equal rows kinds i g d n h eg))
 
--- no row that isn't seen to be valid is told to be
+-- no row that isn't seen to be valid is reported to be
 pub refuses : {K : Type 0} {X : Type 0} (equal : K → Bool) (e : Bool) (r : List ℤ) (rows own : List (List ℤ)) (kinds own_kinds : List K) (i : ℕ) (g : List ℤ) (d : K) → rows ≡ own → kinds ≡ own_kinds →
     length kinds ≡ length own → i < length rows → g ≡ get_or rows i g →
     ¬ (IsOk (checked_product r g) × HoldsWith e (product r g) × HoldsWith (equal (get_or kinds i d)) (product r g)) →

@@ -24,11 +24,11 @@ saturation_of rows generators = record {
 }
 
 -- ---- rows of a matrix that go with rows
--- the first rows of the matrix are what is told of these rows
+-- the first rows of the matrix are what is reported about these rows
 abbrev pub TellsFirst : (List ℤ → List Bool) → List (List ℤ) → Matrix → Type 0
 TellsFirst told rows m = (i : ℕ) → i < length rows → slice_index_or m.rows i [] ≡ told (slice_index_or rows i [])
 
--- whatever the old matrix tells of the rays, and is true everywhere for the lines, the new one tells of the list's rows
+-- whatever the old matrix says of the rays, and is true everywhere for the lines, the new one says of the list's rows
 abbrev pub GoesWith : List (List ℤ) → List (List ℤ) → Matrix → List (List ℤ) → Matrix → Type 0
 GoesWith lines rays old rows new = (told : List ℤ → List Bool) → TellsFirst told rays old →
     ((l : List ℤ) → Contains lines l → told l ≡ replicate old.width true) →

@@ -78,7 +78,7 @@ struct Parted {
     directions: Vec<Marked>,
 }
 
-// Takes the ray in behind the points, or behind the directions.
+// Takes the ray in after the points, or after the directions.
 fn push_part(parts: &mut Parted, ray: Marked, above: bool) -> Result<(), AllocError>
     ensures points { OnOk result (parts.new.points.items ≡
         parts.old.points.items ++ cond above (ray ∷ []) []) }
@@ -117,7 +117,7 @@ fn part_rays(alloc: Global, marked: Vec<Marked>) -> Result<Parted, AllocError>
     Ok(parts)
 }
 
-// So many rows that are all true, behind what is there.
+// So many rows that are all true, after what is there.
 fn push_true_rows(matrix: &mut SatMatrix, alloc: Global, count: usize) -> Result<(), AllocError>
     ensures width { OnOk result (matrix.new.width ≡ matrix.old.width) }
     ensures matrix { OnOk result (matrix.new ≡ record matrix.old
@@ -130,7 +130,7 @@ fn push_true_rows(matrix: &mut SatMatrix, alloc: Global, count: usize) -> Result
     Ok(())
 }
 
-// Marked rows behind what is there: the rows behind those of the list, what goes with them behind those of the matrix.
+// Marked rows after what is there: the rows after those of the list, what goes with them after those of the matrix.
 fn append_generators(
     list: &mut GenSys,
     matrix: &mut SatMatrix,

@@ -1,4 +1,4 @@
-//! Lists that describe sets of points: as they are shown of a cone, and as they are taken into one.
+//! Lists that describe sets of points: as they are shown of a cone, and as they are merged into one.
 #![tactic(auto)]
 
 mod known;

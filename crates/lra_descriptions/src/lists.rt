@@ -1,4 +1,4 @@
-//! Lists of constraints and of generators, as they are taken in and told.
+//! Lists of constraints and of generators, as they are added and reported.
 
 ghost use Rattle.std.specs.List.{All, Contains};
 ghost use Rattle.std.specs.Prelude.{◌≡◌, ◌↔◌, ◌∷◌, [], ℤ, List, suc, length, map, ◌<◌, IsTrue, IsFalse, IfOk};

@@ -69,7 +69,7 @@ fn others(alloc: Global, rows: &[Row], row: &Row) -> Result<Vec<Row>, AllocError
     Ok(others)
 }
 
-// The rows behind what is there.
+// The rows after what is there.
 pub(crate) fn push_generators(
     list: &mut GenSys,
     rows: &[Row],

@@ -1,4 +1,4 @@
--- Lists of changes, made one behind the other.
+-- Lists of changes, made one after the other.
 use Rattle.std.proofs.Common.{◌≡◌, List, ◌∷◌, ℤ, subst, sym}
 use Rattle.lra_domain.specs.Abstraction.{Abstraction, TransfersTo, worse}
 use Rattle.lra_domain.specs.{Changes.TransfersAllTo, Changes.action_of, Changes.actions_of, Gammas.InGamma, Laws.Laws, Moves.LeadsAll, declared.Exactness.Exactness, declared.changes.Change.Change}

@@ -1,4 +1,4 @@
--- What the calls of a domain that never strains owe, from the content that each gives.
+-- What the calls of a domain that never exceeds a limit must guarantee, from the content that each gives.
 use Rattle.std.proofs.Common.{◌≡◌, ℕ, List, ℤ, subst, sym, ◌∙◌, length, ◌↔◌}
 use Rattle.lra_domain.specs.Abstraction.{TransfersTo, Joins, Grew, Values}
 use Rattle.lra_domain.specs.{Actions.Action, Actions.ActionFits, ExactDomains.ExactDomain, ExactDomains.Facts, ExactDomains.abstraction_of, declared.Exactness.TheVariants.Exact, declared.Mode.Mode}

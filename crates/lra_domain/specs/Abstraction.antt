@@ -22,10 +22,10 @@ pub record Abstraction (V H : Type 0) : Type 1 where
   pub gamma : V → List ℤ → Type 0
   -- how many dimensions it has
   pub dims : V → ℕ
-  -- the lists of rows that tell of the value, part by part; it may have so many
+  -- the lists of rows that say of the value, part by part; it may have so many
   pub parts : V → List (LinearSystem ConKind)
   pub capped : V → ℕ → Type 0
-  -- what the content tells of a form's values: a lower and an upper bound, each of them or none
+  -- what the content says of a form's values: a lower and an upper bound, each of them or none
   pub bounded : V → Form → Option ℤ → Option ℤ → Type 0
   -- the first is covered by the second
   pub leq : V → V → Type 0
@@ -52,15 +52,15 @@ pub record Abstraction (V H : Type 0) : Type 1 where
   pub head_capped : H → ℕ → Type 0
   pub rank : H → Rank
   pub head_leq : H → H → Type 0
-  -- the head that starts with the value, for the given rows
+  -- the head that starts with the value, for the widening thresholds
   pub started : V → LinearSystem ConKind → H → Type 0
-  -- next is included in the head; what the inclusion may answer: Wide only where it strains
+  -- next is included in the head; what the inclusion may answer: Wide only where it exceeds a limit
   pub stays : H → V → Mode → Type 0
   pub answers : H → V → Mode → Included → Type 0
   -- the second head has all points of the first one and of next
   pub holds_both : H → V → H → Type 0
-  -- of the first head's given rows the second has those that are left, as far as the domain uses them: a row that was
-  -- struck isn't given again
+  -- of the first head's widening thresholds the second has those that are left, as far as the domain uses them: a row
+  -- that was struck isn't given again
   pub left : H → Mode → H → Type 0
   -- what a head may become where the inclusion answers Wide: a head with all stores, as a content
   pub given_up : H → Mode → H → Type 0
@@ -99,8 +99,8 @@ pub record Starts {V H : Type 0} (m : Abstraction V H) (first : V) (given : Line
     pub stores : Within (m.gamma first) (m.head_gamma head)
     pub started : m.started first given head
 
--- a growth by next may be flagged: its inclusion strains, or answers that next isn't in the head, and then the join or
--- the widening strains
+-- a growth by next may be flagged: its inclusion exceeds a limit, or answers that next isn't in the head, and then the
+-- join or the widening exceeds a limit
 abbrev pub GrowthStrains : {V H : Type 0} → Abstraction V H → H → V → Mode → Type 0
 GrowthStrains m old next mode =
     m.answers old next mode Wide
@@ -111,7 +111,7 @@ pub record Grew {V H : Type 0} (m : Abstraction V H) (old : H) (next : V) (mode 
     (new : H)
     : Type 0 where
   pub formed : m.head_well_formed new
-  -- it has the points of the old head and of next, and the given rows that are left, flagged or not
+  -- it has the points of the old head and of next, and the widening thresholds that are left, flagged or not
   pub both : m.holds_both old next new
   pub left : m.left old mode new
   -- the head covers the defined growth
@@ -119,8 +119,8 @@ pub record Grew {V H : Type 0} (m : Abstraction V H) (old : H) (next : V) (mode 
   -- an exact growth is the defined one, where the inclusion answers No
   pub moved : exactness ≡ Exact → m.answers old next mode No
   pub exact : exactness ≡ Exact → m.grown old next mode new
-  -- a flagged one comes from an inclusion that strains, and then the head is given up; or from a join or a widening
-  -- that strains, where the inclusion answers No
+  -- a flagged one comes from an inclusion that exceeds a limit, and then the head is given up; or from a join or a
+  -- widening that exceeds a limit, where the inclusion answers No
   pub flagged : exactness ≡ Flagged
       → (m.answers old next mode Wide × m.given_up old mode new) ⊎
       (m.answers old next mode No × m.grow_strains old next mode)

@@ -1,4 +1,4 @@
--- What a domain does that goes back: from the value behind a change to one before it.
+-- What a domain does that goes back: from the value after a change to one before it.
 use Rattle.std.specs.Prelude.{◌≡◌, ℤ, List}
 use Rattle.lra_domain.specs.declared.Exactness.TheVariants.{Exact, Flagged}
 use Rattle.lra_domain.specs.{Abstraction.Abstraction, Actions.Action, Actions.Leads, declared.Exactness.Exactness}
@@ -17,7 +17,7 @@ pub record SingleBackward {V : Type 0} (b : BackwardAbstraction V) : Type 0 wher
   pub one_pre : (step : Action) (behind v w : V) → b.pre step behind v → b.pre step behind w → v ≡ w
   pub one_met : (one two v w : V) → b.met one two v → b.met one two w → v ≡ w
 
--- from the value behind a change to the one before it, with this exactness
+-- from the value after a change to the one before it, with this exactness
 pub record TransfersBackTo {V H : Type 0} (m : Abstraction V H) (b : BackwardAbstraction V) (step : Action) (behind : V)
     (exactness : Exactness) (before : V) : Type 0 where
   pub formed : m.well_formed before

@@ -21,12 +21,12 @@ CanBeMade (test kind e) n = length e.coefficients ≡ n
 CanBeMade (embed k) n = n + k ≤ 2 ^ 30
 CanBeMade (remove_last k) n = k ≤ n
 
--- lists of them, one behind the other ----------------------------------------------------------------------------
+-- lists of them, one after the other -----------------------------------------------------------------------------
 
 abbrev pub actions_of : List Change → List Action
 actions_of changes = map action_of changes
 
--- how many dimensions there are behind all of them
+-- how many dimensions there are after all of them
 abbrev pub dims_after_actions : List Action → ℕ → ℕ
 dims_after_actions [] n = n
 dims_after_actions (step ∷ steps) n = dims_after_actions steps (dims_after step n)

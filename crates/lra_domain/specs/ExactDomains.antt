@@ -1,5 +1,5 @@
--- Domains whose calls never strain, whose values have one part at most and are their own heads, and whose heads grow by
--- joins alone: what the author gives, and the meaning and the laws that follow from it.
+-- Domains whose calls never exceed a limit, whose values have one part at most and are their own heads, and whose heads
+-- grow by joins alone: what the author gives, and the meaning and the laws that follow from it.
 use Rattle.std.specs.Prelude.{◌≡◌, ◌≤◌, ℕ, ℤ, List, [], length, None, ⊤}
 use Rattle.std.proofs.Common.{refl, subst, sym, ◌∙◌, arith}
 use Rattle.lra_linear_forms.specs.Form.{form_value}

@@ -12,7 +12,7 @@ pub record Interference (V : Type 0) : Type 1 where
   pub done : V → V → Type 0
   pub strains : V → Type 0
 
--- any number of changes, one behind the other
+-- any number of changes, one after the other
 pub data RelyClosure (may : List ℤ → List ℤ → Type 0) : List ℤ → List ℤ → Type 0 where
   none : (s : List ℤ) → RelyClosure may s s
   more : (s t u : List ℤ) → RelyClosure may s t → may t u → RelyClosure may s u

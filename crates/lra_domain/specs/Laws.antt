@@ -1,5 +1,5 @@
--- What every meaning keeps. What is said of stores, and of what is told of a form, is asked of contents that values and
--- heads hold; what relates dimensions, caps, parts and answers to each other is asked of all contents.
+-- What every meaning keeps. What is said of stores, and of what is reported about a form, is asked of contents that
+-- values and heads hold; what relates dimensions, caps, parts and answers to each other is asked of all contents.
 use Rattle.std.specs.Prelude.{◌≡◌, ◌≢◌, ◌↔◌, ◌≤◌, ℕ, ℤ, List, [], length, Option, None}
 use Rattle.lra_linear_forms.specs.Form.{Form, form_value}
 use Rattle.lra_systems.specs.LinearSystems.{LinearSystem}
@@ -24,7 +24,8 @@ pub record Laws {V H : Type 0} (m : Abstraction V H) : Type 0 where
   pub bottom_capped : (n cap : ℕ) (v : V) → 1 ≤ cap → m.bottom n cap v → m.capped v cap
   -- a value without parts has no store
   pub partless : (v : V) → m.well_formed v → m.parts v ≡ [] → (s : List ℤ) → ¬ m.gamma v s
-  -- a form's value at each store lies within what is told of it; one thing is told; nothing of a value without parts
+  -- a form's value at each store lies within what is reported about it; one thing is reported; nothing of a value
+  -- without parts
   pub bounded_stores : (v : V) (f : Form) (l h : Option ℤ) (s : List ℤ) → m.well_formed v
       → length f.coefficients ≡ m.dims v → m.bounded v f l h → m.gamma v s → IsBetween l h (form_value f s)
   pub one_bounded : (v : V) (f : Form) (l h j k : Option ℤ) → m.well_formed v
@@ -57,7 +58,7 @@ pub record Laws {V H : Type 0} (m : Abstraction V H) : Type 0 where
   pub given_up_value : (old : H) (mode : Mode) (new : H) (v : V) → m.head_well_formed old → m.head_well_formed new
       → m.given_up old mode new → m.valued new v → (cap : ℕ) × m.top (m.head_dims old) cap v
 
--- the way back from what the parts of a value tell: what meets all rows of one of them is a store
+-- the way back from what the parts of a value report: what meets all rows of one of them is a store
 abbrev pub PartsAreExact : {V H : Type 0} → Abstraction V H → V → Type 0
 PartsAreExact m v = (s : List ℤ) → length s ≡ m.dims v → SomePartHolds (m.parts v) s → m.gamma v s
 

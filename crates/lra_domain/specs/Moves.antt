@@ -1,4 +1,4 @@
--- What is done to a value: nothing, a least change, one thing behind the other, or what one leaves joined with what
+-- What is done to a value: nothing, a least change, one thing after the other, or what one leaves joined with what
 -- another leaves; and what that may do to stores.
 use Rattle.std.specs.List.{flat_map}
 use Rattle.std.specs.Prelude.{◌≡◌, ◌⊎◌, ℕ, ℤ, List, [], ◌∷◌, ◌++◌, map}
@@ -18,7 +18,7 @@ MayLead (make step) s t = Leads step s t
 MayLead (first_then a b) s t = (u : List ℤ) × MayLead a s u × MayLead b u t
 MayLead (join_of a b) s t = MayLead a s t ⊎ MayLead b s t
 
--- how many dimensions there are behind them; behind a join those of its first side, which are those of the second, too,
+-- how many dimensions there are after them; after a join those of its first side, which are those of the second, too,
 -- wherever it can be made
 abbrev pub dims_moved : Moves → ℕ → ℕ
 dims_moved stay n = n
@@ -26,7 +26,7 @@ dims_moved (make step) n = dims_after step n
 dims_moved (first_then a b) n = dims_moved b (dims_moved a n)
 dims_moved (join_of a b) n = dims_moved a n
 
--- a list of actions, one behind the other, may lead from the first store to the second; one of some lists may
+-- a list of actions, one after the other, may lead from the first store to the second; one of some lists may
 abbrev pub LeadsAll : List Action → List ℤ → List ℤ → Type 0
 LeadsAll [] s t = t ≡ s
 LeadsAll (step ∷ steps) s t = (u : List ℤ) × Leads step s u × LeadsAll steps u t

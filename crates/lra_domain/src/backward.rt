@@ -8,15 +8,15 @@ use crate::{Domain, Exactness};
 use lra_linear_forms::{LinExpr, Test};
 use std::alloc::AllocError;
 
-/// A domain that also goes back: from what is so behind an assignment or a test to what was so before it.
+/// A domain that also goes back: from what is so after an assignment or a test to what was so before it.
 ///
-/// Give one record, `retracing`: the defined results as relations on contents, and when each call may strain. Each call
-/// keeps every store from which its change may lead into the value, and `meet` each store of both. Each result covers
-/// the defined one; an `Exact` one is the defined one, a `Flagged` one comes only where the call strains on its
-/// operands. The other changes go back by `Domain` itself: a forgotten dimension is forgotten, embedded ones are
-/// removed, removed ones embedded. An `AllocError` can come from each call.
+/// Give one record, `retracing`: the defined results as relations on contents, and when each call may exceed a limit.
+/// Each call keeps every store from which its change may lead into the value, and `meet` each store of both. Each
+/// result covers the defined one; an `Exact` one is the defined one, a `Flagged` one comes only where the call exceeds
+/// a limit on its operands. The other changes go back by `Domain` itself: a forgotten dimension is forgotten, embedded
+/// ones are removed, removed ones embedded. An `AllocError` can come from each call.
 pub trait Backward: Domain {
-    /// What the calls that go back give, and when they strain.
+    /// What the calls that go back give, and when they exceed a limit.
     ghost backward_abstraction: { BackwardAbstraction Self };
 
     /// What was so before dimension `x` got the value of the form.

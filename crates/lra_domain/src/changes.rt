@@ -34,7 +34,7 @@ impl Drop for Change {
     }
 }
 
-/// Makes the changes, one behind the other: each store to which they may lead is kept. Flagged where one of them is.
+/// Makes the changes, one after the other: each store to which they may lead is kept. Flagged where one of them is.
 /// Where one answers an error, those before it stay made.
 pub fn change_all<D: Domain>(value: &mut D, changes: &[Change]) -> Result<Exactness, AllocError>
     requires { AllCanBeMade (actions_of changes.now) (D.abstraction.dims value.old) }

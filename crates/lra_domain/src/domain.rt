@@ -12,19 +12,20 @@ use std::alloc::{AllocError, Global};
 
 /// An abstract domain: its values stand for sets of stores, its heads for values that grow at the head of a loop.
 ///
-/// A store is a list of whole numbers, one for each dimension. An author of a further domain owes the following.
+/// A store is a list of whole numbers, one for each dimension. An author of a further domain must guarantee the
+/// following.
 ///
 /// **Contents.** Give `Self` and `Head` an `impl Model` whose `Value` is exactly the content: the dimensions, and
-/// what tells the value apart (bounds, canonical rows and generators, entries, parts with their cap; for a head its
-/// given rows too). Then equal contents are equal values: `copy` gives the same content, `same` says whether two are
+/// what distinguishes the value (bounds, canonical rows and generators, entries, parts with their cap; for a head its
+/// thresholds too). Then equal contents are equal values: `copy` gives the same content, `same` says whether two are
 /// equal, `Stable` leaves the head's, and a call that answers an error leaves its value's. Leave allocators and spare
 /// room out of the view.
 ///
 /// **Meaning.** Give one record, `meaning`: which contents values and heads hold (`formed`, `head_well_formed`), which
 /// stores a value or head `has`, how many dimensions, the `parts` (lists of rows), the defined result of each call as a
-/// relation on contents, when each call may strain, which content another `covers`, and the `rank` of a head. Every
-/// call gives a formed value or head, and `is_empty` and `rank` say it of the one at hand: what the type's invariant
-/// says belongs there.
+/// relation on contents, when each call may exceed a limit, which content another `covers`, and the `rank` of a head.
+/// Every call gives a formed value or head, and `is_empty` and `rank` say it of the one at hand: what the type's
+/// invariant says belongs there.
 ///
 /// **Laws.** Give one record, `laws`, that this meaning keeps; what it says of stores and of bounds it says of formed
 /// contents, what relates dimensions, caps, parts and answers of all. A store has as many numbers as there are
@@ -42,25 +43,25 @@ use std::alloc::{AllocError, Global};
 /// `value` the head's; `Stable` comes only where next lies in the head. `included` says `Yes`, and `is_empty` true,
 /// only where it is so.
 ///
-/// **Bounds.** `bounds` tells a lower and an upper bound of a form's values, as `bounded` says of the content; it takes
-/// no memory.
+/// **Bounds.** `bounds` reports a lower and an upper bound of a form's values, as `bounded` says of the content; it
+/// takes no memory.
 ///
 /// **Exactness.** Each result covers the defined one, and that of a join both operands. An `Exact` one is the defined
-/// one; a `Flagged` one comes only where the call strains on its operands. `included` answers `Yes` and `No` by what
-/// is so, `Wide` only where it strains.
+/// one; a `Flagged` one comes only where the call exceeds a limit on its operands. `included` answers `Yes` and `No` by
+/// what is so, `Wide` only where it exceeds a limit.
 ///
-/// **Heads.** `answers` tells what the inclusion of next in a head may answer: `Yes` only where next lies in it, `No`
-/// only where it doesn't, `Wide` only where it strains. `grow` answers `Stable` only with `Yes`, `Grew(Exact)` only
-/// with `No`. `Grew(Flagged)` comes with `Wide`, and then the head is given up: it has all stores, as a content that
-/// `given_up` allows; or with `No`, where the join or the widening strains. Which given rows are `left` is told of each
-/// growth, flagged or not.
+/// **Heads.** `answers` says what the inclusion of next in a head may answer: `Yes` only where next lies in it, `No`
+/// only where it doesn't, `Wide` only where it exceeds a limit. `grow` answers `Stable` only with `Yes`, `Grew(Exact)`
+/// only with `No`. `Grew(Flagged)` comes with `Wide`, and then the head is given up: it has all stores, as a content
+/// that `given_up` allows; or with `No`, where the join or the widening exceeds a limit. Which thresholds are `left` is
+/// reported of each growth, flagged or not.
 ///
 /// **Ranks.** After `Grew` in another mode than `Join` the rank is lower than before, also when flagged: this is why
 /// an iteration ends. Each number of a rank is below 2^62, so that two ranks can be added, with carries.
 ///
-/// **Parts.** `parts` gives what rows tell of the value: at each store all rows of some part hold; each row has one
-/// column more than `dims`. That nothing else meets them is owed by `ExactParts` alone: a domain of congruences, or of
-/// what is odd, has its bounds as rows, and stores fewer. `is_empty` says yes exactly where there is no part.
+/// **Parts.** `parts` gives what rows say of the value: at each store all rows of some part hold; each row has one
+/// column more than `dims`. That nothing else meets them is guaranteed by `ExactParts` alone: a domain of congruences,
+/// or of what is odd, has its bounds as rows, and stores fewer. `is_empty` says yes exactly where there is no part.
 ///
 /// **Caps.** A value may have several caps, numbers of parts that it never passes; `capped` names them, `head_capped`
 /// those of a head. What `universal` and `void` allow with a cap of at least 1 has that cap. Each call keeps the caps:
@@ -120,7 +121,7 @@ pub trait Domain: Sized + Drop {
         ensures parts { IsTrue result ↔ (abstraction.parts self.now ≡ []) }
         ensures stores { IsTrue result → (s : List ℤ) → ¬ abstraction.gamma self.now s };
 
-    /// A lower and an upper bound of the form's values, as the content tells them; none where it tells none.
+    /// A lower and an upper bound of the form's values, as the content states them; none where it says none.
     fn bounds(&self, e: &LinExpr) -> (Option<i128>, Option<i128>)
         requires { length e.now.coefficients ≡ abstraction.dims self.now }
         ensures { abstraction.bounded self.now e.now result.0 result.1 };
@@ -190,7 +191,7 @@ pub trait Domain: Sized + Drop {
         ensures capped { CapsWithin (abstraction.capped self.old) (abstraction.capped self.new) }
         ensures err { OnErr result (self.new ≡ self.old) };
 
-    /// What rows tell of the value, part by part.
+    /// What rows say of the value, part by part.
     fn parts(&self, alloc: Global) -> Result<Vec<ConSys>, AllocError>
         ensures parts { IfOk result (λ ps. ps.items ≡ abstraction.parts self.now) }
         ensures dims { IfOk result (λ ps. All (λ p. p.dims ≡ abstraction.dims self.now) ps.items) }
@@ -288,8 +289,8 @@ pub trait Domain: Sized + Drop {
     ghost laws: { Laws abstraction };
 }
 
-/// A domain whose values are what their parts tell: each list of `dims` numbers at which all rows of some part hold is
-/// a store. Boxes, octagons, polyhedra and sets of them are such: their rows alone can stand for them.
+/// A domain whose values are what their parts report: each list of `dims` numbers at which all rows of some part hold
+/// is a store. Boxes, octagons, polyhedra and sets of them are such: their rows alone can stand for them.
 pub trait ExactParts: Domain {
     /// Does nothing: its contract is the way back from the parts of the value to its stores.
     fn parts_are_exact(&self)

@@ -1,5 +1,5 @@
-//! What an abstract domain owes to the iteration that stands on it, and interference: what others may do to the stores
-//! of a run between two of its steps, and what a value becomes for them.
+//! What an abstract domain must guarantee to the iteration that stands on it, and interference: what others may do to
+//! the stores of a run between two of its steps, and what a value becomes for them.
 #![tactic(auto)]
 
 pub mod backward;
@@ -30,7 +30,7 @@ pub enum Included {
     Wide,
 }
 
-/// How a head grows: by joins, by widening, by widening limited by the given rows, or by the tightest of them alone.
+/// How a head grows: by joins, by widening, by widening limited by the thresholds, or by the tightest of them alone.
 #[derive(Clone, Copy, Debug, PartialEq, Eq)]
 pub enum Mode {
     Join,

@@ -65,7 +65,7 @@ lengthened_step first old new rows last r x b k e h i n q ex eb =
     (q ∙ ap (λ (y : List Bool). y ++ b ∷ []) ex ∙ ap (λ (y : Bool). get_or rows k [] ++ y ∷ []) eb) ∙ ap (λ (ys : List (List Bool)). first.rows ++ ys)
     (sym (lengthened_more rows last k e h)))
 
--- ---- marks, and places behind them
+-- ---- marks, and places after them
 pub filled_more : (f : ℕ → Bool) (n k : ℕ) (values new : List Bool) (b : Bool) → k < n → b ≡ f k → new ≡ set values k b → IsFilled f n k values → IsFilled f n
     (k + 1) new
 filled_more f n k values new b h e s i = (

@@ -23,7 +23,7 @@ pub within_told : (m : Matrix) (up down : ℕ) (r : Option ℕ) → TellsWithin 
 within_told m up down None none = none
 within_told m up down (Some k) h = record { third = k; inside = h.0; not_up = h.1; not_down = h.2; covers = h.3 }
 
--- two rays of which it is told that they don't share so many rows have a third
+-- two rays of which it is reported that they don't share so many rows have a third
 pub few_told : (rows : List (List Bool)) (up down least : ℕ) (first second : List Bool) (b : Bool) → first ≡ get_or rows up [] → second ≡ get_or rows down [] →
     (least ≤ true_count (both first second) → IsTrue b) → b ≡ false → FewHaveThird rows least → up < length rows → down < length rows → HasThird rows up down (both_tight rows up down)
 few_told rows up down least first second b ef es told e few hu hd =

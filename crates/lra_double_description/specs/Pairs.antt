@@ -74,7 +74,7 @@ AreCombined products rays (p ∷ pairs) [] = ⊥
 AreCombined products rays (p ∷ pairs) (t ∷ ts) =
     IsLowest (pair_sum products rays p) t × AreCombined products rays pairs ts
 
--- the rows that are tight at both, and the row that is taken in
+-- the rows that are tight at both, and the row that is added
 abbrev pub pair_tight_rows : List Pair → List (List Bool)
 pair_tight_rows [] = []
 pair_tight_rows (p ∷ pairs) = (p.tight ++ true ∷ []) ∷ pair_tight_rows pairs

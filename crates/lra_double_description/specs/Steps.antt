@@ -55,7 +55,7 @@ abbrev pub PushesFlattened : Across → List ℤ → List (List ℤ) → List (L
 PushesFlattened line products rows old new =
     (flat : List (List ℤ)) × (new ≡ old ++ flat) × AreFlattened line products rows flat
 
--- the lines before the one across combined with it, and then those behind it
+-- the lines before the one across combined with it, and then those after it
 abbrev pub AreFlatLines : Across → List ℤ → List (List ℤ) → List (List ℤ) → Type 0
 AreFlatLines line products lines new =
     (flat : List (List ℤ)) × (new ≡ flat ++ drop (line.place + 1) lines) ×

@@ -1,5 +1,5 @@
--- What is told where a step passes a limit: the rows with which a number passes the range, or how many rays there would
--- be.
+-- What is reported where a step passes a limit: the rows with which a number passes the range, or how many rays there
+-- would be.
 use Rattle.std.specs.Prelude.{◌≡◌, ℕ, ◌+◌, ◌<◌, ◌⊎◌, neg_ℤ, ℤ, pos, int_lt, Bool, cond, List, [], length, Result, Err}
 use Rattle.std.specs.{List.Contains, Prelude.slice_index_or}
 use Rattle.lra_linear_spec.specs.declared.Excess as E
@@ -27,7 +27,7 @@ pub record StandsAt (rows : List (List ℤ)) (place : ℕ) (r : List ℤ) : Type
   pub inside : place < length rows
   pub is : slice_index_or rows place [] ≡ r
 
--- ---- what each part of a step tells
+-- ---- what each part of a step reports
 -- the product of c with the row at some place
 pub record NamesProduct (c : List ℤ) (rows : List (List ℤ)) (family : Family) (strained : Strained) : Type 0 where
   pub place : ℕ

@@ -1,4 +1,4 @@
-//! One step of the double description method: what a row that is taken in makes of a cone's lines and rays.
+//! One step of the double description method: what a row that is added makes of a cone's lines and rays.
 //!
 //! The step is Chernikova's (1965), in two cases: with a line across the row, and without one. In the second only
 //! adjacent pairs of rays are combined (Fukuda and Prodon 1996).

@@ -87,7 +87,7 @@ fn pair_strain(member: Member, product: i128, line: &Across, excess: Excess) -> 
     }
 }
 
-/// Each row combined with the line, behind what is there.
+/// Each row combined with the line, after what is there.
 pub fn push_flattened(
     out: &mut Vec<Row>,
     rows: &[Row],
@@ -117,7 +117,7 @@ pub fn push_flattened(
     Ok(())
 }
 
-/// The lines: those before the one across combined with it, and those behind it again.
+/// The lines: those before the one across combined with it, and those after it again.
 pub fn flat_lines(
     alloc: Global,
     lines: &[Row],
@@ -166,7 +166,7 @@ pub fn flat_rays(
     Ok(out)
 }
 
-// The line, which is tight at so many rows but not at the new one, behind what is there.
+// The line, which is tight at so many rows but not at the new one, after what is there.
 fn push_line(alloc: Global, wider: &mut SatMatrix, width: usize) -> Result<(), AllocError>
     requires { wider.old.width ≡ suc width }
     ensures { OnOk result (wider.new ≡ record wider.old

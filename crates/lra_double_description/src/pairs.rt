@@ -80,7 +80,7 @@ fn are_adjacent(
     }
 }
 
-// The adjacent pairs with the first ray at `up` and the second at one of these places, behind what is there. Two rays
+// The adjacent pairs with the first ray at `up` and the second at one of these places, after what is there. Two rays
 // that share fewer tight rows than `least` are passed at once.
 fn push_pairs_of(
     pairs: &mut Vec<Pair>,
@@ -102,7 +102,7 @@ fn push_pairs_of(
 {
     let first = saturation.row(up);
     let mut places = first.places(*pairs.allocator(), columns.height())?;
-    // the rows taken in last first, since they leave the fewest rays
+    // the rows added last first, since they leave the fewest rays
     places.reverse();
     let mut known = up;
     for i in 0..downs.len() {

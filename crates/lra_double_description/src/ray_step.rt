@@ -20,7 +20,7 @@ use std::alloc::{AllocError, Global};
 /// The most rays of a cone, and the most inequalities of a description.
 pub const RAY_LIMIT: usize = 4096;
 
-/// Marks the rays whose product isn't as the kind asks; so many further places behind them are not marked.
+/// Marks the rays whose product isn't as the kind asks; so many further places after them are not marked.
 pub fn mark_outside(
     alloc: Global,
     products: &[i128],
@@ -127,7 +127,7 @@ fn rows_of_pairs(alloc: Global, width: usize, pairs: Vec<Pair>) -> Result<SatMat
     Ok(more)
 }
 
-/// What a row makes of the rays: those marked as gone go, and these come behind the others. Where the row is tight at
+/// What a row makes of the rays: those marked as gone go, and these come after the others. Where the row is tight at
 /// the rays and at these, and for each of these the rows of the matrix that are tight at it.
 #[derive(Drop)]
 pub struct Cut {

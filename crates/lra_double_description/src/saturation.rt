@@ -1,4 +1,4 @@
-//! The matrix of the rows that are tight at the rays, as a row is taken in.
+//! The matrix of the rows that are tight at the rays, as a row is added.
 
 ghost use Rattle.std.specs.Prelude.{◌≡◌, ◌+◌, ◌<◌, ◌^◌, ◌++◌, ◌∷◌, [], pos, suc, true, length, map, replicate, IfOk};
 ghost use Rattle.std.specs.{Ordering.int_eq, Prelude.OnOk};
@@ -30,7 +30,7 @@ pub fn one_more(width: usize) -> Result<usize, AllocError>
     }
 }
 
-/// The values, and one more behind them.
+/// The values, and one more after them.
 pub fn lengthen(values: &BitRow, last: bool) -> Result<BitRow, AllocError>
     ensures { IfOk result (λ longer. longer ≡ values.now ++ last ∷ []) }
 {
@@ -39,7 +39,7 @@ pub fn lengthen(values: &BitRow, last: bool) -> Result<BitRow, AllocError>
     Ok(longer)
 }
 
-/// Each row of the matrix with one more value, behind what is there.
+/// Each row of the matrix with one more value, after what is there.
 pub fn push_lengthened(
     wider: &mut SatMatrix,
     matrix: &SatMatrix,

@@ -21,7 +21,7 @@ pub struct Member {
     pub place: usize,
 }
 
-/// What passes a limit as a row is taken in.
+/// What passes a limit as a row is added.
 #[derive(Clone, Copy, Debug, PartialEq, Eq, Error)]
 pub enum Strained {
     /// The product of the row with this one passes the range.
@@ -49,7 +49,7 @@ impl Strained {
     }
 }
 
-/// Why a row was not taken in: something passes a limit, or there was no memory.
+/// Why a row was not added: something passes a limit, or there was no memory.
 #[derive(Clone, Copy, Debug, PartialEq, Eq, Error)]
 pub enum ConeError {
     #[error("the cone strains")]

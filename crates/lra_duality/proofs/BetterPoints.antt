@@ -1,4 +1,4 @@
--- Which of two points has the greater value, as the comparison of two ratios tells it.
+-- Which of two points has the greater value, as the comparison of two ratios reports it.
 use Rattle.std.proofs.Common.{◌≡◌, ◌∙◌, ℤ, pos, negsuc, ◌*ℤ◌, ◌<ℤ◌, ◌≤ℤ◌, Bool, true, false, ap₂, sym, arith, FitsSigned}
 use Rattle.std.proofs.{lemmas.Cmp.int_ranked, lemmas.Int.ints, lemmas.Int.to_z-of_z}
 use Rattle.std.specs.declared.cmp.Ordering.TheVariants.{Less, Equal, Greater}

@@ -1,4 +1,4 @@
--- The inequalities of a list with the rows of the matrix that tell where they are tight.
+-- The inequalities of a list with the rows of the matrix that say where they are tight.
 use Rattle.std.proofs.Common.{◌≡◌, ◌≢◌, ◌↔◌, ℕ, zero, suc, ◌+◌, ◌<◌, ◌≤◌, ◌&&◌, Bool, true, false, List, [], ◌∷◌, ◌++◌, length, get_or, map, ap, refl, sym, ◌∙◌, subst, ℤ, pos, arith, IsTrue}
 use Rattle.std.proofs.lemmas.List.{get_or-map, length-map, length-append}
 use Rattle.std.specs.{List.Contains, Ordering.int_eq}
@@ -135,7 +135,7 @@ alone_from list generators m u n e alone r k tight =
       };
     })
 
--- ---- as the code tells it
+-- ---- as the code states it
 pub seen : (n : ℕ) (rows given : List LinearRow) (taken : LinearSystem ConKind) (lines rays others : List (List ℤ)) → taken.dims ≡ n → constraints taken ≡ given → lines ≡ lines_of rows →
     rays ≡ others →
     IsCone (record { dims = n; taken = given; lines = lines_of rows; rays = others }) → IsCone (record { dims = taken.dims; taken = constraints taken; lines = lines; rays = rays })

@@ -1,4 +1,4 @@
--- What the generators tell of the greatest value of a form on a polyhedron.
+-- What the generators say of the greatest value of a form on a polyhedron.
 use Rattle.std.proofs.Common.{◌≡◌, ◌≢◌, ◌⊎◌, ℕ, zero, suc, ◌<◌, Bool, true, false, List, [], ◌∷◌, ◌++◌, length, ap, get_or, refl, sym, ◌∙◌, subst, ℤ, pos, negsuc, neg_ℤ, ◌+ℤ◌, ◌*ℤ◌, ◌<ℤ◌, ◌≤ℤ◌, inl}
 use Rattle.std.proofs.{Common.inr, Common.arith, lemmas.Int.ints, lemmas.List.Elements.All-contains}
 use Rattle.std.specs.List.{All, Contains}

@@ -1,4 +1,4 @@
--- What the pairs of generators and rows tell of inclusion.
+-- What the pairs of generators and rows say of inclusion.
 use Rattle.std.proofs.Common.{◌≡◌, ◌≤ℤ◌, ℕ, Bool, true, false, List, [], ◌∷◌, ap, refl, sym, ◌∙◌, subst, ℤ, inl, inr, arith, pos, cond}
 use Rattle.std.proofs.{lemmas.Int.ints, lemmas.List.Elements.All-contains, lemmas.List.Elements.Contains-append_right}
 use Rattle.std.specs.{Cmp.signed_Decides, List.All, List.Contains, Ordering.int_eq, Prelude.◌||◌, Prelude.int_le, Prelude.◌↔◌, Prelude.IsTrue}
@@ -95,7 +95,7 @@ pub with_ray : (b kind d : Bool) (z : ℤ) → d ≡ false → IsTrue b ↔ Hold
 with_ray b kind d z l h r g ek ed ez =
     holds_by_kinds b kind false z r g ek (ed ∙ l) ez (subst (λ (k : Bool). IsTrue b ↔ HoldsWith k z) (sym (either_false kind)) h)
 
--- ---- as the code tells it
+-- ---- as the code states it
 pub reply_seen : (list : LinearSystem ConKind) (rows : List (List ℤ)) (kinds : List ConKind) (r : List ℤ) (line also : Bool) (answer : H.MembershipAnswer) → rows ≡ list.rows → kinds ≡ list.kinds →
     line ≡ also →
     IsReply (rows_by_kind is_equality rows kinds) (record { row = r; equal = line }) answer →

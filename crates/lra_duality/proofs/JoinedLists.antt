@@ -1,11 +1,11 @@
--- Lists with their kinds, one behind the other.
+-- Lists with their kinds, one after the other.
 use Rattle.std.proofs.Common.{◌≡◌, ℕ, Bool, List, [], ◌∷◌, ◌++◌, length, ap, sym, ◌∙◌, subst, arith, ℤ, take, ◌≤◌}
 use Rattle.std.proofs.lemmas.List.{take_all}
 use Rattle.lra_linear_spec.specs.{Descriptions.LinearRow, Kinds.is_equality, declared.ConKind.ConKind, declared.GenKind.GenKind}
 use Rattle.lra_systems.specs.LinearSystems.{LinearSystem, constraints, rows_by_kind, FitKinds}
 use Rattle.lra_descriptions.proofs.SeveralKinds.{fit_append, given_append}
 
--- as the code tells it
+-- as the code states it
 pub joined_given : {K : Type 0} (equal : K → Bool) (first second all : LinearSystem K) (rows : List (List ℤ)) (kinds : List K) (i : ℕ) → all.rows ≡ first.rows ++ take i rows →
     all.kinds ≡ first.kinds ++ take i kinds → rows ≡ second.rows → kinds ≡ second.kinds → length rows ≤ i → length kinds ≡ length second.rows → length first.kinds ≡ length first.rows →
     rows_by_kind equal all.rows all.kinds ≡ rows_by_kind equal first.rows first.kinds ++ rows_by_kind equal second.rows second.kinds

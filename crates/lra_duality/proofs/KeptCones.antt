@@ -1,4 +1,4 @@
--- The canonical lists of a polyhedron are the description of a cone, in which the positivity row is taken in first.
+-- The canonical lists of a polyhedron are the description of a cone, in which the positivity row is added first.
 use Rattle.std.proofs.Common.{◌≡◌, ◌≢◌, ◌≤◌, ℕ, suc, Bool, [], true, false, List, ◌∷◌, ◌++◌, length, cond, ap, sym, ◌∙◌, subst, refl, ℤ, pos, ◌≤ℤ◌, ◌<ℤ◌, ◌⊎◌, inl, inr, arith}
 use Rattle.std.proofs.{lemmas.Int.ints, lemmas.List.Elements.Contains-append_cases, lemmas.List.Elements.Contains-append_left, lemmas.List.Elements.Contains-append_right}
 use Rattle.std.specs.List.{Contains}
@@ -98,7 +98,7 @@ kept_cone p h few = record {
   few = few;
 }
 
--- ---- as the code tells it
+-- ---- as the code states it
 pub fewer_rays : (list : List LinearRow) → length (rays_of list) ≤ length list
 fewer_rays [] = omega arith
 fewer_rays (g ∷ list) = by_kind g.equal (fewer_rays list)

@@ -246,7 +246,7 @@ in_lowest_terms form n d p e g num den place np de h above k en ed list greatest
           quotients_primitive num den (unsigned_abs n) (unsigned_abs d) g more (size num n g em) (size den d g ee) h.2,
         )
 
--- ---- as the code tells it
+-- ---- as the code states it
 pub rows_seen : (P : List LinearRow → Type 0) (list : LinearSystem GenKind) (rows : List (List ℤ)) → rows ≡ list.rows →
     P (generators list) → P (rows_by_kind is_line rows list.kinds)
 rows_seen P list rows e h = subst (λ (r : List (List ℤ)). P (rows_by_kind is_line r list.kinds)) (sym e) h

@@ -172,7 +172,7 @@ all_vanish xs ys hx hy short m =
     fewer : (n s k : ℕ) → 0 < k → n < 2 ^ 60 → s ≤ n * k → s < 2 ^ 60 * k
     fewer n s k p h l = let m : suc n * k ≤ 2 ^ 60 * k = mul-le-mul_right k h in omega (arith, m, l, p)
 
--- ---- as the code tells it: some prime doesn't divide the product, or all do
+-- ---- as the code states it: some prime doesn't divide the product, or all do
 multiple_zero : (m z : ℤ) → z ≡ pos 0 → IsMultiple m z
 multiple_zero m z e = (pos 0, e ∙ ring (v (pos 0)) (v m ⊗ v (pos 0)) (omega arith))
 

@@ -43,7 +43,7 @@ pub matrix_start : {K : Type 0} (equal : K → Bool) (all : LinearSystem K) (col
 matrix_start equal all columns kinds m ec ek n e =
     e ∙ ap (λ (w : ℕ). (let x : Matrix = record { width = w; rows = [] } in x)) (ap length ec ∙ sym (given_length equal all.rows all.kinds (ap length (sym ek) ∙ n)))
 
--- as the code tells it
+-- as the code states it
 pub all_saturated : {K : Type 0} (equal : K → Bool) (generators : List LinearRow) (all : LinearSystem K) (rows : List (List ℤ)) (kinds : List K) (m : Matrix) (k : ℕ) → rows ≡ all.rows →
     kinds ≡ all.kinds → length kinds ≡ length all.rows → length rows ≤ k → m ≡ record { width = length generators; rows = map (saturated generators) (take k rows) } →
     m ≡ saturation_of (rows_by_kind equal all.rows all.kinds) generators

@@ -182,7 +182,7 @@ pub matrix_none : (first : LinearRow) (given generators : List LinearRow) (m sta
 matrix_none first given generators m start width em ew es =
     es ∙ ap (λ (w : ℕ). (let x : Matrix = record { width = w; rows = [] } in x)) (ew ∙ ap suc (ap (λ (x : Matrix). length x.rows) em ∙ length-map given (λ s. saturated generators s.row)))
 
--- ---- as the code tells it
+-- ---- as the code states it
 pub matrix_width : (equal : GenKind → Bool) (given : List LinearRow) (rows seen : List (List ℤ)) (kinds also : List GenKind) (m : Matrix) → seen ≡ rows → also ≡ kinds →
     length also ≡ length rows → m ≡ saturation_of given (rows_by_kind equal rows kinds) → m.width ≡ length rows
 matrix_width equal given rows seen kinds also m er ek n e = ap (λ (x : Matrix). x.width) e ∙ given_length equal rows kinds (ap length (sym ek) ∙ n)

@@ -1,4 +1,4 @@
--- Polyhedra whose two lists at hand make a cone, which further rows are taken into.
+-- Polyhedra whose two lists at hand make a cone, which further rows are added to.
 use Rattle.std.specs.Prelude.{◌<◌, ◌≤◌, ◌+◌, ℕ, List, length}
 use Rattle.lra_linear_spec.specs.{ConeStrain.row_limit, Descriptions.LinearRow}
 use Rattle.lra_systems.specs.Dimensions.{too_many_dimensions}

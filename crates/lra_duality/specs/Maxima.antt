@@ -1,5 +1,5 @@
--- The greatest value of a form on a polyhedron, told by its generators in their order. The value of the form c0, .., cn
--- at a point is its product with the point's row, divided by the point's divisor.
+-- The greatest value of a form on a polyhedron, given by its generators in their order. The value of the form c0, ..,
+-- cn at a point is its product with the point's row, divided by the point's divisor.
 use Rattle.std.specs.Prelude.{◌≡◌, ◌≢◌, ℕ, ◌⊎◌, ℤ, pos, ◌*ℤ◌, ◌<ℤ◌, ◌≤ℤ◌, Bool, true, false, cond, ⊤, List, [], ◌∷◌}
 use Rattle.std.specs.{List.All, Prelude.IsOk, Prelude.IsErr}
 use Rattle.lra_linear_spec.specs.declared.Excess as E
@@ -62,7 +62,7 @@ IsMaximum form generators (At num den place) =
     All (StaysInRange form) generators × All (DoesNotImprove form) generators
     × IsGreatest form generators num den place × IsPrimitive (num ∷ den ∷ [])
 
--- a value that is told is of numbers in the range, the lower one above 0
+-- a value that is reported is of numbers in the range, the lower one above 0
 abbrev pub ValueInRange : Maximum → Type 0
 ValueInRange Empty = ⊤
 ValueInRange (Wide place) = ⊤

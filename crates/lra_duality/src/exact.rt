@@ -87,7 +87,7 @@ fn low_product(xs: &[i128], ys: &[i128]) -> u64
     sum
 }
 
-/// Whether the product of the row with the generator is 0: it is told by the product itself where both are narrow, and
+/// Whether the product of the row with the generator is 0: it is given by the product itself where both are narrow, and
 /// isn't 0 where its lowest 64 bits aren't.
 pub fn saturates(row: &Row, generator: &Row) -> bool
     requires { length row.now ≡ length generator.now }

@@ -113,7 +113,7 @@ fn ray_saturation(
     Ok(matrix)
 }
 
-// The constraints, behind the positivity row.
+// The constraints, after the positivity row.
 fn behind_positivity(alloc: Global, list: &ConSys) -> Result<ConSys, AllocError>
     requires { list.now.dims < too_many_dimensions }
     ensures dims { IfOk result (λ taken. taken.dims ≡ list.now.dims) }

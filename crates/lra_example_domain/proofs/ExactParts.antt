@@ -1,4 +1,4 @@
--- What the parts of a gauge tell is all of it.
+-- What the parts of a gauge report is all of it.
 use Rattle.std.proofs.Common.{ℕ, zero, suc, ◌<◌, ℤ, List, arith}
 use Rattle.lra_domain.specs.{Laws.PartsAreExact, Parts.SomePartHolds}
 use Rattle.lra_example_domain.specs.{Abstraction.example_abstraction, Abstraction.example_parts, declared.example.ExampleDomain.ExampleDomain}

@@ -1,4 +1,4 @@
-//! Bounds of the gauge. They are added before they are compared or joined, and a sum past its limit strains.
+//! Bounds of the gauge. They are added before they are compared or joined, and a sum past its limit exceeds a limit.
 
 ghost use Rattle.std.specs.Prelude.{◌≡◌, ◌≢◌, ◌≤◌, ◌<◌, ◌↔◌, max, IsTrue};
 ghost use Rattle.lra_domain.specs.declared.Exactness.TheVariants.{Exact, Flagged};

@@ -58,7 +58,7 @@ impl Domain for ExampleDomain {
         self.bound == 0
     }
 
-    /// It tells no bounds of forms.
+    /// It says no bounds of forms.
     fn bounds(&self, _e: &LinExpr) -> (Option<i128>, Option<i128>) {
         (None, None)
     }

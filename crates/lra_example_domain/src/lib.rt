@@ -1,4 +1,4 @@
-//! A small domain whose inclusion, join and heads strain: an instance of each answer of the trait.
+//! A small domain whose inclusion, join and heads exceed a limit: an instance of each answer of the trait.
 #![tactic(auto)]
 
 pub mod bounds;

@@ -174,7 +174,7 @@ pub as_many : (s : LinearSystem ConKind) (factors : List ℤ) → length s.kinds
     length factors ≡ length s.rows
 as_many s factors n e = e ∙ given_length is_equality s.rows s.kinds n
 
--- why there is no first point, as it is told of multipliers
+-- why there is no first point, as it is stated of multipliers
 pub no_first_fails : (n : ℕ) (rows premises : List LinearRow) (claim : List ℤ) (e : MultipliersFailure) → n ≡ multiplier_dims premises →
     rows ≡ multiplier_rows premises claim →
     HasNoFirst n rows e → IsMultipliersFailure premises claim e

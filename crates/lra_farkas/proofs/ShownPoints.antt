@@ -108,7 +108,7 @@ module _ (premises : List LinearRow) (claim : List ℤ) (d c : ℤ) (ls : List �
       balance_product (rows_of premises) claim j d c ls many ∙
       ap (λ (z : ℤ). neg_ℤ (d *ℤ entry claim j) +ℤ ((c *ℤ z) +ℤ signed_sum ls (rows_of premises) j)) (one_column (length claim) j)
 
-  -- behind the last column all are 0
+  -- after the last column all are 0
   sum_behind : (j : ℕ) → length claim ≤ j →
       d *ℤ entry claim j ≡ (c *ℤ entry (positivity (length claim)) j) +ℤ signed_sum ls (rows_of premises) j
   sum_behind j h =

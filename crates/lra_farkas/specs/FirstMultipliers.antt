@@ -20,7 +20,7 @@ pub record MultipliersInRange (m : Multipliers) : Type 0 where
   pub constant : InRange m.constant
   pub factors : All InRange m.factors
 
--- the conversion of the rows strains, or a number of the check of the first multipliers passes
+-- the conversion of the rows exceeds a limit, or a number of the check of the first multipliers passes
 abbrev pub MultipliersStrain : List LinearRow → List ℤ → Type 0
 MultipliersStrain premises claim =
     ((loss : Loss) × FromRowsStrains (multiplier_dims premises) (multiplier_rows premises claim) loss)

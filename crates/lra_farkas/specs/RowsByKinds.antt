@@ -1,5 +1,5 @@
 -- The rows of the polyhedron of all multipliers as they are made of a list's rows and kinds, and what converting
--- them tells.
+-- them reports.
 use Rattle.std.specs.Prelude.{ℕ, suc, List, [], ◌∷◌, cond}
 use Rattle.lra_linear_spec.specs.Descriptions.{Con, LinearRow}
 use Rattle.lra_linear_spec.specs.OperationStrain.{FromRowsStrains}

@@ -21,8 +21,8 @@ use std::alloc::{AllocError, Global};
 pub enum MultipliersFailure {
     /// No multipliers show the claim.
     NotImplied,
-    /// Converting the rows of the polyhedron of all multipliers strains in each order that is tried, or a number passes
-    /// as the first are checked.
+    /// Converting the rows of the polyhedron of all multipliers exceeds a limit in each order that is tried, or a
+    /// number passes as the first are checked.
     Strained,
     Memory,
 }
@@ -66,7 +66,7 @@ fn convert_reordered(alloc: Global, rows: &ConSys, order: Order) -> Result<Poly,
     Ok(made)
 }
 
-/// The polyhedron of the rows, which has a point, by the first of the other orders that doesn't strain.
+/// The polyhedron of the rows, which has a point, by the first of the other orders that doesn't exceed a limit.
 fn convert_otherwise(alloc: Global, rows: &ConSys) -> Result<Poly, MultipliersFailure>
     requires small { rows.now.dims < too_many_dimensions }
     ensures is { IfOk result (IsPolyhedronOf rows.now.dims (Con (constraints rows.now))) }
@@ -82,7 +82,7 @@ fn convert_otherwise(alloc: Global, rows: &ConSys) -> Result<Poly, MultipliersFa
     }
 }
 
-/// The polyhedron of the rows, which has a point, where the order of the list strains by another order.
+/// The polyhedron of the rows, which has a point, where the order of the list exceeds a limit by another order.
 fn convert_by_any(alloc: Global, rows: &ConSys) -> Result<Poly, MultipliersFailure>
     requires small { rows.now.dims < too_many_dimensions }
     ensures is { IfOk result (IsPolyhedronOf rows.now.dims (Con (constraints rows.now))) }

@@ -13,7 +13,7 @@ use Rattle.lra_pass_stack.specs.{declared.stack.Next.TheVariants.Again, declared
 use Rattle.lra_pass_stack.specs.declared.stack.Next as next
 use Rattle.lra_pass_stack.specs.declared.stack.PassFrame as place
 
--- one round, and those that are left behind it
+-- one round, and those that are left after it
 round_more : (k t : ℕ) → (1 + k * suc t) + t < 1 + suc k * suc t
 round_more k t = omega (arith, suc-mul k (suc t))
 

@@ -1,4 +1,4 @@
--- Places at loops: what their bodies are passed from, and what comes behind a round.
+-- Places at loops: what their bodies are passed from, and what comes after a round.
 use Rattle.std.proofs.Common.{◌≡◌, ◌≤◌, ℕ, suc, Option, Some, None, refl, sym, ap, subst, ◌∙◌}
 use Rattle.lra_domain.specs.{Abstraction.Abstraction, Interference.Interference, Rank.RankFits, declared.Exactness.Exactness}
 use Rattle.lra_program.specs.ProgramViews.{cond_view}
@@ -222,7 +222,7 @@ module _ {V H : Type 0} (o : Interference V) (m : Abstraction V H) (set : Plan) 
           now.3,
         )
 
-  -- behind its round
+  -- after its round
   module _ (p : GrowingFrame V H) (whole part : PassTask V) (outcome : PassOutcome V) (new : LoopCache V)
       (may : MayBePassed o m set whole) (owed : IsGrowing o m set p whole part)
       (made : IsMade o m set part (outcome_view outcome) new) where
@@ -415,7 +415,7 @@ module _ {V H : Type 0} (o : Interference V) (m : Abstraction V H) (set : Plan) 
           now.3,
         )
 
-  -- behind a round of it
+  -- after a round of it
   pub narrowing_narrowed : (p : NarrowingFrame V) (whole part : PassTask V) (outcome : PassOutcome V) (new : LoopCache V) →
       MayBePassed o m set whole → IsNarrowing o m set p whole part → IsMade o m set part (outcome_view outcome) new →
       IsNarrowed o m set p.narrowing.the_loop whole p.narrowing.first

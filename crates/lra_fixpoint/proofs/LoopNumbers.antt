@@ -71,7 +71,7 @@ mutual
   absent_in (arm a arms) k d none = absent a k (first_loop_in arms k d) (omega (arith, none)) ∙
       absent_in arms k d (omega (arith, none))
 
--- for the trees in the first of two, and in what stands behind it
+-- for the trees in the first of two, and in what comes after it
 module _ (a : Node) (others : ℕ → ℕ) (loops behind : ℕ → Node) (apart : (k : ℕ) → values_in a k + others k ≤ 1)
     (first : (k : ℕ) → 1 ≤ values_in a k + others k → loops k ≡ first_loop a k (behind k)) where
   one_apart : (k : ℕ) → values_in a k ≤ 1

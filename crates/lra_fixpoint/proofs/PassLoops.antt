@@ -163,7 +163,7 @@ have_append : {V H : Type 0} (m : Abstraction V H) (k : ℕ) (vs : List V) (n : 
 have_append m k [] n h is = (is, tt)
 have_append m k (v ∷ vs) n h is = (h.0, have_append m k vs n h.1 is)
 
--- what comes out behind a call has as many dimensions as its end
+-- what comes out after a call has as many dimensions as its end
 pub returns_have : {V H : Type 0} (m : Abstraction V H) (rs ys xs : List V) (n x : V) → ys ≡ rs ++ n ∷ [] →
     x ≡ slice_index_or ys 0 x → xs ≡ take 0 ys ++ drop 1 ys → AllHave m (m.dims n) rs
     → (m.dims x ≡ m.dims n) × AllHave m (m.dims x) xs
@@ -180,7 +180,7 @@ returns_have {V} m (v ∷ vs) ys xs n x is first others have =
           (subst (λ (zs : List V). AllHave m (m.dims n) zs) (sym more) (have_append m (m.dims n) vs n have.1 refl)),
     )
 
--- the first of what comes out behind a call, and the others: what returned, and then its end
+-- the first of what comes out after a call, and the others: what returned, and then its end
 pub returns_joined : {V H : Type 0} (ops : Operations V H) (rs ys xs : List V) (n x w : V) (e : Exactness) →
     ys ≡ rs ++ n ∷ [] → x ≡ slice_index_or ys 0 x → xs ≡ take 0 ys ++ drop 1 ys
     → AreJoined ops x xs e w → AreJoined ops (first_of_call rs n).0 (first_of_call rs n).1 e w

@@ -12,7 +12,7 @@ abbrev pub LiveAt : List Site → ℕ → ℕ → Type 0
 LiveAt T q n = (s : Site) → slice_get T q ≡ Some s → n ≡ s.live
 
 abbrev mutual
-  -- begun with n variables, the tree comes to each of its points with as many as live there, and where what a variable
+  -- begun with n variables, the tree reaches each of its points with as many as live there, and where what a variable
   -- got is noted, that variable lives
   pub PointsHave : List Site → Node → ℕ → Type 0
   PointsHave T empty n = Unit {0}

@@ -9,7 +9,7 @@ use Rattle.lra_analysis_spec.specs.UnderInterference.{ExactIterationUnder, Lossy
 use Rattle.lra_analysis_spec.specs.{Pass.recorded, Pass.PassResult, Plan.Plan}
 
 -- values, verdicts and the first flag of a derivation with drops: without a flag it is the written iteration, and the
--- first flag stands where the written iteration strains
+-- first flag stands where the written iteration exceeds a limit
 pub record IsSolved {V H : Type 0} (m : Abstraction V H) (plan : Plan) (P : Program) (tree : Node) (values : List V)
     (verdicts : List (ℕ × Bool)) (flagged : Option ℕ) : Type 0 where
   pub result : PassResult V
@@ -19,7 +19,7 @@ pub record IsSolved {V H : Type 0} (m : Abstraction V H) (plan : Plan) (P : Prog
   pub strained : (q : ℕ) → flagged ≡ Some q → StrainsAtPoint m plan P tree q
 
 -- the same among others, and what variables got: a note has the number of the point, the variable's place and the value
--- that the derivation has behind that
+-- that the derivation has after that
 pub record IsSolvedUnder {V H : Type 0} (o : Interference V) (m : Abstraction V H) (plan : Plan) (P : Program)
     (tree : Node)
     (values : List V) (notes : List (ℕ × ℕ × V)) (verdicts : List (ℕ × Bool)) (flagged : Option ℕ) : Type 0 where

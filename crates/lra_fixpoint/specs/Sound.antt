@@ -8,11 +8,11 @@ use Rattle.lra_analysis_spec.specs.Analysis.{IsUnreachable}
 
 pub record HoldsInTree {V H : Type 0} (m : Abstraction V H) (P : Program) (tree : Node) (values : List V)
     (verdicts : List (ℕ × Bool)) : Type 0 where
-  -- where a run comes to a point, the value there has its store, and as many dimensions as that has numbers
+  -- where a run reaches a point, the value there has its store, and as many dimensions as that has numbers
   pub stores : (q : ℕ) (draws : List ℤ) (t : State) → ReachesPoint tree (begun P draws) q t → (v : V) ×
       (slice_get values q ≡ Some v) × m.gamma v t.store × (m.dims v ≡ length t.store)
   -- no run fails an assertion that is proved
   pub proved : (q : ℕ) (draws : List ℤ) → Contains verdicts (q, true) → FailsAt tree (begun P draws) q → ⊥
-  -- no run comes to a point whose value has no part
+  -- no run reaches a point whose value has no part
   pub unreached : (q : ℕ) (v : V) (draws : List ℤ) (t : State) → slice_get values q ≡ Some v → IsUnreachable m v →
       ReachesPoint tree (begun P draws) q t → ⊥

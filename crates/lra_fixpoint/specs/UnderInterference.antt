@@ -8,7 +8,7 @@ use Rattle.lra_operations.specs.Tree.{Node}
 use Rattle.lra_analysis_spec.specs.{Analysis.IsUnreachable, Instrumented.WritesVariable}
 use Rattle.lra_interference_sound.specs.CoversUnder.{MayBecome}
 
--- where a run with these draws begins; in its trail each point is named by its number
+-- where a run with these draws begins; in its trace each point is named by its number
 abbrev pub begins : Program → List ℤ → Trace ℕ
 begins P draws = record { state = begun P draws; events = [] }
 
@@ -16,7 +16,7 @@ begins P draws = record { state = begun P draws; events = [] }
 abbrev pub RunsUnder : {V : Type 0} → Interference V → Program → Node → List ℤ → Stop → Trace ℕ → Type 0
 RunsUnder o P g draws z a = RunsUpTo (λ q. q) (MayBecome o.rely) g (begins P draws) (stopped z) a
 
--- it comes to where an operation of the point q has just given the variable at this place a value
+-- it reaches where an operation of the point q has just given the variable at this place a value
 abbrev pub WritesUnder : {V : Type 0} → Interference V → Program → Node → List ℤ → ℕ → ℕ → Trace ℕ → Type 0
 WritesUnder o P g draws q place a = WritesVariable (λ q. q) (MayBecome o.rely) g (begins P draws) q place a
 
@@ -24,7 +24,7 @@ WritesUnder o P g draws q place a = WritesVariable (λ q. q) (MayBecome o.rely) 
 pub record HoldsUnder {V H : Type 0} (o : Interference V) (m : Abstraction V H) (P : Program) (g : Node)
     (values : List V)
     (notes : List (ℕ × ℕ × V)) (verdicts : List (ℕ × Bool)) : Type 0 where
-  -- where a run comes to a point, and whatever others do there, the value there has its store, and as many dimensions
+  -- where a run reaches a point, and whatever others do there, the value there has its store, and as many dimensions
   -- as that has numbers
   pub stores : (q : ℕ) (draws : List ℤ) (a : Trace ℕ) (t : State) → RunsUnder o P g draws (to_point q) a →
       MayBecome o.rely a.state t →
@@ -32,7 +32,7 @@ pub record HoldsUnder {V H : Type 0} (o : Interference V) (m : Abstraction V H) 
   -- no run fails an assertion that is proved
   pub proved : (q : ℕ) (draws : List ℤ) (a : Trace ℕ) → Contains verdicts (q, true) →
       RunsUnder o P g draws (to_failure q) a → ⊥
-  -- no run comes to a point whose value has no part
+  -- no run reaches a point whose value has no part
   pub unreached : (q : ℕ) (v : V) (draws : List ℤ) (a : Trace ℕ) → slice_get values q ≡ Some v → IsUnreachable m v →
       RunsUnder o P g draws (to_point q) a → ⊥
   -- where a variable has just got a value that is noted, a note there has the store

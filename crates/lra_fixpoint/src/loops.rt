@@ -53,7 +53,7 @@ fn head_first<D: Domain>(
     Ok(all)
 }
 
-/// The value at the head and what its round found, and behind it what that value leaves where the condition is false.
+/// The value at the head and what its round found, and after it what that value leaves where the condition is false.
 fn leave_loop<D: Domain>(
     alloc: Global,
     the_loop: &Loop<'_>,
@@ -251,7 +251,7 @@ fn turn_narrowing<'a, D: Domain, F: Interfere<D>>(
 }
 
 /// The loop is left with its last round where no round of narrowing is left. Else the value at its head becomes the
-/// join of the first one with what that round left, and is passed anew.
+/// join of the first one with what that round left, and is passed again.
 fn narrow_on<'a, D: Domain, F: Interfere<D>>(
     alloc: Global,
     memory: &mut LoopCache<D>,
@@ -288,7 +288,7 @@ fn narrow_on<'a, D: Domain, F: Interfere<D>>(
     turn_narrowing::<D, F>(alloc, narrowing, flag, turn)
 }
 
-/// Behind a round of a loop whose head grows: it is narrowed if it is stable, and else turned again.
+/// After a round of a loop whose head grows: it is narrowed if it is stable, and else turned again.
 pub fn go_on_growing<'a, D: Domain, F: Interfere<D>>(
     alloc: Global,
     memory: &mut LoopCache<D>,
@@ -330,7 +330,7 @@ pub fn go_on_growing<'a, D: Domain, F: Interfere<D>>(
     turn_growing::<D, F>(alloc, the_loop, first, growing, Some(turn))
 }
 
-/// Behind a round of a loop that is narrowed.
+/// After a round of a loop that is narrowed.
 pub fn go_on_narrowing<'a, D: Domain, F: Interfere<D>>(
     alloc: Global,
     memory: &mut LoopCache<D>,

@@ -56,7 +56,7 @@ fn open_tree<'a, D: Domain, F: Interfere<D>>(
     }
 }
 
-/// The next step at a place, behind what the tree under way there gave.
+/// The next step at a place, after what the tree under way there gave.
 fn go_on<'a, D: Domain, F: Interfere<D>>(
     alloc: Global,
     memory: &mut LoopCache<D>,

@@ -89,7 +89,7 @@ fn begin<D: Domain>(
 }
 
 /// The iteration over a program's tree of operations among others, from its global variables at their first values:
-/// what others may do is taken in where the tree says so.
+/// what others may do is added where the tree says so.
 pub fn analyse_with<D: Domain, F: Interfere<D>>(
     alloc: Global,
     plan: &Plan,

@@ -12,7 +12,7 @@ use Rattle.lra_fixpoint_examples.proofs.{LoopExamples.boxes, LoopExamples.one, L
 abbrev i : Expr
 i = read (long_variable (local 0))
 
--- a `break` in a block with a variable of its own goes out without it; behind the `break` it still lives
+-- a `break` in a block with a variable of its own goes out without it; after the `break` it still lives
 cut_break : Pass BoxContent BoxContent boxes (narrowed 1) (seq (act 6 (truncate_to 1)) (leave 2 broken)) None (two (between 0 3) (between 1 1)) (jumps broken (one (between 0 3)) nowhere None)
 cut_break = (
   goes_on [] (one (between 0 3)) None,
@@ -22,7 +22,7 @@ cut_break = (
   refl,
 )
 
--- i = i + 1 of i in 0..2^127 - 1 strains: the new bound would pass the range
+-- i = i + 1 of i in 0..2^127 - 1 exceeds a limit: the new bound would pass the range
 strained_example : Pass BoxContent BoxContent (straining_operations box_abstraction) (narrowed 1) (act 5 (store_value 0 (variable_at 0 Long) (binary plus i (literal Int 1)))) None
     (one (between 0 (2 ^ 127 - 1)))
     (goes_on [] (one (at_least 1)) (Some 5))

@@ -1,4 +1,4 @@
--- The iteration over boxes on a call whose `return` cuts the callee's parameter, behind which the callee goes on:
+-- The iteration over boxes on a call whose `return` cuts the callee's parameter, after which the callee goes on:
 -- long f(long x){ if(input()) return 1; x=2; return x; } int main(void){ long r=f(0); }
 use Rattle.std.proofs.Common.{◌≡◌, ℕ, pos, List, [], ◌∷◌, ◌++◌, length, None, Some, refl, arith, lit<}
 use Rattle.lra_linear_forms.specs.Form.{Form}
@@ -44,7 +44,7 @@ calling = record {
   };
 }
 
--- both variables live where f returns, and r alone behind the call
+-- both variables live where f returns, and r alone after the call
 abbrev returns_one : Node
 returns_one = seq (point 2) (return_node 2 (store_value 1 (variable_at 0 Long) (literal Int 1)) 1 2)
 
@@ -114,7 +114,7 @@ at_first = two full_interval (between 0 0)
 abbrev at_last : BoxContent
 at_last = two full_interval (between 2 2)
 
--- a return where r and x live: x is cut from the value that returns, and the value behind has both and no store
+-- a return where r and x live: x is cut from the value that returns, and the value after has both and no store
 abbrev returned_with : ℕ → BoxContent → Interval → PassResult BoxContent
 returned_with q v r = record { entries = value q v ∷ []; normal = nowhere; breaks = []; continues = []; returns = one r ∷ []; flag = None }
 
@@ -158,7 +158,7 @@ gives_x = (
   refl,
 )
 
--- behind the `if` both variables live, as before it
+-- after the `if` both variables live, as before it
 may_return_pass : Pass BoxContent BoxContent boxes (narrowed 1) may_return None at_first
     (record { entries = value 1 at_first ∷ value 2 at_first ∷ []; normal = at_first; breaks = []; continues = []; returns = one (between 1 1) ∷ []; flag = None })
 may_return_pass = (
@@ -193,7 +193,7 @@ sets_two_pass = (
   refl,
 )
 
--- f returns with 1 or with 2, and doesn't come to its end
+-- f returns with 1 or with 2, and doesn't reach its end
 inside_pass : Pass BoxContent BoxContent boxes (narrowed 1) inside None at_first (record {
   entries = value 1 at_first ∷ value 2 at_first ∷ value 3 at_first ∷ value 4 at_last ∷ [];
   normal = nowhere;
@@ -293,7 +293,7 @@ call_pass = (
   refl,
 )
 
--- r is 1..2 at main's end: the value that x had behind the first return isn't lost
+-- r is 1..2 at main's end: the value that x had after the first return isn't lost
 pub calling_written : ExactIteration box_abstraction (narrowed 1) calling calling_tree (goes_on (value 0 none ∷ (call_entries ++ value 6 (one (between 1 2)) ∷ [])) (one (between 1 2)) None)
 calling_written = (
   none,

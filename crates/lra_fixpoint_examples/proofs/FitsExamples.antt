@@ -1,4 +1,5 @@
--- What is told to fit in whole programs, over boxes: by the values at their points, an answer at each point at which something is computed.
+-- What is reported to fit in whole programs, over boxes: by the values at their points, an answer at each point at
+-- which something is computed.
 use Rattle.std.proofs.Common.{◌≡◌, ◌∙◌, ◌⊎◌, ℕ, ℤ, pos, negsuc, List, [], ◌∷◌, None, Some, Bool, true, false, refl, sym, ap, inl, inr, lit<}
 use Rattle.std.proofs.lemmas.Option.{same_Some}
 use Rattle.std.specs.{List.list_all, Prelude.◌+ℤ◌, Prelude.◌*ℤ◌, Prelude.slice_get}
@@ -56,7 +57,7 @@ fits_nowhere = (λ h. inl refl, λ h. refl)
 passes_not : {P Q : Type 0} → P → Q → ((¬ P) ⊎ ((¬ Q) ⊎ ⊥)) → ⊥
 passes_not product sum h = elim h [ inl a ↦ a product | inr b ↦ elim b [ inl c ↦ c sum | inr d ↦ d ] ]
 
--- what is told of x + 1
+-- what is reported about x + 1
 one_more : (l h : ℤ) → InRange (pos 1 *ℤ l) → InRange (pos 1 +ℤ (pos 1 *ℤ l)) → InRange (pos 1 *ℤ h) → InRange (pos 1 +ℤ (pos 1 *ℤ h))
     → box_abstraction.bounded (x_in l h) next (Some (pos 1 +ℤ (pos 1 *ℤ l))) (Some (pos 1 +ℤ (pos 1 *ℤ h)))
 one_more l h low low_sum high high_sum = (inl (passes_not low low_sum, refl), inl (passes_not high high_sum, refl))
@@ -99,7 +100,7 @@ sum_judged : (values : List BoxContent) (q : ℕ) (l h : ℤ) (b : Bool) → sli
 sum_judged values q l h b there answer alone =
     (x_in l h, x_in l h, Exact, Exact, there, (refl, refl), (b ∷ [], (x_given l h b answer, refl), alone), refl)
 
--- a new variable, and one that gets any number, is an `int` behind the tests of its type
+-- a new variable, and one that gets any number, is an `int` after the tests of its type
 is_int : AreMade boxes (first_then (make (test Ge (above_least Int 1 0))) (make (test Ge (below_greatest Int 1 0)))) (one full_interval) Exact ints
 is_int = (
   one (record { low = Some (negsuc 2147483647); high = None }),
@@ -143,11 +144,11 @@ reading_graph = record {
   parts = refl;
 }
 
--- behind x = x + 1
+-- after x = x + 1
 abbrev more : BoxContent
 more = x_in (negsuc 2147483646) (pos 2147483647)
 
--- the values at its points: what x + 1 has beyond an `int` is cut off by the test behind it
+-- the values at its points: what x + 1 has beyond an `int` is cut off by the test after it
 reads_pass : Pass BoxContent BoxContent boxes (narrowed 1) reads None none (goes_on (value 0 none ∷ []) ints None)
 reads_pass = (
   goes_on (value 0 none ∷ []) none None,
@@ -219,7 +220,7 @@ reading_values = none ∷ ints ∷ more ∷ []
 abbrev asked_input : OpAtPoint
 asked_input = record { point = 0; fresh = Some Int; op = gets_input }
 
--- a number of 64 bits, which has no form, is converted behind the new variable
+-- a number of 64 bits, which has no form, is converted after the new variable
 input_judged : JudgedAtPoint box_abstraction boxes reading_values asked_input false Exact
 input_judged = (
   none,
@@ -236,7 +237,7 @@ input_judged = (
   refl,
 )
 
--- neither fits: catches a conversion that isn't asked, and a sum whose values are those that the test behind it leaves
+-- neither fits: catches a conversion that isn't asked, and a sum whose values are those that the test after it leaves
 reading_fits : Judges box_abstraction boxes reading_tree reading_values None ((0, false) ∷ (1, false) ∷ []) None
 reading_fits = judged (OpFits box_abstraction boxes) (computing_ops None reading_tree) reading_values ((asked_input, false) ∷ (asked_sum 1, false) ∷ []) refl
     (input_judged, (sum_judged reading_values 1 (negsuc 2147483647) (pos 2147483647) false refl greatest_overflows refl, tt))
@@ -272,7 +273,7 @@ testing_graph = record {
   parts = refl;
 }
 
--- at its points x is 0..2147483646 behind both sides of the first condition, and any `int` at the others
+-- at its points x is 0..2147483646 after both sides of the first condition, and any `int` at the others
 abbrev testing_values : List BoxContent
 testing_values = none ∷ ints ∷ x_in (pos 0) (pos 2147483646) ∷ ints ∷ ints ∷ ints ∷ []
 
@@ -313,7 +314,7 @@ less_judged = (
   refl,
 )
 
--- x != 0 leaves no constant to divide by: a box doesn't tell that 0 isn't in it
+-- x != 0 leaves no constant to divide by: a box doesn't say that 0 isn't in it
 divides_judged : JudgedAtPoint box_abstraction boxes testing_values (record { point = 3; fresh = None; op = step.test 0 divides true }) false Exact
 divides_judged = (
   ints,

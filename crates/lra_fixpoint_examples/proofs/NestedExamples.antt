@@ -288,7 +288,7 @@ module _ (set : Plan) (a : Interval) (sound : IsValidInterval a) (order : crosse
     (refl, refl),
   )
 
--- nothing leaves the endless loop by its condition, so what comes behind it is what broke out
+-- nothing leaves the endless loop by its condition, so what comes after it is what broke out
 inner_loop_pass : (a : Interval) → IsValidInterval a → crossed a ≡ false → lesser_low a.low a.low ≡ a.low → greater a.high a.high ≡ a.high → widened_low a.low a.low ≡ a.low →
     stable a.high a.high ≡ a.high
     → Pass BoxContent BoxContent boxes (narrowed 1) inner_loop None (two a (between 0 0)) (inner_loop_found a)

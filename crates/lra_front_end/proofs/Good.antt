@@ -43,7 +43,7 @@ module _ (P : Program) where
       good_expr (tree.plus x t) small e = (good_expr x small.0 (none_left (expr_faults s x) (term_faults s t) e), good_term t small.1 (none_right (expr_faults s x) (term_faults s t) e))
       good_expr (tree.minus x t) small e = (good_expr x small.0 (none_left (expr_faults s x) (term_faults s t) e), good_term t small.1 (none_right (expr_faults s x) (term_faults s t) e))
 
-    -- what stands behind a chain
+    -- what comes after a chain
     abbrev IsGoodRest : Option Cond → Type 0
     IsGoodRest None = ⊤
     IsGoodRest (Some d) = IsGoodCond P live d
@@ -135,7 +135,7 @@ module _ (P : Program) where
     good_declared b n live s t x (tree.scalar e) items sees small none good = (good_given n (suc live) s e sees small none, good)
     good_declared b n live s t x (tree.array c) items sees small none good = good
 
-    -- declarators, and the items behind them
+    -- declarators, and the items after them
     good_declarators : (b : Jumps) (n live : ℕ) (s : Scope) (t : NumberType) (ds : List tree.DeclaratorTree) (rest : BlockItems) → Sees P live s → AllByRecursion IsSmallDeclarator ds
         → declarators_faults F s t ds ≡ []
         → ((more : ℕ) → Sees P more (with_declarators s t ds) → AreGoodItems P b more rest) → AreGoodItems P b live (resolve_declarators F s n t ds rest)

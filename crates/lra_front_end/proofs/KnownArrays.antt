@@ -108,7 +108,7 @@ module _ (known : List Array) (s : Scope) (shows : Shows known s) where
     expr_knows (tree.plus x t) e = let (a, b) = none_both _ _ e in (expr_knows x a, term_knows t b)
     expr_knows (tree.minus x t) e = let (a, b) = none_both _ _ e in (expr_knows x a, term_knows t b)
 
-  -- what stands behind a chain
+  -- what comes after a chain
   abbrev RestKnows : Option Cond → Type 0
   RestKnows None = ⊤
   RestKnows (Some d) = CondKnows known d
@@ -189,7 +189,7 @@ module _ (F : List tree.FunctionTree) where
   behind_declared known n s t x (tree.scalar e) items = refl
   behind_declared known n s t x (tree.array c) items = refl
 
-  -- declarators, and the items behind them
+  -- declarators, and the items after them
   declarators_know : (known : List Array) (n : ℕ) (s : Scope) (t : NumberType) (ds : List tree.DeclaratorTree) (rest : BlockItems) → Shows known s
       → declarators_faults F s t ds ≡ [] → ((more : List Array) → Shows more (with_declarators s t ds) → ItemsKnow more rest)
       → ItemsKnow known (resolve_declarators F s n t ds rest)

@@ -21,7 +21,7 @@ pub mod EachAnswer
 pub mod ReadSteps
 pub mod StageSteps
 pub mod SomeAnswer
--- Limits of one thread behind another, and what the stages of the reading answer.
+-- Limits of one thread after another, and what the stages of the reading answer.
 pub mod Limits
 pub mod ThreadSteps
 -- Each source has one answer.

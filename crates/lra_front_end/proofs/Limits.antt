@@ -1,4 +1,4 @@
--- Limits of one thread behind another.
+-- Limits of one thread after another.
 use Rattle.std.proofs.Common.{◌≡◌, ℕ, suc, ◌+◌, List, [], ◌∷◌, ◌++◌, length, Option, Some, None, Bool, true, false, refl, sym, ap, ◌∙◌, arith}
 use Rattle.std.proofs.lemmas.Option.{none-some}
 use Rattle.std.specs.Prelude.{nat_lt, if◌then◌else◌}
@@ -13,7 +13,7 @@ then_case true full x y f g h e = e
 then_case false true x y f g h e = e
 then_case false false x y f g h e = h e
 
--- what passes no limit, and what stands behind it
+-- what passes no limit, and what comes after it
 passed_case : (many full : Bool) (x y : Refusal) (f g h : Option Refusal) → (f ≡ None → g ≡ h) → (if many then Some x else (if full then Some y else f)) ≡ None
     → (if many then Some x else (if full then Some y else g)) ≡ h
 passed_case true full x y f g h s e = absurd (none-some x (sym e))
@@ -29,7 +29,7 @@ fault_behind ls n (comes s ∷ es) fs e =
     (λ h. fault_behind ls (suc n) es fs h ∙ ap (λ k. limit_fault ls k fs) (omega arith)) e
 fault_behind ls n (one_call_more at ∷ es) fs e = absurd (none-some _ (sym e))
 
--- what passes a limit does so whatever stands behind it
+-- what passes a limit does so whatever comes after it
 stays_case : (many full : Bool) (x y r : Refusal) (f g : Option Refusal) → (f ≡ Some r → g ≡ Some r)
     → (if many then Some x else (if full then Some y else f)) ≡ Some r
     → (if many then Some x else (if full then Some y else g)) ≡ Some r
@@ -44,7 +44,7 @@ fault_stays ls n (comes s ∷ es) fs r e =
     (fault_stays ls (suc n) es fs r) e
 fault_stays ls n (one_call_more at ∷ es) fs r e = e
 
--- what passes no limit with others behind it passes none alone
+-- what passes no limit with others after it passes none alone
 pub within_front : (ls : List Labelled) (n : ℕ) (es fs : List Event) → limit_fault ls n (es ++ fs) ≡ None → limit_fault ls n es ≡ None
 within_front ls n [] fs e = refl
 within_front ls n (comes s ∷ es) fs e =

@@ -1,4 +1,4 @@
--- At each point of a source as many names are told as variables live there.
+-- At each point of a source as many names are reported as variables live there.
 use Rattle.std.proofs.Common.{◌≡◌, ℕ, zero, suc, ◌+◌, List, [], ◌∷◌, ◌++◌, length, map, Option, Some, None, Bool, true, false, cond, refl, sym, ap, ◌∙◌, subst, arith, length-append}
 use Rattle.std.proofs.lemmas.List.{length-map}
 use Rattle.std.specs.{List.AllByRecursion, List.flat_map, Prelude.⊤, Prelude.slice_get}
@@ -63,7 +63,7 @@ each_then Q (one_call_more at ∷ xs) ys h k = each_then Q xs ys h k
 count_names : (names : List (List ℕ)) (ds : List tree.DeclaratorTree) → length (with_names names ds) ≡ length names + length (flat_map names_of ds)
 count_names names ds = length-append names (flat_map names_of ds)
 
--- how many variables live behind declarators
+-- how many variables live after declarators
 behind_declarators : (F : List tree.FunctionTree) (n live more : ℕ) (s : Scope) (t : NumberType) (ds : List tree.DeclaratorTree) (rest : BlockItems)
     → live + length (flat_map names_of ds) ≡ more → live_after_items live (resolve_declarators F s n t ds rest) ≡ live_after_items more rest
 behind_declarators F n live more s t [] rest e = let same : live ≡ more = omega (arith, e) in ap (λ (i : ℕ). live_after_items i rest) same
@@ -136,7 +136,7 @@ module _ (outside : List (List ℕ)) (ls : List Labelled) where
     )
     declared_has n live s t x (tree.array c) rest l h j at back = (point_has n live false l h at, back)
 
-    -- declarators, and the items behind them
+    -- declarators, and the items after them
     declarators_have : (n live more : ℕ) (s : Scope) (t : NumberType) (ds : List tree.DeclaratorTree) (rest : BlockItems) (names : List (List ℕ)) → width_of path + length names ≡ live
         → live + length (flat_map names_of ds) ≡ more
         → StandFrom ls n (declarator_labels names ds) → EachPoint HasAsMany (items_events inside path more rest) →

@@ -13,7 +13,7 @@ use Rattle.lra_front_end.proofs.Declared.{declared_numbers}
 
 -- numbers one after the other ----------------------------------------------------------------------------------------
 
--- the numbers from the first one on, and the one behind them
+-- the numbers from the first one on, and the one after them
 abbrev pub IsRun : ℕ → List ℕ → ℕ → Type 0
 IsRun n [] m = n ≡ m
 IsRun n (x ∷ xs) m = (x ≡ n) × IsRun (suc n) xs m

@@ -72,7 +72,7 @@ exit_parsed source tokens given x e l lexed same is fault =
     exit_refused (λ r. NotParsed Spells source r.cause r.place) x e is
     (refusal_by (λ r. IsTextFault Spells tokens r.cause r.place) _ (λ r. text_unread source tokens r.cause r.place l lexed) e there)
 
--- and by those behind it
+-- and by those after it
 pub exit_tree : {X : Type 0} (source : List ℕ) (t : FileTree) (x : Result X SourceError) (e : SourceError) → HasTree source t → IsErrAnd x (λ y. y ≡ e)
     → IfRefusal (λ r. RefusesTree t r.cause r.place) e → IfRefused x (λ r. Refuse Spells source r.cause r.place)
 exit_tree source t x e has is fault =

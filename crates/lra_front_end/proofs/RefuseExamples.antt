@@ -30,7 +30,7 @@ refused source xs t c p is so few inner parsed refuses =
     (record { front = inner_tokens xs; last = end_token source; parts = refl; is_end = refl; no_other = no_end (inner_tokens xs) inner }) parsed)
     refuses
 
--- `int main(void){`, and what stands behind it
+-- `int main(void){`, and what comes after it
 abbrev main_head : List ExternalDeclaration → List ExternalDeclaration
 main_head xs =
     sign mark.Int ∷ space ∷ word_of (codes "main") ∷ sign mark.OpenParen ∷ sign mark.Void ∷ sign mark.CloseParen ∷ sign mark.OpenBrace ∷ xs
@@ -148,7 +148,7 @@ not_array_refused =
 
 -- calls ------------------------------------------------------------------------------------------------------------
 
--- `void f(void){`, and what stands behind it
+-- `void f(void){`, and what comes after it
 abbrev f_head : List ExternalDeclaration → List ExternalDeclaration
 f_head xs = sign mark.Void ∷ space ∷ word_of (codes "f") ∷ sign mark.OpenParen ∷ sign mark.Void ∷ sign mark.CloseParen ∷ sign mark.OpenBrace ∷ xs
 

@@ -1,4 +1,4 @@
--- What the stages behind the reading answer, as answers of the tree.
+-- What the stages after the reading answer, as answers of the tree.
 use Rattle.std.proofs.Common.{◌≡◌, ℕ, List, [], ◌∷◌, Some, None, refl, sym, ap, ◌∙◌, subst}
 use Rattle.std.specs.{Prelude.Option, Prelude.Result, Prelude.MatchOption, Result.IsErrAnd}
 use Rattle.lra_base.specs.{Refused.IfRefusal, Refused.IfRefused, declared.error.SourceError.SourceError, declared.error.SourceError.TheVariants.Refused, declared.error.SourceError.TheVariants.Memory}
@@ -24,7 +24,7 @@ first_is (f ∷ fs) r e = (fs, cc)
 names_refused : (t : FileTree) (r : Refusal) → first_fault (name_faults t) ≡ Some r → RefusesTree t r.cause r.place
 names_refused t r e = let (further, is) = first_is (name_faults t) r e in bad_name r further is
 
--- and so with an error that tells the first of them
+-- and so with an error that reports the first of them
 told_refused : (t : FileTree) (e : SourceError) → IsFirstFault (name_faults t) e → IfRefusal (λ r. RefusesTree t r.cause r.place) e
 told_refused t (Refused r) told = names_refused t r told
 told_refused t Memory told = tt

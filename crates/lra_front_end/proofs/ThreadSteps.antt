@@ -50,7 +50,7 @@ abbrev pub events_at : FileTree → List ℕ → List Event
 events_at t places = flat_map events_of (map (thread_program t) places)
 
 module _ (t : FileTree) (n m place : ℕ) (places : List ℕ) where
-  -- those behind a thread that passes no limit
+  -- those after a thread that passes no limit
   pub events_behind : limit_fault (labels_of t) n (events_of (thread_program t place)) ≡ None → m ≡ n + length (sites_of (thread_program t place))
       → limit_fault (labels_of t) n (events_at t (place ∷ places)) ≡ limit_fault (labels_of t) m (events_at t places)
   events_behind passed same =
@@ -64,7 +64,7 @@ module _ (t : FileTree) (n m place : ℕ) (places : List ℕ) where
   limit_refused r names straight whole e =
       past_limit r names straight (whole ∙ fault_stays (labels_of t) n (events_of (thread_program t place)) (events_at t places) r e)
 
-  -- and so with an error that tells it
+  -- and so with an error that reports it
   pub exit_limit : {X : Type 0} (labels : List Labelled) (P : resolved.Program) (x : Result X SourceError) (e : SourceError) → thread_faults t ≡ []
       → NotRecursive t
       → limit_fault (labels_of t) 0 (thread_events t) ≡ limit_fault (labels_of t) n (events_at t (place ∷ places)) → labels ≡ labels_of t

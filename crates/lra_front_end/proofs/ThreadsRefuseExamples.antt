@@ -27,7 +27,7 @@ refused source xs t c p is so few inner parsed refuses =
     (record { front = inner_tokens xs; last = end_token source; parts = refl; is_end = refl; no_other = no_end (inner_tokens xs) inner }) parsed)
     refuses
 
--- `void t1(void){`, and what stands behind it
+-- `void t1(void){`, and what comes after it
 abbrev first_head : List ExternalDeclaration → List ExternalDeclaration
 first_head xs = sign mark.Void ∷ space ∷ word_of (codes "t1") ∷ sign mark.OpenParen ∷ sign mark.Void ∷ sign mark.CloseParen ∷ sign mark.OpenBrace ∷ xs
 

@@ -21,7 +21,7 @@ use Rattle.lra_front_end.proofs.{Limits.within_front, Limits.fault_behind, SomeA
 abbrev Answer : List ℕ → Type 0
 Answer source = HasThreadsRefusal source ⊎ IsAcceptedThreads source
 
--- the threads at these places have trees, where they pass no limit behind so many points
+-- the threads at these places have trees, where they pass no limit after so many points
 module _ (t : FileTree) where
   thread_trees : (n : ℕ) (places : List ℕ) → AllByRecursion (λ place. IsWellFormed (thread_program t place)) places
       → limit_fault (labels_of t) n (flat_map events_of (map (thread_program t) places)) ≡ None → (gs : List Node) × AllZip (IsThreadTree t) places gs

@@ -1,4 +1,4 @@
--- What each source deserves: its one refusal, or its tree with the tree of operations of its program.
+-- What each source must get: its one refusal, or its tree with the tree of operations of its program.
 use Rattle.std.specs.Prelude.{◌≡◌, ◌≤◌, ◌⊎◌, ℕ, List, slice_get, Some}
 use Rattle.lra_base.specs.{declared.refusals.Cause.Cause, declared.refusals.Place.Place}
 use Rattle.lra_syntax.specs.{Grammar.Spells, Trees.FileTree}
@@ -10,7 +10,7 @@ use Rattle.lra_program.specs.Sites.{Site}
 abbrev pub HasRefusal : List ℕ → Type 0
 HasRefusal source = (cause : Cause) × (at : Place) × Refuse Spells source cause at
 
--- the source is accepted, with tokens and a tree, and its program has a tree of operations that comes to the points
+-- the source is accepted, with tokens and a tree, and its program has a tree of operations that reaches the points
 -- of its runs
 pub record IsAccepted (source : List ℕ) : Type 0 where
   pub tree : FileTree
@@ -23,6 +23,6 @@ pub record IsAccepted (source : List ℕ) : Type 0 where
 abbrev pub EachAnswer : Type 0
 EachAnswer = (source : List ℕ) → (HasRefusal source ⊎ IsAccepted source) × (HasRefusal source → IsAccepted source → ⊥)
 
--- no more variables live at a point than are taken
+-- no more variables live at a point than are accepted
 abbrev pub AreFew : List Site → Type 0
 AreFew T = (q : ℕ) (s : Site) → slice_get T q ≡ Some s → s.live ≤ greatest_live

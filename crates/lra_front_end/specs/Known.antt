@@ -36,7 +36,7 @@ abbrev pub GivenKnows : List Array → Option Rvalue → Type 0
 GivenKnows known None = ⊤
 GivenKnows known (Some e) = RvalueKnows known e
 
--- behind some items
+-- after some items
 abbrev pub known_behind : List Array → BlockItems → List Array
 known_behind known no_more = known
 known_behind known (declaration d items) = known_behind known items

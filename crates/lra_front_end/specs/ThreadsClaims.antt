@@ -1,4 +1,4 @@
--- What each source deserves as a program of several threads: its one refusal, or its tree with a tree of operations
+-- What each source must get as a program of several threads: its one refusal, or its tree with a tree of operations
 -- for each thread.
 use Rattle.std.specs.{List.AllZip, Prelude.◌⊎◌, Prelude.ℕ, Prelude.List}
 use Rattle.lra_base.specs.{declared.refusals.Cause.Cause, declared.refusals.Place.Place}
@@ -11,7 +11,7 @@ use Rattle.lra_resolution_spec.specs.Threads.{thread_places, thread_program}
 abbrev pub HasThreadsRefusal : List ℕ → Type 0
 HasThreadsRefusal source = (cause : Cause) × (at : Place) × RefuseThreads Spells source cause at
 
--- a tree of operations of a thread's program, that comes to the points of its runs
+-- a tree of operations of a thread's program, that reaches the points of its runs
 abbrev pub IsThreadTree : FileTree → ℕ → Node → Type 0
 IsThreadTree t place g = IsInlinedTree (thread_program t place) g × Agrees (thread_program t place) g
 

@@ -36,7 +36,7 @@ impl Drop for AcceptedSource {
     }
 }
 
-/// All that is read of a source, or its one refusal; memory may be wanting.
+/// All that is read of a source, or its one refusal; memory may run out.
 pub fn read_source(alloc: Global, bytes: &[u8]) -> Result<AcceptedSource, SourceError>
     requires { length bytes.now + 1 < 2 ^ 32 }
     ensures tree { IfOk result (λ f. HasTree bytes.now (tree_view f.tree)) }

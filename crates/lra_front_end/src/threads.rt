@@ -36,7 +36,7 @@ pub fn threads_of(alloc: Global, tree: &TranslationUnit) -> Result<ThreadsResolu
 }
 
 /// The tree of operations of the program with the function at this place in the place of `main`, and its points, which
-/// count behind those of the threads before; or the refusal for the first limit that is passed.
+/// count after those of the threads before; or the refusal for the first limit that is passed.
 fn graph_of(
     alloc: Global,
     program: &mut Program,

@@ -40,7 +40,7 @@ impl Drop for AcceptedThreads {
     }
 }
 
-/// All that is read of a source of several threads, or its one refusal; memory may be wanting.
+/// All that is read of a source of several threads, or its one refusal; memory may run out.
 pub fn read_threads(alloc: Global, bytes: &[u8]) -> Result<AcceptedThreads, SourceError>
     requires { length bytes.now + 1 < 2 ^ 32 }
     ensures accepted { IfOk result (λ f. AcceptsThreads Spells bytes.now (tree_view f.tree)) }

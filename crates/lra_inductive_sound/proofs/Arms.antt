@@ -1,4 +1,4 @@
--- The arms of a `switch`: those behind a label, from the value that comes in there.
+-- The arms of a `switch`: those after a label, from the value that comes in there.
 use Rattle.std.proofs.Common.{◌≡◌, ℕ, List, [], ◌∷◌, map, Option, Some, None, Bool, true, false, inl, inr, refl, sym, subst}
 use Rattle.std.proofs.{lemmas.List.Elements.Contains-append_cases, lemmas.Option.same_Some, lemmas.Option.none-some}
 use Rattle.std.specs.List.{Contains}
@@ -69,7 +69,7 @@ module _ (V H X : Type 0) (m : Abstraction V H) (o : PointsOf V H X) where
     out_past true (Some running) other x w is none = absurd (let no : true ≡ false = none in cc)
     out_past false (Some running) other x w joined none = join_right V H X m o keep running other x w joined
 
-    -- behind the last arm
+    -- after the last arm
     pub arms_end : (go : CaseLabel → SegmentStep) (d : Bool) (v other : V) (run : Option V) (x : Exactness) (w : V) (f : Option ℕ)
         → ComesOut (lossy_operations m) d run other x w → AreArmsClosed go d v other no_arms run (goes_on [] w f)
     arms_end go d v other run x w f out = record {
@@ -88,7 +88,7 @@ module _ (V H X : Type 0) (m : Abstraction V H) (o : PointsOf V H X) where
             subst (λ (l : List SegmentStep). KeptBy m o u l (λ y. y ≡ w)) (one_from [] ops there) (w, refl, out_runs d run other x w out u some)
         passes u some (jump j) ops there = absurd (contains_none ops there)
 
-    -- behind a label
+    -- after a label
     pub arms_labelled : (go : CaseLabel → SegmentStep) (d : Bool) (v other : V) (l : CaseLabel) (arms : Arms) (run : Option V) (u w : V) (y : Exactness)
         (r : PassResult V)
         → Keeps m o v (go l ∷ []) u → JoinsRunning (lossy_operations m) run u y w → AreArmsClosed go d v other arms (Some w) r
@@ -119,7 +119,7 @@ module _ (V H X : Type 0) (m : Abstraction V H) (o : PointsOf V H X) where
         into : Keeps m o v (go l ∷ []) w
         into = keeps_then V H X m o v u w (go l ∷ []) [] comes (enters_keep run u y w joins)
 
-    -- a tree and then the arms behind it
+    -- a tree and then the arms after it
     module _ (go : CaseLabel → SegmentStep) (d : Bool) (v other : V) (a : Node) (arms : Arms) (run : Option V) (w : V) (s t : PassResult V)
         (runs : (u : V) → run ≡ Some u → w ≡ u) (i : IsInductiveThrough m o a w s) (j : AreArmsClosed go d v other arms (Some s.normal) t) where
       abbrev whole : PassResult V

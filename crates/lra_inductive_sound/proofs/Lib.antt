@@ -2,9 +2,9 @@
 mod Members
 -- Moves and changes keep points.
 mod Changes
--- Ways one behind the other.
+-- Ways one after the other.
 mod WaysOn
--- The parts of a tree one behind the other.
+-- The parts of a tree one after the other.
 mod Parts
 mod Sequences
 -- Loops, and the arms of a `switch`.

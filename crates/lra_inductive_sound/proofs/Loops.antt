@@ -27,7 +27,7 @@ round_part : {V : Type 0} (q : ℕ) (u out : V) (f : Option ℕ) (z : PassResult
 round_part q u out f z x h = contains_tail (value q u) x z.entries h
 
 module _ (V H X : Type 0) (m : Abstraction V H) (o : PointsOf V H X) (keep : KeepPoints m o) (q base : ℕ) (c : Cond) (a : Node) where
-  -- the loop's point has a value, from which the body is gone through; what is left behind it comes back to that value
+  -- the loop's point has a value, from which the body is gone through; what is left after it comes back to that value
   module _ (u w out : V) (f : Option ℕ) (z : PassResult V) (into : Keeps m o u (does (test base c true) ∷ []) w) (body : IsInductiveThrough m o a w z)
       (back : Keeps m o z.normal [] u) (ends : Keeps m o u (does (test base c false) ∷ []) out) where
     abbrev whole : PassResult V

@@ -1,4 +1,4 @@
--- Two parts of a tree one behind the other, as a tree behind another one and as an arm behind others.
+-- Two parts of a tree one after the other, as a tree after another one and as an arm after others.
 use Rattle.std.proofs.{Common.List, Common.◌++◌, Common.inl, Common.inr, lemmas.List.Elements.Contains-append_cases}
 use Rattle.std.specs.List.{Contains}
 use Rattle.lra_domain.specs.Abstraction.{Abstraction}

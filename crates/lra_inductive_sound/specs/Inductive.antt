@@ -49,7 +49,7 @@ ValuesAreInductive {V} m o = (set : Plan) (P : Program) (g : Node) (r : PassResu
 
 -- trees: a pass --------------------------------------------------------------------------------------------------
 
--- the second value has a dimension for each variable that lives behind the way, and all points to which the way leads
+-- the second value has a dimension for each variable that lives after the way, and all points to which the way leads
 -- from those of the first
 pub record Keeps {V H X : Type 0} (m : Abstraction V H) (o : PointsOf V H X) (v : V) (ops : List SegmentStep) (w : V)
     : Type 0 where

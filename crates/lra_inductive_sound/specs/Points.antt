@@ -1,5 +1,5 @@
 -- Points of a domain's values and heads, of any kind: stores of whole numbers, or rational points. How actions lead
--- from one to another, and what the operations of an iteration owe to them.
+-- from one to another, and what the operations of an iteration must guarantee to them.
 use Rattle.std.specs.Prelude.{◌≡◌, ℕ, List, [], ◌∷◌}
 use Rattle.lra_systems.specs.LinearSystems.{LinearSystem}
 use Rattle.lra_linear_spec.specs.declared.ConKind.{ConKind}
@@ -15,7 +15,7 @@ pub record PointsOf (V H X : Type 0) : Type 1 where
   -- the action may lead from the first point to the second
   pub leads : Action → X → X → Type 0
 
--- the actions, one behind the other, may lead from the first point to the second
+-- the actions, one after the other, may lead from the first point to the second
 abbrev pub LeadsBy : {V H X : Type 0} → PointsOf V H X → List Action → X → X → Type 0
 LeadsBy o [] x y = y ≡ x
 LeadsBy {V} {H} {X} o (step ∷ steps) x y = (z : X) × o.leads step x z × LeadsBy o steps z y

@@ -139,7 +139,7 @@ body_opens P path r S p f b from is at well stands few =
       callee_body_stands P path r x c p f b is well stands,
     )
 
--- the call behind its callee's body
+-- the call after its callee's body
 module _ (P : Program) (path : List ℕ) (r : Frame) (x : Receiver) (c : Call) (S V : List Site) (h : Node) (n : ℕ) (w : WritesBody P path r x c S h n V) where
   module _ (fn : Function) (found : slice_get P.functions c.function ≡ Some fn) (p : List ℕ) (within : p ≡ c.label ∷ path) where
     same : fn ≡ w.fn

@@ -3,6 +3,6 @@ pub mod Calling
 pub mod Totals
 -- A program that passes no limit has a tree.
 pub mod Existing
--- Open places: what opens, and what comes behind.
+-- Open places: what opens, and what comes after.
 mod StepsLeft
 pub mod Programs

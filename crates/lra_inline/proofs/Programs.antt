@@ -60,7 +60,7 @@ module _ (p : Program) (f : Function) where
   main_receives e y x none gets = gets ∙ ap (λ z. result_receiver f.result_type z) none ∙ ap (λ o. result_receiver (function_or o).result_type nobody)
       (sym (function_there p.main e))
 
--- as many arguments as there may be fit behind the variables that live
+-- as many arguments as there may be fit after the variables that live
 pub arguments_fit : (live k : ℕ) (c : Call) → k ≡ vec_len c.arguments → live ≤ greatest_live + 1 → live + k < 18446744073709551616
 arguments_fit live k c e few =
     let within = c.arguments.ok.1 in
@@ -88,7 +88,7 @@ module _ (p : Program) (r : Frame) (c : Call) (stands : CallStands (program_view
         let z = the_callee (program_view p) r (call_view c) stands in
         z.2 ∙ ap (λ (g : resolved.Function). length g.parameters) (same_Some z.0 (function_view f) (sym z.1 ∙ found))
 
-    -- as many parameters as arguments, behind the variables that live
+    -- as many parameters as arguments, after the variables that live
     pub called_few : (live : ℕ) → live ≤ greatest_live + 1 → live + length f.parameters.items < 18446744073709551616
     called_few live few = subst (λ k. live + k < 18446744073709551616) (c.arguments.ok.0 ∙ sym (length-map c.arguments.items expr_view) ∙ called_fits)
         (arguments_fit live (vec_len c.arguments) c refl few)

@@ -162,7 +162,7 @@ module _ (P : Program) (well : IsWellFormed P) (p : List ℕ) (r : Frame) (S : L
       → add_points S (events_of P) ≡ stopped x
   stopped_at_end V h n x same y e = end_stopped P well.alone S V x (writes_as h V y).walked (end_as n V (stopped x) same e)
 
--- a program that is written out behind these points, or passes a limit there
+-- a program that is written out after these points, or passes a limit there
 module _ (P : Program) (S : List Site) where
   module _ (U : List Site) (e : add_points S (events_of P) ≡ passed U) where
     -- where it is the first one

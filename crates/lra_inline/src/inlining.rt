@@ -91,7 +91,7 @@ fn write_out<'a>(
     }
 }
 
-/// The items, and how many variables live behind them.
+/// The items, and how many variables live after them.
 fn inline_items<'a>(
     around: &Around<'a>,
     items: &'a [BlockItem],

@@ -1,4 +1,4 @@
--- A run comes to a point on a trail, and fails there, exactly where the tree does; so without trails too.
+-- A run reaches a point on a trace, and fails there, exactly where the tree does; so without traces too.
 use Rattle.std.proofs.Common.{◌≡◌, ℕ, ℤ, List, [], ◌∷◌, length, Some, slice_get, ◌⊎◌, inl, inr, refl, sym, ap, ◌∙◌, subst}
 use Rattle.std.proofs.lemmas.Option.{same_Some}
 use Rattle.lra_program.specs.Traces.{TraceEvent, visit, Trace, NoChange, TracedSteps, Arrives, ViolatesAssertion}

@@ -16,7 +16,7 @@ sum_given = store_value 0 (variable_at 0 Int) sum_too_great
 abbrev asked_behind_new : OpAtPoint
 asked_behind_new = record { point = 0; fresh = Some Int; op = sum_given }
 
--- int x = 2147483647 + 1: catches an operation that is told as if its variable weren't there yet
+-- int x = 2147483647 + 1: catches an operation that is reported as if its variable weren't there yet
 new_variable_asks : computing_ops None (seq (point 0) (seq (act 0 (append Int)) (act 0 sum_given))) ≡ asked_behind_new ∷ []
 new_variable_asks = refl
 
@@ -25,7 +25,7 @@ new_variable_overflows : (s : State) → s ≡ record { store = []; arrays = [];
 new_variable_overflows s e = rw e
     (record { store = pos 5 ∷ []; arrays = []; waiting = []; draws = [] }, refl, inl (inr ((pos 2147483647, []), refl, inr ((pos 1, []), refl, refl))))
 
--- int x; x = 2147483647 + 1: catches a variable that is new at the points behind it
+-- int x; x = 2147483647 + 1: catches a variable that is new at the points after it
 old_variable_asks : computing_ops None (seq (seq (point 0) (act 0 (append Int))) (seq (point 1) (act 1 sum_given))) ≡ record
     { point = 1; fresh = None; op = sum_given } ∷ []
 old_variable_asks = refl

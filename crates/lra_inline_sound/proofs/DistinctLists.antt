@@ -83,7 +83,7 @@ longer ys p b e = let h = rw length-append at (ap length e) in absurd (omega ari
 tails : (x y : ℕ) (xs ys : List ℕ) → x ∷ xs ≡ y ∷ ys → xs ≡ ys
 tails x y xs ys e = cc
 
--- behind one tail, one element before it
+-- after one tail, one element before it
 pub one_before : (xs ys p : List ℕ) (a b : ℕ) → xs ++ a ∷ p ≡ ys ++ b ∷ p → a ≡ b
 one_before [] [] p a b e = cc
 one_before [] (y ∷ ys) p a b e = absurd (longer ys p b (sym (tails a y p (ys ++ b ∷ p) e)))

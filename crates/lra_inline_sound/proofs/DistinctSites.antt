@@ -26,11 +26,11 @@ keys_append [] fs = refl
 keys_append (comes s ∷ es) fs = ap (λ ks. key s ∷ ks) (keys_append es fs)
 keys_append (one_call_more at ∷ es) fs = keys_append es fs
 
--- on the path, behind one of the labels
+-- on the path, after one of the labels
 abbrev pub Under : List ℕ → List ℕ → List ℕ → Type 0
 Under path labels k = (before : List ℕ) × (a : ℕ) × IsIn a labels × (k ≡ before ++ a ∷ path)
 
--- keys that differ, all of them on the path and behind the labels
+-- keys that differ, all of them on the path and after the labels
 pub record Spread (path labels : List ℕ) (ks : List (List ℕ)) : Type 0 where
   pub differ : AllDiffer ks
   pub under : (k : List ℕ) → IsIn k ks → Under path labels k
@@ -77,7 +77,7 @@ spread_parts at path labels more ks ls d x y = spread_join path (at ∷ []) (lab
     (spread_join path labels more ks ls (differ_apart labels more d.1) x y)
 
 module _ (P : Program) where
-  -- the points of a call that stands in a program lie behind the call's label
+  -- the points of a call that stands in a program lie after the call's label
   abbrev pub Inside : (List ℕ → ℕ → Call → List Event) → Type 0
   Inside inside = (path : List ℕ) (live at here : ℕ) (c : Call) → IsGoodCall P at here c → (labels : List ℕ) × Spread (at ∷ path) labels (keys_in (inside path live c))
 

@@ -1,4 +1,4 @@
--- What the tree reaches, a run reaches, on the same trail.
+-- What the tree reaches, a run reaches, on the same trace.
 use Rattle.std.proofs.Common.{◌≡◌, ◌≢◌, ℕ, zero, suc, ◌+◌, ◌≤◌, List, ◌∷◌, length, Option, Some, None, Bool, true, false, inl, inr, refl, sym, ap, ◌∙◌, subst, slice_get}
 use Rattle.std.proofs.lemmas.Option.{same_Some, none-some}
 use Rattle.std.specs.Prelude.{cond}
@@ -94,7 +94,7 @@ module _ (may : State → State → Type 0) (keeps : KeepsWidth may) (P : Progra
       met : with_visit (label_on is) spot.frame.here.path a.state a.events ≡ visit (point_at T spot.next) a.state ∷ a.events
       met = ap (λ o. with_visit o spot.frame.here.path a.state a.events) lab ∙ ap (λ r. visit r a.state ∷ a.events) (sym (ap point_or_none has))
 
-  -- a run from c stands at the point of this number, on the trail
+  -- a run from c stands at the point of this number, on the trace
   pub record Stands (c : Config) (xs : List (TraceEvent Point)) (q : ℕ) (b : Trace Point) : Type 0 where
     pub there : Config
     pub label : ℕ
@@ -117,7 +117,7 @@ module _ (may : State → State → Type 0) (keeps : KeepsWidth may) (P : Progra
     pub fails : IsFailing there.items there.here b.state
     pub met : b.events ≡ visit (record { path = there.here.path; label = label }) there.state ∷ before
 
-  -- what a run from c owes for an outcome of a tree whose items stand above k
+  -- what a run from c must guarantee for an outcome of a tree whose items stand above k
   abbrev pub Fulfils : CallContext → List Item → RunExtent → Trace Point → Config → List (TraceEvent Point) → Type 0
   Fulfils h k to_end b c xs = RunsTo c xs (config k h b.state) b.events
   Fulfils h k (stopped (by_jump j)) b c xs = (e : Config) → land j h k b.state ≡ Some e → RunsTo c xs e b.events
@@ -837,7 +837,7 @@ module _ (may : State → State → Type 0) (keeps : KeepsWidth may) (P : Progra
         (switch_node spot.next spot.frame.here.base e arms) i (λ k. refl)
         (follows_switch spot at e cs arms (entries_are d) (λ l. does_behind d l))
 
-    -- what runs behind a label
+    -- what runs after a label
     pub does_cases : {spot : InlineState} {cs : Cases} {arms : Arms} {q : ℕ} → InlineCases P T spot cs arms q →
         Does spot.frame spot.live (cases cs) (arms_row arms)
     does_cases (as_no_cases {s = spot}) = does_plain spot.frame spot.live (cases no_cases) empty (λ k. refl)

@@ -210,7 +210,7 @@ module _ (name : ℕ → Point) (may : State → State → Type 0) (keeps : Keep
       by s t (stopped (to_point p)) l e = tt
       by s t (stopped (to_failure p)) l e = tt
 
-  -- behind a jump any number
+  -- after a jump any number
   break_length : {f : Frame} {m n : ℕ} (live : ℕ) → f.breaks ≡ Some m → Length f m n (leave live broken)
   break_length {m = m} live i = record { ends = λ s t u l e. let x = leave_inv name may live broken s u t e in rw (x.0, x.1) (m, i, l) }
 
@@ -309,7 +309,7 @@ module _ (name : ℕ → Point) (may : State → State → Type 0) (keeps : Keep
           call_outcome c.0 t u (adds s.state c.0.state c.1.0 ∙ ap (λ n. n + params) l) c.2;
     }
 
-  -- of a `switch`, by what its arms leave: `break` comes out behind it
+  -- of a `switch`, by what its arms leave: `break` comes out after it
   module _ (spot : InlineState) (arms : Arms) (e : Expr) (inside : (l : CaseLabel) (s t : Trace Point) (u : RunExtent) → length s.state.store ≡ spot.live
       → ArmsRunUpTo name may l false arms s u t → LengthAt (record spot.frame { breaks = Some spot.live }) spot.live u t.state) where
     selected_length : (l : CaseLabel) (s m : Trace Point) → Finds spot.frame.here.base e arms s l m → length s.state.store ≡ spot.live
@@ -367,7 +367,7 @@ module _ (name : ℕ → Point) (may : State → State → Type 0) (keeps : Keep
       ends = λ s t u l x. switch_outcome spot arms e (λ k a b v m y. length_cases d k false a b v m y) s t u l x;
     })
 
-    -- behind the label, or before it
+    -- after the label, or before it
     pub length_cases : {P : Program} {T : List Site} {spot : InlineState} {cs : Cases} {arms : Arms} {q : ℕ} → InlineCases P T spot cs arms q
         → (l : CaseLabel) (met : Bool) (s t : Trace Point) (u : RunExtent)
         → length s.state.store ≡ spot.live → ArmsRunUpTo name may l met arms s u t → LengthAt spot.frame spot.live u t.state

@@ -117,7 +117,7 @@ module _ (Q : Question) where
   asking_row fresh (entry l arms) = asking_row fresh arms
   asking_row fresh (arm a arms) = ap (λ xs. all_in fresh a ++ xs) (asking_row (fresh_after fresh a) arms)
 
-  -- those behind a label
+  -- those after a label
   asks_entered : (l : CaseLabel) (arms : Arms) (t : Bool) (fresh : Option NumberType) (q : ℕ) (s : State)
       → (((before : Option NumberType) → Asks (all_in before (row_behind l arms)) q s) → Asks (all_in_arms fresh arms) q s)
       → ((before : Option NumberType) → Asks (all_in before (cond t (arms_row arms) (row_behind l arms))) q s) → Asks (all_in_arms fresh arms) q s

@@ -80,7 +80,7 @@ once_join own one two low high l h l' h' xs ys up before x y left right apart = 
   among = rw (points_append xs ys) (λ q i. elim (in_either q (points_of xs) (points_of ys) i) [ inl j ↦ left q (x.among q j) | inr j ↦ right q (y.among q j) ]);
 }
 
--- whose points lie behind
+-- whose points lie after
 once_both : (own : Option ℕ) (low mid high : ℕ) (xs ys : List OpAtPoint) → Once own low mid xs → Once None mid high ys → Once own low high (xs ++ ys)
 once_both own low mid high xs ys x y = once_join own own None low high low mid mid high xs ys (omega arith) x.before x y left right apart
   where
@@ -115,7 +115,7 @@ once_swapped low mid high xs ys x y = once_join None None None low high mid high
     apart q (inr i) (inl e) = absurd (none-some q e)
     apart q (inr i) (inr j) = absurd (omega (arith, i, j))
 
--- behind, but for the own one before all
+-- after, but for the own one before all
 once_around : (own low mid high : ℕ) (xs ys : List OpAtPoint) → own < low → Once None low mid xs → Once (Some own) mid high ys → Once None own high (xs ++ ys)
 once_around own low mid high xs ys less x y = once_join None None (Some own) own high low mid mid high xs ys (omega arith) (λ p e. absurd (none-some p e)) x y
     left right apart
@@ -163,7 +163,7 @@ module _ (asks : Op → Bool) (un : Unasked asks) where
   silent_seq : (g h : Node) → Silent g → Silent h → Silent (seq g h)
   silent_seq g h x y fresh = rw (x fresh, y (fresh_after fresh g)) refl
 
-  -- behind the point, and a change
+  -- after the point, and a change
   silent_leave : (q : ℕ) (op : Op) (n : ℕ) (k : Exit) → asks op ≡ false → Silent (seq (act q op) (leave n k))
   silent_leave q op n k e = silent_seq (act q op) (leave n k) (silent_act q op e) (λ fresh. refl)
 
@@ -175,7 +175,7 @@ module _ (asks : Op → Bool) (un : Unasked asks) where
   once_silent : (low high : ℕ) (fresh : Option NumberType) (g : Node) → Silent g → low ≤ high → Once None low high (all_ask fresh g)
   once_silent low high fresh g x up = rw (x fresh) (once_none low high up)
 
-  -- one behind others
+  -- one after others
   once_end : (own : Option ℕ) (low mid high : ℕ) (xs : List OpAtPoint) (fresh : Option NumberType) (g : Node) → Silent g → mid ≤ high → Once own low mid xs
       → Once own low high (xs ++ all_ask fresh g)
   once_end own low mid high xs fresh g y up x = once_both own low mid high xs (all_ask fresh g) x (once_silent mid high fresh g y up)

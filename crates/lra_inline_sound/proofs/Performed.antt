@@ -1,4 +1,4 @@
--- What the tree of a whole program comes to, some run comes to, on the same trail.
+-- What the tree of a whole program reaches, some run reaches, on the same trace.
 use Rattle.std.proofs.{Common.◌≡◌, Common.ℕ, Common.ℤ, Common.List, Common.[], Common.◌∷◌, Common.length, Common.false, Common.inl, Common.inr, Common.refl, lemmas.Option.none-some}
 use Rattle.lra_program.specs.{Program.Program, Run.begun, Run.Point, Run.start, Sites.Site, Sites.sites_of, Step.State, Step.Item, Step.all, Step.end_of, Traces.Trace}
 use Rattle.lra_operations.specs.{Agree.IsInlinedTree, Inlined.move, Inlined.IsSiteAt, Inlined.InlineItems, Inlined.main_frame, Inlined.main_inline_state, Traces.Stop, Traces.by_jump, Traces.to_point}

@@ -1,5 +1,5 @@
--- What is sought where a run of a whole program stands is found in its tree; so what the run comes to, its tree comes to,
--- on the same trail.
+-- What is sought where a run of a whole program stands is found in its tree; so what the run reaches, its tree reaches,
+-- on the same trace.
 use Rattle.std.proofs.Common.{◌≡◌, ℕ, zero, suc, ℤ, List, [], ◌∷◌, length, Some, false, refl, arith}
 use Rattle.std.proofs.lemmas.Option.{none-some}
 use Rattle.lra_program.specs.Step.{State, Config, run_op, truncate_to, end_of}
@@ -45,7 +45,7 @@ module _ (may : State → State → Type 0) (keeps : KeepsWidth may) where
       rw is.parts (whole may keeps P (sites_of P) c zs p on H F is.body is.last is.live is.inlined is.ends (trail (begun P draws) []) n
       (begun_length P draws) cut)
 
-  -- the tree comes to each point at which a run stands, and fails where the run fails
+  -- the tree reaches each point at which a run stands, and fails where the run fails
   module _ (Q : Question) where
     pub reached : (P : Program) (g : Node) → IsInlinedTree P g → (c : Config) (zs : List (TraceEvent Point)) (p : Point) (draws : List ℤ) (n : ℕ)
         → TracedSteps may P n (start P draws) [] c zs → IsOn c p

@@ -7,7 +7,7 @@ use Rattle.lra_operations.specs.{Agree.point_of, Traces.to_point, TracesAgree.Tr
 use Rattle.lra_inline_sound.proofs.Split.{trail}
 
 module _ (may : State → State → Type 0) (P : Program) (g : Node) (trails : TracesAgree may P g) (draws : List ℤ) where
-  -- the tree comes to the point on the trail
+  -- the tree reaches the point on the trace
   pub record TreeAt (p : Point) (a : Trace Point) : Type 0 where
     pub number : ℕ
     pub site : Site
@@ -20,7 +20,7 @@ module _ (may : State → State → Type 0) (P : Program) (g : Node) (trails : T
       let (number, s, there, same) = trails.others p draws a x in
       record { number = number; site = s; there = there; point = same; goes = (trails.comes number s draws a there).0 (subst (λ q. Arrives may P draws q a) same x) }
 
-  -- one piece of a run: the tree comes to the one point, and then to the next, past nothing else
+  -- one piece of a run: the tree reaches the one point, and then to the next, past nothing else
   pub next_point : (n : ℕ) (c d : Config) (xs : List (TraceEvent Point)) (p q : Point) → TracedSteps may P n (start P draws) [] c xs → RunSegment may P p c d →
       IsOn d q
       → TreeAt p (trail c.state xs) × TreeAt q (trail d.state (visit p c.state ∷ xs))

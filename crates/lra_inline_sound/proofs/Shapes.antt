@@ -1,4 +1,4 @@
--- What a run of each shape of tree is made of, with its trail.
+-- What a run of each shape of tree is made of, with its trace.
 use Rattle.std.proofs.Common.{◌≡◌, ◌≢◌, ℕ, zero, suc, ◌+◌, List, true, false, length, ◌⊎◌, inl, inr, refl, ap}
 use Rattle.lra_program.specs.Step.{State, Op, truncate_to, havoc, arguments_for}
 use Rattle.lra_program.specs.{Program.Cond, Program.Call, Program.Function, Receivers.result_receiver, Run.Point, Traces.Trace, Value.Argument, declared.receivers.Receiver.Receiver}
@@ -49,7 +49,7 @@ module _ (name : ℕ → Point) (may : State → State → Type 0) where
   act_seq q op a s (stopped z) t (inl x) = absurd x
   act_seq q op a s (stopped z) t (inr (m, e, x)) = (m, e, x)
 
-  -- the point itself, or what is behind it
+  -- the point itself, or what is after it
   pub point_seq : (q : ℕ) (a : Node) (s : Trace Point) (u : RunExtent) (t : Trace Point) → G (seq (point q) a) s u t
       → ((u ≡ stopped (to_point q)) × (t ≡ s)) ⊎ ((m : Trace Point) × VisitsPoint name may q s m × G a m u t)
   point_seq q a s to_end t (m, e, x) = inr (m, e, x)
@@ -58,7 +58,7 @@ module _ (name : ℕ → Point) (may : State → State → Type 0) where
   point_seq q a s (stopped (to_failure p)) t (inl (e, i)) = absurd e
   point_seq q a s (stopped z) t (inr (m, e, x)) = inr (m, e, x)
 
-  -- what ends by a jump alone, behind a change
+  -- what ends by a jump alone, after a change
   pub jump_inv : (q : ℕ) (op : Op) (n : ℕ) (k : Exit) (s : Trace Point) (u : RunExtent) (t : Trace Point) → G (seq (act q op) (leave n k)) s u t → (u ≡ stopped (by_jump k)) × Performs op s t
   jump_inv q op n k s u t e =
       let one = act_seq q op (leave n k) s u t e in
@@ -68,7 +68,7 @@ module _ (name : ℕ → Point) (may : State → State → Type 0) where
   pub jump_join : (q : ℕ) (op : Op) (n : ℕ) (k : Exit) (s t : Trace Point) → Performs op s t → G (seq (act q op) (leave n k)) s (stopped (by_jump k)) t
   jump_join q op n k s t e = inr (t, e, (refl, refl))
 
-  -- the callee comes to its end
+  -- the callee reaches its end
   pub record EndsBody (r n : ℕ) (x : Receiver) (params : ℕ) (g : Node) (u t : Trace Point) : Type 0 where
     pub before : Trace Point
     pub past : Trace Point
@@ -136,7 +136,7 @@ module _ (name : ℕ → Point) (may : State → State → Type 0) where
   abbrev pub LeavesRound : Node → Node → Trace Point → Stop → Trace Point → Type 0
   LeavesRound g step w z t = ((z ≢ by_jump continued) × G g w (stopped z) t) ⊎ ((m : Trace Point) × EndsBodyRound g w m × G step m (stopped z) t)
 
-  -- behind whole rounds
+  -- after whole rounds
   pub data EndsLoop (q base : ℕ) (c : Cond) (g step : Node) (m t : Trace Point) : RunExtent → Type 0 where
     loop_done : VisitsAndTests name may q base c false m t → EndsLoop q base c g step m t to_end
     loop_at : t ≡ m → EndsLoop q base c g step m t (stopped (to_point q))
@@ -162,7 +162,7 @@ module _ (name : ℕ → Point) (may : State → State → Type 0) where
     loop_join s n m _ t r (loop_broken w e l) = inr (n, m, r, inr (w, e, l))
     loop_join s n m _ t r (loop_left w z e l d) = (d, (n, m, r, inr (w, e, l)))
 
-    -- a round more, at the front
+    -- a round more, at the start
     pub loop_first : (s v : Trace Point) (u : RunExtent) (t : Trace Point) → Round q base c g step s v → G loop_tree v u t → G loop_tree s u t
     loop_first s v u t o e =
         let r = loop_inv v u t e in

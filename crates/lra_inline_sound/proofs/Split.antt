@@ -1,4 +1,4 @@
--- A run that comes to a point, cut at the statement on top: what is sought there is inside, or the statement ends or
+-- A run that reaches a point, cut at the statement on top: what is sought there is inside, or the statement ends or
 -- jumps before.
 use Rattle.std.proofs.Common.{◌≡◌, ℕ, ℤ, zero, suc, ◌+◌, ◌<◌, ◌≤◌, List, [], ◌∷◌, length, Option, Some, None, Bool, true, false, ◌⊎◌, inl, inr, refl, sym, ap, ◌∙◌, subst, slice_get, arith}
 use Rattle.std.proofs.lemmas.Option.{same_Some, none-some}
@@ -50,7 +50,7 @@ receiver_is P f k b i mm = let marked = mark_some (return_target k) b (mm.backs 
 pub no_mark : (f : Frame) (k : List Item) → f.back ≡ None → Matches f k → return_target k ≡ None
 no_mark f k i mm = mark_none (return_target k) (mm.backs ∙ i)
 
--- What is sought of a tree that is run from a trail: that of what a run may be stopped for there, or what it may do.
+-- What is sought of a tree that is run from a trace: that of what a run may be stopped for there, or what it may do.
 module _ (may : State → State → Type 0) (T : List Site) (H : Node → Trace Point → Type 0) where
   -- what is so of a part of a tree is so of the tree
   pub record IsClosed : Type 0 where
@@ -60,7 +60,7 @@ module _ (may : State → State → Type 0) (T : List Site) (H : Node → Trace 
     pub on_false : (q base : ℕ) (b : Cond) (g h : Node) (a m : Trace Point) → Performs (test base b false) a m → H h m → H (choose q base b g h) a
     pub caught : (q : ℕ) (j : Exit) (g : Node) (a : Trace Point) → H g a → H (catch q j g) a
     pub in_round : (q base : ℕ) (b : Cond) (g : Node) (a m : Trace Point) → VisitsAndTests (point_at T) may q base b true a m → H g m → H (iterate q base b g) a
-    -- a round more, at the front
+    -- a round more, at the start
     pub in_loop : (q base : ℕ) (b : Cond) (g h : Node) (a m : Trace Point) → Round (point_at T) may q base b g h a m → H (loop_node q base b g h) m
         → H (loop_node q base b g h) a
     pub selected : (q base : ℕ) (e : Expr) (arms : Arms) (l : CaseLabel) (a m : Trace Point) → Finds base e arms a l m → H (row_behind l arms) m
@@ -386,7 +386,7 @@ module _ (may : State → State → Type 0) (keeps : KeepsWidth may) (P : Progra
         inside on' o y = F.closed.caught spot.next broken (iterate spot.next spot.frame.here.base b whole_round) a
             (F.closed.in_round spot.next spot.frame.here.base b whole_round a on' o y)
 
-        -- the loop again, behind a whole round
+        -- the loop again, after a whole round
         again : (on' mid v : Trace Point) → VisitsAndTests (point_at T) may spot.next spot.frame.here.base b true a on' →
             EndsBodyRound (point_at T) may g on' mid
             → G h mid to_end v → (i : ℕ) → i < j
@@ -407,7 +407,7 @@ module _ (may : State → State → Type 0) (keeps : KeepsWidth may) (P : Progra
                 jumped i' kind m' d' (omega arith) (loop_first (point_at T) may spot.next spot.frame.here.base b g h a v (stopped (by_jump kind)) m' whole
                 e') l' t'
 
-        -- the step, behind the body
+        -- the step, after the body
         stepping : (on' mid : Trace Point) → VisitsAndTests (point_at T) may spot.next spot.frame.here.base b true a on' →
             EndsBodyRound (point_at T) may g on' mid
             → (i : ℕ) → i < j
@@ -543,7 +543,7 @@ module _ (may : State → State → Type 0) (keeps : KeepsWidth may) (P : Progra
         let x = splits_leave f q live b k a.events (run_op op a.state) j e i mm y t in
         after_act q op (seq (act q (truncate_to b.length)) (leave live returned)) f.here k (suc j) a (trail x.0 a.events) (x.1, refl) x.2
 
-    -- a return behind a call that gave its value
+    -- a return after a call that gave its value
     leave_tail : (f : Frame) (q live : ℕ) (b : ReturnFrame) (k : List Item) (a : Trace Point) (count : ℕ) → f.back ≡ Some b → Matches f k
         → W count (config (leave_call ∷ k) f.here a.state) a.events
         → Splits f.here k count (seq (act q (truncate_to b.length)) (leave live returned)) a
@@ -695,7 +695,7 @@ module _ (may : State → State → Type 0) (keeps : KeepsWidth may) (P : Progra
         (below.one spot s g r d (cases_item cs ∷ k) a x.0 (matches_skip spot.frame (cases_item cs) k refl refl refl m) tt l (omega arith) x.2)
         (λ j u i z w. below.among (at_point spot r) cs arms q' e k u j m ((len_one d).ends a u to_end l z) (omega arith) w))
 
-    -- behind a label
+    -- after a label
     abbrev SplitsCases : InlineState → Cases → Node → Type 0
     SplitsCases spot cs g = (k : List Item) (a : Trace Point) (count : ℕ) → Matches spot.frame k → length a.state.store ≡ spot.live → count < fuel
         → W count (config (cases_item cs ∷ k) spot.frame.here a.state) a.events → Splits spot.frame.here k count g a

@@ -24,7 +24,7 @@ module _ (may : State → State → Type 0) (Q : Question) (P : Program) (T : Li
   Shows c zs p number (to_failure q) b = (q ≡ number) × may c.state b.state × IsFailing c.items c.here b.state
       × (b.events ≡ visit (record { path = c.here.path; label = p }) c.state ∷ zs)
 
-  -- the tree comes to a point of the configuration's path, with this label, and its state and trail; it fails there,
+  -- the tree reaches a point of the configuration's path, with this label, and its state and trace; it fails there,
   -- where the configuration does, and asks there what stops by a number
   pub record Hit (c : Config) (zs : List (TraceEvent Point)) (p : ℕ) (g : Node) (a : Trace Point) : Type 0 where
     pub number : ℕ
@@ -38,7 +38,7 @@ module _ (may : State → State → Type 0) (Q : Question) (P : Program) (T : Li
   no_jump c zs p number (to_point q) b x j e = cc
   no_jump c zs p number (to_failure q) b x j e = cc
 
-  -- what is so of all that comes to a point is so of the whole
+  -- what is so of all that reaches a point is so of the whole
   pub hit_as : (c : Config) (zs : List (TraceEvent Point)) (p : ℕ) (g h : Node) (a b : Trace Point)
       → ((z : Stop) (d : Trace Point) → ((j : Exit) → z ≢ by_jump j) → RunsUpTo (point_at T) may g a (stopped z) d →
       RunsUpTo (point_at T) may h b (stopped z) d)
@@ -115,7 +115,7 @@ module _ (may : State → State → Type 0) (Q : Question) (P : Program) (T : Li
         (λ z d n y. (l, m, found, behind_of_row (point_at T) may l arms m (stopped z) d y)) (asks_selected Q q base e arms l) x;
   }
 
-  -- an item with a point of its own, which fails where the tree behind the point does, and stops by a number where that
+  -- an item with a point of its own, which fails where the tree after the point does, and stops by a number where that
   -- asks
   at_point : (spot : InlineState) (at : ℕ) (asserts : Bool) (i : Item) (g : Node) (k : List Item) (a : Trace Point) → IsSiteWith T spot at asserts
       → length a.state.store ≡ spot.live → label_on (i ∷ k) ≡ Some at

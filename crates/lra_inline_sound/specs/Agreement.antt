@@ -12,7 +12,7 @@ WellFormedAreDistinct = (P : Program) → IsWellFormed P → AreDistinct (sites_
 abbrev pub WellFormedAgree : Type 0
 WellFormedAgree = (P : Program) (g : Node) → IsWellFormed P → IsInlinedTree P g → Agrees P g
 
--- and has its trails
+-- and has its traces
 abbrev pub WellFormedHaveTraces : Type 0
 WellFormedHaveTraces = (P : Program) (g : Node) → IsWellFormed P → IsInlinedTree P g → TracesAgree NoChange P g
 
@@ -20,6 +20,6 @@ WellFormedHaveTraces = (P : Program) (g : Node) → IsWellFormed P → IsInlined
 abbrev pub WellFormedAgreeOnOverflows : Type 0
 WellFormedAgreeOnOverflows = (P : Program) (g : Node) → IsWellFormed P → IsInlinedTree P g → AgreesOnOverflows P g
 
--- and tells where an access is outside its array
+-- and says where an access is outside its array
 abbrev pub WellFormedAgreeOnAccesses : Type 0
 WellFormedAgreeOnAccesses = (P : Program) (g : Node) → IsWellFormed P → IsInlinedTree P g → AgreesOnAccesses P g

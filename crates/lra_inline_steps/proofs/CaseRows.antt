@@ -16,7 +16,7 @@ use Rattle.lra_inline_steps.proofs.Standing.{switch_stands, labelled_stand, firs
 use Rattle.lra_inline_steps.proofs.Writing.{Pointed, site, no_cases_written, labelled_written, stated_written, switch_written}
 use Rattle.lra_inline_steps.proofs.{Shown.shown_label, Shown.shown_stated, Shown.shown_entry, Walking.walk_then, Walking.walk_stop}
 
--- more behind them
+-- more after them
 arms_joined : (fs gs : List ArmPart) (h : Arms) → arms_before (fs ++ gs) h ≡ arms_before fs (arms_before gs h)
 arms_joined [] gs h = refl
 arms_joined (f ∷ fs) gs h = ap f (arms_joined fs gs h)
@@ -28,7 +28,7 @@ module _ (P : program.Program) (path : List ℕ) (r : Frame) (S : List Site) (q 
   abbrev Loop : program.Cases → List ArmPart → List Site → Type 0
   Loop rest arms V = SwitchLoop P path r S q at e all rest arms V
 
-  -- behind its own point
+  -- after its own point
   pub cases_begin : (arms : List code_arm.Arm) (V : List Site) → arms ≡ [] → q ≡ length S → Pointed S (site P path r at r.live false) V
       → StmtStands P r (switch at e all) → Loop all (map arm_view arms) V
   cases_begin arms V none i pointed s = subst (λ (z : List code_arm.Arm). Loop all (map arm_view z) V) (sym none) (record {
@@ -61,7 +61,7 @@ module _ (P : program.Program) (path : List ℕ) (r : Frame) (S : List Site) (q 
   passed_on before after cases left V (labels, is, arms) x = subst (λ z. Loop left z V) (sym arms)
       (labels_passed labels left (map arm_view before) V (subst (λ z. Loop z (map arm_view before) V) is x))
 
-  -- a statement is written behind them
+  -- a statement is written after them
   case_step : (a : program.Stmt) (rest : program.Cases) (arms : List ArmPart) (V W : List Site) (g : Node) → WritesStmt P path here V a g W
       → Loop (stated a rest) arms V → Loop rest (arms ++ arm g ∷ []) W
   case_step a rest arms V W g w x = record {

@@ -50,7 +50,7 @@ module _ (P : Program) (path : List ℕ) (r : Frame) (S : List Site) where
     block_stands P r b end s,
   )
 
-  -- behind the point of a statement
+  -- after the point of a statement
   module _ (V : List Site) (at q : ℕ) (number : q ≡ length S) (pointed : Pointed S (site P path r at r.live false) V) where
     pub if_opens : (b : Branches) (a : Stmt) → b.point ≡ q → StmtStands P r (if at (cond_view b.cond.now) (stmt_view a) (stmt_view b.on_false.now))
         → IsInlineFrame P (inline_task (a_stmt (if at (cond_view b.cond.now) (stmt_view a) (stmt_view b.on_false.now))) path r S)

@@ -1,4 +1,4 @@
--- Items one after the other: what each of them does to those behind it, and what is written of all of them so far.
+-- Items one after the other: what each of them does to those after it, and what is written of all of them so far.
 use Rattle.std.proofs.Common.{◌≡◌, ℕ, suc, List, [], ◌∷◌, ◌++◌, length, map, false, refl, sym, ap, ◌∙◌, subst}
 use Rattle.lra_program.specs.Program as program
 use Rattle.lra_program.specs.Sites.{Site, plain_site, live_after_items, stmt_events, given_events, items_events}
@@ -18,7 +18,7 @@ row_last : (gs : List Node) (g h : Node) → row (gs ++ g ∷ []) h ≡ row gs (
 row_last [] g h = refl
 row_last (y ∷ ys) g h = ap (λ z. seq y z) (row_last ys g h)
 
--- what an item does to those behind it
+-- what an item does to those after it
 abbrev Item : Type 0
 Item = program.BlockItems → program.BlockItems
 
@@ -110,7 +110,7 @@ module _ (P : program.Program) (path : List ℕ) (r : Frame) (S : List Site) (al
     abbrev here : Frame
     here = record r { live = n }
 
-    -- by what is owed for the item, and for what is under way
+    -- by what must hold for the item, and for what is under way
     item_next : (item : Item) (w : Work) →
         ((g : Node) (m : ℕ) (U : List Site) → IsWritten P (inline_task w path here V) g m U → WritesItem P path here V item g m U)
         → ((l : Limit) → Stops P (inline_task w path here V) l → StopsItem P path here V item l) → rest ≡ item others

@@ -16,7 +16,7 @@ module _ (P : program.Program) (path : List ℕ) (r : Frame) (S : List Site) (al
       add_points S (items_events (inside P path r) path r.live all) ≡ w
   items_stopped b w e h = subst (λ z. add_points S (items_events (inside P path r) path r.live z) ≡ w) (sym e) h
 
-  -- behind a declarator
+  -- after a declarator
   module _ (d : program.Declarator) (b : program.BlockItems) (e : all ≡ declaration d b) where
     module _ (V : List Site) (n : ℕ) (point : add_points S (plain_site path d.label r.live ∷ []) ≡ passed V) (same : n ≡ suc r.live) where
       pub declaration_at_given : (x : Limit) → add_points V (given_events (inside P path r) path n d.rvalue) ≡ stopped x → add_points S (items_events (inside P path r) path r.live all) ≡ stopped x
@@ -31,7 +31,7 @@ module _ (P : program.Program) (path : List ℕ) (r : Frame) (S : List Site) (al
           (third_stopped S V W (plain_site path d.label r.live ∷ []) (given_events (inside P path r) path (suc r.live) d.rvalue) (items_events (inside P path r) path (suc r.live) b) x point
           g (subst (λ z. add_points W (items_events (inside P path r) path z b) ≡ stopped x) same h))
 
-  -- behind an array's declarator
+  -- after an array's declarator
   module _ (at : ℕ) (a : Array) (b : program.BlockItems) (e : all ≡ array at a b) where
     abbrev own : List Event
     own = plain_site path at r.live ∷ []
@@ -43,7 +43,7 @@ module _ (P : program.Program) (path : List ℕ) (r : Frame) (S : List Site) (al
         → add_points S (items_events (inside P path r) path r.live all) ≡ stopped x
     array_at_others V x f h = items_stopped (array at a b) (stopped x) e (second_stopped S V own (items_events (inside P path r) path r.live b) x f h)
 
-  -- behind a statement
+  -- after a statement
   module _ (s : program.Stmt) (b : program.BlockItems) (e : all ≡ statement s b) where
     pub statement_at_first : (x : Limit) → add_points S (stmt_events (inside P path r) path r.live s) ≡ stopped x → add_points S (items_events (inside P path r) path r.live all) ≡ stopped x
     statement_at_first x h = items_stopped (statement s b) (stopped x) e (walk_stop S (stmt_events (inside P path r) path r.live s) (items_events (inside P path r) path r.live b) x h)

@@ -8,7 +8,7 @@ pub mod Shown
 pub mod LiveInside
 pub mod Standing
 pub mod LoneStatements
--- Open places: what opens, and what comes behind.
+-- Open places: what opens, and what comes after.
 pub mod Items
 pub mod ItemRows
 mod CaseRows

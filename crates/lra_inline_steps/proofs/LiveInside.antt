@@ -1,4 +1,4 @@
--- How many variables live behind the items of a block, item by item.
+-- How many variables live after the items of a block, item by item.
 use Rattle.std.proofs.Common.{◌≡◌, ℕ, suc, ◌+◌, ◌<◌, ◌≤◌, List, ◌∷◌, length, map, drop, get_or, refl, sym, ap, ◌∙◌, arith, add-one, drop-cons}
 use Rattle.std.proofs.lemmas.List.{drop_all}
 use Rattle.lra_base.specs.Limits.{greatest_live}

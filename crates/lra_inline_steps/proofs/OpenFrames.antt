@@ -42,7 +42,7 @@ module _ (P : Program) where
   -- the next step -----------------------------------------------------------------------------------------------------------
 
   module _ (whole under : InlineTask) (f : Frame) (path : List ℕ) (n : ℕ) (V : List Site) where
-    -- behind the first of two parts
+    -- after the first of two parts
     module _ (g : Node) (w : IsWritten P under g n V) (other : ℕ → List Site → InlineTask) (form : Node → Node → Node) (k : Forks P whole under other form)
       where
         pub fork_closes : Closes P whole (other n V) (form g) whole.frame.live
@@ -98,7 +98,7 @@ module _ (P : Program) where
         → InlineStepLeads P whole (next.Written (record { node = x; live = live f })) path V
     closed form live g x e i j k w a = rw (a, e) (k g n V w, j ∙ i)
 
-    -- behind one of the items
+    -- after one of the items
     due_is : (q : InlineTask) → q.path ≡ whole.path → q.frame ≡ whole.frame → q.part ≡ whole.part → q.before ≡ whole.before → q ≡ whole
     due_is q a b d e = rw (← a, ← b, ← d, ← e) refl
 
@@ -116,7 +116,7 @@ module _ (P : Program) where
         subst (λ z. IfOk b (λ y. InlineStepLeads P z y path V)) (due_is (inline_task (all_items k.all) whole.path f whole.before) refl o.frame (sym k.is) refl)
         (subst (λ z. IfOk b (λ y. InlineStepLeads P (inline_task (all_items k.all) whole.path f whole.before) y z V)) (sym (e ∙ o.path)) done)
 
-    -- behind one of the statements of a `switch`
+    -- after one of the statements of a `switch`
     pub cases_next : (x : CaseRow) (p : code.Node) (arms : List code_arm.Arm) (b : Result next_type.Next InlineError)
         → IsInlineFrame P whole under (record { frame = f; place = place.Cases x }) → IsWritten P under (node_view p) n V → path ≡ under.path
         → arms ≡ x.arms.items ++ code_arm.Tree p ∷ []
@@ -138,7 +138,7 @@ module _ (P : Program) where
         subst (λ z. IfOk b (λ y. InlineStepLeads P z y path V)) (due_is (inline_task all whole.path f whole.before) refl o.frame (sym k.is) refl)
         (subst (λ z. IfOk b (λ y. InlineStepLeads P (inline_task all whole.path f whole.before) y z V)) (sym (e ∙ o.path)) done)
 
-    -- behind a block's items
+    -- after a block's items
     pub block_closes : (end : ℕ) (g : Node) (x : code.Node) (U : List Site) → IsInlineFrame P whole under (record { frame = f; place = place.Block end }) → IsWritten P under g n V → path ≡ under.path
         → add_points V (plain_site path end n ∷ []) ≡ passed U
         → node_view x ≡ seq g (seq (point (length V)) (act (length V) (truncate_to f.live))) →
@@ -151,7 +151,7 @@ module _ (P : Program) where
         → add_points V (plain_site path end n ∷ []) ≡ stopped l → Stops P whole l
     block_stops end g l o w e at = o.continues.stops g n V l w (subst (λ z. add_points V (plain_site z end n ∷ []) ≡ stopped l) (e ∙ o.path) at)
 
-    -- behind a called function's body
+    -- after a called function's body
     module _ (from : CalledFrom) (g : Node) (o : IsInlineFrame P whole under (record { frame = f; place = place.Callee from })) (w : IsWritten P under g n V)
       where
         pub callee_few : f.live ≤ greatest_live + 1
@@ -233,7 +233,7 @@ module _ (P : Program) where
         there : IsWritten P way.0 (node_view w.node) w.live V × (path ≡ way.0.path)
         there = subst (λ z. InlineStepLeads P way.0 z path V) is way.2
 
-        -- the innermost place is behind its part
+        -- the innermost place is after its part
         pub behind : (os' : List InlineFrame) (o : InlineFrame) → os ≡ os' ++ o ∷ [] →
             (u : InlineTask) × (n : InlineTask) × AreInlineFrames P whole u os' × IsInlineFrame P u n o × IsWritten P n (node_view w.node) w.live V × (path ≡ n.path)
         behind os' o e = let l = open_less whole way.0 os' o (subst (λ z. AreInlineFrames P whole way.0 z) e way.1) in (l.0, way.0, l.1, l.2, there.0, there.1)

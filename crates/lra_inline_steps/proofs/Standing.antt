@@ -160,7 +160,7 @@ module _ (P : Program) (r : Frame) where
       false_true : false ≡ true → ⊥
       false_true e = cc
 
-  -- its loop, behind its variables
+  -- its loop, after its variables
   pub for_again : (at : ℕ) (init : BlockItems) (c : Cond) (s t : Stmt) (n : ℕ) → n ≡ live_after_items r.live init → StmtStands P r (for at init c s t)
       → StmtStands P (record r { live = n }) (loop at c s t)
   for_again at init c s t n same x =

@@ -30,7 +30,7 @@ middle_stopped S V es fs gs x e f = walk_then S es (fs ++ gs) V (stopped x) e (w
 pub limit_to : {A : Type 0} (b : Result A InlineError) (d e : InlineError) (X Y : Limit → Type 0) → b ≡ Err d → d ≡ e → ((x : Limit) → X x → Y x) → OnError e X → OnLimit b Y
 limit_to b d e X Y i j f h = rw (i, j) (error_as e X Y f h)
 
--- what the exit of a `?` answers where a part passed a limit (where the memory failed, nothing is owed)
+-- what the exit of a `?` answers where a part passed a limit (where the memory failed, nothing has to hold)
 module _ {A : Type 0} (b : Result A InlineError) where
   pub err_stopped : (e : InlineError) (X Y : Limit → Type 0) → IsErrAnd b (λ d. d ≡ e) → ((x : Limit) → X x → Y x) → OnError e X → OnLimit b Y
   err_stopped e X Y h f o = let p = err_from_is_err_and b h in limit_to b p.0 e X Y p.1 p.2 f o

@@ -1,4 +1,4 @@
--- Points are written one behind the other: what stands behind what, and where a limit stops all.
+-- Points are written one after the other: what comes after what, and where a limit stops all.
 use Rattle.std.proofs.Common.{◌≡◌, zero, suc, List, [], ◌∷◌, ◌++◌, length, Some, Bool, true, false, slice_get, refl, sym, subst, arith, length-append}
 use Rattle.std.proofs.lemmas.Option.{none-some}
 use Rattle.std.specs.Prelude.{nat_lt, if◌then◌else◌}
@@ -31,7 +31,7 @@ chosen_stopped true full x y z r r' h e = e
 chosen_stopped false true x y z r r' h e = e
 chosen_stopped false false x y z r r' h e = h e
 
--- behind what passes, all goes on from there
+-- after what passes, all goes on from there
 pub walk_then : (S : List Site) (es fs : List Event) (U : List Site) (r : Progress) → add_points S es ≡ passed U → add_points U fs ≡ r →
     add_points S (es ++ fs) ≡ r
 walk_then S [] fs U r e f = subst (λ V. add_points V fs ≡ r) (sym (passed_same S U e)) f

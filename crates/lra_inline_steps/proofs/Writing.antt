@@ -1,4 +1,4 @@
--- Each form of a statement, written out behind the points before it.
+-- Each form of a statement, written out after the points before it.
 use Rattle.std.proofs.Common.{◌≡◌, ℕ, suc, ◌+◌, ◌≤◌, List, [], ◌∷◌, ◌++◌, length, Option, Some, None, Bool, true, false, slice_get, refl, sym, ap, ◌∙◌, subst, append_assoc}
 use Rattle.std.proofs.lemmas.Option.{none-some, same_Some}
 use Rattle.lra_program.specs.Program.{Variable, Expr, Element, Cond, Call, Rvalue, value, result, Declarator, Stmt, absent, nothing, block, assign, write, call, if, loop, for, break, continue, return}
@@ -64,7 +64,7 @@ module _ (P : Program) (path : List ℕ) (r : Frame) where
   abbrev N : ℕ
   N = r.live
 
-  -- a return behind its point q
+  -- a return after its point q
   abbrev pub WritesReturn : ℕ → List Site → Option Rvalue → Node → List Site → Type 0
   WritesReturn q S o g U = Writes P path r (given_events (inside P path r) path N o) S U
       (λ T f. (at : ℕ) → length S ≡ suc q → IsSiteAt T (spot_of f N q) at → InlineStmt P T (spot_of f N q) (return at o) (seq (point q) g) (length U))
@@ -183,7 +183,7 @@ module _ (P : Program) (path : List ℕ) (r : Frame) where
         rw (a', a, i, ← is.base) (as_if (has_point S V T f at N false e b'' is) x' (y.placed T f b is));
   }
 
-  -- a loop behind its own point
+  -- a loop after its own point
   pub rounds_written : (V W U : List Site) (q : ℕ) (c : Cond) (s t : Stmt) (h h' g : Node)
       → WritesStmt P path (record r { breaks = None; continues = None }) V t h' W
       → WritesStmt P path (record r { breaks = Some r.live; continues = Some r.live }) W s h U

@@ -1,4 +1,4 @@
--- What is owed for each part of a program that is written out: its points stand behind those before it, and whatever
+-- What must hold for each part of a program that is written out: its points come after those before it, and whatever
 -- points follow, its tree is that of the definition.
 use Rattle.std.specs.Prelude.{◌≡◌, ◌≢◌, ℕ, suc, ◌+◌, ◌-◌, ◌≤◌, true, List, ◌∷◌, ◌++◌, length, Option, Some, None}
 use Rattle.std.specs.Prelude.{slice_get}
@@ -81,7 +81,7 @@ callee_frame r x params = record {
   back = Some r.live;
 }
 
--- what a `return` does behind its point q: the receiver gets the value, in `main` too, where nothing is kept; in a
+-- what a `return` does after its point q: the receiver gets the value, in `main` too, where nothing is kept; in a
 -- called function the store is cut to the caller's n
 abbrev pub any_left : Option ℕ → Receiver → ℕ → ℕ → Node
 any_left None x q live = leave live returned
@@ -133,19 +133,19 @@ module _ (P : Program) (path : List ℕ) (r : Frame) where
   WritesCall q x gives S c g U = Writes P path r (inside path r.live c) S U
       (λ T f. inlined.InlineCall P T (inlined.spot_of f r.live q) (length S) x gives c g (length U))
 
-  -- a loop behind its own point q
+  -- a loop after its own point q
   abbrev pub WritesLoop : ℕ → List Site → Cond → Stmt → Stmt → Node → List Site → Type 0
   WritesLoop q S c a step g U =
       Writes P path r (stmt_events inside path r.live step ++ stmt_events inside path r.live a) S U
       (λ T f. (at : ℕ) → inlined.IsSiteAt T (inlined.spot_of f r.live q) at
       → inlined.InlineLoop P T (inlined.spot_of f r.live q) (length S) (loop at c a step) g (length U))
 
-  -- a declarator, and its variable's value, behind its point q
+  -- a declarator, and its variable's value, after its point q
   abbrev pub WritesDeclared : ℕ → List Site → NumberType → Option Rvalue → Node → List Site → Type 0
   WritesDeclared q S t o g U = Writes P path r (given_events inside path (suc r.live) o) S U
       (λ T f. inlined.InlineDeclarator P T (inlined.spot_of f r.live q) (length S) t o g (length U))
 
--- the body of the function that a call names, from the points S to V, behind which n live
+-- the body of the function that a call names, from the points S to V, after which n live
 pub record WritesBody (P : Program) (path : List ℕ) (r : Frame) (x : Receiver) (c : Call) (S : List Site) (g : Node)
     (n : ℕ) (V : List Site) : Type 0 where
   pub fn : Function
@@ -155,12 +155,12 @@ pub record WritesBody (P : Program) (path : List ℕ) (r : Frame) (x : Receiver)
       (callee_frame r (result_receiver fn.result_type x) (length fn.parameters)) S fn.body g V
   pub last : n ≡ live_after_items (r.live + length fn.parameters) fn.body
 
--- an item takes what stands behind it: it stands in the frame with some items behind it
+-- an item takes what comes after it: it stands in the frame with some items after it
 abbrev pub ItemStands : Program → Frame → (BlockItems → BlockItems) → Type 0
 ItemStands P r item = (b : BlockItems) × ItemsStand P r (item b)
 
 module _ (P : Program) (path : List ℕ) (r : Frame) where
-  -- it is written out, and n live behind it: whatever stands behind it then begins there
+  -- it is written out, and n live after it: whatever comes after it then begins there
   pub record WritesItem (S : List Site) (item : BlockItems → BlockItems) (g : Node) (n : ℕ) (V : List Site)
       : Type 0 where
     pub live : (b : BlockItems) → live_after_items n b ≡ live_after_items r.live (item b)
@@ -170,7 +170,7 @@ module _ (P : Program) (path : List ℕ) (r : Frame) where
     pub stops : (b : BlockItems) (x : Limit) → add_points V (items_events (inside P path r) path n b) ≡ stopped x
         → add_points S (items_events (inside P path r) path r.live (item b)) ≡ stopped x
 
-  -- it passes a limit, whatever stands behind it
+  -- it passes a limit, whatever comes after it
   abbrev pub StopsItem : List Site → (BlockItems → BlockItems) → Limit → Type 0
   StopsItem S item x = (b : BlockItems) → add_points S (items_events (inside P path r) path r.live (item b)) ≡ stopped x
 

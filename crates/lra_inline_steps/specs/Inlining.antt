@@ -1,4 +1,4 @@
--- What is owed for a part, by what stands around it in code, and by the points before it and behind it.
+-- What must hold for a part, by what stands around it in code, and by the points before it and after it.
 use Rattle.std.specs.Prelude.{◌≡◌, ℕ, List, [], ◌∷◌, map, true, ⊤, Vec, Option, Some, None, option_map}
 use Rattle.std.specs.declared.alloc.Global.{Global}
 use Rattle.lra_operations.specs.declared.tree.Node as code
@@ -65,7 +65,7 @@ IsLone (return label e) = ⊥
 IsLone (switch label e cs) = ⊥
 IsLone s = ⊤
 
--- what gives a call's arguments: behind the index of the element that the value is for, where it is for one
+-- what gives a call's arguments: after the index of the element that the value is for, where it is for one
 abbrev pub gives_for : ℕ → Option Element → List Argument → Op
 gives_for base None = push base
 gives_for base (Some x) = push_for base x
@@ -116,7 +116,7 @@ module _ (at : Around) where
       ≡ stopped x
 
   module _ (before : Points) where
-    -- it passes the limit, behind these points
+    -- it passes the limit, after these points
     abbrev pub Stops : List Event → Limit → Type 0
     Stops es x = add_points (points_in before) es ≡ stopped x
 
@@ -129,7 +129,7 @@ module _ (at : Around) where
     abbrev pub StopsItem : (BlockItems → BlockItems) → Limit → Type 0
     StopsItem item = building.StopsItem program_around at.path.now at.frame (points_in before) item
 
-    -- behind its callee's body, wherever that begins
+    -- after its callee's body, wherever that begins
     abbrev pub StopsBehind : Receiver → Call → code.Node → ℕ → Limit → Type 0
     StopsBehind x c g n l =
         (S : List Site) → building.WritesBody program_around at.path.now at.frame x c S (node_view g) n
@@ -137,7 +137,7 @@ module _ (at : Around) where
         → add_points S (call_events program_around at.frame.calls_left at.path.now at.frame.live c) ≡ stopped l
 
     module _ (after : Points) where
-      -- the points behind it are those of these events
+      -- the points after it are those of these events
       abbrev pub Passes : List Event → Type 0
       Passes es = add_points (points_in before) es ≡ passed (points_in after)
 

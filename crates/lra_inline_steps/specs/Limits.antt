@@ -9,7 +9,7 @@ use Rattle.lra_inline_steps.specs.declared.points.InlineError.TheVariants.{Passe
 use Rattle.lra_inline_steps.specs.declared.points.Limit.TheVariants.{Variables, Points, Calls}
 use Rattle.lra_inline_steps.specs.{declared.points.InlineError.InlineError, declared.points.Limit.Limit}
 
--- the points behind some others, or the first limit passed
+-- the points after some others, or the first limit passed
 pub data Progress : Type 0 where
   passed : List Site → Progress
   stopped : Limit → Progress

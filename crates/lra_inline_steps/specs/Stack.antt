@@ -1,4 +1,4 @@
--- What is owed where a program is written out along a list of open places: in each of them a part is under way, and
+-- What must hold where a program is written out along a list of open places: in each of them a part is under way, and
 -- with that the place's own part is written.
 use Rattle.std.specs.Prelude.{◌≡◌, ℕ, ◌+◌, ◌≤◌, List, [], ◌∷◌, ◌++◌, map, length, Option, Some, None}
 use Rattle.lra_base.specs.{Limits.greatest_live, declared.case_labels.CaseLabel.CaseLabel}
@@ -35,7 +35,7 @@ use Rattle.lra_inline_steps.specs.declared.stack.Written as written
 use Rattle.lra_inline_steps.specs.declared.stack.Next as next
 
 -- what is to be written out: a statement; a declarator with its variable; one of an array, by its label; items; a call,
--- for what calls; the rounds of a loop behind its own point, by its body and its step
+-- for what calls; the rounds of a loop after its own point, by its body and its step
 pub data Work : Type 0 where
   a_stmt : resolved.Stmt → Work
   a_declaration : Declarator → Work
@@ -52,7 +52,7 @@ part_view (Items b) = all_items (items_of (map item_view b.now))
 part_view (Call caller c) = a_call caller (call_view c.now)
 part_view (Rounds q r) = all_rounds q (cond_view r.cond.now) (body_of r) (step_of r)
 
--- work that is due: on this path, in this frame, behind these points
+-- work that is due: on this path, in this frame, after these points
 pub record InlineTask : Type 0 where
   pub part : Work
   pub path : List ℕ
@@ -68,7 +68,7 @@ path_inside (Callee from) path = from.call.now.label ∷ path
 path_inside p path = path
 
 module _ (P : Program) where
-  -- it is written out as this tree, with so many live behind it; these are the points then
+  -- it is written out as this tree, with so many live after it; these are the points then
   abbrev pub WrittenAs : Work → List ℕ → Frame → List Site → Node → ℕ → List Site → Type 0
   WrittenAs (a_stmt s) path r S g n V = WritesStmt P path r S s g V × (n ≡ r.live)
   WrittenAs (a_declaration d) path r S g n V = WritesItem P path r S (declaration d) g n V
@@ -107,12 +107,12 @@ module _ (P : Program) where
 
   -- places -----------------------------------------------------------------------------------------------------------
 
-  -- with the part the whole is written: its tree is of this form, and so many live behind it
+  -- with the part the whole is written: its tree is of this form, and so many live after it
   abbrev pub Closes : InlineTask → InlineTask → (Node → Node) → ℕ → Type 0
   Closes whole under form live =
       (g : Node) (n : ℕ) (V : List Site) → IsWritten under g n V → IsWritten whole (form g) live V
 
-  -- behind the part comes another one, and with both the whole is written
+  -- after the part comes another one, and with both the whole is written
   pub record Forks (whole under : InlineTask) (other : ℕ → List Site → InlineTask) (form : Node → Node → Node) : Type 0
     where
       pub stands : (g : Node) (n : ℕ) (V : List Site) → IsWritten under g n V
@@ -122,7 +122,7 @@ module _ (P : Program) where
       pub stops : (g : Node) (n : ℕ) (V : List Site) (l : Limit) → IsWritten under g n V → Stops (other n V) l
           → Stops whole l
 
-  -- behind the part comes the point of a block's end, at which all that lives behind the part lives
+  -- after the part comes the point of a block's end, at which all that lives after the part lives
   pub record EndsBlock (whole under : InlineTask) (end : ℕ) : Type 0 where
     pub writes : (g : Node) (n : ℕ) (V U : List Site) → IsWritten under g n V
         → add_points V (plain_site whole.path end n ∷ []) ≡ passed U
@@ -131,7 +131,7 @@ module _ (P : Program) where
     pub stops : (g : Node) (n : ℕ) (V : List Site) (l : Limit) → IsWritten under g n V
         → add_points V (plain_site whole.path end n ∷ []) ≡ stopped l → Stops whole l
 
-  -- items of which these are written, and these are left: whatever is written of those comes behind them
+  -- items of which these are written, and these are left: whatever is written of those comes after them
   pub record ItemsLoop (path : List ℕ) (r : Frame) (S : List Site) (all rest : BlockItems) (gs : List Node) (n : ℕ)
       (V : List Site) : Type 0 where
     pub live : live_after_items n rest ≡ live_after_items r.live all
@@ -141,7 +141,7 @@ module _ (P : Program) where
     pub stops : (l : Limit) → add_points V (items_events (inside P path r) path n rest) ≡ stopped l
         → add_points S (items_events (inside P path r) path r.live all) ≡ stopped l
 
-  -- the item under way stands behind those that are written, and before those that are left
+  -- the item under way comes after those that are written, and before those that are left
   pub record IsRow (whole under : InlineTask) (r : ItemRow) : Type 0 where
     pub all : BlockItems
     pub is : whole.part ≡ all_items all
@@ -149,8 +149,8 @@ module _ (P : Program) where
         → ItemsLoop whole.path whole.frame whole.before all (items_of (map item_view r.rest.now))
         (map node_view r.parts.items ++ g ∷ []) n V
 
-  -- a `switch` behind its point q, of which these arms are written and these cases are left: whatever is written of
-  -- those comes behind them
+  -- a `switch` after its point q, of which these arms are written and these cases are left: whatever is written of
+  -- those comes after them
   pub record SwitchLoop (path : List ℕ) (r : Frame) (S : List Site) (q at : ℕ) (e : resolved.Expr)
       (all rest : resolved.Cases) (arms : List ArmPart) (V : List Site) : Type 0 where
     pub stands : CasesStand P (cases_frame r) rest
@@ -160,7 +160,7 @@ module _ (P : Program) where
     pub stops : (l : Limit) → add_points V (cases_events (inside P path r) path r.live rest) ≡ stopped l
         → add_points S (stmt_events (inside P path r) path r.live (resolved.switch at e all)) ≡ stopped l
 
-  -- the statement under way stands behind what is written of the `switch`, and before what is left
+  -- the statement under way comes after what is written of the `switch`, and before what is left
   pub record IsCaseRow (whole under : InlineTask) (r : CaseRow) : Type 0 where
     pub at : ℕ
     pub all : resolved.Cases
@@ -243,22 +243,22 @@ abbrev pub labelled_all : List CaseLabel → resolved.Cases → resolved.Cases
 labelled_all [] cs = cs
 labelled_all (l ∷ ls) cs = resolved.labelled l (labelled_all ls cs)
 
--- the next statement of a `switch` and what stands behind it; none where no statement is left
+-- the next statement of a `switch` and what comes after it; none where no statement is left
 abbrev pub from_next : Option NextCase → resolved.Cases
 from_next None = resolved.no_cases
 from_next (Some x) = resolved.stated (stmt_view x.stmt.now) (cases_of (map case_view x.rest.now))
 
--- a label, before the arms behind it
+-- a label, before the arms after it
 abbrev pub entry_part : CaseLabel → ArmPart
 entry_part l = graph.entry l
 
--- the labels before what is left are written behind the arms
+-- the labels before what is left are written after the arms
 abbrev pub PassesLabels : List Arm → List Arm → List CaseItem → resolved.Cases → Type 0
 PassesLabels before after cases left =
     (labels : List CaseLabel) × (cases_of (map case_view cases) ≡ labelled_all labels left)
     × (map arm_view after ≡ map arm_view before ++ map entry_part labels)
 
--- the same, by what stands around in code and the points before and behind it
+-- the same, by what stands around in code and the points before and after it
 abbrev pub InlineStepLeadsFrom : Around → Points → Points → Work → next.Next → Type 0
 InlineStepLeadsFrom at before after w n =
     InlineStepLeads (program_around at) (inline_task w at.path.now at.frame (points_in before)) n at.path.now

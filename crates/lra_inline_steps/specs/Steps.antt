@@ -76,11 +76,11 @@ module _ (P : Program) where
   work_steps r (all_rounds q c a step) =
       3 + (stmt_steps (call_steps P r.calls_left) a + stmt_steps (call_steps P r.calls_left) step)
 
-  -- of a `switch`, what stands behind those that are written
+  -- of a `switch`, what comes after those that are written
   abbrev pub cases_left : Frame → List CaseItem → ℕ
   cases_left r cs = cases_steps (call_steps P r.calls_left) (cases_of (map case_view cs))
 
-  -- at a place, behind the part that is under way there
+  -- at a place, after the part that is under way there
   abbrev pub kind_left : Frame → place.InlineContext → ℕ
   kind_left r (ItemsAt row) = work_steps r (all_items (items_of (map item_view row.rest.now)))
   kind_left r (CasesAt row) = cases_left r row.rest.now

@@ -18,7 +18,7 @@ use lra_operations::forms::{add_arm, selection};
 use lra_program::CaseItem;
 use std::alloc::{AllocError, Global};
 
-/// The labels that come next, written behind the others; then the statement behind them, where there is one.
+/// The labels that come next, written after the others; then the statement after them, where there is one.
 fn pass_labels<'a>(
     arms: &mut Vec<Arm>,
     cases: &'a [CaseItem],
@@ -39,7 +39,7 @@ fn pass_labels<'a>(
     }
 }
 
-/// What is left of a `switch`, behind what is written of it: a statement opens in it, or the whole is written.
+/// What is left of a `switch`, after what is written of it: a statement opens in it, or the whole is written.
 pub fn next_case<'a>(alloc: Global, frame: Frame, row: CaseRow<'a>) -> Result<Next<'a>, InlineError>
     ensures leads { (P : resolved.Program) (path : List ℕ) (S V : List points.Site) (at : ℕ)
         (all : resolved.Cases)
@@ -76,7 +76,7 @@ pub fn next_case<'a>(alloc: Global, frame: Frame, row: CaseRow<'a>) -> Result<Ne
     }
 }
 
-/// Behind one of the statements: it stands behind what is written before it.
+/// After one of the statements: it comes after what is written before it.
 pub fn go_on_cases<'a>(
     alloc: Global,
     frame: Frame,

@@ -17,7 +17,7 @@ pub struct Frame {
     pub live: usize,
     /// How many calls more the path may have.
     pub calls_left: usize,
-    /// How many variables live at the nearest loop or `switch`, behind which `break` comes out.
+    /// How many variables live at the nearest loop or `switch`, after which `break` comes out.
     pub breaks: Option<usize>,
     /// How many variables live at the nearest loop, with which `continue` goes on.
     pub continues: Option<usize>,

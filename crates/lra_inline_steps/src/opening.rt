@@ -42,7 +42,7 @@ fn store_index(base: usize, slot: Slot) -> usize
     }
 }
 
-/// How many variables live behind the items, where the number fits.
+/// How many variables live after the items, where the number fits.
 fn live_inside(live: usize, items: &[BlockItem]) -> Option<usize>
     ensures { MatchOption result (greatest_live < live_after_items live (items_of (map item_view items.now)))
         (λ n. n ≡ live_after_items live (items_of (map item_view items.now))) }
@@ -61,7 +61,7 @@ fn live_inside(live: usize, items: &[BlockItem]) -> Option<usize>
     Some(inside)
 }
 
-/// A block: its items, behind which the point of its end stands.
+/// A block: its items, after which the point of its end stands.
 fn open_block<'a>(here: &Around<'_>, items: &'a [BlockItem], end: usize) -> Next<'a>
     requires { StmtStands here.now (resolved.block (items_of (map item_view items.now)) end) }
     ensures leads { (points : Points) → InlineStepLeadsFrom here.now points points
@@ -102,7 +102,7 @@ fn open_if<'a>(
     Ok(Next::Opens(InlineFrame { frame, place }, frame, Part::Stmt(on_true)))
 }
 
-/// The rounds of a loop behind its own point. Its step's points come before those of its body.
+/// The rounds of a loop after its own point. Its step's points come before those of its body.
 pub fn open_rounds<'a>(frame: Frame, point: usize, repeated: Repeated<'a>) -> Next<'a>
     ensures { (step : Bor code.Stmt) × (step.now ≡ repeated.entry.step.now.value) × (result
         ≡ next.Opens
@@ -139,7 +139,7 @@ fn open_loop<'a>(
     Ok(open_rounds(here.frame, point, *repeated))
 }
 
-/// A `switch`: its point, and its statements, which stand behind their labels.
+/// A `switch`: its point, and its statements, which come after their labels.
 fn open_switch<'a>(
     here: &Around<'_>,
     label: usize,

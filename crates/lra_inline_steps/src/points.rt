@@ -59,7 +59,7 @@ fn add_site(sites: &mut Vec<Site>, site: Site) -> Result<(), AllocError>
     Ok(())
 }
 
-/// Adds a point behind the others, and gives its number; or tells the limit that it passes.
+/// Adds a point after the others, and gives its number; or reports the limit that it passes.
 pub fn add_point(
     alloc: Global,
     path: &Path,

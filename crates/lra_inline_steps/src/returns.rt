@@ -1,4 +1,4 @@
-//! Returns: their points, behind which the store is cut to the caller's variables; in `main` the run ends.
+//! Returns: their points, after which the store is cut to the caller's variables; in `main` the run ends.
 
 ghost use Rattle.std.specs.Prelude.{◌≡◌, IfOk, None, Some};
 ghost use Rattle.lra_program.specs.Program as resolved;
@@ -109,7 +109,7 @@ fn return_value<'a>(
     close(leave_value(here, point, value), here.frame.live)
 }
 
-/// A `return` whose value a call gives: its point, and that call; what leaves the call around comes behind it.
+/// A `return` whose value a call gives: its point, and that call; what leaves the call around comes after it.
 fn return_call<'a>(
     here: &Around<'_>,
     label: usize,

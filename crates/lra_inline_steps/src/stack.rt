@@ -21,18 +21,18 @@ pub enum Part<'a> {
     Array(usize, Array),
     Items(&'a [BlockItem]),
     Call(Caller<'a>, &'a Call),
-    /// A loop behind its own point.
+    /// A loop after its own point.
     Rounds(usize, Repeated<'a>),
 }
 
-/// What is written of a part: its tree, and how many variables live behind it.
+/// What is written of a part: its tree, and how many variables live after it.
 #[derive(Drop)]
 pub struct Written {
     pub node: Node,
     pub live: usize,
 }
 
-/// Items of which one is under way: what is written of those before it, and those behind it.
+/// Items of which one is under way: what is written of those before it, and those after it.
 #[derive(Drop)]
 pub struct ItemRow<'a> {
     pub parts: Vec<Node>,
@@ -40,7 +40,7 @@ pub struct ItemRow<'a> {
 }
 
 /// A `switch` of which one statement is under way: its point and its expression, what is written of its labels and of
-/// the statements before that one, and what stands behind it.
+/// the statements before that one, and what comes after it.
 #[derive(Drop)]
 pub struct CaseRow<'a> {
     pub point: usize,
@@ -49,14 +49,14 @@ pub struct CaseRow<'a> {
     pub rest: &'a [CaseItem],
 }
 
-/// The next statement of a `switch`, and what stands behind it.
+/// The next statement of a `switch`, and what comes after it.
 #[derive(Clone, Copy)]
 pub struct NextCase<'a> {
     pub stmt: &'a Stmt,
     pub rest: &'a [CaseItem],
 }
 
-/// A choice behind its own point, and the branch where its condition is false.
+/// A choice after its own point, and the branch where its condition is false.
 #[derive(Clone, Copy)]
 pub struct Branches<'a> {
     pub point: usize,
@@ -93,7 +93,7 @@ pub enum InlineContext<'a> {
     Forked(Forked<'a>),
     /// How a `for` with this point begins is under way.
     Init(usize, Repeated<'a>),
-    /// The loop of a `for` with this point is under way, behind this tree of how it begins.
+    /// The loop of a `for` with this point is under way, after this tree of how it begins.
     Around(usize, Node),
     /// A block's items are under way: the label of its end.
     Block(usize),

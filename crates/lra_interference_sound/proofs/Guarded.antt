@@ -1,4 +1,4 @@
--- A called function's end stands nowhere but behind the end of its body, so it is on top only behind that point.
+-- A called function's end stands nowhere but after the end of its body, so it is on top only after that point.
 use Rattle.std.proofs.Common.{◌≡◌, ℕ, zero, suc, ℤ, List, [], ◌∷◌, length, Option, Some, None, Bool, true, false, ◌⊎◌, inl, inr, refl, sym, subst}
 use Rattle.std.proofs.lemmas.Option.{same_Some, none-some}
 use Rattle.std.specs.Prelude.{⊤, slice_get}
@@ -166,7 +166,7 @@ module _ (P : Program) where
   stepped (assume at c) k h s e g i = landed k h (run_op (test h.base c true) s) e g i
   stepped (switch at v cs) k h s e g i = switched cs k h s (value_of v (environment_at h.base s) s.draws) e g i
 
-  -- what is on top behind a step is no function's end, but behind the end of a block
+  -- what is on top after a step is no function's end, but after the end of a block
   pub record FromEnd (k : List Item) (h : CallContext) (s : State) (e : Config) : Type 0 where
     pub label : ℕ
     pub kept : ℕ

@@ -130,7 +130,7 @@ module _ {A V H : Type 0} (name : ℕ → A) (may : State → State → Type 0) 
   abbrev Good : Node → Trace A → PassResult V → Type 0
   Good g a r = CoversUnder name may n m g a r
 
-  -- what others make of a state is in the value behind
+  -- what others make of a state is in the value after
   entering : (q : ℕ) (f : Option ℕ) (v : V) (x : PassResult V) → Passed (probe q InterferencePoint) f v x → (s t : State) → Has m v s.store → may s t → Has m x.normal t.store
   entering q f v x (w, e, taken, is) s t h l =
       subst (λ (y : PassResult V). Has m y.normal t.store) (sym is) (taken.0.formed, taken.0.stores s.store t.store h.1 (changes s t l))

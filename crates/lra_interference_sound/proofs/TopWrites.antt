@@ -10,7 +10,7 @@ use Rattle.lra_inline_sound.proofs.{Landing.IsBare, Shapes.tail_node, Shapes.Rou
 use Rattle.lra_analysis_spec.specs.Instrumented as opened
 use Rattle.lra_interleavings.specs.Writes.{OpWrites, StepWrites}
 
--- at a function's end: what is given behind it, before a further point is met
+-- at a function's end: what is given after it, before a further point is met
 abbrev pub EndGives : ℕ → State → ℕ → List Item → State → Type 0
 EndGives x t n [] s = ⊥
 EndGives x t n (run a ∷ k) s = ⊥
@@ -91,14 +91,14 @@ module _ (name : ℕ → Point) (may : State → State → Type 0) where
     entered_gives l arms true each a q b g = arms_give l arms a q b g
     entered_gives l arms false each a q b g = each a q b g
 
-    -- behind a label
+    -- after a label
     pub row_gives : (l : CaseLabel) (arms : Arms) (a : Trace Point) (q : ℕ) (b : Trace Point) → Given (row_behind l arms) x a q b
         → opened.ArmsWriteVariable name may l false arms a q x b
     row_gives l no_arms a q b g = g
     row_gives l (entry k arms) a q b g = entered_gives l arms (is_same_case l k) (row_gives l arms) a q b g
     row_gives l (arm g' arms) a q b g = row_gives l arms a q b g
 
-  -- a loop's round more, at the front
+  -- a loop's round more, at the start
   pub loop_gives : (q base : ℕ) (c : Cond) (g step : Node) (x : ℕ) (a v : Trace Point) (r : ℕ) (d : Trace Point) → Round name may q base c g step a v
       → Given (loop_node q base c g step) x v r d → Given (loop_node q base c g step) x a r d
   loop_gives q base c g step x a v r d round (n, m, rounds, w, tests, given) =

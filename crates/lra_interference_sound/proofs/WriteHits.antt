@@ -1,5 +1,5 @@
 -- What is sought of a tree where a program's step from a point gives a variable a value: the tree gives it, on the same
--- trail.
+-- trace.
 use Rattle.std.proofs.Common.{◌≡◌, ℕ, suc, ◌+◌, List, [], ◌∷◌, length, Option, Some, None, Bool, true, false, inl, inr, refl, sym, ap, ◌∙◌, subst}
 use Rattle.std.proofs.lemmas.Option.{same_Some, none-some}
 use Rattle.lra_base.specs.declared.number_types.NumberType.{NumberType}
@@ -29,7 +29,7 @@ module _ (may : State → State → Type 0) (gift : ℕ) (P : Program) (T : List
     pub leads : (s : State) (b : Trace Point) → may c.state s → TopGives gift b.state P c.items c.here s
         → b.events ≡ visit (record { path = c.here.path; label = p }) c.state ∷ zs → Given g a number b
 
-  -- what is so of each gift is so of the whole
+  -- what is so of each write is so of the whole
   pub hit_as : (c : Config) (zs : List (TraceEvent Point)) (p : ℕ) (g h : Node) (a b : Trace Point) →
       ((q : ℕ) (d : Trace Point) → Given g a q d → Given h b q d)
       → Hit c zs p g a → Hit c zs p h b
@@ -100,7 +100,7 @@ module _ (may : State → State → Type 0) (keeps : KeepsWidth may) (gift : ℕ
       let o' = subst (λ n. RvalueOpIs (OpWrites gift d.state) P (variable_at n t) b spot.frame.here m) l o in
       inr (trail m u.events, (is, refl), values_given (move spot (suc spot.live) spot.next) r (variable_at spot.live t) b g q' c (trail m u.events) d o' z)
 
-  -- an item with a point of its own: what is given is given behind the point
+  -- an item with a point of its own: what is given is given after the point
   at_point : (spot : InlineState) (at : ℕ) (asserts : Bool) (i : Item) (g : Node) (k : List Item) (a : Trace Point) → IsSiteWith T spot at asserts
       → length a.state.store ≡ spot.live → label_on (i ∷ k) ≡ Some at
       → ((b d : Trace Point) → length b.state.store ≡ spot.live → TopGives gift d.state P (i ∷ k) spot.frame.here b.state → d.events ≡ b.events →

@@ -1,4 +1,4 @@
--- What a run of a whole program gives, its tree gives, on the same trail.
+-- What a run of a whole program gives, its tree gives, on the same trace.
 use Rattle.std.proofs.Common.{◌≡◌, ℕ, ℤ, List, [], ◌∷◌, length, Some, None, ◌⊎◌, inl, inr, refl, sym, ap, ◌∙◌, subst}
 use Rattle.lra_program.specs.Program.{Program, Stmt, absent, nothing, block, assign, write, call, if, loop, for, break, continue, return, assert, assume, switch}
 use Rattle.lra_program.specs.Step.{State, Config, ReturnFrame, Item, CallContext, run, declare, declare_array, all, end_of, next_round, cases, end_switch, end_for, return_frame, leave_call, havoc}
@@ -70,7 +70,7 @@ module _ (may : State → State → Type 0) (keeps : KeepsWidth may) (x : ℕ) w
     top (leave_call ∷ k) h s (inl v) = absurd v
     top (leave_call ∷ k) h s (inr v) = absurd v
 
-    -- behind a function's end
+    -- after a function's end
     at_mark : (c : Config) (xs : List (TraceEvent Point)) (b : ReturnFrame) (r : List Item) → c.items ≡ return_frame b ∷ r →
         OpWrites x a.state (havoc b.receiver) c.state
         → a.events ≡ xs

@@ -1,4 +1,5 @@
--- What a pass among others owes: its values have all stores of the runs, among these others, of the program's own tree.
+-- What a pass among others must guarantee: its values have all stores of the runs, among these others, of the program's
+-- own tree.
 use Rattle.std.specs.List.{Contains}
 use Rattle.std.specs.Prelude.{◌≡◌, ◌<◌, ℕ, ℤ, List, Option, Bool}
 use Rattle.lra_base.specs.declared.case_labels.CaseLabel.{CaseLabel}
@@ -17,7 +18,7 @@ pub record MayBecome (may : List ℤ → List ℤ → Type 0) (s t : State) : Ty
   pub waiting : t.waiting ≡ s.waiting
   pub draws : t.draws ≡ s.draws
 
--- where a run is looked at: where it stops, or behind what gives the variable at the place a value at the point
+-- where a run is looked at: where it stops, or after what gives the variable at the place a value at the point
 pub data Moment : Type 0 where
   stop : Stop → Moment
   after_write : ℕ → ℕ → Moment
@@ -44,7 +45,7 @@ module _ {A V H : Type 0} (name : ℕ → A) (may : State → State → Type 0) 
     pub ends : (b : Trace A) → RunsUpTo name may g a to_end b → Has m r.normal b.state.store
     pub finds : (i : Moment) (b : Trace A) → Happens name may g a i b → Owes m may n r i b.state
 
-  -- of a loop's body: what others make of what comes to its end
+  -- of a loop's body: what others make of what reaches its end
   pub record BodyCovers (g : Node) (a : Trace A) (r : PassResult V) : Type 0 where
     pub ends : (b : Trace A) → RunsUpTo name may g a to_end b → (t : State) → may b.state t → Has m r.normal t.store
     pub finds : (i : Moment) (b : Trace A) → Happens name may g a i b → Owes m may n r i b.state

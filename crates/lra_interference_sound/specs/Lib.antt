@@ -1,3 +1,3 @@
--- What a pass among others owes to runs.
+-- What a pass among others must guarantee to runs.
 pub mod CoversUnder
 pub mod WritesAgree

@@ -1,4 +1,4 @@
--- What a run of a program gives to a variable, a run of its tree gives to it, on the same trail.
+-- What a run of a program gives to a variable, a run of its tree gives to it, on the same trace.
 use Rattle.std.specs.Prelude.{◌≡◌, ◌<◌, ℕ, ℤ, List, [], length, Some, Bool, IsTrue, slice_get}
 use Rattle.lra_program.specs.Program.{Function, Program}
 use Rattle.lra_program.specs.{Run.begun, Run.Point, Sites.sites_of, Step.State, Traces.Trace}
@@ -7,7 +7,7 @@ use Rattle.lra_analysis_spec.specs.Instrumented.{WritesVariable}
 use Rattle.lra_interleavings.specs.Interleavings.{thread_program}
 use Rattle.lra_interleavings.specs.ThreadModular.{WritesThere, OthersInterfere, AreAllowed, IsThreadModular}
 
--- the tree of the program, begun with these draws, gives the variable x a value at the point; the trail ends behind it
+-- the tree of the program, begun with these draws, gives the variable x a value at the point; the trace ends after it
 abbrev pub TreeWrites : (State → State → Type 0) → Program → Node → List ℤ → ℕ → ℕ → Trace Point → Type 0
 TreeWrites may P g draws q x a =
     WritesVariable (point_at (sites_of P)) may g (record { state = begun P draws; events = [] }) q x a

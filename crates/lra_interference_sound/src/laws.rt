@@ -7,7 +7,7 @@ ghost use Rattle.lra_program.specs.Traces.{NoChange};
 use lra_domain::{Domain, Interfere};
 
 /// A pass among others over a tree with their places in it has, from a value's stores, the stores of all runs of the
-/// tree among these others: behind it, at its jumps and points, where an assertion fails, and where a variable gets a
+/// tree among these others: after it, at its jumps and points, where an assertion fails, and where a variable gets a
 /// value.
 pub fn passes_cover_under<D: Domain, F: Interfere<D>>()
     ensures { (others : F) → PassesCoverUnder (F.interference others) D.abstraction }

@@ -139,7 +139,7 @@ second_fails = (
   (_, refl),
 )
 
--- the first thread's second assignment gives what is there already: catches a gift that is a change
+-- the first thread's second assignment gives what is there already: catches a write that is a change
 abbrev threads_last : Threads
 threads_last = left_by whole threads_next 0 (record { items = end_of 3 1 ∷ []; here = record { path = []; base = 1 }; state = state_with (pos 1) })
 

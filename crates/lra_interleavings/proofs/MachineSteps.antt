@@ -14,7 +14,7 @@ use Rattle.lra_program.specs.{Value.index_of, Value.Drawn, Value.value_of, Value
 use Rattle.lra_interleavings.specs.Writes.{OpWrites, StepWrites}
 use Rattle.lra_interleavings.proofs.Operations.{Wrote, KeepsMany, wrote, kept_long}
 
--- all lengths that items tell are those of stores with the first n variables
+-- all lengths that items report are those of stores with the first n variables
 abbrev pub IsDeep : ℕ → List Item → Type 0
 IsDeep n [] = ⊤
 IsDeep n (run s ∷ k) = IsDeep n k
@@ -35,7 +35,7 @@ ChangesOne n Given a b = (take n b ≡ take n a) ⊎ ((x : ℕ) × (z : ℤ) × 
     (slice_get t.store x ≡ Some z) × (take n b ≡ set (take n a) x z))
 
 module _ (n : ℕ) where
-  -- a configuration, with a step behind the store a
+  -- a configuration, with a step after the store a
   pub record Leaves (Given : ℕ → State → Type 0) (a : List ℤ) (c : Config) : Type 0 where
     pub long : n ≤ length c.state.store
     pub deep : IsDeep n c.items

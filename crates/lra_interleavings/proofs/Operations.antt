@@ -99,7 +99,7 @@ wrote_tested : (n : ℕ) (b : Bool) (s : State) (v : Drawn Bool) (t : State) →
 wrote_tested n b s None t l e = absurd (none-some t e)
 wrote_tested n b s (Some r) t l e = as_it_was n None s.store t.store l (ap (λ (u : State). u.store) (is_kept b r.0 (record s { draws = r.1 }) t e))
 
--- behind an index that waits
+-- after an index that waits
 behind_aim : (n base : ℕ) (x : Element) (s t u : State) (o : Option ℕ) → aim base x s ≡ Some t → (n ≤ length t.store → Wrote n o t.store u.store)
     → n ≤ length s.store → Wrote n o s.store u.store
 behind_aim n base x s t u o e later l =

@@ -21,7 +21,7 @@ module _ (n : ℕ) (Gets : ℕ → ℤ → Type 0) where
   changes_width a b (none s) = refl
   changes_width a b (more s t x z rest h g) = length-set t x z ∙ changes_width s t rest
 
-  -- what stands behind the first variables stays
+  -- what comes after the first variables stays
   pub changes_before : (v a b : List ℤ) → n ≤ length a → RepeatedWrites n Gets a b → RepeatedWrites n Gets (a ++ v) (b ++ v)
   changes_before v a b l (none s) = none (s ++ v)
   changes_before v a b l (more s t x z rest h g) =

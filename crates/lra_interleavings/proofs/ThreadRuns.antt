@@ -109,7 +109,7 @@ module _ (P : Program) (fs : List Function) (Within : ℕ → ℕ → ℤ → Ty
         changes = subst (λ (b : List ℤ). RepeatedWrites Width (Within k) b (take Width d.state.store)) (seen_first w k f t a) all.1.changes;
       }
 
-  -- the threads behind a step
+  -- the threads after a step
   own_step : (w : Threads) (j : ℕ) (f : Function) (d : Config) (p : Point) → HasMoved w j f d → IsOn d p → IsAmong (left_by P w j d) j f (own_of Width d)
   own_step w j f d p h on = record {
     draws = h.draws;

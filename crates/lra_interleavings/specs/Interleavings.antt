@@ -16,7 +16,7 @@ thread_program P f = record P { main = f }
 
 -- configurations ---------------------------------------------------------------------------------------------------
 
--- what is a thread's own: its items, the call that runs, its variables behind the globals, what its arrays hold, the
+-- what is a thread's own: its items, the call that runs, its variables after the globals, what its arrays hold, the
 -- indexes that wait, and the draws that are left to it
 pub record Thread : Type 0 where
   pub items : List Item
@@ -44,8 +44,8 @@ seen_by w t = record {
 abbrev pub sees : Threads → Thread → Config
 sees w t = record { items = t.items; here = t.here; state = seen_by w t }
 
--- what a configuration leaves to its thread, of which the first n variables are shared; what it still tells of global
--- arrays stands behind what all share, and isn't read
+-- what a configuration leaves to its thread, of which the first n variables are shared; what it still says of global
+-- arrays comes after what all share, and isn't read
 abbrev pub own_of : ℕ → Config → Thread
 own_of n c = record {
   items = c.items;

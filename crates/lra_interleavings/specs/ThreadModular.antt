@@ -12,13 +12,13 @@ use Rattle.lra_interleavings.specs.{Interleavings.ThreadWritesValue, Writes.Step
 -- what runs do ------------------------------------------------------------------------------------------------------
 
 module _ (may : State → State → Type 0) where
-  -- The point is passed, and what is on top is asked this, of the state that the trail ends with.
+  -- The point is passed, and what is on top is asked this, of the state that the trace ends with.
   abbrev pub NextOpIsThere : (Op → State → Type 0) → Program → List ℤ → Point → Trace Point → Type 0
   NextOpIsThere Q P draws p a =
       (n : ℕ) × (c : Config) × (xs : List (TraceEvent Point)) × TracedSteps may P n (start P draws) [] c xs ×
       IsOn c p × may c.state a.state × NextOpIs Q P c.items c.here a.state × (a.events ≡ visit p c.state ∷ xs)
 
-  -- A step of a run gives the variable x a value; the trail ends with the state behind that.
+  -- A step of a run gives the variable x a value; the trace ends with the state after that.
   abbrev pub WritesThere : Program → List ℤ → ℕ → Trace Point → Type 0
   WritesThere P draws x a = (n : ℕ) × (c : Config) × (xs : List (TraceEvent Point)) × (s : State) × (d : Config) ×
       TracedSteps may P n (start P draws) [] c xs × Becomes may (label_on c.items) c.state s ×
@@ -53,7 +53,7 @@ module _ (P : Program) (fs : List Function) (Within : ℕ → ℕ → ℤ → Ty
     abbrev pub AreAllowed : Type 0
     AreAllowed = (k : ℕ) (s t : State) → OthersInterfere k s t → may k s t
 
-    -- a run of the k-th thread among others; the trail tells where it is
+    -- a run of the k-th thread among others; the trace says where it is
     pub record RunUnder (Does : (State → State → Type 0) → Program → List ℤ → Trace Point → Type 0) (k : ℕ)
         (a : Trace Point) : Type 0 where
       pub function : Function
@@ -97,7 +97,7 @@ ThreadsAreModular = (P : Program) (fs : List Function) (Within : ℕ → ℕ →
     (may : ℕ → State → State → Type 0) →
     AreAllowed P fs Within may → WriteWithin P fs Within may → IsThreadModular P fs Within may
 
--- the values told by a test; others give globals such values, and to arrays anything
+-- the values given by a test; others give globals such values, and to arrays anything
 abbrev pub TestedThreadsAreModular : Type 0
 TestedThreadsAreModular = (P : Program) (fs : List Function) (within : ℕ → ℕ → ℤ → Bool) →
     let Within : ℕ → ℕ → ℤ → Type 0 = λ k x z. IsTrue (within k x z) in

@@ -5,7 +5,7 @@ use Rattle.lra_program.specs.Program.{Program, return}
 use Rattle.lra_program.specs.Step.{State, Op, havoc, run_op, CallContext, Item, run, return_frame, receiver_of}
 use Rattle.lra_program.specs.{NextOperation.NextOpIs, Step.return_target, WrittenVariables.written_variable}
 
--- the operation gives the variable x a value, which it has in the state behind it, t
+-- the operation gives the variable x a value, which it has in the state after it, t
 abbrev pub OpWrites : ℕ → State → Op → State → Type 0
 OpWrites x t op s = (written_variable op ≡ Some x) × (run_op op s ≡ Some t)
 
@@ -15,6 +15,6 @@ HavocWrites x t P (run (return at None) ∷ k) s = OpWrites x t (havoc (receiver
 HavocWrites x t P (return_frame b ∷ k) s = OpWrites x t (havoc b.receiver) s
 HavocWrites x t P k s = ⊥
 
--- the step from here does; t is the state behind the gift, before anything else is done
+-- the step from here does; t is the state after the write, before anything else is done
 abbrev pub StepWrites : ℕ → State → Program → List Item → CallContext → State → Type 0
 StepWrites x t P k h s = NextOpIs (OpWrites x t) P k h s ⊎ HavocWrites x t P k s

@@ -1,4 +1,4 @@
--- When a count rose, and what is a proper front of some bytes.
+-- When a count rose, and what is a proper prefix of some bytes.
 use Rattle.std.specs.Prelude.{◌≡◌, [], ◌∷◌, Some, suc, zero, refl}
 use Rattle.std.proofs.Common.{inl, inr, arith}
 use Rattle.lra_io.specs.Causes.{last_count, next_count, Rose, AppendsPart}
@@ -26,11 +26,11 @@ counts_one_more = refl
 pub counts_no_further : next_count last_count ≡ last_count
 counts_no_further = refl
 
--- a sink that held 7 and then holds 7 1 2 took a proper front of 1 2 3
+-- a sink that held 7 and then holds 7 1 2 took a proper prefix of 1 2 3
 pub two_of_three : AppendsPart (Some (7 ∷ [])) (Some (7 ∷ 1 ∷ 2 ∷ [])) (1 ∷ 2 ∷ 3 ∷ [])
 two_of_three = (2, omega arith, refl)
 
--- all of 1 2 is no proper front of it
+-- all of 1 2 is no proper prefix of it
 pub not_all : AppendsPart (Some []) (Some (1 ∷ 2 ∷ [])) (1 ∷ 2 ∷ []) → ⊥
 not_all (zero, below, held) = cc
 not_all (suc zero, below, held) = cc

@@ -5,7 +5,7 @@ use Rattle.std.specs.{Io.KnownBytes.Consumes, Prelude.IsErrAnd}
 use Rattle.lra_io.specs.declared.whole.ReadError.TheVariants.{TooLong, Failed, Memory}
 use Rattle.lra_io.specs.{ReadErrors.ReadsWhole, declared.whole.ReadError.ReadError}
 
--- want of memory for a piece that was read loses that piece with the bytes before it
+-- running out of memory for a piece that was read loses that piece with the bytes before it
 pub piece_lost : (a b c : Option (List ℕ)) (xs ys : List ℕ) (limit : ℕ) (result : Result (Vec ℕ Global) ReadError)
     → IsErrAnd result (λ e. e ≡ Memory) → Consumes a b xs → Consumes b c ys → length xs + length ys ≤ limit + 1
     → ReadsWhole a c limit result
@@ -15,7 +15,7 @@ piece_lost a b c xs ys limit (Err Failed) is before piece within = cc
 piece_lost a b c xs ys limit (Err Memory) is before piece within =
     (xs ++ ys, Consumes-trans a b c xs ys before piece, rw length-append within)
 
--- a piece that was read stands behind the bytes before it
+-- a piece that was read comes after the bytes before it
 pub piece_taken : (a b c : Option (List ℕ)) (xs ys bytes : List ℕ) → Consumes a b xs → Consumes b c ys → bytes ≡ xs ++ ys → Consumes a c bytes
 piece_taken a b c xs ys bytes before piece is = rw is (Consumes-trans a b c xs ys before piece)
 

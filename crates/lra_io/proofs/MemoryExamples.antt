@@ -19,7 +19,7 @@ second_read = record { listed = (zero, lit< tt, refl); kept = refl; counted = re
 pub third_read : FeedReads {E = ℕ} (feed (7 ∷ []) 2 1) (feed [] 3 1) (5 ∷ 6 ∷ []) (7 ∷ 6 ∷ []) (Ok 1)
 third_read = record { unlisted = λ listed. search rules; amount = refl; moved = refl; kept = refl; counted = refl }
 
--- so reading stops behind the second read
+-- so reading stops after the second read
 pub stops_there : StopsAtFault FeedGoesOn FeedStops (feed (5 ∷ 6 ∷ 7 ∷ []) 0 0) (feed (7 ∷ []) 2 1)
 stops_there = record {
   last = feed (7 ∷ []) 1 0;
@@ -30,7 +30,7 @@ stops_there = record {
 third_is_unlisted : Contains (2 ∷ []) (next_count 2) → ⊥
 third_is_unlisted listed = search rules
 
--- and not behind the third
+-- and not after the third
 pub not_behind_it : StopsAtFault FeedGoesOn FeedStops (feed (5 ∷ 6 ∷ 7 ∷ []) 0 0) (feed [] 3 1) → ⊥
 not_behind_it s =
     let calls : next_count s.last.calls ≡ 3 = sym (ap (λ f. f.calls) s.fault.counted) in
@@ -44,7 +44,7 @@ store held room calls faults = record { held = held; room = room; most = 2; fail
 pub first_write : StoreWrites {E = ℕ} (store [] 3 0 0) (store (5 ∷ 6 ∷ []) 1 1 0) (5 ∷ 6 ∷ 7 ∷ []) (Ok 2)
 first_write = record { unlisted = λ listed. search rules; not_full = λ full. cc; amount = refl; counted = refl }
 
--- one byte has room, and is taken
+-- one byte has room, and is accepted
 pub second_write : StoreWrites {E = ℕ} (store (5 ∷ 6 ∷ []) 1 1 0) (store (5 ∷ 6 ∷ 8 ∷ []) 0 2 0) (8 ∷ 9 ∷ []) (Ok 1)
 second_write = record { unlisted = λ listed. search rules; not_full = λ full. cc; amount = refl; counted = refl }
 

@@ -19,7 +19,7 @@ pub record IsPastLimit (old new : Option (List ℕ)) (limit : ℕ) (bytes : List
 abbrev pub LosesPrefix : Option (List ℕ) → Option (List ℕ) → ℕ → Type 0
 LosesPrefix old new limit = (bytes : List ℕ) × Consumes old new bytes × (length bytes ≤ limit + 1)
 
--- the bytes to the end; or one byte past the limit; or a front of them is lost
+-- the bytes to the end; or one byte past the limit; or a prefix of them is lost
 abbrev pub ReadsWhole : Option (List ℕ) → Option (List ℕ) → ℕ → Result (Vec ℕ Global) ReadError → Type 0
 ReadsWhole old new limit (Ok bytes) = IsWhole old new limit bytes.items
 ReadsWhole old new limit (Err (TooLong bytes)) = IsPastLimit old new limit bytes.items

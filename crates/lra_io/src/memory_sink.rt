@@ -63,7 +63,7 @@ impl MemSink {
         })
     }
 
-    /// The bytes taken so far.
+    /// The bytes accepted so far.
     pub fn bytes(&self) -> &[u8]
         ensures { result.now ≡ self.now.held }
     {
@@ -137,7 +137,7 @@ impl QuietSink {
         Ok(QuietSink { store })
     }
 
-    /// The bytes taken so far.
+    /// The bytes accepted so far.
     pub fn bytes(&self) -> &[u8]
         ensures { result.now ≡ self.now.held }
     {

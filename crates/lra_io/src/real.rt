@@ -11,7 +11,7 @@ use std::marker::Model;
 /// How often in a row an interrupted call is made again.
 const RETRIES: u32 = 8;
 
-/// A source over a reader of std. It doesn't tell its bytes.
+/// A source over a reader of std. It doesn't report its bytes.
 ///
 /// A read that is interrupted is tried again up to eight times in a row, then it is a fault.
 #[derive(Drop)]
@@ -80,7 +80,7 @@ impl<R: Read> Source for RealSource<R> {
     }
 }
 
-/// A sink over a writer of std. It doesn't tell its bytes.
+/// A sink over a writer of std. It doesn't report its bytes.
 ///
 /// A write that is interrupted is tried again up to eight times in a row, then it is a fault; so is a write that takes
 /// nothing of a piece that is not empty.

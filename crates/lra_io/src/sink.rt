@@ -7,7 +7,7 @@ use crate::Failed;
 
 /// A stream of bytes that are written in pieces.
 pub trait Sink {
-    /// The bytes taken, where the sink tells them.
+    /// The bytes accepted, where the sink reports them.
     ghost held: { Self → Option (List ℕ) };
 
     /// How often a write failed; it stays at 2^64 - 1 once it is there.

@@ -74,7 +74,7 @@ short_second [] h = refl
 short_second (c ∷ []) h = refl
 short_second (c ∷ d ∷ cs) h = absurd (omega (arith, h))
 
--- behind a `/`
+-- after a `/`
 slash_gap : (fresh : Bool) (rest : List ℕ) → get_or rest 0 0 ≡ 47 → Gaps fresh rest
 slash_gap fresh rest s = elim (cases_lt 1 (length rest)) [
   | inr short ↦ let none = short_second rest short in inr (slash_no_gap fresh rest s (λ e. omega (arith, e, none)) (λ e. omega (arith, e, none)))

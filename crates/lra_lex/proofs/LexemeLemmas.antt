@@ -70,7 +70,7 @@ option_cases (Some m) = inr (m, refl)
 at_most_two : (m : Mark) → is_word_byte (get_or (mark_text m) 0 0) ≡ false → length (mark_text m) ≤ 2
 at_most_two m h = leb-true (length (mark_text m)) 2 (or_second (is_word_byte (get_or (mark_text m) 0 0)) (nat_le (length (mark_text m)) 2) (mark_short m) h)
 
--- an operator at the front is its first byte or its first two
+-- an operator at the start is its first byte or its first two
 short_front : (rest t b : List ℕ) (m : Mark) → rest ≡ t ++ b → t ≡ mark_text m → is_word_byte (get_or rest 0 0) ≡ false
     → (1 ≤ length t) × (length t ≤ 2) × (take (length t) rest ≡ mark_text m)
 short_front rest [] b m e f h = let k = leb-true 1 (length (mark_text m)) (mark_some m) in let g = ap (λ (z : List ℕ). length z) f in absurd (omega (arith, k, g))

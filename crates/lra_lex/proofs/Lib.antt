@@ -1,4 +1,4 @@
--- Runs of bytes that pass a test, and the front of a line.
+-- Runs of bytes that pass a test, and the start of a line.
 pub mod RunLemmas
 pub mod LineLemmas
 -- Which token a text spells, and which spelling is the longest.
@@ -8,7 +8,7 @@ pub mod LiteralLemmas
 pub mod AsciiLemmas
 -- Gaps.
 pub mod GapLemmas
--- The token at the front, and how far a source is read.
+-- The token at the start, and how far a source is read.
 pub mod TokenLemmas
 pub mod ReadingLemmas
 -- A source has one reading, and it has one.

@@ -1,4 +1,4 @@
--- Places and fronts of lines, a piece at a time.
+-- Places and prefixes of lines, a piece at a time.
 use Rattle.std.proofs.Common.{◌≡◌, ℕ, ◌+◌, ◌≤◌, Bool, true, ◌||◌, ◌&&◌, nat_eq, List, [], ◌∷◌, ◌++◌, length, refl, sym, ap, ◌∙◌, subst, arith, inl, inr, ◌⊎◌, append_assoc}
 use Rattle.std.proofs.{lemmas.Bool.and_parts, lemmas.Bool.cases_Bool, lemmas.Bool.or_cases, lemmas.Bool.Decides.nat_tests, lemmas.List.append-nil}
 use Rattle.std.specs.List.{list_all}
@@ -22,7 +22,7 @@ pub within : (p : Place) (xs : List ℕ) → ((place_from p xs).line ≤ p.line 
 within p [] = (omega arith, omega arith)
 within p (c ∷ xs) = let r = within (next_place p c) xs in let n = next_within p c in (omega arith, omega arith)
 
--- the test on the bytes before says what the front of a line is -------------------------------------------------------
+-- the test on the bytes before says what the start of a line is -------------------------------------------------------
 
 blanks_fresh : (blanks : List ℕ) → list_all is_space_or_tab blanks ≡ true → fresh_after_bytes true blanks ≡ true
 blanks_fresh [] h = refl

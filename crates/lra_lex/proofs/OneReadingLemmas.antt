@@ -185,7 +185,7 @@ token_one before s t rest k l h i =
     let kinds = spells_one s k.kind l.kind h.spells (subst (λ (z : List ℕ). SpellsToken z l.kind) (sym same) i.spells) in
     (same, token_same k l kinds (h.place ∙ sym i.place))
 
--- behind pieces that are the same
+-- after pieces that are the same
 abbrev Same : List Fragment → List Fragment → List ℕ → List ℕ → Type 0
 Same ps qs r u = (ps ≡ qs) × (r ≡ u)
 

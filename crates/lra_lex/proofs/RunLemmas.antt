@@ -1,4 +1,4 @@
--- The run of bytes at the front that pass a test: all of them pass, and what stands behind begins with none that does.
+-- The run of bytes at the start that pass a test: all of them pass, and what comes after begins with none that does.
 use Rattle.std.proofs.Common.{◌≡◌, ℕ, zero, suc, ◌+◌, ◌≤◌, Bool, true, false, List, [], ◌∷◌, ◌++◌, length, take, drop, refl, ap, subst, arith, inl, inr, ◌⊎◌}
 use Rattle.std.proofs.lemmas.Bool.{and_from, and_parts, both_ways, cases_Bool}
 use Rattle.std.specs.List.{list_all, prefix_len}
@@ -26,7 +26,7 @@ run_longest p (c ∷ xs) ys h =
     let k = and_parts (p c) (list_all p xs) h in
     let r = run_longest p xs ys k.1 in rw k.0 (omega arith)
 
--- what a run is: its bytes, and what stands behind
+-- what a run is: its bytes, and what comes after
 pub record IsRun (p : ℕ → Bool) (xs s after : List ℕ) : Type 0 where
   pub parts : xs ≡ s ++ after
   pub passes : list_all p s ≡ true

@@ -1,4 +1,4 @@
--- The token at the front.
+-- The token at the start.
 use Rattle.std.proofs.Common.{◌≡◌, ℕ, suc, ◌<◌, ◌≤◌, true, false, List, [], ◌∷◌, length, get_or, take, drop, Option, Some, None, refl, sym, ap, ◌∙◌, subst, arith, inl, inr, min}
 use Rattle.std.proofs.{lemmas.Bool.cases_lt, lemmas.Bool.and_from, lemmas.Bool.leb-true, lemmas.List.take_at, lemmas.List.take_all, lemmas.List.length-take, lemmas.List.Sums.prefix_len-le-length}
 use Rattle.std.specs.List.{list_all, prefix_len}

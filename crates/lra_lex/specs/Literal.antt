@@ -11,7 +11,7 @@ base_of Octal = octal
 base_of Decimal = decimal_base
 base_of Hexadecimal = hexadecimal
 
--- the base that the first two bytes tell
+-- the base that the first two bytes report
 abbrev pub base_at : List ℕ → Base
 base_at s = if nat_eq (slice_index s 0) 48 then (if nat_eq (slice_index s 1) 120 || nat_eq (slice_index s 1) 88
     then hexadecimal else octal) else decimal_base

@@ -1,4 +1,4 @@
--- What stands at the front of the bytes that are left.
+-- What stands at the start of the bytes that are left.
 use Rattle.std.specs.Prelude.{◌≡◌, ℕ, ◌+◌, ◌-◌, ◌<◌, ◌≤◌, Bool, true, List, ◌++◌, nat_eq, ◌&&◌, Option, codes, length}
 use Rattle.std.specs.Prelude.{slice_index, take, drop, find, bytes_eq}
 use Rattle.std.specs.{List.list_all, Option.option_or}
@@ -21,7 +21,7 @@ opens_comment s = nat_eq (slice_index s 0) 47 && nat_eq (slice_index s 1) 42
 abbrev pub IsCloseAt : List ℕ → ℕ → Type 0
 IsCloseAt s k = (slice_index s k ≡ 42) × (slice_index s (k + 1) ≡ 47)
 
--- the first `*/` ends behind n bytes
+-- the first `*/` ends after n bytes
 pub record IsFirstClose (s : List ℕ) (n : ℕ) : Type 0 where
   pub at_least : 2 ≤ n
   pub within : n ≤ length s
@@ -36,13 +36,13 @@ pub record IsInclude (s : List ℕ) : Type 0 where
   pub only_blanks : list_all is_space_or_tab blanks ≡ true
   pub word_ends : IsWordEnd text
 
--- the first n bytes are a gap, behind any bytes that leave the front of a line as told
+-- the first n bytes are a gap, after any bytes that leave the start of a line as stated
 pub record BeginsGap (fresh : Bool) (rest : List ℕ) (n : ℕ) : Type 0 where
   pub some : 0 < n
   pub within : n ≤ length rest
   pub is_gap : (before : List ℕ) → fresh ≡ fresh_after_bytes true before → IsGap before (take n rest) (drop n rest)
 
--- no gap is there, behind any such bytes; a comment that begins is never closed
+-- no gap is there, after any such bytes; a comment that begins is never closed
 pub record HasNoGap (fresh : Bool) (rest : List ℕ) : Type 0 where
   pub no_gap : (before : List ℕ) → fresh ≡ fresh_after_bytes true before → NoGap before rest
   pub unclosed : opens_comment rest ≡ true → IsUnclosed rest

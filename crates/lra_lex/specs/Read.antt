@@ -1,4 +1,4 @@
--- What a call found at the front of the bytes that are left.
+-- What a call found at the start of the bytes that are left.
 use Rattle.std.specs.Prelude.{◌≡◌, ℕ, ◌<◌, ◌≤◌, Bool, true, List, [], ◌∷◌, ◌++◌, length, take, drop, Option, Some, None}
 use Rattle.lra_base.specs.declared.refusals.Cause.TheVariants.{BadByte, BadLiteral}
 use Rattle.lra_base.specs.declared.refusals.Refusal.{Refusal}
@@ -27,7 +27,7 @@ abbrev pub IsFoundAs : List ℕ → Option Kind → List ℕ → List ℕ → Ty
 IsFoundAs before None s after = IsGap before s after
 IsFoundAs before (Some k) s after = NoGap before (s ++ after) × IsLongest s (s ++ after) × SpellsToken s k
 
--- the first bytes are what was found, behind any bytes that leave the front of a line as told
+-- the first bytes are what was found, after any bytes that leave the start of a line as stated
 pub record BeginsFound (fresh : Bool) (rest : List ℕ) (f : Found) : Type 0 where
   pub some : 0 < f.length
   pub within : f.length ≤ length rest

@@ -34,7 +34,7 @@ pub fn is_space_or_tab(byte: u8) -> bool
     byte == b' ' || byte == b'\t'
 }
 
-/// How many bytes at the front go on a word.
+/// How many bytes at the start go on a word.
 pub fn word_length(bytes: &[u8]) -> usize
     ensures { result ≡ prefix_len is_word_byte bytes.now }
 {
@@ -48,7 +48,7 @@ pub fn line_length(bytes: &[u8]) -> usize
     bytes.iter().take_while(|byte| **byte != b'\n').count()
 }
 
-/// How many spaces and tabs stand at the front.
+/// How many spaces and tabs stand at the start.
 pub fn indent(bytes: &[u8]) -> usize
     ensures { result ≡ prefix_len is_space_or_tab bytes.now }
 {

@@ -6,7 +6,7 @@ ghost use Rattle.lra_syntax.specs.Constants.{constants_of, is_minus, is_small, l
 use lra_syntax::{Kind, Mark, Token};
 use std::alloc::{AllocError, Global};
 
-/// No more constants than these are taken.
+/// No more constants than these are accepted.
 const MOST_CONSTANTS: usize = 64;
 
 /// None of a greater magnitude.
@@ -34,7 +34,7 @@ fn small_literal(minus: bool, number: u64) -> Option<i64>
     if minus { Some(-value) } else { Some(value) }
 }
 
-/// The literal's value comes behind the others, unless they are full, or it is among them, or it is too large.
+/// The literal's value comes after the others, unless they are full, or it is among them, or it is too large.
 fn take_literal(constants: &mut Vec<i64>, minus: bool, number: u64) -> Result<(), AllocError>
     ensures { OnOk result (constants.new.items ≡ with_constant constants.old.items (signed minus number)) }
 {

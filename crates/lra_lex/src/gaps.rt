@@ -18,7 +18,7 @@ fn find_close(text: &[u8]) -> Option<usize>
     None
 }
 
-/// How many bytes a comment at the front has.
+/// How many bytes a comment at the start has.
 fn comment_length(rest: &[u8]) -> Option<usize>
     requires { slice_index rest.now 0 ≡ 47 }
     ensures found { IfSome result (λ n. (fresh : Bool) → BeginsGap fresh rest.now n) }
@@ -40,7 +40,7 @@ fn comment_length(rest: &[u8]) -> Option<usize>
     }
 }
 
-/// Whether `#include` stands at the front, with spaces or tabs behind the `#` or without.
+/// Whether `#include` stands at the start, with spaces or tabs after the `#` or without.
 fn is_include(rest: &[u8]) -> bool
     requires { 0 < length rest.now }
     ensures { IsTrue result ↔ IsInclude rest.now }
@@ -51,7 +51,7 @@ fn is_include(rest: &[u8]) -> bool
     sharp == b"#".as_slice() && word == b"include".as_slice()
 }
 
-/// How many bytes a gap at the front has. `fresh` tells that only spaces and tabs stand before it on the line.
+/// How many bytes a gap at the start has. `fresh` says that only spaces and tabs stand before it on the line.
 pub fn gap_length(rest: &[u8], fresh: bool) -> Option<usize>
     requires { 0 < length rest.now }
     ensures found { IfSome result (BeginsGap fresh rest.now) }

@@ -18,7 +18,7 @@ use lra_base::{Cause, Place, Refusal, SourceError};
 use lra_syntax::{Kind, Mark, Token, Word};
 use std::alloc::{AllocError, Global};
 
-/// What stands at the front: a token of a kind, or a gap.
+/// What stands at the start: a token of a kind, or a gap.
 #[derive(Drop)]
 struct Found {
     length: usize,
@@ -51,7 +51,7 @@ fn word_kind(alloc: Global, word: &[u8]) -> Result<Kind, AllocError>
     }
 }
 
-/// The length and kind of the word at the front.
+/// The length and kind of the word at the start.
 fn read_word(alloc: Global, rest: &[u8]) -> Result<(usize, Kind), AllocError>
     requires some { 0 < length rest.now }
     requires begins { is_letter (slice_index rest.now 0) ≡ true }
@@ -62,7 +62,7 @@ fn read_word(alloc: Global, rest: &[u8]) -> Result<(usize, Kind), AllocError>
     Ok((length, word_kind(alloc, word)?))
 }
 
-/// The length and kind of the literal at the front, if the word there is one.
+/// The length and kind of the literal at the start, if the word there is one.
 fn read_number(rest: &[u8]) -> Option<(usize, Kind)>
     requires some { 0 < length rest.now }
     requires begins { is_digit (slice_index rest.now 0) ≡ true }
@@ -83,7 +83,7 @@ fn opens_comment(rest: &[u8]) -> bool
     rest.len() > 1 && rest[0] == b'/' && rest[1] == b'*'
 }
 
-/// The longest operator at the front.
+/// The longest operator at the start.
 fn longest_operator(rest: &[u8]) -> Option<Mark>
     requires { 0 < length rest.now }
     ensures { result ≡ operator_at rest.now }
@@ -96,7 +96,7 @@ fn longest_operator(rest: &[u8]) -> Option<Mark>
     }
 }
 
-/// The length and kind of the operator at the front.
+/// The length and kind of the operator at the start.
 fn read_operator(rest: &[u8]) -> Option<(usize, Kind)>
     requires some { 0 < length rest.now }
     requires no_word { is_word_byte (slice_index rest.now 0) ≡ false }
@@ -110,7 +110,7 @@ fn read_operator(rest: &[u8]) -> Option<(usize, Kind)>
     }
 }
 
-/// The length and kind of the token at the front, where no gap is.
+/// The length and kind of the token at the start, where no gap is.
 fn read_token(alloc: Global, rest: &[u8], place: Place) -> Result<(usize, Kind), SourceError>
     requires some { 0 < length rest.now }
     requires unclosed { opens_comment rest.now ≡ true → IsUnclosed rest.now }
@@ -142,7 +142,7 @@ fn read_token(alloc: Global, rest: &[u8], place: Place) -> Result<(usize, Kind),
     }
 }
 
-/// What stands at the front.
+/// What stands at the start.
 fn find(alloc: Global, rest: &[u8], spot: Spot) -> Result<Found, SourceError>
     requires { 0 < length rest.now }
     ensures found { IfOk result (BeginsFound spot.fresh rest.now) }
@@ -160,7 +160,7 @@ fn find(alloc: Global, rest: &[u8], spot: Spot) -> Result<Found, SourceError>
     }
 }
 
-/// Puts the token, if what was found is one, behind the others.
+/// Puts the token, if what was found is one, after the others.
 fn keep(tokens: &mut Vec<Token>, kind: Option<Kind>, place: Place) -> Result<(), AllocError>
     ensures { OnOk result (tokens.new.items ≡ tokens.old.items ++ found_tokens kind place) }
 {
@@ -170,7 +170,7 @@ fn keep(tokens: &mut Vec<Token>, kind: Option<Kind>, place: Place) -> Result<(),
     }
 }
 
-/// The tokens of the source, each the longest spelling at its place, and the end behind its last byte; or its first
+/// The tokens of the source, each the longest spelling at its place, and the end after its last byte; or its first
 /// fault.
 /// The time is linear in the source's length.
 pub fn tokens(alloc: Global, source: &[u8]) -> Result<Vec<Token>, SourceError>

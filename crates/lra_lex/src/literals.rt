@@ -26,7 +26,7 @@ enum Radix {
 }
 
 impl Radix {
-    /// The base that the first bytes of the word tell.
+    /// The base that the first bytes of the word report.
     fn of_word(word: &[u8]) -> Radix
         ensures base { base_of result ≡ base_at word.now }
         ensures within { 0 < length word.now → front_size (base_of result) ≤ length word.now }
@@ -72,7 +72,7 @@ impl Radix {
         }
     }
 
-    /// How many digits stand at the front.
+    /// How many digits stand at the start.
     fn digits_length(self, bytes: &[u8]) -> usize
         ensures { result ≡ prefix_len (is_digit_of (base_of self)) bytes.now }
     {

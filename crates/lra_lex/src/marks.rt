@@ -148,7 +148,7 @@ pub fn spelling_of(mark: Mark) -> &'static [u8]
     }
 }
 
-/// Whether the mark is spelled like this, which the first byte mostly tells.
+/// Whether the mark is spelled like this, which the first byte mostly reports.
 fn has_spelling(mark: Mark, spelling: &[u8]) -> bool
     ensures { result ≡ bytes_eq (mark_text mark) spelling.now }
 {

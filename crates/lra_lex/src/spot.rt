@@ -15,7 +15,7 @@ pub struct Spot {
 }
 
 impl Spot {
-    /// The spot behind the bytes.
+    /// The spot after the bytes.
     pub fn advance(self, bytes: &[u8]) -> Spot
         requires lines { self.place.line + length bytes.now < 2 ^ 32 }
         requires columns { self.place.column + length bytes.now < 2 ^ 32 }

@@ -177,7 +177,7 @@ support system (r ∷ rows) h (suc f ∷ fs) =
 pub both_positive : (k a : ℕ) → 0 < k → 0 < a → 0 < k * a
 both_positive k a p q = grind arith
 
--- ---- one step with pairs left out: what is told of the setting stands in `AdjacentStep`
+-- ---- one step with pairs left out: what is reported about the setting stands in `AdjacentStep`
 module _ {w : ℕ} {c : List ℤ} {system rays lines target : List (List ℤ)} (g : AdjacentStep w c system rays lines target) where
   -- f t + y = k r with f above 0, for two different rays: not so
   clash : (r t : List ℤ) → Contains rays r → Contains rays t → ¬ (t ≡ r) → (f k : ℕ) (y : ℕ → ℤ) → 0 < f → Generated (rays ++ lines) y → ((j : ℕ) → (pos f *ℤ entry t j) +ℤ y j ≡ pos k *ℤ entry r j) →

@@ -53,7 +53,7 @@ contains_middle front x back t k = elim (contains_cases x t (front ++ back) k) [
   ]
 ]
 
--- the list with x between a front and a back
+-- the list with x between a prefix and a suffix
 pub record Split {A : Type 0} (xs : List A) (x : A) : Type 0 where
   pub front : List A
   pub back : List A

@@ -1,6 +1,6 @@
 -- The step of the double description method (Motzkin, Raiffa, Thompson and Thrall 1953): where rows generate the solutions of a
 -- system, the rows of the step with c generate the solutions of the system with c. A sum of rows is a vector of the target and a sum
--- of rows with negative products, which are taken in one at a time.
+-- of rows with negative products, which are added one at a time.
 use Rattle.std.proofs.Common.{List, [], ap, arith, inl, inr, neg_ℤ, negsuc, pos, refl, subst, suc, sym, zero, ℕ, ℤ, ◌*ℤ◌, ◌+ℤ◌, ◌<ℤ◌, ◌∙◌, ◌∷◌, ◌≡◌, ◌≤ℤ◌}
 use Rattle.std.proofs.{Math.IntN.+ℤ_assoc, Math.IntN.+ℤ_comm, lemmas.Int.ints}
 use Rattle.std.specs.List.{Contains}
@@ -52,7 +52,7 @@ step_bent c rows target s n has neg t k =
       | inr z ↦ flat z
     ]
 
--- one row n with a negative product is taken in
+-- one row n with a negative product is added
 absorb_one : (c : List ℤ) (rows target : List (List ℤ)) → StepOf c rows target → (n : List ℤ) → Contains rows n → dot c (entry n) <ℤ pos 0 →
     (u : ℕ → ℤ) (l : ℕ) → Generated target u → pos 0 ≤ℤ dot c u → pos 0 ≤ℤ (dot c u +ℤ pos l *ℤ dot c (entry n)) → Generated target (λ j. u j +ℤ pos l *ℤ entry n j)
 absorb_one c rows target s n has neg u l g h k =
@@ -132,7 +132,7 @@ sum_nonpos c (r ∷ rows) h (f ∷ fs) =
     let rest : dot c s ≤ℤ pos 0 = sum_nonpos c rows (λ y k. h y (contains_tail r y rows k)) fs in
     subst (λ z. z ≤ℤ pos 0) (sym (dot_plus c (pos f) x s)) (add_nonpositive (pos f *ℤ dot c x) (dot c s) one rest)
 
--- all of them are taken in, one at a time: the products only fall, so each stays at least 0
+-- all of them are added, one at a time: the products only fall, so each stays at least 0
 absorb_all : (c : List ℤ) (all target : List (List ℤ)) → StepOf c all target → (rows : List (List ℤ)) → ((n : List ℤ) → Contains rows n → Contains all n × (dot c (entry n) <ℤ pos 0)) →
     (fs : List ℕ) (u : ℕ → ℤ) → Generated target u → pos 0 ≤ℤ (dot c u +ℤ dot c (sum_of fs rows)) → Generated target (λ j. u j +ℤ sum_of fs rows j)
 absorb_all c all target s rows h [] u g k = generated_same target u (λ j. u j +ℤ pos 0) (λ j. omega (arith, ints)) g

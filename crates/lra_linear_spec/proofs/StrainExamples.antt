@@ -1,6 +1,6 @@
--- Worked examples of strain: a list of constraints that strains by its third row only, in one dimension; an image one of whose
--- numbers passes the range, and one whose numbers just fit; two points that fit, since a line isn't taken with itself; and an
--- inclusion that fails at a line. M is the greatest number of the range.
+-- Worked examples of strain: a list of constraints that exceeds a limit by its third row only, in one dimension; an
+-- image one of whose numbers passes the range, and one whose numbers just fit; two points that fit, since a line isn't
+-- taken with itself; and an inclusion that fails at a line. M is the greatest number of the range.
 use Rattle.std.proofs.Common.{Bool, Err, List, Ok, Result, [], ap, arith, inl, inr, length, neg_ℤ, negsuc, pos, refl, subst, suc, sym, true, zero, ℕ, ℤ, ◌*ℤ◌, ◌+ℤ◌, ◌++◌, ◌-◌, ◌<◌, ◌^◌, ◌∙◌, ◌∷◌, ◌≡◌}
 use Rattle.std.proofs.{Common.◌≤ℤ◌, Common.◌⊎◌, lemmas.Bool.and_parts, lemmas.Int.ints}
 use Rattle.std.specs.{List.Contains, List.list_all, Prelude.is_ok, Prelude.◌&&◌}
@@ -261,7 +261,7 @@ corner_dual = record {
 pub third_passes : checked_product doubled vertex ≡ Err (record { op = Product; left = pos 2; right = neg_ℤ (pos greatest) })
 third_passes = refl
 
--- so the list strains, by its third row after the two before it
+-- so the list exceeds a limit, by its third row after the two before it
 pub third_row_strains : Strains 2 three_rows (record {
   chosen = with_positivity 1 (inequality from_minus ∷ []);
   further = inequality doubled;
@@ -288,7 +288,8 @@ twice_passes = refl
 pub once_fits : checked_product (pos 0 ∷ pos 1 ∷ []) at_greatest ≡ Ok (pos greatest)
 once_fits = refl
 
--- the image by 2 x1 of a polyhedron with that point strains as the point is mapped, after the generators before it
+-- the image by 2 x1 of a polyhedron with that point exceeds a limit as the point is mapped, after the generators before
+-- it
 pub image_strains : (p : Polyhedron) (earlier later : List LinearRow) → p.generators ≡ earlier ++ generator at_greatest ∷ later →
     ImageStrains 1 (pos 0 ∷ pos 2 ∷ []) p (record { chosen = earlier; further = generator at_greatest; cause = Excess (record { op = Product; left = pos 2; right = pos greatest }) })
 image_strains p earlier later k = inl (record { later = later; is = k; excess = record { op = Product; left = pos 2; right = pos greatest }; is_cause = refl; passes = twice_passes })

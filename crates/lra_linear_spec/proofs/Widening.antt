@@ -115,7 +115,7 @@ standard_con n p q some = by_list p.generators some
       λ x is_point c r k t. c r (filter_has (is_tight p) q.rows r k t),
     )
 
--- the limited widening has the tight rows and the given rows that are valid on both
+-- the limited widening has the tight rows and the thresholds that are valid on both
 pub limited_con : (p q : Polyhedron) (given : List LinearRow) → HasPoint p → HasPoint q → SameSet p.dims (LimitedWidening p q given) (Con (tight_on p q ++ valid_on p q given))
 limited_con p q given h k = (
   λ x i l g m. elim (Contains-append_cases (tight_on p q) (valid_on p q given) g m) [

@@ -1,4 +1,4 @@
--- What strains a cone of lines and rays when a further row c is taken in: a product of c with one of its rows passes
+-- When a cone of lines and rays exceeds a limit as a further row c is added: a product of c with one of its rows passes
 -- the range, or the combination of two of them; or the cone with c has more rays than a description may have. A
 -- coefficient past the range is no strain by itself, only in such a product or combination.
 use Rattle.std.specs.List.{Contains}

@@ -1,8 +1,9 @@
--- Strain of the operations on polyhedra. An operation takes in a list of constraints, or of generators; it strains
--- where that list strains, where the canonical list of the other kind of its exact result does, or where a number
--- passes as a row of the list is formed. Inclusion, the greatest value of a form, and the widenings strain where one of
--- their products passes. Polyhedra stand here by their canonical lists, so the strain of an operation depends on the
--- sets alone. Rows are taken in as they are formed, not in lowest terms; k is a column, from 1 to n.
+-- Strain of the operations on polyhedra. An operation takes in a list of constraints, or of generators; it exceeds a
+-- limit where that list exceeds a limit, where the canonical list of the other kind of its exact result does, or where
+-- a number passes as a row of the list is formed. Inclusion, the greatest value of a form, and the widenings exceed a
+-- limit where one of their products passes. Polyhedra stand here by their canonical lists, so the strain of an
+-- operation depends on the sets alone. Rows are added as they are formed, not in lowest terms; k is a column, from 1 to
+-- n.
 use Rattle.std.specs.Prelude.{◌≡◌, ℕ, suc, ◌+◌, ◌-◌, ◌&&◌, ◌⊎◌, ℤ, pos, true, List, [], ◌∷◌, ◌++◌, take, slice_set}
 use Rattle.std.specs.{List.Contains, List.filter, Prelude.Result, Prelude.Err, Prelude.map}
 use Rattle.lra_linear_spec.specs.declared.Excess as E
@@ -15,11 +16,11 @@ use Rattle.lra_linear_spec.specs.Vectors.{cleared, substituted, zeros, units}
 use Rattle.lra_linear_spec.specs.Widening.{is_tight, is_valid, StandardWidening, LimitedWidening}
 use Rattle.lra_linear_spec.specs.{Points.PointSet, Strain.Loss, Strain.Strains, declared.Cause.TheVariants.Excess}
 
--- ---- lists taken in
+-- ---- lists added
 abbrev pub with_positivity : ℕ → List LinearRow → List LinearRow
 with_positivity n rows = inequality (positivity n) ∷ rows
 
--- the canonical constraints, or generators, of the exact result P strain
+-- the canonical constraints, or generators, of the exact result P exceed a limit
 pub record ResultStrains (n : ℕ) (P : PointSet) (list : Polyhedron → List LinearRow) (loss : Loss) : Type 0 where
   pub result : Polyhedron
   pub is_result : IsPolyhedronOf n P result
@@ -73,7 +74,7 @@ PreimageStrains k form p loss =
     FormingPasses (λ r. checked_substitution k form r.row) p.rows loss
     ⊎ ConstraintsStrain p.dims (Preimage k form (Con p.rows)) (substituted_rows k form p.rows) loss
 
--- ---- widenings: the canonical rows of Q that are tight on P, then the given rows that are valid on both
+-- ---- widenings: the canonical rows of Q that are tight on P, then the thresholds that are valid on both
 abbrev pub tight_on : Polyhedron → Polyhedron → List LinearRow
 tight_on p q = filter (is_tight p) q.rows
 
@@ -86,9 +87,9 @@ pub record IsResultList (n : ℕ) (P : PointSet) (generators : List LinearRow) :
   pub is_result : IsPolyhedronOf n P result
   pub are : generators ≡ result.generators
 
--- a product of a row of Q, or of a given row, with a generator of P, of Q or of the exact result R passes; no row
--- stands as chosen (the products of P's own rows with P's generators, by which tightness is told, are none of these:
--- they must be known to fit)
+-- a product of a row of Q, or of a widening threshold, with a generator of P, of Q or of the exact result R passes; no
+-- row stands as chosen (the products of P's own rows with P's generators, by which tightness is reported, are none of
+-- these: they must be known to fit)
 pub record WideningPasses (p q : Polyhedron) (given : List LinearRow) (R : PointSet) (loss : Loss) : Type 0 where
   pub excess : E.Excess
   pub is_cause : loss.cause ≡ Excess excess

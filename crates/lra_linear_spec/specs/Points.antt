@@ -1,6 +1,6 @@
 -- Rational points and sets of them. A point of n dimensions is a row of n + 1 whole numbers: a divisor above 0 in
 -- column 0, then the numerators of its coordinates. Rows that are multiples of one another are the same point. A set of
--- points is told by a fact about such rows. A store of whole numbers is a point with the divisor 1.
+-- points is given by a fact about such rows. A store of whole numbers is a point with the divisor 1.
 use Rattle.std.specs.Prelude.{◌≡◌, ℕ, suc, ℤ, pos, ◌*ℤ◌, ◌<ℤ◌, List, length}
 use Rattle.lra_linear_spec.specs.Vectors.{entry}
 

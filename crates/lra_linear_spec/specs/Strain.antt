@@ -1,8 +1,8 @@
--- Strain: from which numbers, exactly, a list that is taken in row by row may lose a row. The list is one of
+-- Strain: from which numbers, exactly, a list that is added row by row may lose a row. The list is one of
 -- constraints, with the positivity row first, or one of generators. Let S be a beginning of it and c the next row, or a
--- row of S; let S* be the canonical description of the other kind of what S describes. The list strains where a number
--- passes the range (1) in the product of c with a row of S*, or in what c and two rows of S* combine to, a line of S*
--- in either direction, but not with itself;
+-- row of S; let S* be the canonical description of the other kind of what S describes. The list exceeds a limit where a
+-- number passes the range (1) in the product of c with a row of S*, or in what c and two rows of S* combine to, a line
+-- of S* in either direction, but not with itself;
 -- (2) in a reduction, of at most as many steps as there are columns, by an echelon form;
 -- or where (3) S with c has a canonical description of one of the two kinds with too many rows.
 -- The rows that a reduction starts from, and the echelon forms by which it goes, are those of one kind:
@@ -23,7 +23,7 @@ use Rattle.lra_linear_spec.specs.Descriptions.{LinearRow, rows_of, system_of}
 use Rattle.lra_linear_spec.specs.declared.Cause.TheVariants.{Excess, TooMany}
 use Rattle.lra_linear_spec.specs.{Echelon.IsEchelonOf, Reduction.ReductionPasses, Vectors.product, declared.Cause.Cause}
 
--- what is told of a row that was left out: the rows taken before it, the row, and what passed
+-- what is reported about a row that was left out: the rows taken before it, the row, and what passed
 pub record Loss : Type 0 where
   pub chosen : List LinearRow
   pub further : LinearRow
@@ -108,7 +108,8 @@ IsStrained w chosen further lines rays (TooMany count) =
     HasTooMany w further.equal further.row lines rays count ⊎
     OwnTooMany w (with_row further.equal further.row (system_of chosen)) count
 
--- the list strains, as the loss tells: with the beginning `chosen` and the row `further`, the next one or one of those
+-- the list exceeds a limit, as the loss reports: with the beginning `chosen` and the row `further`, the next one or one
+-- of those
 pub record Strains (w : ℕ) (all : List LinearRow) (loss : Loss) : Type 0 where
   pub rest : List LinearRow
   pub begins : all ≡ loss.chosen ++ rest

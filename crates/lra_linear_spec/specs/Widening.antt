@@ -31,7 +31,7 @@ holds_with r g = cond (r.equal || g.equal) (saturates r g) (int_le (pos 0) (prod
 abbrev pub is_valid : Polyhedron → LinearRow → Bool
 is_valid p r = list_all (holds_with r) p.generators
 
--- that set met with each given row that is valid on both
+-- that set met with each widening threshold that is valid on both
 abbrev pub LimitedWidening : Polyhedron → Polyhedron → List LinearRow → PointSet
 LimitedWidening p q given x =
     StandardWidening p q x

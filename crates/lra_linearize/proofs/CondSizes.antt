@@ -25,7 +25,7 @@ row_in [] i d h = elim h [ ]
 row_in (c ∷ cs) zero d h = omega arith
 row_in (c ∷ cs) (suc i) d h = let inner = row_in cs i d (omega (arith, h)) in omega (arith, inner)
 
--- one behind the first of a chain is smaller than the chain
+-- one after the first of a chain is smaller than the chain
 pub size_in : (c : Cond) (cs : List Cond) (i : ℕ) (x : Cond) → i < length cs → x ≡ get_or cs i x → cond_size x < chain_size c cs
 size_in c cs i x h is =
     let inner = row_in cs i x h in

@@ -122,7 +122,7 @@ module _ (live base : ℕ) (first : Option Form) (f : Form) (os : List Operation
       let whole = behind_is below is so_far in
       rw (← some, ← also) at whole
 
--- ---- variables by their place in the store; one that is past all that may live is told by another such place
+-- ---- variables by their place in the store; one that is past all that may live is given by another such place
 live_past : (live k : ℕ) → live ≤ k → None ≡ live_form live k
 live_past live k h = ap (λ (b : Bool). if b then Some (variable_form live k) else None) (sym (le-ltb k live h))
 

@@ -1,4 +1,4 @@
--- Steps of the proofs on given rows.
+-- Steps of the proofs on widening thresholds.
 use Rattle.std.proofs.Common.{◌≡◌, ℕ, suc, ℤ, pos, negsuc, ◌*ℤ◌, List, [], ◌∷◌, ◌++◌, Option, Some, None, Bool, length, map, take, get_or, ◌+◌, ◌<◌, refl, sym, ap, subst, ◌∙◌, append_assoc}
 use Rattle.std.proofs.{Common.append-nil, lemmas.List.map-append, lemmas.List.map_more, lemmas.List.length-map}
 use Rattle.std.specs.Prelude.{◌-ℤ◌, neg_ℤ}
@@ -28,7 +28,7 @@ more_both s t u xs ys h k = record {
       ap (λ (ks : List ConKind). s.kinds ++ ks) (sym (map-append (λ (r : List ℤ). Ge) xs ys));
 }
 
--- the rows of a chain don't tell `&&` from `||`
+-- the rows of a chain don't distinguish `&&` from `||`
 pub any_rows : (live base : ℕ) (wanted : Bool) (c : Cond) (cs : List Cond) → guard_rows live base wanted (any_of c cs) ≡ guard_rows live base wanted (all_of c cs)
 any_rows live base wanted c [] = refl
 any_rows live base wanted c (d ∷ ds) = ap (λ (rs : List (List ℤ)). guard_rows live base wanted c ++ rs) (any_rows live base wanted d ds)

@@ -15,7 +15,7 @@ use Rattle.lra_linearize.proofs.FormSteps.{operation_is, chain_form, chain_none}
 
 -- forms over two variables more ---------------------------------------------------------------------------------------------
 
--- two numbers behind those that are there
+-- two numbers after those that are there
 two_pushed : (xs ys zs : List ℤ) (a b : ℤ) → ys ≡ xs ++ a ∷ [] → zs ≡ ys ++ b ∷ [] → zs ≡ xs ++ a ∷ b ∷ []
 two_pushed xs ys zs a b one two = two ∙ ap (λ (ws : List ℤ). ws ++ b ∷ []) one ∙ append_assoc xs (a ∷ []) (b ∷ [])
 

@@ -37,7 +37,7 @@ against_in_128 x y fits fit =
     ap (λ (z : ℤ). to_z w128 (of_z w128 (z +ℤ to_z w128 (of_z w128 (to_z w64 (of_z w64 y)))))) (opposite_in_128 x fits) ∙
     ap (λ (z : ℤ). to_z w128 (of_z w128 (neg_ℤ x +ℤ z))) (word_in_128 y fit) ∙ to_z-of_z w128 (neg_ℤ x +ℤ y) (grind (arith, ints))
 
--- ---- rows that are taken in
+-- ---- rows that are added
 folded_both : (so : List (List ℤ)) (xs ys : List (List ℤ)) → fold with_threshold_row so (xs ++ ys) ≡ fold with_threshold_row (fold with_threshold_row so xs) ys
 folded_both so [] ys = refl
 folded_both so (x ∷ xs) ys = folded_both (with_threshold_row so x) xs ys
@@ -52,12 +52,12 @@ taken_both s t u xs ys h k = record {
 pub against_width : (f : Form) (more : ℤ) → length (row_against f more) ≡ suc (length f.coefficients)
 against_width f more = ap suc (length-map f.coefficients neg_ℤ)
 
--- ---- rows that come behind unless they are the loop's own
+-- ---- rows that come after unless they are the loop's own
 pub added_both : (own : List (List ℤ)) (s t u : LinearSystem ConKind) (xs ys : List (List ℤ)) → HasMore s t (filter (λ x. not (is_among own x)) xs)
     → HasMore t u (filter (λ x. not (is_among own x)) ys) → HasMore s u (filter (λ x. not (is_among own x)) (xs ++ ys))
 added_both own s t u xs ys h k = subst (HasMore s u) (sym (filter-append (λ x. not (is_among own x)) xs ys)) (more_both s t u _ _ h k)
 
--- ---- conditions: the rows of a chain don't tell `&&` from `||`
+-- ---- conditions: the rows of a chain don't distinguish `&&` from `||`
 pub any_taken : (live base : ℕ) (c : Cond) (cs : List Cond) → condition_rows live base (any_of c cs) ≡ condition_rows live base (all_of c cs)
 any_taken live base c [] = refl
 any_taken live base c (d ∷ ds) = ap (λ (rs : List (List ℤ)). condition_rows live base c ++ rs) (any_taken live base d ds)
@@ -112,7 +112,7 @@ row_taken gs h i s t u past before one =
     let last : HasTaken t u (rows_in s.dims h) = subst (λ (n : ℕ). HasTaken t u (rows_in n h)) before.dims one in
     subst (HasTaken s u) (sym (row_rows s.dims (map node_view gs) h)) (taken_both s t u _ _ whole last)
 
--- a condition, and what comes behind it
+-- a condition, and what comes after it
 pub then_taken : (s t u : LinearSystem ConKind) (xs : List (List ℤ)) (ys : ℕ → List (List ℤ)) → HasTaken s t xs → HasTaken t u (ys t.dims) → HasTaken s u (xs ++ ys s.dims)
 then_taken s t u xs ys a b = taken_both s t u xs (ys s.dims) a (subst (λ (n : ℕ). HasTaken t u (ys n)) a.dims b)
 

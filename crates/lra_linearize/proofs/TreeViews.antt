@@ -57,23 +57,23 @@ pub taken_seen : {T E : Type 0} (r : outcome_or.Result T E) (s t : LinearSystem 
     → OnOk r (HasTaken s t (rows_in n g))
 taken_seen r s t n g h is taken = subst (λ (x : graph.Node). OnOk r (HasTaken s t (rows_in n x))) (sym is) taken
 
--- the rows of what stands before are there, those of what is taken in last come behind them
+-- the rows of what stands before are there, those of what is added last come after them
 pub last_taken : {T E : Type 0} (r : outcome_or.Result T E) (s t u : LinearSystem ConKind) (xs : List (List ℤ)) (ys : ℕ → List (List ℤ)) → HasTaken s t xs
     → OnOk r (HasTaken t u (ys t.dims)) → OnOk r (HasTaken s u (xs ++ ys s.dims))
 last_taken (outcome_or.Ok v) s t u xs ys a b = then_taken s t u xs ys a b
 last_taken (outcome_or.Err e) s t u xs ys a b = tt
 
--- the rows are these, told otherwise
+-- the rows are these, stated differently
 pub taken_as : {T E : Type 0} (r : outcome_or.Result T E) (s t : LinearSystem ConKind) (xs ys : List (List ℤ)) → xs ≡ ys → OnOk r (HasTaken s t ys) → OnOk r (HasTaken s t xs)
 taken_as r s t xs ys is taken = subst (λ (x : List (List ℤ)). OnOk r (HasTaken s t x)) (sym is) taken
 
--- the trees of a row are there, and the last behind them
+-- the trees of a row are there, and the last after them
 pub row_ends : {T E : Type 0} (r : outcome_or.Result T E) (gs : List Node) (h : graph.Node) (i : ℕ) (s t u : LinearSystem ConKind) → length gs ≤ i
     → HasTaken s t (flat_map (rows_in s.dims) (map node_view (take i gs))) → OnOk r (HasTaken t u (rows_in t.dims h)) → OnOk r (HasTaken s u (rows_in s.dims (row (map node_view gs) h)))
 row_ends (outcome_or.Ok v) gs h i s t u past before one = row_taken gs h i s t u past before one
 row_ends (outcome_or.Err e) gs h i s t u past before one = tt
 
--- a round of two: the step's rows are there, the body's come behind them
+-- a round of two: the step's rows are there, the body's come after them
 pub two_rounds : {T E : Type 0} (r : outcome_or.Result T E) (s t u : LinearSystem ConKind) (n : Node) (gs : Vec Node Global) (last : Box Node Global) (inner : Node) (step : List Node)
     → n ≡ Seq gs last → gs.items ≡ inner ∷ step → HasTaken s t (rows_in s.dims (row (map node_view step) (node_view last.value)))
     → OnOk r (HasTaken t u (rows_in t.dims (node_view inner))) → OnOk r (HasTaken s u (round_rows s.dims (node_view n)))
@@ -82,7 +82,7 @@ two_rounds r s t u n gs last inner step is two first behind =
     taken_as r s u _ _ (ap (round_rows s.dims) seen)
     (last_taken r s t u (rows_in s.dims (row (map node_view step) (node_view last.value))) (λ k. rows_in k (node_view inner)) first behind)
 
--- the rows of an arm, before those of the arms behind it
+-- the rows of an arm, before those of the arms after it
 pub entry_rows : (n : ℕ) (a : Arm) (l : CaseLabel) (h : graph.Arms) → a ≡ Entry l → rows_in_arms n (arm_view a h) ≡ rows_in_arms n h
 entry_rows n a l h is = ap (λ (x : Arm). rows_in_arms n (arm_view x h)) is ∙ ap (λ (f : ArmPart). rows_in_arms n (f h)) (entry_view l)
 
@@ -105,7 +105,7 @@ pub taken_dims : {T E : Type 0} (r : outcome_or.Result T E) (s t : LinearSystem 
 taken_dims (outcome_or.Ok v) s t rows taken = taken.dims
 taken_dims (outcome_or.Err e) s t rows taken = tt
 
--- what the arms from here on take in comes behind what those before took in
+-- what the arms from here on take in comes after what those before took in
 pub record IsTakenFrom (s t : LinearSystem ConKind) (arms behind : List Arm) : Type 0 where
   pub dims : t.dims ≡ s.dims
   pub rest : (all : LinearSystem ConKind) → HasTaken t all (rows_in_arms t.dims (arms_of (map arm_view behind)))

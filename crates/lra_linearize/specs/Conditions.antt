@@ -4,7 +4,7 @@ use Rattle.lra_program.specs.Program.{Cond}
 use Rattle.lra_domain.specs.Moves.{Moves, first_then, join_of}
 use Rattle.lra_analysis_spec.specs.MovesOf.{guard}
 
--- one behind the other
+-- one after the other
 abbrev pub in_turn_of : ℕ → ℕ → Bool → Cond → List Cond → Moves
 in_turn_of live base wanted c [] = guard live base wanted c
 in_turn_of live base wanted c (d ∷ ds) = first_then (guard live base wanted c) (in_turn_of live base wanted d ds)

@@ -1,10 +1,10 @@
--- Rows that are taken into a list, each once.
+-- Rows that are added to a list, each once.
 use Rattle.std.specs.Prelude.{◌≡◌, ℤ, List, fold, map}
 use Rattle.lra_systems.specs.LinearSystems.{LinearSystem}
 use Rattle.lra_linear_spec.specs.{declared.ConKind.ConKind, declared.ConKind.TheVariants.Ge}
 use Rattle.lra_analysis_spec.specs.Thresholds.{with_threshold_row}
 
--- the list has these inequalities more, behind the others: those that aren't there, and are narrow
+-- the list has these inequalities more, after the others: those that aren't there, and are narrow
 pub record HasTaken (old new : LinearSystem ConKind) (rows : List (List ℤ)) : Type 0 where
   pub dims : new.dims ≡ old.dims
   pub are : new.rows ≡ fold with_threshold_row old.rows rows

@@ -215,7 +215,7 @@ pub fn form_of_one(
     Ok(form)
 }
 
-/// Where the variable stands in the store; a place too large to be told is past every variable that may live.
+/// Where the variable stands in the store; a place too large to be reported is past every variable that may live.
 fn saturated_index(base: usize, slot: Slot) -> usize
     ensures { (result ≡ index_of base (slot_view slot)) ⊎
         ((2 ^ 62 ≤ result) × (2 ^ 62 ≤ index_of base (slot_view slot))) }

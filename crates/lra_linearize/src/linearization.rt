@@ -34,7 +34,7 @@ pub fn extend_form(
     Ok(form)
 }
 
-/// The form of a constant, and of the two variables behind the live ones.
+/// The form of a constant, and of the two variables after the live ones.
 pub fn form_behind(
     alloc: Global,
     live: usize,

@@ -65,7 +65,7 @@ fn is_among(rows: &[Row], row: &Row) -> bool
     false
 }
 
-/// The row comes behind the others, unless it is one of them, or has too large a number.
+/// The row comes after the others, unless it is one of them, or has too large a number.
 fn take_in(rows: &mut ConSys, row: Row) -> Result<(), AllocError>
     requires { length row ≡ suc rows.old.dims }
     ensures { OnOk result (HasTaken rows.old rows.new (row ∷ [])) }
@@ -76,7 +76,7 @@ fn take_in(rows: &mut ConSys, row: Row) -> Result<(), AllocError>
     Ok(())
 }
 
-/// The row comes behind the others, unless it is one of the loop's own.
+/// The row comes after the others, unless it is one of the loop's own.
 fn add_new(own: &ConSys, rows: &mut ConSys, row: Row) -> Result<(), AllocError>
     requires { length row ≡ suc rows.old.dims }
     ensures { OnOk result (HasMore rows.old rows.new
@@ -147,7 +147,7 @@ fn row_against(alloc: Global, form: &LinExpr, more: &i64) -> Result<Row, AllocEr
 
 // conditions ----------------------------------------------------------------------------------------------------------
 
-/// The rows `d - less >= 0` and `more - d >= 0` are taken in.
+/// The rows `d - less >= 0` and `more - d >= 0` are added.
 fn take_both(
     alloc: Global,
     d: &LinExpr,
@@ -163,7 +163,7 @@ fn take_both(
     take_in(rows, row_against(alloc, d, more)?)
 }
 
-/// The rows around a difference are taken in.
+/// The rows around a difference are added.
 fn take_around(alloc: Global, d: &LinExpr, rows: &mut ConSys) -> Result<(), AllocError>
     requires { length d.now.coefficients ≡ rows.old.dims }
     ensures { OnOk result (HasTaken rows.old rows.new (rows_around (Some d.now))) }
@@ -173,7 +173,7 @@ fn take_around(alloc: Global, d: &LinExpr, rows: &mut ConSys) -> Result<(), Allo
     take_both(alloc, d, &-1, &1, rows)
 }
 
-/// The rows around a comparison are taken in; none where its difference isn't linear, or a variable doesn't live.
+/// The rows around a comparison are added; none where its difference isn't linear, or a variable doesn't live.
 fn take_comparison(
     alloc: Global,
     base: usize,
@@ -191,7 +191,7 @@ fn take_comparison(
     take_around(alloc, &d, rows)
 }
 
-/// The rows around the comparisons of a condition are taken in, in text order.
+/// The rows around the comparisons of a condition are added, in text order.
 #[cycle(condition)]
 fn take_condition(
     alloc: Global,
@@ -236,7 +236,7 @@ fn take_chain(
 
 // trees ---------------------------------------------------------------------------------------------------------------
 
-/// The rows around the condition of a change, if it is a test, are taken in.
+/// The rows around the condition of a change, if it is a test, are added.
 fn take_op(alloc: Global, op: &Op, rows: &mut ConSys) -> Result<(), AllocError>
     requires { rows.old.dims < 2 ^ 62 }
     ensures { OnOk result (HasTaken rows.old rows.new (op_rows rows.old.dims (op_view op.now))) }
@@ -247,7 +247,7 @@ fn take_op(alloc: Global, op: &Op, rows: &mut ConSys) -> Result<(), AllocError>
     }
 }
 
-/// The rows around the conditions of a tree are taken in, in text order.
+/// The rows around the conditions of a tree are added, in text order.
 #[cycle(tree)]
 fn take_tree(alloc: Global, node: &Node, rows: &mut ConSys) -> Result<(), AllocError>
     requires { rows.old.dims < 2 ^ 62 }
@@ -285,7 +285,7 @@ fn take_arms(alloc: Global, arms: &[Arm], rows: &mut ConSys) -> Result<(), Alloc
     Ok(())
 }
 
-/// Those of one arm, before those of the arms behind it.
+/// Those of one arm, before those of the arms after it.
 #[cycle(tree)]
 fn take_arm(alloc: Global, arm: &Arm, rows: &mut ConSys) -> Result<(), AllocError>
     requires { rows.old.dims < 2 ^ 62 }
@@ -319,7 +319,7 @@ fn take_trees(
     take_tree(alloc, last, rows)
 }
 
-/// Those of what a loop does in a round: its step stands behind its body in the tree, and before it in the text.
+/// Those of what a loop does in a round: its step comes after its body in the tree, and before it in the text.
 #[cycle(tree)]
 fn take_round(alloc: Global, body: &Node, rows: &mut ConSys) -> Result<(), AllocError>
     requires { rows.old.dims < 2 ^ 62 }
@@ -357,7 +357,7 @@ fn own_rows(
     Ok(rows)
 }
 
-/// The rows of a variable at one constant come behind the others.
+/// The rows of a variable at one constant come after the others.
 fn add_constant(
     alloc: Global,
     own: &ConSys,
@@ -373,7 +373,7 @@ fn add_constant(
     add_new(own, rows, row_against(alloc, variable, constant)?)
 }
 
-/// The rows of a variable at the constants come behind the others.
+/// The rows of a variable at the constants come after the others.
 fn add_constants(
     alloc: Global,
     own: &ConSys,

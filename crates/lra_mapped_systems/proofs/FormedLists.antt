@@ -171,7 +171,7 @@ pub substituted_fits : (k : ℕ) (form r t : List ℤ) (n d : ℕ) → t ≡ sub
     length r ≡ suc n → d ≡ n → length t ≡ suc d
 substituted_fits k form r t n d et f l e = ap length et ∙ substituted_length k form r (f ∙ sym l) ∙ l ∙ ap suc (sym e)
 
--- ---- as the code tells it
+-- ---- as the code states it
 pub listed_same : (list : LinearSystem ConKind) (rows : List (List ℤ)) (kinds : List ConKind) → rows ≡ list.rows →
     kinds ≡ list.kinds → rows_by_kind is_equality rows kinds ≡ constraints list
 listed_same list rows kinds er ek = ap (λ (l : List (List ℤ)). rows_by_kind is_equality l kinds) er ∙

@@ -1,4 +1,4 @@
--- Lists of generators, each mapped, or with a line behind them.
+-- Lists of generators, each mapped, or with a line after them.
 use Rattle.std.proofs.Common.{◌≡◌, ℕ, zero, suc, ◌+◌, ◌<◌, ◌≤◌, get_or, List, [], ◌∷◌, ◌++◌, length, map, take, ap, refl, sym, ◌∙◌, subst, ℤ, pos, ◌<ℤ◌, add-one, arith}
 use Rattle.std.proofs.{Math.Seq.take-suc, lemmas.List.map-append, lemmas.List.take_all}
 use Rattle.std.specs.List.{Contains}
@@ -52,7 +52,7 @@ kinds_more kinds all more i ea k em =
     em ∙ ap (λ (l : List GenKind). l ++ get_or kinds i Point ∷ []) ea ∙ sym (take-suc kinds i Point k) ∙
     ap (λ (j : ℕ). take j kinds) (sym (add-one i))
 
--- as the code tells it
+-- as the code states it
 pub mapped_listed : (f : List ℤ → List ℤ) (list all : LinearSystem GenKind) (rows : List (List ℤ)) (kinds : List GenKind)
     (i : ℕ) → all.rows ≡ map f (take i rows) → all.kinds ≡ take i kinds →
     rows ≡ list.rows → kinds ≡ list.kinds → length rows ≤ i → length kinds ≡ length list.rows →

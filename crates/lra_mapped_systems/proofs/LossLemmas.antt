@@ -31,7 +31,7 @@ loss_told list chosen rows kinds place row e loss ec er ek n h is el =
       is_cause = refl;
     })
 
--- the excess that an error tells
+-- the excess that an error says
 pub excess_of : {A : Type 0} (q : Result A E.Excess) (error : RowError) (e : E.Excess) → error ≡ of_row.Excess e →
     IsExcessOf q error → q ≡ Err e
 excess_of q error e is h = subst (IsExcessOf q) is h

@@ -1,4 +1,4 @@
--- A canonical description under a linear map that can be taken back, made canonical again: an echelon form of the mapped
+-- A canonical description under a linear map that can be inverted, made canonical again: an echelon form of the mapped
 -- lines, and the mapped rays reduced by it.
 use Rattle.std.proofs.Common.{◌≡◌, ℕ, List, [], ◌∷◌, ◌++◌, length, map, drop, get_or, ap, refl, sym, ◌∙◌, subst, ℤ, pos, neg_ℤ, ◌+ℤ◌, ◌*ℤ◌, arith, inl, inr}
 use Rattle.std.proofs.{lemmas.List.map-append, lemmas.List.Elements.Contains-append_cases, lemmas.List.Elements.Contains-append_left}
@@ -48,7 +48,7 @@ beside form (r ∷ rows) (x ∷ front) t back a =
       back_reduced = i.back_reduced;
     }
 
--- ---- taken back
+-- ---- mapped back
 signed_mapped : (f : (ℕ → ℤ) → ℕ → ℤ) → IsLinear f → (m : List ℤ → List ℤ) (zs : List ℤ) (rows : List (List ℤ)) →
     ((r : List ℤ) → Contains rows r → (j : ℕ) → entry (m r) j ≡ f (entry r) j) → (j : ℕ) → signed_sum zs (map m rows) j ≡ f (signed_sum zs rows) j
 signed_mapped f l m [] rows is j = sym (l.nothing j)
@@ -70,12 +70,12 @@ spanned_back f g m w lines u h widths s = record {
       h.back (signed_sum s.factors lines) j;
 }
 
--- the span of the lines, taken back into a cone that holds them in both directions
+-- the span of the lines, mapped back into a cone that holds them in both directions
 line_back : (f g : (ℕ → ℤ) → ℕ → ℤ) (m : List ℤ → List ℤ) (w : ℕ) (lines form target : List (List ℤ)) → IsReversible f g m w → ((t : List ℤ) → Contains lines t → length t ≡ w) →
     IsEchelonOf form (map m lines) → (u : ℕ → ℤ) → Spanned form u → Generated (all_rows lines target) (g u)
 line_back f g m w lines form target h widths is u s = spanned_in_cone lines target (g u) (spanned_back f g m w lines u h widths ((is.same u).0 s))
 
--- a reduced row taken back is a multiple of the row it came from, and of the lines
+-- a reduced row mapped back is a multiple of the row it came from, and of the lines
 along_back : (f g : (ℕ → ℤ) → ℕ → ℤ) (m : List ℤ → List ℤ) (w : ℕ) (form : List (List ℤ)) (r t : List ℤ) → IsReversible f g m w → length r ≡ w → (a : IsAlong form (m r) t) → (j : ℕ) →
     pos a.times *ℤ g (entry t) j ≡ (pos a.other *ℤ entry r j) +ℤ g a.line j
 along_back f g m w form r t h width a j =
@@ -137,7 +137,7 @@ opposite_back f g m w lines form target r t h width x given =
     (generated_times all a.times (g (λ i. neg_ℤ (entry t i))) given)
     (line_back f g m w lines form target h.reversible h.widths h.is_form a.line a.on_line)))
 
--- the cone of the new description, taken back, is that of the old one
+-- the cone of the new description, mapped back, is that of the old one
 cone_back : (f g : (ℕ → ℤ) → ℕ → ℤ) (m : List ℤ → List ℤ) (w : ℕ) (lines form rays ts : List (List ℤ)) (u : ℕ → ℤ) → IsMoved f g m w lines form → ((t : List ℤ) → Contains rays t → length t ≡ w) →
     AreReducedBy form (map m rays) ts → Generated (all_rows form ts) u → Generated (all_rows lines rays) (g u)
 cone_back f g m w lines form rays ts u h widths are x = generated_linear g h.reversible.back_linear (all_rows form ts) (all_rows lines rays) u
@@ -206,7 +206,7 @@ canonical_moved f g m w lines rays form ts h widths c are = record {
       (cone_back f g m w lines form rays ts (λ j. neg_ℤ (entry t j)) h widths are x));
 }
   where
-    -- taken back, a ray that the others hold would be held by the others
+    -- mapped back, a ray that the others hold would be held by the others
     held : (front : List (List ℤ)) (t : List ℤ) (back : List (List ℤ)) → ts ≡ front ++ t ∷ back →
         ((others : List (List ℤ)) → ((r : List ℤ) → Contains others r → length r ≡ w) → AreReducedBy form (map m others) (front ++ back) → Generated (all_rows lines others) (g (entry t))) → ⊥
     held front t back e x =

@@ -1,4 +1,4 @@
--- Numbers that pass as a list is moved and made canonical anew.
+-- Numbers that pass as a list is moved and made canonical again.
 use Rattle.std.proofs.Common.{◌≡◌, ℕ, ◌<◌, List, ◌∷◌, length, map, drop, get_or, ap, sym, ◌∙◌, subst, ℤ, inl, inr, Bool, false, IsTrue, Result, Err, suc}
 use Rattle.std.proofs.lemmas.List.Elements.{Contains-append_right}
 use Rattle.std.specs.List.{Contains}

@@ -50,7 +50,7 @@ direction_added base all more rows kinds i r t k ea n er ek et el m h e =
     ∙ ap (λ (l : List LinearRow). base ++ as_directions l) (sym (given_more is_line rows kinds i r Point m h e))
     ∙ ap (λ (j : ℕ). base ++ as_directions (front is_line rows kinds j)) (sym (add-one i))
 
--- ---- zeros behind a row
+-- ---- zeros after a row
 zeros_next : (n : ℕ) → zeros n ++ pos 0 ∷ [] ≡ zeros (suc n)
 zeros_next zero = refl
 zeros_next (suc n) = ap (λ (l : List ℤ). pos 0 ∷ l) (zeros_next n)

@@ -1,4 +1,4 @@
--- Assignments of forms that can be taken back: with 1 or -1 at the coordinate. The generators of a polyhedron are mapped
+-- Assignments of forms that can be inverted: with 1 or -1 at the coordinate. The generators of a polyhedron are mapped
 -- by the form, its constraints by the form that takes it back, and both stay dual.
 use Rattle.std.proofs.Common.{◌≡◌, ◌≢◌, ℕ, zero, suc, ◌<◌, List, [], ◌∷◌, length, map, ap, refl, sym, ◌∙◌, subst, ℤ, pos, negsuc, neg_ℤ, ◌+ℤ◌, ◌*ℤ◌, ◌≤ℤ◌, arith, inl, inr}
 use Rattle.std.proofs.{lemmas.Bool.cases_eq, lemmas.List.length-set}

@@ -1,4 +1,4 @@
--- Rows formed of the rows of a list by a form: which are formed, and what is told where a number passes in one.
+-- Rows formed of the rows of a list by a form: which are formed, and what is reported where a number passes in one.
 use Rattle.std.specs.List.{Contains}
 use Rattle.std.specs.Prelude.{◌≡◌, ◌⊎◌, ℕ, ℤ, List, [], ◌++◌, ◌∷◌, get_or, length, take, Option, IfNone, IfSome, Err}
 use Rattle.lra_linear_spec.specs.{CheckedArithmetic.checked_substitution, Descriptions.LinearRow, Kinds.is_equality}
@@ -24,8 +24,8 @@ abbrev pub AllFormed : ℕ → List ℤ → List LinearRow → List LinearRow �
 AllFormed k form rows formed = (g : LinearRow) → Contains rows g →
     Contains formed (substituted_given k form g) ⊎ ((e : E.Excess) × (checked_substitution k form g.row ≡ Err e))
 
--- the constraints that were formed of the rows before the place, with the form put in for column k, and what is told of
--- the first that was left out
+-- the constraints that were formed of the rows before the place, with the form put in for column k, and what is
+-- reported about the first that was left out
 pub record AreFormed (k : ℕ) (form : List ℤ) (n : ℕ) (rows : List (List ℤ)) (kinds : List ConKind) (i : ℕ)
     (all : LinearSystem ConKind) (lost : Option Loss) : Type 0 where
   pub dims : all.dims ≡ n

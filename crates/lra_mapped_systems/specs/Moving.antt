@@ -1,4 +1,4 @@
--- Assignments that can be taken back, and the canonical lists that are made of a polyhedron's by one.
+-- Assignments that can be inverted, and the canonical lists that are made of a polyhedron's by one.
 use Rattle.std.specs.List.{Contains}
 use Rattle.std.specs.Prelude.{◌≡◌, ◌≢◌, ◌⊎◌, ℕ, suc, ◌<◌, ℤ, pos, negsuc, neg_ℤ, ◌*ℤ◌, List, length, map, Err}
 use Rattle.lra_linear_spec.specs.declared.Excess as E
@@ -49,7 +49,7 @@ pub record IsAssignedList (n k : ℕ) (form : List ℤ) (given : List LinearRow)
     pub shown : ShowsGenerators lines rays list
 
 -- ---- a number that passes
--- nothing is said of want of memory
+-- nothing is said of running out of memory
 abbrev pub OnExcess : (E.Excess → Type 0) → RowError → Type 0
 OnExcess P (Excess e) = P e
 OnExcess P Memory = Unit {0}

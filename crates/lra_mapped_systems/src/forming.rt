@@ -1,4 +1,4 @@
-//! Generators and constraints formed anew by a form, which takes the place of a coordinate.
+//! Generators and constraints formed again by a form, which takes the place of a coordinate.
 
 ghost use Rattle.std.specs.List.{Contains};
 ghost use Rattle.std.specs.Prelude.{◌≡◌, ◌<◌, ◌+◌, suc, take, length, IfOk, IfErr, IfNone, IfSome, OnOk};
@@ -35,7 +35,7 @@ fn first_rows(alloc: Global, list: &ConSys, count: usize) -> Result<ConSys, Allo
     Ok(chosen)
 }
 
-// What is told of the row at the place, with those before it taken, where a number passes as it is formed.
+// What is reported about the row at the place, with those before it taken, where a number passes as it is formed.
 fn loss_at(alloc: Global, list: &ConSys, place: usize, excess: Excess) -> Result<Loss, AllocError>
     requires { place < length list.now.rows }
     ensures { IfOk result (IsLossAt (constraints list.now) list.now.rows place excess) }
@@ -77,7 +77,8 @@ pub fn assign_row(alloc: Global, row: &Row, column: usize, form: &Row) -> Result
     Ok(row)
 }
 
-/// The generators, each with the form's value as coordinate x; or what is told of the first with which a number passes.
+/// The generators, each with the form's value as coordinate x; or what is reported about the first with which a number
+/// passes.
 pub fn assign_list(
     alloc: Global,
     list: &GenSys,
@@ -112,15 +113,15 @@ pub fn assign_list(
     Ok(Ok(all))
 }
 
-/// Constraints that were formed anew, and what is told of the first that was left out.
+/// Constraints that were formed again, and what is reported about the first that was left out.
 #[derive(Drop)]
 pub struct Formed {
     pub list: ConSys,
     pub lost: Option<Loss>,
 }
 
-// Takes in the constraint at the place with the form put in for the column; or, where a number passes in it, what
-// is told of that, unless something is told already.
+// Takes in the constraint at the place with the form put in for the column; or, where a number passes in it, what is
+// reported about that, unless something is reported already.
 fn form_next(
     alloc: Global,
     list: &ConSys,
@@ -151,7 +152,7 @@ fn form_next(
 }
 
 /// The constraints with the form put in for the coordinate x, without those with which a number passes; and what is
-/// told of the first of those.
+/// reported about the first of those.
 pub fn substitute_list(
     alloc: Global,
     list: &ConSys,

@@ -145,7 +145,7 @@ pub fn directions_of(alloc: Global, list: &GenSys) -> Result<GenSys, AllocError>
     Ok(all)
 }
 
-// The row with k zeros behind it.
+// The row with k zeros after it.
 fn lengthen(alloc: Global, row: &Row, k: usize) -> Result<Row, AllocError>
     ensures { IfOk result (λ r. r ≡ row.now ++ zeros k) }
 {
@@ -174,7 +174,7 @@ fn lengthen_list(alloc: Global, list: &GenSys, k: usize) -> Result<GenSys, Alloc
     Ok(all)
 }
 
-// The generators, then a line along each of the dimensions behind the first n.
+// The generators, then a line along each of the dimensions after the first n.
 fn with_new_lines(alloc: Global, list: GenSys, n: usize, k: usize) -> Result<GenSys, AllocError>
     requires dims { list.dims ≡ n + k }
     requires small { n + k < too_many_dimensions }

@@ -1,4 +1,4 @@
-//! Both lists of a polyhedron under a form that can be taken back, each made canonical anew.
+//! Both lists of a polyhedron under a form that can be inverted, each made canonical again.
 
 ghost use Rattle.std.specs.List.{Contains};
 ghost use Rattle.std.specs.Prelude.{◌≡◌, ◌↔◌, ◌<◌, ◌++◌, ◌∷◌, [], IsTrue, cond, suc, pos, negsuc, map, length};
@@ -65,7 +65,7 @@ pub fn invert(alloc: Global, form: &Row, column: usize) -> Result<Option<Row>, A
     Ok(None)
 }
 
-// Takes the row in behind the lines, or behind the rays.
+// Takes the row in after the lines, or after the rays.
 fn push_part(parts: &mut Own, row: Row, is_line: bool) -> Result<(), AllocError>
     ensures lines { OnOk result (parts.new.lines.items ≡ parts.old.lines.items ++ cond is_line (row ∷ []) []) }
     ensures rays { OnOk result (parts.new.rays.items ≡ parts.old.rays.items ++ cond is_line [] (row ∷ [])) }

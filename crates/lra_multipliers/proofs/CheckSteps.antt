@@ -1,4 +1,4 @@
--- What the check answers, told from its columns.
+-- What the check answers, reported from its columns.
 use Rattle.std.proofs.Common.{◌≡◌, ℕ, zero, suc, ◌<◌, ◌≤◌, ◌+◌, ℤ, pos, ◌+ℤ◌, ◌*ℤ◌, ◌<ℤ◌, ◌≤ℤ◌, Bool, true, false, cond, List, [], ◌∷◌, length, Option, Some, None, Result, Ok, Err, refl, ap, sym, ◌∙◌}
 use Rattle.std.proofs.Common.{subst, arith, inl, inr, ◌⊎◌, nat_eq, FitsSigned, to_z, of_z}
 use Rattle.std.proofs.lemmas.Bool.Decides.{nat_tests, Decides-int_eq, Decides-and, Decides-like, Decides-eqb, same_from_decides}
@@ -206,7 +206,7 @@ premises_column_is : (rows : List (List ℤ)) (m : Multipliers) (j : ℕ) (y : �
 premises_column_is rows m j y e =
     column_from (first_of j m.constant) m.factors rows j (within_range (first_of j m.constant)) y (λ z f. within_is (first_of j m.constant) z f) e
 
--- ---- what the columns tell of the answer
+-- ---- what the columns say of the answer
 some_below : (f : ℕ → Option Bool) (n : ℕ) (t : Bool) → AgreeBelow f n t → (j : ℕ) → j < n → (b : Bool) × (f j ≡ Some b)
 some_below f n true a j h = (true, a j h)
 some_below f n false a j h = a.0 j h
@@ -434,7 +434,7 @@ checked_exact premises (c ∷ cs) m h w =
     exact_by premises (c ∷ cs) m (checked_multiple (c ∷ cs) m.divisor) (premises_sum premises (c ∷ cs) m) refl refl
     (λ row sum f g. shows_decided premises c cs m row sum w f g)
 
--- ---- as the code tells it
+-- ---- as the code states it
 pub checked_told : (premises : List LinearRow) (claim : List ℤ) (m : Multipliers) (t : Option Bool) → 0 < length claim → AreWide (length claim) premises →
     ColumnsTell (column_agrees (rows_of premises) claim m) (length claim) t → checked premises claim m ≡ answer_told (may_show premises m) t
 checked_told premises [] m t h w a = absurd (omega (arith, h))

@@ -1,5 +1,5 @@
 -- What a path does to its variables, as rows over symbols: one symbol for each variable at its source, and a new one
--- for each value of which nothing is told. Column 0 of a row is its constant. All rows of a path have one width.
+-- for each value of which nothing is reported. Column 0 of a row is its constant. All rows of a path have one width.
 use Rattle.std.specs.List.{range_with_len}
 use Rattle.std.specs.Prelude.{ℕ, suc, ◌+◌, ◌-◌, ℤ, pos, List, [], ◌∷◌, ◌++◌, map, length, take, slice_set, Result, Ok}
 use Rattle.lra_linear_spec.specs.CheckedArithmetic.{checked_added, and_then}

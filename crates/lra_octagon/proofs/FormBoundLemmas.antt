@@ -1,4 +1,4 @@
--- What is told of a form by the unary bounds, column by column.
+-- What is reported about a form by the unary bounds, column by column.
 use Rattle.std.proofs.Common.{◌+◌, ℕ, suc, ℤ, List, [], ◌∷◌, length, add-one, None, Some, subst}
 use Rattle.std.specs.Prelude.{Option}
 use Rattle.lra_dbm.specs.Tight.{Entries}

@@ -266,7 +266,7 @@ has_falling f b (suc k) c r l h d = elim (eqb_tells c (b + k)) [
   | inr e ↦ (let ne = e.1 in Contains-append_right (f (2 * (b + k) + 1)) (falling f b k) r (has_falling f b k c r l (omega (arith, h, ne)) d))
 ]
 
--- a row with i is that of some j behind it
+-- a row with i is that of some j after it
 abbrev WithSecond : ℕ → RowsAt → ℕ → List ℤ → Type 0
 WithSecond n f i r = (j : ℕ) × (j < 2 * n) × InOrder i j × Contains (f j) r
 

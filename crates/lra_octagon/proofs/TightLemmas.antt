@@ -63,7 +63,7 @@ joined_tight n (Some cs) (Some ds) f g t u = record {
       | inr e ↦ let r = u.attained i j h k c (subst (λ (o : Option ℤ). Some c ⊑ o) e le) in (r.0, in_right r.0 r.1, r.2)
     ]
 
--- ---- variables that go: an entry of the first ones is reached by the front of what reached it
+-- ---- variables that go: an entry of the first ones is reached by the prefix of what reached it
 first_inside : (n k : ℕ) (old : Cells) (i j : ℕ) → i < 2 * k → j < 2 * k → first_entries k (entries n old) i j ≡ entries n old i j
 first_inside n k old i j h l = elim (leb_tells (suc i) (2 * k)) as (λ _. first_entries k (entries n old) i j ≡ entries n old i j) [
   | inr f ↦ absurd (let q = f.1 in omega arith)

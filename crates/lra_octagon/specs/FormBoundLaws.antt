@@ -1,4 +1,4 @@
--- A form's value at each store lies within what is told of it, and one thing is told.
+-- A form's value at each store lies within what is reported about it, and one thing is reported.
 use Rattle.std.proofs.Common.{◌≡◌, ◌∙◌, ◌<◌, ◌*◌, ℕ, zero, suc, ℤ, pos, ◌+ℤ◌, ◌*ℤ◌, List, length, Bool, true, false}
 use Rattle.std.proofs.Common.{cond, Option, None, Some, refl, sym, ap, subst, arith}
 use Rattle.std.proofs.lemmas.Int.{ints}
@@ -115,7 +115,7 @@ told_between n None f l h s wide told has = absurd has
 told_between n (Some cells) f l h s wide told has =
     shape_between n (entries n cells) f (shape f) l h s refl wide has told
 
--- ---- one thing is told
+-- ---- one thing is reported
 both_one : (l h j k a b : Option ℤ) → (l ≡ a) × (h ≡ b) → (j ≡ a) × (k ≡ b) → (l ≡ j) × (h ≡ k)
 both_one l h j k a b is so = (is.0 ∙ sym so.0, is.1 ∙ sym so.1)
 

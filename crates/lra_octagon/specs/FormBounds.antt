@@ -1,6 +1,6 @@
--- What an octagon tells of the least and the greatest value of a form. A form with one coefficient of 1 or -1, or with
+-- What an octagon says of the least and the greatest value of a form. A form with one coefficient of 1 or -1, or with
 -- two, goes by the entry that bounds it, with one coefficient by half of it; every other goes by the unary bounds, as
--- over boxes. An infinite entry tells nothing, nor does a number that passes the range.
+-- over boxes. An infinite entry says nothing, nor does a number that passes the range.
 use Rattle.std.specs.Option.{option_map}
 use Rattle.std.specs.Prelude.{◌≡◌, ℕ, zero, suc, ℤ, neg_ℤ, Option, None, Some}
 use Rattle.lra_linear_forms.specs.Form.{Form}
@@ -33,7 +33,7 @@ ShapeTells n m f (Two (suc zero) i j) l h =
 ShapeTells n m f (Two (suc (suc k)) i j) l h = UnaryTell n m f l h
 ShapeTells n m f Other l h = UnaryTell n m f l h
 
--- an empty octagon tells nothing
+-- an empty octagon says nothing
 abbrev pub CellsTell : ℕ → Option Cells → Form → Option ℤ → Option ℤ → Type 0
 CellsTell n None f l h = (l ≡ None) × (h ≡ None)
 CellsTell n (Some cells) f l h = ShapeTells n (entries n cells) f (shape f) l h

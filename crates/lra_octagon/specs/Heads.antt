@@ -33,7 +33,7 @@ octagon_rank_number n (Some cells) = finite_cells cells
 abbrev pub octagon_rank : OctagonContent → Rank
 octagon_rank h = record { first = 1; second = 0; third = 0; fourth = octagon_rank_number h.dims h.cells }
 
--- an inclusion answers what is so, and never strains
+-- an inclusion answers what is so, and never exceeds a limit
 abbrev pub OctagonAnswers : OctagonContent → OctagonContent → Included → Type 0
 OctagonAnswers h a Yes = OctagonWithin a h
 OctagonAnswers h a No = ¬ OctagonWithin a h

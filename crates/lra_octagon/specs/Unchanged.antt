@@ -9,7 +9,7 @@ use Rattle.lra_octagon.specs.{Tables.quotient, declared.forms.FormShape.FormShap
 abbrev pub LowersNothing : ℕ → ℕ → ℕ → ℤ → Cells → Type 0
 LowersNothing n i j q cells = entries n cells i (opposite j) ⊑ Some q
 
--- so is that of the test `e >= 0`; of other shapes that isn't told
+-- so is that of the test `e >= 0`; of other shapes that isn't reported
 abbrev pub ShapeUnchanged : ℕ → Form → FormShape → Cells → Type 0
 ShapeUnchanged n e Constant cells = pos 0 ≤ℤ e.constant
 ShapeUnchanged n e (One m i) cells = LowersNothing n i i (quotient e m +ℤ quotient e m) cells

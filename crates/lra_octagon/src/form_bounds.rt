@@ -1,4 +1,4 @@
-//! What an octagon tells of a form, without memory: its least and its greatest value.
+//! What an octagon says of a form, without memory: its least and its greatest value.
 
 ghost use Rattle.std.specs.Prelude.{◌≡◌, ◌≤◌, ◌<◌, ◌*◌, ◌^◌, length, Some, IfSome};
 ghost use Rattle.lra_linear_spec.specs.Range.{InRange};
@@ -124,7 +124,7 @@ fn sum_ends(
     (low, high)
 }
 
-/// The least and the greatest value of the form, as the matrix tells them.
+/// The least and the greatest value of the form, as the matrix states them.
 fn matrix_tells(n: usize, matrix: &Dbm, e: &LinExpr) -> (Option<i128>, Option<i128>)
     requires few { n ≤ 2 ^ 30 }
     requires dims { matrix.now.dims ≡ n }
@@ -142,7 +142,7 @@ fn matrix_tells(n: usize, matrix: &Dbm, e: &LinExpr) -> (Option<i128>, Option<i1
     }
 }
 
-/// The least and the greatest value of the form, as they are told.
+/// The least and the greatest value of the form, as they are stated.
 pub fn bounds_of(n: usize, bounds: &Bounds, e: &LinExpr) -> (Option<i128>, Option<i128>)
     requires few { n ≤ 2 ^ 30 }
     requires dims { DimsFit n bounds.now }

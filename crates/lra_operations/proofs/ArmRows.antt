@@ -1,4 +1,4 @@
--- The arms that run behind a label are those trees, one after the other.
+-- The arms that run after a label are those trees, one after the other.
 use Rattle.std.proofs.Common.{◌≡◌, ℕ, Bool, true, false, ◌++◌, Option, inl, inr, refl, ap}
 use Rattle.std.specs.Prelude.{cond}
 use Rattle.lra_base.specs.{CaseLabels.is_same_case, declared.case_labels.CaseLabel.CaseLabel, declared.number_types.NumberType.NumberType}
@@ -11,7 +11,7 @@ arms_row no_arms = empty
 arms_row (entry l arms) = arms_row arms
 arms_row (arm a arms) = seq a (arms_row arms)
 
--- behind the label, where it stands
+-- after the label, where it stands
 abbrev pub row_behind : CaseLabel → Arms → Node
 row_behind l no_arms = empty
 row_behind l (entry k arms) = cond (is_same_case l k) (arms_row arms) (row_behind l arms)

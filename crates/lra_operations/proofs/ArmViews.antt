@@ -1,4 +1,4 @@
--- Arms of a `switch` as they are seen: each is a label or a tree, before those behind it.
+-- Arms of a `switch` as they are seen: each is a label or a tree, before those after it.
 use Rattle.std.proofs.Common.{rules, ◌≡◌, ◌∙◌, ◌∷◌, [], List, Bool, false, map, ap, sym}
 use Rattle.std.specs.{List.list_any, Prelude.◌||◌}
 use Rattle.lra_base.specs.{CaseLabels.is_same_case, declared.case_labels.CaseLabel.CaseLabel, declared.case_labels.CaseLabel.TheVariants.Default}
@@ -17,7 +17,7 @@ entry_seen a l h is = ap (λ (x : Arm). arm_view x h) is ∙ ap (λ (f : ArmPart
 pub tree_seen : (a : Arm) (g : Node) (h : Arms) → a ≡ Tree g → arm_view a h ≡ arm (node_view g) h
 tree_seen a g h is = ap (λ (x : Arm). arm_view x h) is ∙ ap (λ (f : ArmPart). f h) (tree_view g)
 
--- the first, and those behind it
+-- the first, and those after it
 pub arms_first : (arms behind : List Arm) (a : Arm) → arms ≡ a ∷ behind → arms_of (map arm_view arms) ≡ arm_view a (arms_of (map arm_view behind))
 arms_first arms behind a is = ap (λ (xs : List Arm). arms_of (map arm_view xs)) is
 

@@ -23,7 +23,7 @@ whole_of_choose q base c a b = search (rules, node_lemmas)
 hung_of_choose : (q base : ℕ) (c : Cond) (a b : Box Node Global) → hung_size (at.Choose q base c a b) ≡ 1 + (hung_size a.value + whole_size b.value)
 hung_of_choose q base c a b = search (rules, node_lemmas)
 
--- the last tree of a row is taken out, and the rest hangs in its box
+-- the last tree of a row is removed, and the rest hangs in its box
 pub seq_smaller : (gs : Vec Node Global) (b : Box Node Global) (rest : Node) →
     whole_size b.value + hung_size (at.Seq gs (with_value b rest)) < whole_size (at.Seq gs b) + hung_size rest
 seq_smaller gs b rest = omega (arith, whole_of_seq gs b, hung_of_seq gs (with_value b rest))
@@ -85,7 +85,7 @@ hung_with q base e arms more a is = omega (
   hung_behind (sizes_of arms.items) (arm_sizes a),
 )
 
--- the last arm's tree is taken out, and the rest hangs in its place
+-- the last arm's tree is removed, and the rest hangs in its place
 pub tree_smaller : (q base : ℕ) (e : Expr) (arms left hung : Vec Arm Global) (tree rest : Node) → arms.items ≡ left.items ++ of.Tree tree ∷ []
     → hung.items ≡ left.items ++ of.Tree rest ∷ []
     → whole_size tree + hung_size (at.Select q base e hung) < whole_size (at.Select q base e arms) + hung_size rest

@@ -1,4 +1,4 @@
--- Trails of small trees.
+-- Traces of small trees.
 use Rattle.std.proofs.Common.{ℕ, suc, ℤ, pos, [], ◌∷◌, false, inl, inr, refl}
 use Rattle.lra_base.specs.declared.case_labels.CaseLabel.TheVariants.{Case, Default}
 use Rattle.lra_base.specs.{Operators.plus, Operators.below, declared.number_types.NumberType.TheVariants.Int, declared.number_types.NumberType.TheVariants.Long}
@@ -29,7 +29,7 @@ counted : RunsUpTo (λ q. q) NoChange counting (starts (x_is (pos 1))) to_end
     (record { state = x_is (pos 2); events = visit 0 (x_is (pos 2)) ∷ visit 1 (x_is (pos 1)) ∷ visit 0 (x_is (pos 1)) ∷ [] })
 counted = (1, _, (_, refl, (_, (_, (refl, refl), (refl, refl)), (_, (refl, refl), (refl, refl)))), (_, (refl, refl), (refl, refl)))
 
--- it comes to the assignment in the first round, past the loop's point alone
+-- it reaches the assignment in the first round, past the loop's point alone
 in_the_round : RunsUpTo (λ q. q) NoChange counting (starts (x_is (pos 1))) (stopped (to_point 1))
     (record { state = x_is (pos 1); events = visit 0 (x_is (pos 1)) ∷ [] })
 in_the_round = (0, _, refl, inr (_, (_, (refl, refl), (refl, refl)), inl (refl, refl)))
@@ -46,7 +46,7 @@ failed : RunsUpTo (λ q. q) NoChange asserted (starts (x_is (pos 5))) (stopped (
     (record { state = x_is (pos 5); events = visit 7 (x_is (pos 5)) ∷ [] })
 failed = inr (_, (refl, refl), (refl, refl, _, refl))
 
--- ; break; : the jump comes out behind the loop, past the point before it
+-- ; break; : the jump comes out after the loop, past the point before it
 left : RunsUpTo (λ q. q) NoChange (catch 3 broken (seq (point 4) (leave 1 broken))) (starts (x_is (pos 0))) to_end (record { state = x_is (pos 0); events = visit 4 (x_is (pos 0)) ∷ [] })
 left = inr (inr (_, (refl, refl), (refl, refl)))
 
@@ -63,7 +63,8 @@ arms = entry Default (arm (point 1) (entry (Case (pos 2))
 abbrev switch_of_x : Node
 switch_of_x = catch 0 broken (select 0 0 (read x) arms)
 
--- from x = 2: past the points 2 and 3, and out by `break`; catches `default` that is entered though a value stands behind it
+-- from x = 2: past the points 2 and 3, and out by `break`; catches `default` that is entered though a value comes after
+-- it
 entered : RunsUpTo (λ q. q) NoChange switch_of_x (starts (x_is (pos 2))) to_end
     (record { state = x_is (pos 2); events = visit 3 (x_is (pos 2)) ∷ visit 2 (x_is (pos 2)) ∷ [] })
 entered = inr (Case (pos 2), _, ((pos 2, refl, refl, refl), refl), inr (_, (refl, refl), inl (inr (_, (refl, refl), (refl, refl)))))

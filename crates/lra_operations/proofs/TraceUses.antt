@@ -1,4 +1,4 @@
--- Laws for the use of trees' trails: points by other names, and what was met before.
+-- Laws for the use of trees' traces: points by other names, and what was met before.
 use Rattle.std.proofs.Common.{◌≡◌, ℕ, zero, suc, List, [], ◌∷◌, ◌++◌, map, Bool, true, false, ◌||◌, inl, inr, refl, sym, ap, ◌∙◌, subst, append_assoc}
 use Rattle.lra_base.specs.{CaseLabels.is_same_case, declared.case_labels.CaseLabel.CaseLabel}
 use Rattle.lra_program.specs.{Program.Expr, Program.Cond, Step.State, Step.Op, Step.test, Traces.TraceEvent, Traces.visit, Traces.Trace}
@@ -37,7 +37,7 @@ module _ {A B : Type 0} (f : A → B) (name : ℕ → A) (may : State → State 
   turns_renamed q base c g each zero a b e = ap (renamed f) e
   turns_renamed q base c g each (suc n) a b (m, r, (w, t, x)) = (renamed f m, turns_renamed q base c g each n a m r, (renamed f w, tests_renamed q base c true m w t, each w b x))
 
-  -- a trail by the one names is one by the others
+  -- a trace by the one names is one by the others
   mutual
     pub goes_renamed : (g : Node) (a : Trace A) (u : RunExtent) (b : Trace A) → G g a u b → R g (renamed f a) u (renamed f b)
     goes_renamed empty a to_end b e = ap (renamed f) e
@@ -86,7 +86,7 @@ module _ {A B : Type 0} (f : A → B) (name : ℕ → A) (may : State → State 
 
   -- the other way: a run by the others is one by the ones --------------------------------------------------------------
 
-  -- the trail in the ones' names
+  -- the trace in the ones' names
   abbrev Named : Node → Trace A → RunExtent → Trace B → Type 0
   Named g a u b = (d : Trace A) × G g a u d × (b ≡ renamed f d)
 

@@ -1,4 +1,4 @@
--- The tree of a whole program, and what it owes: the tree comes to a point exactly where a run does.
+-- The tree of a whole program, and what it must guarantee: the tree reaches a point exactly where a run does.
 use Rattle.std.specs.List.{AllByRecursion}
 use Rattle.std.specs.Prelude.{◌≡◌, ◌↔◌, ℕ, ℤ, List, length, Some, slice_get, IsTrue, suc}
 use Rattle.lra_program.specs.Run.{begun, Point, At, Fails}
@@ -16,7 +16,7 @@ pub record IsInlinedTree (P : Program) (g : Node) : Type 0 where
   pub all : length (sites_of P) ≡ suc last
   pub parts : g ≡ seq body (point last)
 
--- the tree comes to the point of this number with the store
+-- the tree reaches the point of this number with the store
 abbrev pub Reached : Program → Node → ℕ → List ℤ → Type 0
 Reached P g number store =
     (draws : List ℤ) × AllByRecursion (λ z. IsTrue (is_word z)) draws × (t : State) ×

@@ -1,6 +1,6 @@
 -- The operations of a tree of which something is asked, each with the point to which it belongs: those that compute
--- something, which alone can stop a run by a number, and those that access arrays. A declarator's stands behind its new
--- variable, so it is told with that variable's type.
+-- something, which alone can stop a run by a number, and those that access arrays. A declarator's comes after its new
+-- variable, so it is reported with that variable's type.
 use Rattle.std.specs.List.{Contains}
 use Rattle.std.specs.Prelude.{◌≡◌, ℕ, List, [], ◌∷◌, ◌++◌, Option, None, Some, Bool, true, if◌then◌else◌, slice_get}
 use Rattle.lra_base.specs.declared.number_types.NumberType.{NumberType}
@@ -19,7 +19,7 @@ pub record OpAtPoint : Type 0 where
   pub fresh : Option NumberType
   pub op : Op
 
--- the type of the variable that is new behind a least change; behind a tree at whose beginning one was
+-- the type of the variable that is new after a least change; after a tree at whose beginning one was
 abbrev pub fresh_of : Op → Option NumberType
 fresh_of (append t) = Some t
 fresh_of (fill a) = None
@@ -66,7 +66,7 @@ module _ (asks : Op → Bool) where
     -- a value that is looked for goes to nobody
     ops_where fresh (select q base e arms) = op_where q None (store_value base nobody e) ++ ops_where_in_arms None arms
 
-    -- one behind the other
+    -- one after the other
     pub ops_where_in_arms : Option NumberType → Arms → List OpAtPoint
     ops_where_in_arms fresh no_arms = []
     ops_where_in_arms fresh (entry l arms) = ops_where_in_arms fresh arms
@@ -101,8 +101,8 @@ FreshOverflows fresh op s = HoldsWithFresh OpOverflows fresh op s
 abbrev pub OverflowsAtPoint : OpAtPoint → State → Type 0
 OverflowsAtPoint a s = HoldsAtPoint OpOverflows a s
 
--- What each tree of a program owes: it asks once at each point at most; and where Q holds of what is on top of a run
--- with a point on top, it asks there, and Q holds of that operation.
+-- What each tree of a program must guarantee: it asks once at each point at most; and where Q holds of what is on top
+-- of a run with a point on top, it asks there, and Q holds of that operation.
 abbrev pub AreOncePerPoint : (Op → Bool) → Node → Type 0
 AreOncePerPoint asks g = (i j : ℕ) (a b : OpAtPoint) → slice_get (ops_where asks None g) i ≡ Some a →
     slice_get (ops_where asks None g) j ≡ Some b → a.point ≡ b.point → i ≡ j

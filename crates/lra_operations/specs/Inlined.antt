@@ -33,11 +33,11 @@ callee f n x c = record {
   back = Some (record { receiver = x; here = f.here; length = n });
 }
 
--- `break` comes out behind the loop, `continue` behind the body and before the step
+-- `break` comes out after the loop, `continue` after the body and before the step
 abbrev pub loop_node : ℕ → ℕ → Cond → Node → Node → Node
 loop_node q base c a step = catch q broken (iterate q base c (seq (catch q continued a) step))
 
--- `break` comes out behind the arms
+-- `break` comes out after the arms
 abbrev pub switch_node : ℕ → ℕ → Expr → Arms → Node
 switch_node q base e arms = catch q broken (select q base e arms)
 
@@ -92,7 +92,7 @@ abbrev pub IsSiteAt : List Site → InlineState → ℕ → Type 0
 IsSiteAt T s at = IsSiteWith T s at false
 
 mutual
-  -- at the spot the statement has the tree, and q is the next point's number behind it; as many variables live there
+  -- at the spot the statement has the tree, and q is the next point's number after it; as many variables live there
   pub data InlineStmt (P : Program) (T : List Site) : InlineState → Stmt → Node → ℕ → Type 0 where
     as_nothing : {s : InlineState} {at : ℕ} → IsSiteAt T s at →
         InlineStmt P T s (nothing at) (point s.next) (suc s.next)
@@ -157,7 +157,7 @@ mutual
         InlineCases P T (among_cases s (suc s.next)) cs arms q
         → InlineStmt P T s (switch at e cs) (seq (point s.next) (switch_node s.next s.frame.here.base e arms)) q
 
-  -- the statements of a `switch`, behind their labels
+  -- the statements of a `switch`, after their labels
   pub data InlineCases (P : Program) (T : List Site) : InlineState → Cases → Arms → ℕ → Type 0 where
     as_no_cases : {s : InlineState} → InlineCases P T s no_cases no_arms s.next
     as_labelled : {s : InlineState} {l : CaseLabel} {cs : Cases} {arms : Arms} {q : ℕ} → InlineCases P T s cs arms q
@@ -166,7 +166,7 @@ mutual
         InlineStmt P T s a g r → InlineCases P T (at_point s r) cs arms q
         → InlineCases P T s (stated a cs) (arm g arms) q
 
-  -- behind the items n live, and q is next
+  -- after the items n live, and q is next
   pub data InlineItems (P : Program) (T : List Site) : InlineState → BlockItems → Node → ℕ → ℕ → Type 0 where
     as_none : {s : InlineState} → InlineItems P T s no_more empty s.live s.next
     as_declaration : {s : InlineState} {d : Declarator} {b : BlockItems} {g h : Node} {r n q : ℕ} →

@@ -1,4 +1,4 @@
--- Runs of trees with what they meet. `name` is what a point's number stands for in a trail; whenever the run is at a
+-- Runs of trees with what they meet. `name` is what a point's number stands for in a trace; whenever the run is at a
 -- point the state may change, as `may` says.
 use Rattle.std.specs.Prelude.{◌≡◌, ◌≢◌, ℕ, zero, suc, ◌∷◌, Bool, Some, true, false, ◌||◌, ◌⊎◌}
 use Rattle.lra_base.specs.{CaseLabels.is_same_case, declared.case_labels.CaseLabel.CaseLabel}
@@ -49,7 +49,7 @@ module _ {A : Type 0} (name : ℕ → A) (may : State → State → Type 0) wher
   VisitsAndTests q base c wanted a b = (m : Trace A) × VisitsPoint q a m × Performs (test base c wanted) m b
 
   abbrev mutual
-    -- a run of the tree from the first trail goes so far, with the second
+    -- a run of the tree from the first trace goes so far, with the second
     pub RunsUpTo : Node → Trace A → RunExtent → Trace A → Type 0
     RunsUpTo empty a to_end b = b ≡ a
     RunsUpTo (probe here what) a to_end b = b ≡ a

@@ -1,5 +1,5 @@
--- What the tree of a whole program owes to trails: each run of the program is one of the tree, with the same trail, and
--- each of the tree is one of the program.
+-- What the tree of a whole program must guarantee to traces: each run of the program is one of the tree, with the same
+-- trace, and each of the tree is one of the program.
 use Rattle.std.specs.Prelude.{◌≡◌, ◌↔◌, ℕ, ℤ, List, [], ◌∷◌, length, Option, Some, None, slice_get}
 use Rattle.lra_program.specs.Traces.{TraceEvent, visit, Trace, NoChange, Arrives, ViolatesAssertion}
 use Rattle.lra_program.specs.{Program.Program, Run.begun, Run.Point, Sites.Site, Sites.sites_of, Step.State}
@@ -19,13 +19,13 @@ abbrev pub KeepsWidth : (State → State → Type 0) → Type 0
 KeepsWidth may = (s t : State) → may s t → length t.store ≡ length s.store
 
 module _ (may : State → State → Type 0) (P : Program) (g : Node) where
-  -- the tree of the program, begun with these draws, goes so far on this trail
+  -- the tree of the program, begun with these draws, goes so far on this trace
   abbrev pub TreeRunsUpTo : List ℤ → Stop → Trace Point → Type 0
   TreeRunsUpTo draws z a =
       RunsUpTo (point_at (sites_of P)) may g (record { state = begun P draws; events = [] }) (stopped z) a
 
   pub record TracesAgree : Type 0 where
-    -- a run comes to the point on the trail exactly where the tree does
+    -- a run reaches the point on the trace exactly where the tree does
     pub comes : (number : ℕ) (s : Site) (draws : List ℤ) (a : Trace Point) →
         slice_get (sites_of P) number ≡ Some s →
         (Arrives may P draws (point_of s) a ↔ TreeRunsUpTo draws (to_point number) a)
@@ -50,7 +50,7 @@ module _ (may : State → State → Type 0) (P : Program) (g : Node) where
         (b : Trace Point) × TreeRunsUpTo draws (to_point number) b × may b.state a.state ×
         (a.events ≡ visit (point_at (sites_of P) number) b.state ∷ b.events)
 
--- each tree of a program, which runs alone, has the program's trails. For other changes at points that keep the store's
+-- each tree of a program, which runs alone, has the program's traces. For other changes at points that keep the store's
 -- length it is the lemma from which this follows (`traces_agree` of lra_inline's proofs)
 abbrev pub TreesHaveTraces : Type 0
 TreesHaveTraces = (P : Program) (g : Node) → AreDistinct (sites_of P) → IsInlinedTree P g → TracesAgree NoChange P g

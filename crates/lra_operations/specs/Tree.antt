@@ -35,14 +35,14 @@ mutual
     choose : ℕ → ℕ → Cond → Node → Node → Node
     -- its point stands before the test, at each round
     iterate : ℕ → ℕ → Cond → Node → Node
-    -- jumps of this kind come out behind it
+    -- jumps of this kind come out after it
     catch : ℕ → Exit → Node → Node
     -- the tree is left; so many variables live where the jump's statement stands, before what it cuts
     leave : ℕ → Exit → Node
-    -- a value is computed, and the arms run that stand behind the label to which it goes, one after the other
+    -- a value is computed, and the arms run that come after the label to which it goes, one after the other
     select : ℕ → ℕ → Expr → Arms → Node
 
-  -- labels, and the trees that stand behind them, in text order
+  -- labels, and the trees that come after them, in text order
   pub data Arms : Type 0 where
     no_arms : Arms
     entry : CaseLabel → Arms → Arms
@@ -53,7 +53,7 @@ entries_of no_arms = []
 entries_of (entry l arms) = l ∷ entries_of arms
 entries_of (arm a arms) = entries_of arms
 
--- the expression's value, where it has one, goes to this label; the second state is behind its draws
+-- the expression's value, where it has one, goes to this label; the second state is after its draws
 abbrev pub Selects : ℕ → Expr → Arms → State → CaseLabel → State → Type 0
 Selects base e arms s l t = (z : ℤ) × (value_of e (environment_at base s) s.draws ≡ Some (z, t.draws)) ×
     (t ≡ record s { draws = t.draws }) × (l ≡ goal_of z (entries_of arms))
@@ -109,7 +109,7 @@ abbrev mutual
       ((m : State) × Completes a s normal m × ArmsComplete l true arms m (jump j) t)
 
 abbrev mutual
-  -- a run of the tree from the first state comes to the point with the second
+  -- a run of the tree from the first state reaches the point with the second
   pub ReachesPoint : Node → State → ℕ → State → Type 0
   ReachesPoint empty s p t = ⊥
   ReachesPoint (probe here what) s p t = ⊥

@@ -27,16 +27,16 @@ op_view (op.PushFor base x given) = step.push_for base (element_view x) (map arg
 op_view (op.TruncateTo n) = step.truncate_to n
 op_view (op.Test base c wanted) = step.test base (cond_view c) wanted
 
--- the trees one after the other, and this one behind them
+-- the trees one after the other, and this one after them
 abbrev pub row : List graph.Node → graph.Node → graph.Node
 row [] h = h
 row (g ∷ gs) h = graph.seq g (row gs h)
 
--- an arm is what it puts before those behind it
+-- an arm is what it puts before those after it
 abbrev pub ArmPart : Type 0
 ArmPart = graph.Arms → graph.Arms
 
--- these, and what stands behind them
+-- these, and what comes after them
 abbrev pub arms_before : List ArmPart → graph.Arms → graph.Arms
 arms_before [] h = h
 arms_before (f ∷ fs) h = f (arms_before fs h)

@@ -22,7 +22,7 @@ pub fn put_in_turn(alloc: Global, first: Node, second: Node) -> Result<Node, All
     Ok(Node::Seq(before, Box::new(alloc, second)?))
 }
 
-/// One part more, behind the others.
+/// One part more, after the others.
 pub fn add_part(parts: &mut Vec<Node>, part: Node) -> Result<(), AllocError>
     ensures { IfOk result (λ _. parts.new.items ≡ parts.old.items ++ part ∷ []) }
 {
@@ -30,7 +30,7 @@ pub fn add_part(parts: &mut Vec<Node>, part: Node) -> Result<(), AllocError>
     Ok(())
 }
 
-/// The parts one after the other, behind the last of which nothing is done.
+/// The parts one after the other, after the last of which nothing is done.
 pub fn put_in_a_row(alloc: Global, parts: Vec<Node>) -> Result<Node, AllocError>
     ensures { IfOk result (λ g. node_view g ≡ row (map node_view parts.items) graph.empty) }
 {
@@ -85,7 +85,7 @@ pub fn close_block(
     put_in_turn(alloc, items, end)
 }
 
-/// A `for` behind its point: its beginning, then its loop, then its variables go.
+/// A `for` after its point: its beginning, then its loop, then its variables go.
 pub fn enclose_for(
     alloc: Global,
     point: usize,
@@ -122,7 +122,7 @@ pub fn choice(
     )
 }
 
-/// A loop: `break` comes out behind it, `continue` behind the body and before the step.
+/// A loop: `break` comes out after it, `continue` after the body and before the step.
 pub fn rounds(
     alloc: Global,
     point: usize,
@@ -141,7 +141,7 @@ pub fn rounds(
     catch_exit(alloc, point, Exit::Broken, all)
 }
 
-/// One arm more, behind the others.
+/// One arm more, after the others.
 pub fn add_arm(arms: &mut Vec<Arm>, arm: Arm) -> Result<(), AllocError>
     ensures { IfOk result (λ _. arms.new.items ≡ arms.old.items ++ arm ∷ []) }
 {
@@ -149,7 +149,7 @@ pub fn add_arm(arms: &mut Vec<Arm>, arm: Arm) -> Result<(), AllocError>
     Ok(())
 }
 
-/// A `switch`: the point, then the arms behind the label to which the value goes; `break` comes out behind them.
+/// A `switch`: the point, then the arms after the label to which the value goes; `break` comes out after them.
 pub fn selection(
     alloc: Global,
     point: usize,
@@ -221,7 +221,7 @@ fn call_end(
     put_point(alloc, end, cut)
 }
 
-/// What a call is: its arguments become the callee's first variables, behind the `live` that live at the call.
+/// What a call is: its arguments become the callee's first variables, after the `live` that live at the call.
 #[derive(Clone, Copy)]
 pub struct CallPlace {
     /// The call's own point.
@@ -232,7 +232,7 @@ pub struct CallPlace {
     pub base: usize,
     /// How many variables live there.
     pub live: usize,
-    /// What gets the result, behind the type that the callee gives it.
+    /// What gets the result, after the type that the callee gives it.
     pub receiver: Receiver,
 }
 

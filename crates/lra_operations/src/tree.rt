@@ -75,15 +75,15 @@ pub enum Node {
     Choose(usize, usize, Cond, Box<Node>, Box<Node>),
     /// Its point stands before the test, at each round.
     Iterate(usize, usize, Cond, Box<Node>),
-    /// Jumps of this kind come out behind it.
+    /// Jumps of this kind come out after it.
     Catch(usize, Exit, Box<Node>),
     /// The tree is left; so many variables live where the jump's statement stands, before what it cuts.
     Leave(usize, Exit),
-    /// The trees behind the label to which the value goes, one after the other.
+    /// The trees after the label to which the value goes, one after the other.
     Select(usize, usize, Expr, Vec<Arm>),
 }
 
-/// A label of a `switch`, or a tree behind labels.
+/// A label of a `switch`, or a tree after labels.
 #[cycle(tree)]
 pub enum Arm {
     Entry(CaseLabel),

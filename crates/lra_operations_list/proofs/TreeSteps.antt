@@ -32,7 +32,7 @@ left_push ds es d e = ap all_left e ∙ sum_by_push due_size ds d
 
 -- the trees in a tree ------------------------------------------------------------------------------------------------------
 
--- what each does itself, and what is new behind that
+-- what each does itself, and what is new after that
 own_empty : (fresh : Option NumberType) → own_of fresh at.Empty ≡ ([], fresh)
 own_empty fresh = search (rules, node_lemmas)
 
@@ -145,7 +145,7 @@ done_arms fresh no_arms = refl
 done_arms fresh (entry l arms) = done_arms fresh arms
 done_arms fresh (arm a arms) = ap (λ (xs : List OpAtPoint). done_in fresh a ++ xs) (done_arms (fresh_after fresh a) arms)
 
--- behind it the others are due
+-- after it the others are due
 opens : (n : declared.Node) (g : Node) (own : Option NumberType → List OpAtPoint × Option NumberType) (old new : List Due) → node_view n ≡ g
     → ((fresh : Option NumberType) → own_of fresh n ≡ own fresh)
     → ((fresh : Option NumberType) → done_in fresh (seq g (all_due old)) ≡ (own fresh).0 ++ done_in (own fresh).1 (all_due new)) → IsOpened n old new
@@ -213,7 +213,7 @@ module _ (old : List Due) where
 
 -- the way ----------------------------------------------------------------------------------------------------------------
 
--- a row's first tree, and then the others, which are due behind it
+-- a row's first tree, and then the others, which are due after it
 pub row_asks : (fresh : Option NumberType) (v r h : Node) (ts xs : List declared.Node) (x l : declared.Node) → v ≡ row (map node_view ts) (node_view l)
     → ts ≡ x ∷ xs
     → h ≡ seq (row (map node_view xs) (node_view l)) r → done_in fresh (seq v r) ≡ done_in fresh (seq (node_view x) h)
@@ -264,7 +264,7 @@ way_by n fresh later old new t u opened behind listed = record {
   listed = listed;
 }
 
--- what is done, told otherwise
+-- what is done, stated differently
 pub listed_as : {T E : Type 0} (r : outcome.Result T E) (xs ys t u : List OpAtPoint) → xs ≡ ys → OnOk r (u ≡ t ++ ys) → OnOk r (u ≡ t ++ xs)
 listed_as r xs ys t u e h = subst (λ (zs : List OpAtPoint). OnOk r (u ≡ t ++ zs)) (sym e) h
 
@@ -411,7 +411,7 @@ tree_falls r new between left arms behind a n is tree_is e h =
     on_ok_weaker {P = new < between + 2 * whole_size n} {Q = new < left + (1 + 2 * arms_tree_sizes (map arm_sizes arms))} r
     (λ less. omega (arith, all, own, e, less)) h
 
--- arms, and behind them a point
+-- arms, and after them a point
 pub selection_due : {T E : Type 0} (r : outcome.Result T E) (old between new g : Node) → between ≡ seq (point 0) old → OnOk r (new ≡ seq g between)
     → OnOk r (new ≡ apart_before g old)
 selection_due r old between new g e h = on_ok_weaker {P = new ≡ seq g between} {Q = new ≡ apart_before g old} r (λ is. is ∙ ap (seq g) e) h
@@ -423,7 +423,7 @@ selection_left r left between new size e h = on_ok_weaker {P = new ≡ between +
 pub fewer_left : (ds es fs : List Due) (d : Due) → es ≡ ds ++ d ∷ [] → all_left fs < all_left ds + due_size d → all_left fs < all_left es
 fewer_left ds es fs d e less = let sum = left_push ds es d e in omega (arith, sum, less)
 
--- ---- a tree that is opened, behind calls that may fail
+-- ---- a tree that is opened, after calls that may fail
 module _ {T E : Type 0} (r : outcome.Result T E) (n : declared.Node) (old new : List Due) where
   seen_opened : (k : declared.Node) (so : Type 0) → n ≡ k → (so → IsOpened k old new) → OnOk r so → OnOk r (IsOpened n old new)
   seen_opened k so is opened h = on_ok_weaker {P = so} {Q = IsOpened n old new} r (λ e. subst (λ (x : declared.Node). IsOpened x old new) (sym is) (opened e)) h

@@ -19,14 +19,14 @@ trees_of no_arms = empty
 trees_of (entry l arms) = trees_of arms
 trees_of (arm a arms) = seq a (trees_of arms)
 
--- as a tree: behind a point no variable is new
+-- as a tree: after a point no variable is new
 abbrev pub due_view : Due → Node
 due_view (Tree n) = node_view n.now
 due_view (Row trees last) = row (map node_view trees.now) (node_view last.now)
 due_view (ArmsDue arms) = trees_of (arms_of (map arm_view arms.now))
 due_view Apart = point 0
 
--- all of them as one tree, the last of the list first, and this tree behind them
+-- all of them as one tree, the last of the list first, and this tree after them
 abbrev pub due_before : Node → List Due → Node
 due_before g [] = g
 due_before g (d ∷ ds) = due_before (seq (due_view d) g) ds
@@ -34,7 +34,7 @@ due_before g (d ∷ ds) = due_before (seq (due_view d) g) ds
 abbrev pub all_due : List Due → Node
 all_due ds = due_before empty ds
 
--- the one, behind which no variable is new, and then the other
+-- the one, after which no variable is new, and then the other
 abbrev pub apart_before : Node → Node → Node
 apart_before g h = seq g (seq (point 0) h)
 
@@ -46,7 +46,7 @@ Own = List OpAtPoint × Option NumberType
 abbrev pub own_arm : Arm-F Own Own → Own
 own_arm a = ([], None)
 
--- what a tree does itself, and what is new behind that: the trees in it come then
+-- what a tree does itself, and what is new after that: the trees in it come then
 abbrev pub own_step : Option NumberType → Node-F Own Own → Own
 own_step fresh Node-F.Empty = ([], fresh)
 own_step fresh (Node-F.Point q) = ([], None)
@@ -69,7 +69,7 @@ own_done fresh n = (own_of fresh n).0
 abbrev pub fresh_at : Option NumberType → declared.Node → Option NumberType
 fresh_at fresh n = (own_of fresh n).1
 
--- behind what the tree does itself, these are due in place of those behind it
+-- after what the tree does itself, these are due in place of those after it
 abbrev pub IsOpened : declared.Node → List Due → List Due → Type 0
 IsOpened n old new = (fresh : Option NumberType) → done_in fresh (seq (node_view n) (all_due old)) ≡
     own_done fresh n ++ done_in (fresh_at fresh n) (all_due new)
@@ -85,7 +85,7 @@ abbrev pub all_left : List Due → ℕ
 all_left ds = sum_by due_size ds
 
 -- Of a tree, at whose beginning a variable may be new, this is left, with that which is new then: what was done between
--- came behind the others.
+-- came after the others.
 pub record IsOnWay (fresh : Option NumberType) (g : Node) (later : Option NumberType) (h : Node)
     (old new : List OpAtPoint)
     : Type 0 where

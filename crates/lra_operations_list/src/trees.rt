@@ -14,7 +14,7 @@ use lra_base::NumberType;
 use lra_operations::{Arm, Node, Op};
 use std::alloc::{AllocError, Global};
 
-/// The type of the variable that is new behind a least change.
+/// The type of the variable that is new after a least change.
 fn fresh_of(op: &Op) -> Option<NumberType>
     ensures { result ≡ fresh_of (op_view op.now) }
 {
@@ -33,11 +33,11 @@ pub enum Due<'a> {
     Row(&'a [Node], &'a Node),
     /// The trees in arms one after the other.
     Arms(&'a [Arm]),
-    /// Nothing: behind it no variable is new.
+    /// Nothing: after it no variable is new.
     Apart,
 }
 
-/// A tree is due before the others, and behind it no variable is new.
+/// A tree is due before the others, and after it no variable is new.
 fn push_apart<'a>(left: &mut Vec<Due<'a>>, node: &'a Node) -> Result<(), AllocError>
     ensures is { OnOk result (all_due left.new.items ≡
         apart_before (node_view node.now) (all_due left.old.items)) }
@@ -90,7 +90,7 @@ fn push_arms<'a>(left: &mut Vec<Due<'a>>, arms: &'a [Arm]) -> Result<(), AllocEr
     Ok(())
 }
 
-/// Those of a `switch`, behind which no variable is new.
+/// Those of a `switch`, after which no variable is new.
 fn push_selection<'a>(left: &mut Vec<Due<'a>>, arms: &'a [Arm]) -> Result<(), AllocError>
     ensures is { OnOk result (all_due left.new.items ≡
         apart_before (trees_of (arms_of (map arm_view arms.now))) (all_due left.old.items)) }
@@ -122,7 +122,7 @@ fn open_node<'a>(left: &mut Vec<Due<'a>>, node: &'a Node) -> Result<(), AllocErr
     }
 }
 
-/// The type of the variable that is new behind what a tree does itself.
+/// The type of the variable that is new after what a tree does itself.
 fn fresh_at(fresh: Option<NumberType>, node: &Node) -> Option<NumberType>
     ensures { result ≡ fresh_at fresh node.now }
 {
@@ -141,7 +141,7 @@ fn fresh_at(fresh: Option<NumberType>, node: &Node) -> Option<NumberType>
     }
 }
 
-/// What is done at a point comes behind the others.
+/// What is done at a point comes after the others.
 fn push_done<'a>(
     point: usize,
     fresh: Option<NumberType>,
@@ -159,7 +159,7 @@ fn push_done<'a>(
     Ok(())
 }
 
-/// What a tree does itself comes behind the others.
+/// What a tree does itself comes after the others.
 fn list_own<'a>(
     fresh: Option<NumberType>,
     node: &'a Node,
@@ -191,7 +191,7 @@ fn list_own<'a>(
     }
 }
 
-/// What a tree does itself comes behind the others, and the trees in it are due before the others; the type of the
+/// What a tree does itself comes after the others, and the trees in it are due before the others; the type of the
 /// variable that is new then.
 fn list_node<'a>(
     fresh: Option<NumberType>,
@@ -210,7 +210,7 @@ fn list_node<'a>(
     Ok(fresh_at(fresh, node))
 }
 
-/// The first of the arms: what its tree does itself comes behind the others, and the trees in it and the other arms are
+/// The first of the arms: what its tree does itself comes after the others, and the trees in it and the other arms are
 /// due before the others.
 fn list_arms<'a>(
     fresh: Option<NumberType>,
@@ -235,7 +235,7 @@ fn list_arms<'a>(
     }
 }
 
-/// A step: what is due is opened; the type of that which is new behind.
+/// A step: what is due is opened; the type of that which is new after.
 fn list_next<'a>(
     fresh: Option<NumberType>,
     due: Due<'a>,

@@ -1,4 +1,4 @@
--- The abstract domains: which there are, their names in words and in reports, and what is told of their parts.
+-- The abstract domains: which there are, their names in words and in reports, and what is reported about their parts.
 use Rattle.std.specs.Prelude.{ℕ, List, [], ◌∷◌, Bool, true, false, codes}
 use Rattle.lra_options.specs.declared.options.Domain.{Domain}
 use Rattle.lra_options.specs.declared.options.Domain.TheVariants.{Poly, Box, Oct}
@@ -12,7 +12,7 @@ domain_name Poly = codes "poly"
 domain_name Box = codes "box"
 domain_name Oct = codes "oct"
 
--- a part is told by its generators too
+-- a part is given by its generators too
 abbrev pub shows_generators : Domain → Bool
 shows_generators Poly = true
 shows_generators Box = false

@@ -1,5 +1,5 @@
 -- The options of an analysis beside its domain: a row for each. From it come its rule among the words, its reading, its
--- range and its default, and what a report's first line and its JSON tell of it.
+-- range and its default, and what a report's first line and its JSON say of it.
 use Rattle.std.specs.Prelude.{ℕ, ◌≤◌, List, [], ◌∷◌, Bool, true, false, ◌&&◌, ◌||◌, not, nat_eq, Option, None, Some}
 use Rattle.std.specs.{Prelude.codes, Str.Parse.digits_value}
 use Rattle.lra_options.specs.Domains.{supports_thresholds}
@@ -37,7 +37,7 @@ set_number Parts value o = record o { parts = value }
 set_number Delay value o = record o { delay = value }
 set_number Narrow value o = record o { narrow = value }
 
--- a report tells it always, or only where it isn't its default
+-- a report shows it always, or only where it isn't its default
 abbrev pub is_number_always_reported : NumberOption → Bool
 is_number_always_reported Parts = true
 is_number_always_reported Delay = true
@@ -57,7 +57,7 @@ default_number option = written_number (number_row option).default
 
 -- flags ------------------------------------------------------------------------------------------------------------
 
--- a flag: off where words don't give it; a report tells it always, or only where it is on. Those that change no state
+-- a flag: off where words don't give it; a report shows it always, or only where it is on. Those that change no state
 -- stand beside `--best`
 pub record FlagRow : Type 0 where
   pub name : List ℕ
@@ -79,7 +79,7 @@ set_flag Limited value o = record o { limited = value }
 set_flag Thresholds value o = record o { thresholds = value }
 set_flag Fits value o = record o { fits = value }
 
--- in the order of the first line, behind the numbers
+-- in the order of the first line, after the numbers
 abbrev pub flag_options : List FlagOption
 flag_options = Limited ∷ Thresholds ∷ Fits ∷ []
 

@@ -32,7 +32,7 @@ impl Domain {
         }
     }
 
-    /// Whether a part is told by its generators too.
+    /// Whether a part is given by its generators too.
     pub fn shows_generators(self) -> bool
         ensures { result ≡ shows_generators self }
     {
@@ -70,7 +70,7 @@ pub struct Options {
     pub limited: bool,
     /// Whether it is limited by thresholds: by the conditions of a loop and in it, and by the program's constants.
     pub thresholds: bool,
-    /// Whether it is told which operations fit their types.
+    /// Whether it is reported which operations fit their types.
     pub fits: bool,
 }
 
@@ -177,7 +177,7 @@ impl NumberOption {
         }
     }
 
-    /// Whether a report tells it also where it is its default.
+    /// Whether a report shows it also where it is its default.
     fn is_always_reported(self) -> bool
         ensures { result ≡ is_number_always_reported self }
     {
@@ -188,7 +188,7 @@ impl NumberOption {
         }
     }
 
-    /// Whether a report under these options tells it.
+    /// Whether a report under these options shows it.
     pub fn is_reported(self, options: Options) -> bool
         ensures { result ≡ is_number_reported self options }
     {
@@ -203,11 +203,11 @@ pub enum FlagOption {
     Limited,
     /// Whether loops grow by the tightest of the program's own constants and conditions.
     Thresholds,
-    /// Whether it is told which operations fit their types.
+    /// Whether it is reported which operations fit their types.
     Fits,
 }
 
-/// These options, in the order of a report's first line, where they stand behind the numbers.
+/// These options, in the order of a report's first line, where they come after the numbers.
 pub const FLAG_OPTIONS: [FlagOption; 3] = [
     FlagOption::Limited,
     FlagOption::Thresholds,
@@ -226,7 +226,7 @@ impl FlagOption {
         }
     }
 
-    /// Whether a report tells it also where it is off.
+    /// Whether a report shows it also where it is off.
     fn is_always_reported(self) -> bool
         ensures { result ≡ (flag_row self).is_always_reported }
     {
@@ -279,7 +279,7 @@ impl FlagOption {
         }
     }
 
-    /// Whether a report under these options tells it.
+    /// Whether a report under these options shows it.
     pub fn is_reported(self, options: Options) -> bool
         ensures { result ≡ rows.is_reported self options }
     {

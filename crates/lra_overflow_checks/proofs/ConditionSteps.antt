@@ -1,4 +1,4 @@
--- Steps of the proofs on what is told of conditions.
+-- Steps of the proofs on what is reported about conditions.
 use Rattle.std.proofs.Common.{Box, Vec, Global, ◌≡◌, ℕ, ◌+◌, ◌<◌, ◌≤◌, List, [], ◌∷◌, ◌++◌, Bool, true, false, length, map, drop, get_or, refl, sym, ap, subst, ◌∙◌, append_assoc, append-nil, arith}
 use Rattle.std.proofs.lemmas.List.{drop_more, drop_all}
 use Rattle.std.specs.Prelude.{IfOk}
@@ -17,7 +17,7 @@ use Rattle.lra_overflow_checks.specs.{Judged.IsCondJudged, Judged.sides_of, Oper
 
 -- answers handed on -------------------------------------------------------------------------------------------------
 
--- what led to a left side, its own answers, what it leaves, and what stands behind it
+-- what led to a left side, its own answers, what it leaves, and what comes after it
 worst_in_turn : (so_far left leaves right : Exactness)
     → worse so_far (worse (worse left leaves) right) ≡ worse (worse (worse so_far left) leaves) right
 worst_in_turn Exact left leaves right = refl
@@ -77,7 +77,7 @@ module _ {V H A : Type 0} (m : Abstraction V H) (Both : ℕ → Expr → Expr �
 
   -- chains along their operands ---------------------------------------------------------------------------------------
 
-  -- the first of them, and those behind it by what it leaves
+  -- the first of them, and those after it by what it leaves
   sides_more : (wanted : Bool) (c d : Cond) (ds : List Cond) (v w : V) (xs ys : List A) (f g h : Exactness)
       → Told c v xs f → Filters (lossy_operations m) base c wanted v g w
       → Told (sides_of wanted d ds) w ys h
@@ -94,7 +94,7 @@ module _ {V H A : Type 0} (m : Abstraction V H) (Both : ℕ → Expr → Expr �
       (judged, g, one, left, worst ∙ ap (λ (d : Exactness). worse d g) is)
   operand_passed (handed.Err e) c wanted v w before judged led old new one is left = tt
 
-  -- the operands before this one are judged: with the answers on it and on those behind it, by what is left of the
+  -- the operands before this one are judged: with the answers on it and on those after it, by what is left of the
   -- value, the whole chain is
   pub record AreJudgedSoFar (wanted : Bool) (c : Cond) (cs : List Cond) (from : V) (old : List A) (last : Cond)
       (left : List Cond) (value : V) (so_far : Exactness) (answers : List A) : Type 0 where

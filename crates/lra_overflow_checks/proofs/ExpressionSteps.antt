@@ -63,7 +63,7 @@ chained_more e os i o h is =
     chained_last e so_many (operation_view o) ∙ ap (λ (p : Operator × Expr). binary p.0 (chained e so_many) p.1) (operation_is o)
 
 module _ {V H : Type 0} (m : Abstraction V H) (v : V) (base : ℕ) where
-  -- a sign behind what is computed
+  -- a sign after what is computed
   pub sign_computed : (e : Expr) (before old new : List Bool) (inner c : Computed) (b : Bool) → c.number_type ≡ inner.number_type
       → c.form ≡ with_other_sign inner.form → AnswersUnlessUnreachable m v b (LiesIn m v inner.number_type c.form) → new ≡ old ++ b ∷ []
       → IsComputed m v base e before inner old → IsComputed m v base (negate e) before c new
@@ -82,7 +82,7 @@ module _ {V H : Type 0} (m : Abstraction V H) (v : V) (base : ℕ) where
         form = is;
       }
 
-  -- an operator behind both sides
+  -- an operator after both sides
   pub operator_computed : (op : Operator) (d e : Expr) (before between old new : List Bool) (left right c : Computed) (b : Bool)
       → c.number_type ≡ wider left.number_type right.number_type → c.form ≡ between_sides op left.form right.form
       → AnswersUnlessUnreachable m v b (OperatorFits m v c.number_type op c.form right.form) → new ≡ old ++ b ∷ []
@@ -142,7 +142,7 @@ module _ {V H : Type 0} (m : Abstraction V H) (v : V) (base : ℕ) where
       subst (λ (y : Expr). IsComputed m v base y old (record { number_type = a.number_type; form = None }) new) (sym is)
       (record { answers = one.answers; number_type = refl; form = refl })
 
-  -- what is computed behind an index
+  -- what is computed after an index
   pub behind_index : {T E : Type 0} (R : Result T E) (e : Expr) (behind : List Bool → Type 0) (old now new : List Bool) (c : Computed)
       → IsComputed m v base e old c now → OnOk R (HasAnswers behind now new) → OnOk R (HasAnswers (IndexJudged m v base e behind) old new)
   behind_index (Ok r) e behind old now new c one told =

@@ -1,4 +1,4 @@
--- What is written into a table of verdicts, and what the whole table tells.
+-- What is written into a table of verdicts, and what the whole table reports.
 use Rattle.std.proofs.Common.{◌≡◌, ◌≢◌, ◌∙◌, ℕ, zero, suc, ◌+◌, ◌<◌, ◌≤◌, List, [], ◌∷◌, ◌++◌, length, map, take, get_or, Bool, true, false, Option, Some, None, refl, sym, ap, subst, inl, inr, arith}
 use Rattle.std.proofs.lemmas.List.{length-replicate, length-set, map-append, map_more, take_all}
 use Rattle.std.proofs.lemmas.List.Elements.{Contains-append_left, Contains-append_right, Contains-append_cases, Contains-get_or, filter-append}
@@ -97,7 +97,7 @@ module _ {V H A : Type 0} (ops : Operations V H) (Told : Op → V → A → Exac
     keeps = λ q j h. (let k = first.keeps q j h in second.keeps q k.0 k.1);
   }
 
-  -- behind those of which it is asked among what is done before
+  -- after those of which it is asked among what is done before
   module _ (asks : Op → Bool) (xs : List OpAtPoint) (a : OpAtPoint) where
     abbrev asked_here : List OpAtPoint
     asked_here = asked_by asks (a ∷ [])
@@ -129,7 +129,7 @@ pub asked_inside : (asks : Op → Bool) (n : ℕ) (xs : List OpAtPoint) (a : OpA
     a.point < n
 asked_inside asks n xs a there is below = below a (filter_has (λ (b : OpAtPoint). asks b.op) xs a there is)
 
--- what a table tells -----------------------------------------------------------------------------------------------------
+-- what a table says ---------------------------------------------------------------------------------------------------
 
 module _ {A : Type 0} where
   -- one place more
@@ -184,7 +184,7 @@ module _ {A : Type 0} where
 
 -- the whole table --------------------------------------------------------------------------------------------------------
 
--- what is told is held
+-- what is reported is held
 told_held : {A : Type 0} (n : ℕ) (t : List (Option (Verdict A))) (j : Finding A) → Contains (findings_from n t) j
     → (k : ℕ) × (v : Verdict A) × Holds t k v × (finding_of (n + k) v ≡ j)
 told_held n [] j h = absurd (contains_none j h)
@@ -199,7 +199,7 @@ told_held n (Some i ∷ t) j h = elim (contains_cases (finding_of n i) j (findin
       (suc k, v, holds, ap (λ (p : ℕ). finding_of p v) at ∙ is))
 ]
 
--- what is held is told
+-- what is held is reported
 held_told : {A : Type 0} (n : ℕ) (t : List (Option (Verdict A))) (k : ℕ) (v : Verdict A) → Holds t k v → Contains (findings_from n t) (finding_of (n + k) v)
 held_told n [] k v h = absurd (none-some (Some v) h)
 held_told n (None ∷ t) zero v h = absurd (none-some v (same_Some None (Some v) h))

@@ -1,5 +1,5 @@
--- What is judged so far: what is told of an expression or a condition behind others, and the verdicts in a table of all
--- points.
+-- What is judged so far: what is reported about an expression or a condition after others, and the verdicts in a table
+-- of all points.
 use Rattle.std.specs.Prelude.{◌≡◌, ◌<◌, ◌⊎◌, ℕ, suc, ℤ, List, [], ◌∷◌, ◌++◌, length, Option, None, Some, Bool, true}
 use Rattle.std.specs.Prelude.{false, ◌||◌, filter, slice_get, Contains, ⊤}
 use Rattle.lra_linear_forms.specs.Form.{Form}
@@ -33,12 +33,12 @@ abbrev pub sides_of : Bool → Cond → List Cond → Cond
 sides_of true c cs = all_of c cs
 sides_of false c cs = any_of c cs
 
--- what is told came behind the others
+-- what is reported came after the others
 abbrev pub HasAnswers : {A : Type 0} → (List A → Type 0) → List A → List A → Type 0
 HasAnswers {A} are old new = (xs : List A) × are xs × (new ≡ old ++ xs)
 
 module _ {V H : Type 0} (m : Abstraction V H) where
-  -- the answers on the expression came behind the others, and this is its type and its form
+  -- the answers on the expression came after the others, and this is its type and its form
   pub record IsComputed (v : V) (base : ℕ) (e : Expr) (old : List Bool) (c : Computed) (new : List Bool)
       : Type 0 where
     pub answers : HasAnswers (ExprJudged m v base e) old new

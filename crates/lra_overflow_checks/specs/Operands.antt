@@ -1,11 +1,11 @@
--- The operands of a chain of conditions, one behind the other.
+-- The operands of a chain of conditions, one after the other.
 use Rattle.std.specs.Prelude.{◌≡◌, ℕ, Bool, List}
 use Rattle.lra_domain.specs.{Abstraction.worse, declared.Exactness.Exactness}
 use Rattle.lra_program.specs.Program.{Expr, Cond}
 use Rattle.lra_analysis_spec.specs.{Operations.Operations, Pass.Filters}
 use Rattle.lra_overflow_checks.specs.Judged.{IsCondJudged}
 
--- what is told of the operand came behind the others, and of the first value it leaves the second one
+-- what is reported about the operand came after the others, and of the first value it leaves the second one
 abbrev pub IsPassed : {V H A : Type 0} → Operations V H → (ℕ → Expr → Expr → V → List A → Exactness → Type 0) →
     (ℕ → Expr → V → List A → Exactness → Type 0) → ℕ → Cond → Bool → V → Exactness → List A → V → Exactness →
     List A → Type 0

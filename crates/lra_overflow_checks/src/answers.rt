@@ -1,4 +1,4 @@
-//! Answers by what a value tells of forms.
+//! Answers by what a value says of forms.
 
 ghost use Rattle.std.specs.Prelude.{◌≡◌, ◌↔◌, IsTrue, IfOk};
 ghost use Rattle.lra_base.specs.OperatorViews.{operator_view};
@@ -23,7 +23,7 @@ fn is_within(number_type: NumberType, bound: Option<i128>) -> bool
     }
 }
 
-/// Whether what is told of the form's values lies in the type.
+/// Whether what is reported about the form's values lies in the type.
 fn lies_in<D: Domain>(value: &D, number_type: NumberType, form: &Option<LinExpr>) -> bool
     requires formed { D.abstraction.well_formed value.now }
     requires wide { IsWide (D.abstraction.dims value.now) form.now }
@@ -38,7 +38,7 @@ fn lies_in<D: Domain>(value: &D, number_type: NumberType, form: &Option<LinExpr>
     }
 }
 
-/// Whether what is told of the form's values lies in the type, or no run comes here.
+/// Whether what is reported about the form's values lies in the type, or no run comes here.
 pub fn form_fits<D: Domain>(value: &D, number_type: NumberType, form: &Option<LinExpr>) -> bool
     requires { IsWide (D.abstraction.dims value.now) form.now }
     ensures { AnswersUnlessUnreachable D.abstraction value.now result

@@ -1,4 +1,4 @@
-//! What is told of a condition: on the right of `&&` and `||` by what the left side leaves.
+//! What is reported about a condition: on the right of `&&` and `||` by what the left side leaves.
 
 ghost use Rattle.std.specs.Prelude.{◌≡◌, ◌≤◌, ℕ, List, map, IfOk, OnOk};
 ghost use Rattle.lra_domain.specs.declared.Exactness.{Exactness};
@@ -18,18 +18,20 @@ pub struct Surroundings {
     pub base: usize,
 }
 
-/// What is told of a condition's leaves, its comparisons and what it compares with 0, by the value that each has.
+/// What is reported about a condition's leaves, its comparisons and what it compares with 0, by the value that each
+/// has.
 pub trait Leaf<D: Domain> {
-    /// One of what is told.
+    /// One of what is reported.
     type Told: Drop;
 
-    /// What is told of both sides of a comparison, where the variables of its call begin there.
+    /// What is reported about both sides of a comparison, where the variables of its call begin there.
     ghost both: { ℕ → ProgramExpr → ProgramExpr → D → List Self.Told → Exactness → Type 0 };
 
-    /// What is told of what is compared with 0.
+    /// What is reported about what is compared with 0.
     ghost one: { ℕ → ProgramExpr → D → List Self.Told → Exactness → Type 0 };
 
-    /// What is told of both sides of a comparison comes behind the others; what had to be made for it may be flagged.
+    /// What is reported about both sides of a comparison comes after the others; what had to be made for it may be
+    /// flagged.
     fn tell_both(
         around: Surroundings,
         left: &Expr,
@@ -42,7 +44,7 @@ pub trait Leaf<D: Domain> {
             (λ xs. both around.base (expr_view left.now) (expr_view right.now) value.now xs e)
             told.old.items told.new.items) };
 
-    /// What is told of what is compared with 0 comes behind the others.
+    /// What is reported about what is compared with 0 comes after the others.
     fn tell_one(
         around: Surroundings,
         e: &Expr,
@@ -54,7 +56,7 @@ pub trait Leaf<D: Domain> {
             told.old.items told.new.items) };
 }
 
-/// What is told of `condition` comes behind the others; what had to be made for it may be flagged.
+/// What is reported about `condition` comes after the others; what had to be made for it may be flagged.
 #[cycle(judge)]
 pub fn judge_condition<D: Domain, L: Leaf<D>>(
     around: Surroundings,
@@ -80,7 +82,7 @@ pub fn judge_condition<D: Domain, L: Leaf<D>>(
     }
 }
 
-/// What is told of an operand of a chain; the value is then what is left of it where the operand is as `wanted`.
+/// What is reported about an operand of a chain; the value is then what is left of it where the operand is as `wanted`.
 #[cycle(judge)]
 fn pass_operand<D: Domain, L: Leaf<D>>(
     around: Surroundings,
@@ -107,7 +109,7 @@ fn pass_operand<D: Domain, L: Leaf<D>>(
     )
 }
 
-/// What is told of a chain: of each operand by what those before it leave, where they are as `wanted`.
+/// What is reported about a chain: of each operand by what those before it leave, where they are as `wanted`.
 #[cycle(judge)]
 fn judge_sides<D: Domain, L: Leaf<D>>(
     around: Surroundings,

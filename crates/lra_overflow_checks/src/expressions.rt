@@ -93,7 +93,7 @@ fn judge_operator<D: Domain>(
     Ok(Computed { number_type, form })
 }
 
-/// The answers on an expression come behind the others.
+/// The answers on an expression come after the others.
 #[cycle(judge)]
 pub fn judge_expression<D: Domain>(
     alloc: Global,

@@ -12,14 +12,14 @@ use lra_operations::Node;
 use std::alloc::{AllocError, Global};
 
 /// What is judged at the points at which something is computed: the points' numbers in order, with whether all of it
-/// fits; and the first flagged point, behind all that the iteration flagged. Points are numbered from 0.
+/// fits; and the first flagged point, after all that the iteration flagged. Points are numbered from 0.
 #[derive(Drop)]
 pub struct OverflowVerdicts {
     pub verdicts: Vec<(usize, bool)>,
     pub flagged: Option<usize>,
 }
 
-/// Which operations of a tree fit, by the values at its points; behind what is flagged so far.
+/// Which operations of a tree fit, by the values at its points; after what is flagged so far.
 pub fn judge<D: Domain>(
     alloc: Global,
     tree: &Node,

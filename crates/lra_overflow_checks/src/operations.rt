@@ -20,7 +20,8 @@ use lra_operations_list::OpRef;
 use lra_program::{Expr, Receiver};
 use std::alloc::{AllocError, Global};
 
-/// Of operations it is told whether all fits that they compute: of each operator, sign and conversion whether it does.
+/// Of operations it is reported whether all fits that they compute: of each operator, sign and conversion whether it
+/// does.
 pub struct OverflowCheck;
 
 impl<D: Domain> Leaf<D> for OverflowCheck {
@@ -65,7 +66,7 @@ fn all_fit(answers: &[bool]) -> bool
     true
 }
 
-/// The answers on a least change come behind the others; what had to be made for them may be flagged.
+/// The answers on a least change come after the others; what had to be made for them may be flagged.
 fn answer_operation<D: Domain>(
     alloc: Global,
     op: &Op,
@@ -102,7 +103,7 @@ fn answer_operation<D: Domain>(
     }
 }
 
-/// The answers on what is done come behind the others.
+/// The answers on what is done come after the others.
 fn answer_doing<D: Domain>(
     alloc: Global,
     doing: OpRef<'_>,

@@ -30,7 +30,7 @@ pub trait Question<D: Domain> {
     /// Of which operations it is asked.
     ghost asks: { ProgramOp → Bool };
 
-    /// What is told of an operation by the value that it has.
+    /// What is reported about an operation by the value that it has.
     ghost told: { ProgramOp → D → Self.Answer → Exactness → Type 0 };
 
     /// Whether it is asked of what is done.
@@ -49,7 +49,7 @@ pub trait Question<D: Domain> {
 }
 
 /// What is found at the points at which it is asked: the points' numbers in order, each with the answer; and the first
-/// flagged point, behind all that is flagged so far. Points are numbered from 0.
+/// flagged point, after all that is flagged so far. Points are numbered from 0.
 #[derive(Drop)]
 pub struct Found<A> {
     pub answers: Vec<(usize, A)>,
@@ -75,7 +75,7 @@ fn fill<A: Drop>(table: &mut Vec<Option<Verdict<A>>>, point: usize, verdict: Ver
     table[point] = Some(verdict);
 }
 
-/// The answer for what is done at a point with this value, behind the new variable where there is one.
+/// The answer for what is done at a point with this value, after the new variable where there is one.
 fn answer_done<D: Domain, Q: Question<D>>(
     alloc: Global,
     done: &OpRefAtPoint<'_>,
@@ -137,7 +137,7 @@ fn note(point: usize, exactness: Exactness, so_far: Option<usize>) -> Option<usi
     }
 }
 
-/// What the table's verdicts tell, in the order of the points.
+/// What the table's verdicts report, in the order of the points.
 fn read_table<A: Drop>(
     alloc: Global,
     table: Vec<Option<Verdict<A>>>,
@@ -162,7 +162,7 @@ fn read_table<A: Drop>(
     })
 }
 
-/// What is found of a tree, by the values at its points; behind what is flagged so far.
+/// What is found of a tree, by the values at its points; after what is flagged so far.
 pub fn find<D: Domain, Q: Question<D>>(
     alloc: Global,
     tree: &Node,

@@ -22,7 +22,7 @@ use lra_syntax::{
 };
 use std::alloc::{AllocError, Global};
 
-/// The part, behind what it begins with.
+/// The part, after what it begins with.
 fn read_rest(
     alloc: Global,
     lead: Lead,
@@ -50,7 +50,7 @@ fn next_is_built_in(rest: &[Token]) -> bool
     next_is(rest, Mark::Assume)
 }
 
-/// What a part with this name begins with, behind a type or behind `void`.
+/// What a part with this name begins with, after a type or after `void`.
 fn build_lead(result_type: Option<NumberType>, name: Identifier) -> Lead
     ensures { result ≡ named result_type name }
 {
@@ -96,7 +96,7 @@ fn read_void_lead(alloc: Global, rest: &[Token]) -> Result<(Lead, &[Token]), Sto
     Ok((lead, after))
 }
 
-/// What a part begins with behind `extern`, or without it.
+/// What a part begins with after `extern`, or without it.
 fn read_plain_lead(alloc: Global, rest: &[Token]) -> Result<(Lead, &[Token]), Stopped>
     ensures shorter { IfOk result (λ r. length r.1.now < length rest.now) }
     ensures gives { ParsesAs (λ r. (r.0, r.1.now)) result (plain_lead rest.now) }
@@ -127,7 +127,7 @@ fn read_lead(alloc: Global, rest: &[Token]) -> Result<(Lead, &[Token]), Stopped>
     Ok((lead, after))
 }
 
-// Whether the next token is a mark behind a parameter.
+// Whether the next token is a mark after a parameter.
 fn ends_parameter(rest: &[Token]) -> bool
     ensures { result ≡ ends_parameter (first rest.now) }
 {
@@ -190,7 +190,7 @@ fn read_many(alloc: Global, rest: &[Token]) -> Result<(Vec<Option<Parameter>>, &
     Ok((items, left))
 }
 
-/// Parameters, behind the opening parenthesis, with the closing one.
+/// Parameters, after the opening parenthesis, with the closing one.
 fn read_parameters(
     alloc: Global,
     rest: &[Token],
@@ -290,7 +290,7 @@ fn signature_of(
     }
 }
 
-/// What comes behind the parameters: a body, whose brace opens the first level, or a semicolon.
+/// What comes after the parameters: a body, whose brace opens the first level, or a semicolon.
 fn read_ending(
     alloc: Global,
     signature: Option<Signature>,
@@ -319,7 +319,7 @@ fn read_ending(
     }
 }
 
-/// A function or a prototype, behind what it begins with.
+/// A function or a prototype, after what it begins with.
 fn read_signature(
     alloc: Global,
     head: Option<(Option<NumberType>, Identifier)>,
@@ -336,7 +336,7 @@ fn read_signature(
     Ok((item, after))
 }
 
-/// A part, behind this type and this name.
+/// A part, after this type and this name.
 fn read_typed(
     alloc: Global,
     number_type: NumberType,

@@ -17,7 +17,7 @@ use lra_syntax::{
 };
 use std::alloc::Global;
 
-/// What a global is declared as, behind its name.
+/// What a global is declared as, after its name.
 fn read_shape(rest: &[Token]) -> Result<(ScalarOrArray<SignedLiteral>, &[Token]), Stopped>
     ensures shorter { IfOk result (λ r. length r.1.now ≤ length rest.now) }
     ensures gives { ParsesAs (λ r. (shape_view (λ v. v) r.0, r.1.now)) result
@@ -54,7 +54,7 @@ fn read_global(alloc: Global, rest: &[Token]) -> Result<(Variable, &[Token]), St
     Ok((global, after))
 }
 
-/// Globals with commas between them, behind their type and the name of the first.
+/// Globals with commas between them, after their type and the name of the first.
 fn read_many(
     alloc: Global,
     number_type: NumberType,
@@ -82,7 +82,7 @@ fn read_many(
     ))
 }
 
-/// Globals with their semicolon, behind their type and the name of the first.
+/// Globals with their semicolon, after their type and the name of the first.
 pub fn read_globals(
     alloc: Global,
     number_type: NumberType,

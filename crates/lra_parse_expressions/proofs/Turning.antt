@@ -197,7 +197,7 @@ module _ {A : Type 0} (p : Parse A) where
       → ParsesAsErr s (in_parens p T)
   parens_exit = between_exit mark.OpenParen mark.CloseParen p
 
--- the exit by `?` where the mark doesn't come behind a part
+-- the exit by `?` where the mark doesn't come after a part
 pub up_to_exit : {A : Type 0} (m : Mark) (p : Parse A) (T M : Text) (a : A) (e : Stopped) → false ≡ is_mark m (first T) → p T ≡ Ok (a, M) → ParsesAsErr e (expect m (tt {0}) M) →
     ParsesAsErr e (up_to m p T)
 up_to_exit m p T M a stopped.Memory off g h = tt
@@ -209,7 +209,7 @@ pub up_to_first : {A : Type 0} (m : Mark) (p : Parse A) (T : Text) (e : Stopped)
 up_to_first m p T stopped.Memory off g = tt
 up_to_first m p T (stopped.Fault f) off g = rw (sym off, g) refl
 
--- lists: items one behind the other, as long as the next token passes the test
+-- lists: items one after the other, as long as the next token passes the test
 module _ {I : Type 0} (more : Option Token → Bool) (at_end : more None ≡ false) (p : Parse I) where
   -- the list from here on gives the result
   abbrev pub ListLeft : List I → Text → Read (List I) → Type 0
@@ -243,7 +243,7 @@ module _ {I : Type 0} (more : Option Token → Bool) (at_end : more None ≡ fal
   pub list_end : (is : List I) (T : Text) (result : Read (List I)) → ListLeft is T result → false ≡ more (first T) → result ≡ Ok (is, T)
   list_end is T result l off = turn_off more (list_step p) is T result l (sym off)
 
--- lists: a turn behind a mark
+-- lists: a turn after a mark
 module _ {I : Type 0} (m : Mark) (p : Parse I) where
   pub comma_turn : (a b : List I) (i : I) (T U R : Text) (result : Read (List I)) → b ≡ a ++ i ∷ [] → Left (is_mark m) (list_step (after_mark m p)) a T result → true ≡ is_mark m (first T) →
       U ≡ tail T →
@@ -278,7 +278,7 @@ module _ {A B : Type 0} (p : Parse A) (f : A × List A → B) where
   commas_exit a T M stopped.Memory e g = tt
   commas_exit a T M (stopped.Fault d) e g = rw (e, g) refl
 
--- where q reads the items behind the first
+-- where q reads the items after the first
 module _ {A B : Type 0} (p q : Parse A) (f : A × List A → B) where
   pub from_gives : (a : A) (is : List A) (T M R : Text) → p T ≡ Ok (a, M) → list_of (is_mark mark.Comma) (after_mark mark.Comma q) M ≡ Ok (is, R) → map_read f (commas_from p q) T ≡ Ok (f (a, is), R)
   from_gives a is T M R e g = rw (e, g) refl

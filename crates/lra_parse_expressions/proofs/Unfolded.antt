@@ -109,7 +109,7 @@ named_gives d (t ∷ T) R x e =
     let other : literal_of t.kind t.place ≡ None = name_literal t.kind t.place x name in
     rw (unary_is d (t ∷ T), none, other) (rw e refl)
 
--- behind a name that is read
+-- after a name that is read
 pub element_is : (d : ℕ) (x : Identifier) (T : Text) → true ≡ is_mark mark.OpenBracket (first T)
     → named_unary (index_at d) x T ≡ map_read (element x) (index_at d) T
 element_is d x T on = on_side (is_mark mark.OpenBracket (first T)) _ _ on
@@ -217,7 +217,7 @@ pub operand_gives : (d : ℕ) (T R : Text) (u : UnaryTree) → false ≡ is_mark
     negation_at d T ≡ Ok (value_of_unary u, R)
 operand_gives d T R u e o f = negation_is d T ∙ rw (sym e, sym o) (rw f refl)
 
--- behind a condition in parentheses that is an expression alone
+-- after a condition in parentheses that is an expression alone
 pub group_from : (u : Parse UnaryTree) (c : CondTree) (x : ExprTree) (g : UnaryTree) (T : Text) → alone c ≡ Some x → g ≡ group x → after_group u c T ≡ from_unary u g T
 group_from u c x g T a e = rw a (ap (λ (k : UnaryTree). from_unary u k T) (sym e))
 
@@ -249,7 +249,7 @@ pub operand_exit : (d : ℕ) (T : Text) (s : Stopped) → false ≡ is_mark mark
 operand_exit d T stopped.Memory e o g = tt
 operand_exit d T (stopped.Fault f) e o g = negation_is d T ∙ rw (sym e, sym o) (rw g refl)
 
--- behind a name ------------------------------------------------------------------------------------------------------
+-- after a name -------------------------------------------------------------------------------------------------------
 
 pub call_is : (d : ℕ) (x : Identifier) (T : Text) → true ≡ is_mark mark.OpenParen (first T) → rvalue_rest d x T ≡ map_read result (call_rest d x) T
 call_is d x T e = on_side (is_mark mark.OpenParen (first T)) _ _ e

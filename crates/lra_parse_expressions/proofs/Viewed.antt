@@ -73,7 +73,7 @@ conjunction_is = fold-roll-Conjunction tree.NegationTree tree.TestTree tree.Cond
 pub cond_is : (x : Cond-F Negation Test Cond Conjunction) → cond_view (roll-Cond x) ≡ any_conjunction (tree.conjunction (conjunction_view x.first)) (map conjunction_view x.rest.items)
 cond_is = fold-roll-Cond tree.NegationTree tree.TestTree tree.CondTree tree.ConjunctionTree negation_step test_step cond_step conjunction_step
 
--- behind `!`, a negation that is handed on
+-- after `!`, a negation that is handed on
 pub negation_handed : (result : Result (Negation × Bor Text) Stopped) (n : tree.NegationTree) (R : Text) (read : Read tree.NegationTree) → read ≡ Ok (n, R)
     → MatchResult result (λ r. (negation_view r.0 ≡ n) × (r.1.now ≡ R)) (λ e. e ≡ stopped.Memory) → ParsesAs (λ r. (negation_view r.0, r.1.now)) result read
 negation_handed (Ok x) n R read e m = rw (m.0, m.1) e

@@ -50,7 +50,7 @@ pub fn next_step(rest: &[Token]) -> Option<(Step, Place)>
     }
 }
 
-/// What comes behind the mark, if it is the next token, or else all.
+/// What comes after the mark, if it is the next token, or else all.
 fn skip(rest: &[Token], mark: Mark) -> &[Token]
     ensures shorter { length result.now ≤ length rest.now }
     ensures value { result.now ≡ skip mark rest.now }
@@ -163,7 +163,7 @@ pub fn next_is_type(rest: &[Token]) -> bool
     next_is(rest, Mark::Long)
 }
 
-/// A type, and what comes behind its words: `int`; or `long`, maybe `long`, maybe `int`.
+/// A type, and what comes after its words: `int`; or `long`, maybe `long`, maybe `int`.
 #[tactic(auto, using(crate::proofs::Typed::type_rules))]
 pub fn read_type(rest: &[Token]) -> Result<(NumberType, &[Token]), Stopped>
     ensures shorter { IfOk result (λ r. length r.1.now < length rest.now) }

@@ -35,7 +35,7 @@ fn read_many(alloc: Global, rest: &[Token], depth: usize) -> Result<(Arguments, 
     Ok((Arguments { items }, left))
 }
 
-/// The arguments of a call, behind the opening parenthesis, with the closing one.
+/// The arguments of a call, after the opening parenthesis, with the closing one.
 fn read_arguments(
     alloc: Global,
     rest: &[Token],
@@ -54,7 +54,7 @@ fn read_arguments(
     Ok((arguments, closed))
 }
 
-/// A call, behind the name of the function.
+/// A call, after the name of the function.
 pub fn read_call(
     alloc: Global,
     name: Identifier,
@@ -70,7 +70,7 @@ pub fn read_call(
     Ok((Call { name, arguments }, after))
 }
 
-/// A call, or an expression, behind the name that it begins with.
+/// A call, or an expression, after the name that it begins with.
 fn read_rvalue_rest(
     alloc: Global,
     name: Identifier,

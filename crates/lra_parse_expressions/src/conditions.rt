@@ -1,5 +1,5 @@
 //! Conditions. A function reads where `depth` levels of nesting are left.
-//! What is read behind a parenthesis stands in boxes, so that a level takes little of the stack.
+//! What is read after a parenthesis stands in boxes, so that a level takes little of the stack.
 
 ghost use Rattle.std.specs.Prelude.{◌≡◌, ◌≤◌, length, map, IfOk, MatchResult};
 ghost use Rattle.lra_syntax.specs.Trees.{test, conjunction, group_of, opposite, opposite_again};
@@ -172,7 +172,7 @@ fn build_disjunction(
     Ok(Box::new(alloc, Cond { first, rest })?)
 }
 
-/// What `!` stands before, if it is another `!`, and the text behind it.
+/// What `!` stands before, if it is another `!`, and the text after it.
 fn oppose_again(
     alloc: Global,
     negation: Negation,
@@ -184,7 +184,7 @@ fn oppose_again(
     Ok((Negation::Again(Box::new(alloc, negation)?), rest))
 }
 
-/// What `!` stands before, if it is a condition in parentheses, and the text behind them.
+/// What `!` stands before, if it is a condition in parentheses, and the text after them.
 #[inline(never)]
 fn oppose_group(
     alloc: Global,

@@ -14,14 +14,14 @@ use Rattle.lra_parse_heads.specs.declared.heads.Begun.TheVariants as begun
 pub exit_on : {X Y : Type 0} (rest : X → Read Y) (result : Result X Stopped) (e : Stopped) (read : Read Y) → IsErrAnd result (λ s. s ≡ e) → ParsesAsErr e read → GoesOn rest result read
 exit_on rest result e read is g = let p = err_from_is_err_and result is in rw (p.1, p.2) g
 
--- a branch comes behind each head
+-- a branch comes after each head
 pub some_branch : (h : Head) → 0 < branches_of h
 some_branch (head.If at c) = omega arith
 some_branch (head.Else at c first) = omega arith
 some_branch (head.While at c) = omega arith
 some_branch (head.For at h) = omega arith
 
--- behind the parentheses of a `switch`, where its braces come
+-- after the parentheses of a `switch`, where its braces come
 pub switch_goes : (d : ℕ) (T U R : Text) (at : Place) (value : Expr) (h : Box Switched Global) → expect_at mark.Switch T ≡ Ok (at, U)
     → in_parens (expr_at d) U ≡ Ok (expr_view value, R)
     → h.value ≡ record { place = at; value = value } → read_switch d (braces_at d) T ≡ begun_rest d (begun.UpToBraces h) R

@@ -95,7 +95,7 @@ fn begin_head(alloc: Global, head: Head) -> Result<Begun, AllocError>
 }
 
 impl Head {
-    /// What is begun with this head and the branch, and what comes behind: behind the `else` too, if the branch is the
+    /// What is begun with this head and the branch, and what comes after: after the `else` too, if the branch is the
     /// first of two.
     fn add(
         self,

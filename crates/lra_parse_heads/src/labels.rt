@@ -20,7 +20,7 @@ fn positive(literal: Literal) -> SignedLiteral
     }
 }
 
-/// A literal of 63 bits behind a sign.
+/// A literal of 63 bits after a sign.
 fn negative(literal: Literal) -> SignedLiteral
     requires { literal.value < 9223372036854775808 }
     ensures { result ≡ negative literal }
@@ -86,7 +86,7 @@ pub fn begins_label(rest: &[Token]) -> bool
     next_is(rest, Mark::Default)
 }
 
-/// Labels one behind the other, or none.
+/// Labels one after the other, or none.
 pub fn read_labels(alloc: Global, rest: &[Token]) -> Result<(Vec<PlacedLabel>, &[Token]), Stopped>
     ensures shorter { IfOk result (λ r. length r.1.now ≤ length rest.now) }
     ensures gives { ParsesAs (λ r. (r.0.items, r.1.now)) result (labels_at rest.now) }

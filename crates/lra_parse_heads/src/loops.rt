@@ -113,7 +113,7 @@ fn init_of(assign: Option<Assign>) -> Init
     }
 }
 
-/// What a loop begins with, and the semicolon behind it.
+/// What a loop begins with, and the semicolon after it.
 fn read_init(alloc: Global, rest: &[Token], depth: usize) -> Result<(Init, &[Token]), Stopped>
     ensures shorter { IfOk result (λ r. length r.1.now ≤ length rest.now) }
     ensures gives { ParsesAs (λ r. (init_view r.0, r.1.now)) result (init_at depth rest.now) }

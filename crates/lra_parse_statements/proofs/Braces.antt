@@ -54,7 +54,7 @@ pub braces_stop : {X : Type 0} (view : X → CasesTree × Text) (d : ℕ) (T : T
     → result ≡ Err (stopped.Fault (fault_at_braces T)) → ParsesAs view result (braces_at d T)
 braces_stop view d T result none is = rw is (braces_zero d T none)
 
--- parts, and what they put before the parts behind them --------------------------------------------------------------
+-- parts, and what they put before the parts after them ---------------------------------------------------------------
 
 abbrev through_all : List CasePart → CasesTree → CasesTree
 through_all [] t = t
@@ -104,7 +104,7 @@ first_grown b fs new c e f t =
     ap (λ (gs : List CasePart). through_all gs t) (f ∙ ap (λ (gs : List CasePart). gs ++ parts_of c) e)
     ∙ ap (λ (u : CasesTree). labelled b u) (parts_through c.0 c.1 t)
 
--- labels that are pushed, and the statement behind them
+-- labels that are pushed, and the statement after them
 labels_then : (bs : List PlacedLabel) (ps qs : List CasePart) → label_parts bs ps ++ qs ≡ label_parts bs (ps ++ qs)
 labels_then [] ps qs = refl
 labels_then (b ∷ bs) ps qs = ap (λ (fs : List CasePart). labelled b ∷ fs) (labels_then bs ps qs)
@@ -171,7 +171,7 @@ module _ (d : ℕ) where
   abbrev after_label : PlacedLabel → Text → Read (List LabelledTree)
   after_label b T = labelled_at T >>= (λ r. further (add_label b r.0) r.1)
 
-  -- the parts so far, whether more come, and what is left behind those of the text S
+  -- the parts so far, whether more come, and what is left after those of the text S
   pub data State (parts : List CasePart) (more : Bool) (T S : Text) : Type 0 where
     none : parts ≡ [] → more ≡ false → cases_at d S ≡ Ok ([], T) → State parts more T S
     begun : (b : PlacedLabel) → parts ≡ labelled b ∷ [] → more ≡ true → cases_at d S ≡ after_label b T → State parts more T S
@@ -247,7 +247,7 @@ module _ (d : ℕ) where
   state_end parts more T S (going c cs inner h turns left g) off =
       (c ∷ cs, same_cases parts (c ∷ cs) h, g ∙ rw (turn_off begins_case case_step cs T inner left (sym turns ∙ off)) refl)
 
-  -- the same behind the brace that the text X begins with
+  -- the same after the brace that the text X begins with
   abbrev pub Opened : List CasePart → Bool → Text → Text → Type 0
   Opened parts more T X = (S : Text) × (expect mark.OpenBrace (tt {0}) X ≡ Ok (tt {0}, S)) × State parts more T S
 
@@ -301,7 +301,7 @@ module _ (d : ℕ) where
       let k = state_end parts more T S s off in
       rw (o, k.2) (expect_map mark.CloseBrace cases_from k.0 T) ∙ ap (λ (c : CasesTree). expect mark.CloseBrace c T) (sym k.1)
 
--- behind the parentheses of a `switch` its braces are read
+-- after the parentheses of a `switch` its braces are read
 module _ (d : ℕ) (b : Begun) (head : Box Switched Global) (is : b ≡ begun_as.UpToBraces head) (T : Text) where
   pub braces_read : (R : Text) (cs : CasesTree) (t : StmtTree) → braces_at d T ≡ Ok (cs, R) → t ≡ switch head.value.place (expr_view head.value.value) cs
       → begun_rest d b T ≡ Ok (t, R)

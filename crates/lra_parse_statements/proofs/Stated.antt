@@ -118,7 +118,7 @@ close_gives is T R end g = rw g refl
 
 -- the loop of a block ----------------------------------------------------------------------------------------------
 
--- items, as what they put before the items behind them
+-- items, as what they put before the items after them
 abbrev put_list : List ItemTree → ItemsTree → ItemsTree
 put_list [] t = t
 put_list (i ∷ is) t = put i (put_list is t)

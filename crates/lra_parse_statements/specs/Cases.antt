@@ -1,4 +1,4 @@
--- The braces of a `switch` as the code reads them: item by item, each as what it puts before those behind it.
+-- The braces of a `switch` as the code reads them: item by item, each as what it puts before those after it.
 use Rattle.std.specs.Prelude.{Bool, cond, List, [], ◌∷◌, length}
 use Rattle.lra_base.specs.declared.refusals.Cause.TheVariants.{Syntax, TooDeep}
 use Rattle.lra_syntax.specs.{Trees.labelled, Trees.stated, Views.CasePart, declared.tokens.Mark.TheVariants.OpenBrace}
@@ -7,7 +7,7 @@ use Rattle.lra_parser_spec.specs.Reading.{Text, Parse, map_read, done_with}
 use Rattle.lra_parser_spec.specs.{Expressions.after_mark, Statements.label_parser, Statements.LabelledTree, Tests.first}
 use Rattle.lra_parser_spec.specs.{Tests.is_mark, Tests.begins_label, declared.reading.Fault.Fault}
 
--- labels, and the statement behind them
+-- labels, and the statement after them
 abbrev pub label_parts : List PlacedLabel → List CasePart → List CasePart
 label_parts [] parts = parts
 label_parts (b ∷ bs) parts = labelled b ∷ label_parts bs parts

@@ -68,7 +68,7 @@ fn read_nothing(rest: &[Token]) -> Result<(Stmt, &[Token]), Stopped>
     Ok((Stmt::Nothing(place), after))
 }
 
-/// A call or an assignment with its semicolon, behind the name that it begins with.
+/// A call or an assignment with its semicolon, after the name that it begins with.
 fn read_named(
     alloc: Global,
     name: Identifier,

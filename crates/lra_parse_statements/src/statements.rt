@@ -81,7 +81,7 @@ fn begins_case(rest: &[Token]) -> bool
     begins_stmt(rest)
 }
 
-/// The labels, behind the other items.
+/// The labels, after the other items.
 fn push_labels(items: &mut Vec<CaseItem>, labels: Vec<PlacedLabel>) -> Result<(), AllocError>
     ensures { OnOk result (map case_view items.new.items
         ≡ map case_view items.old.items ++ label_parts labels.items []) }
@@ -92,7 +92,7 @@ fn push_labels(items: &mut Vec<CaseItem>, labels: Vec<PlacedLabel>) -> Result<()
     Ok(())
 }
 
-/// The labels and the statement behind them, behind the other items.
+/// The labels and the statement after them, after the other items.
 #[inline(never)]
 fn push_labelled(
     items: &mut Vec<CaseItem>,

@@ -9,7 +9,7 @@ use Rattle.lra_parser_spec.specs.Reading.{Text, Read, stop, ◌>>=◌, map_read,
 use Rattle.lra_parser_spec.specs.{Files.EndsOnce, Files.parts_at, Files.next_end, Files.file_of, Files.file_at, Tests.first, declared.reading.Fault.Fault}
 use Rattle.lra_parser_spec.proofs.{Exact.Low, Exact.Within, Exact.Goes, Exact.plain-append, Exact.bind_err, ExactFiles.exact_parts, Laws.the_file, Laws.read_whole, Tokens.IsInner}
 
--- nothing stands behind the end --------------------------------------------------------------------------------------
+-- nothing comes after the end ----------------------------------------------------------------------------------------
 
 something : (Y : Text) (e : Token) (R : Text) → Y ++ e ∷ R ≡ [] → ⊥
 something [] e R h = cc
@@ -88,7 +88,7 @@ at_fault TooDeep t x (p ∷ w) r R s low goes local =
     (t, x, p.1, w, subst (λ (k : Token). Spells t (x ++ (k, p.1) ∷ w)) goes.0 s, refl, low, goes.1)
 at_fault c t x w r R s low goes local = absurd goes
 
--- the token at fault, with what stands before and behind it
+-- the token at fault, with what stands before and after it
 pub record StopsAt (T : Text) (f : Fault) : Type 0 where
   pub front : Text
   pub token : Token

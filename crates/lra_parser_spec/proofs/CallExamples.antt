@@ -53,7 +53,7 @@ summed_stops = refl
 pub call_in_sum : IsTextFault Spells (ended_at summed 28) Syntax (in_line 23)
 call_in_sum = text_fault (ended_at summed 28) (record { cause = Syntax; left = 5 }) (ends summed 28 refl) summed_stops (mark_token mark.Plus 23) refl
 
--- int main(void){ x=y+f(1); }: nor behind an operator
+-- int main(void){ x=y+f(1); }: nor after an operator
 abbrev added : Text
 added = main_head (word_at (codes "x") 17 ∷ mark_token mark.Assign 18 ∷ word_at (codes "y") 19 ∷ mark_token mark.Plus 20 ∷ word_at (codes "f") 21 ∷ mark_token mark.OpenParen 22 ∷
     token_at (Number Int 1) 23 ∷ mark_token mark.CloseParen 24

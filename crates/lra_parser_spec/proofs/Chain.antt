@@ -1,4 +1,4 @@
--- Chains, items with operators between them; and lists, items one behind the other.
+-- Chains, items with operators between them; and lists, items one after the other.
 use Rattle.std.proofs.Common.{◌≡◌, ℕ, Bool, true, false, List, [], ◌∷◌, ◌++◌, Option, Some, None, refl, sym, ap, subst, ◌∙◌, append_assoc}
 use Rattle.std.proofs.lemmas.List.{append-nil}
 use Rattle.lra_base.specs.declared.refusals.Place.{Place}
@@ -49,7 +49,7 @@ module _ {I A O : Type 0} (mark_of : O → Mark) (start : I → A) (grow : A →
     no_steps b a y none j = (refl, refl)
     no_steps b a y (turn {a = _} {c = c} {x = u} {y = v} (k, (q, r, e, m, (i, g, s))) t) j = absurd (steps_not b c v (λ j. grown a k i (subst P (sym g) j)) t j)
 
-  -- the first token of steps, or of what comes behind none
+  -- the first token of steps, or of what comes after none
   pub first_of_steps : (b a : A) (y : Pieces) (o : Option Token) (P : Option Token → Type 0) → Steps Step_to b a y →
       ((k : O) (at : Place) → P (Some (record { kind = MarkOf (mark_of k); place = at })))
       → (y ≡ [] → b ≡ a → P o) → P (first_or y o)

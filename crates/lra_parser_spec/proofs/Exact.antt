@@ -1,7 +1,8 @@
 -- Exact readers. `Exact n Q p E S V F` says of the reader p, from a next token that meets E on:
--- it reads a value a where the text begins with one of a's texts S a, whose levels are at most n, and F a holds of the token behind it; then no other;
--- else it stops at the first token with which no text of V begins, or that opens a level past n, having looked at nothing behind it.
--- Each token that is read meets Q. V has the texts of which those of S are some; mostly it is S.
+-- it reads a value a where the text begins with one of a's texts S a, whose levels are at most n, and F a holds of the
+-- token after it; then no other; else it stops at the first token with which no text of V begins, or that opens a level
+-- past n, having looked at nothing after it. Each token that is read meets Q. V has the texts of which those of S are
+-- some; mostly it is S.
 use Rattle.std.proofs.Common.{◌≡◌, ℕ, ◌≤◌, ◌<◌, Bool, true, false, ◌⊎◌, [], ◌∷◌, ◌++◌, length, Option, Some, None, Ok, Err, refl, sym, ap, subst, ◌∙◌, append_assoc, inl, inr}
 use Rattle.std.proofs.lemmas.List.{append_cancel_right}
 use Rattle.std.specs.{Bool.⊤, List.AllByRecursion}
@@ -36,7 +37,7 @@ pub record Fails {A : Type 0} (n : ℕ) (Q : Token → Type 0) (p : Parse A) (V 
   pub tail : Pieces
   pub viable : V tree (done ++ tail)
   pub goes : Goes n f.cause tail rest
-  -- nothing behind the token at fault was looked at
+  -- nothing after the token at fault was looked at
   pub local : (Y : Text) → first Y ≡ first rest → p (plain done ++ Y) ≡ stop f.cause Y
 
 pub record Exact {A : Type 0} (n : ℕ) (Q : Token → Type 0) (p : Parse A) (E : Option Token → Type 0) (S V : A → Pieces → Type 0) (F : A → Option Token → Type 0) : Type 0 where
@@ -48,7 +49,7 @@ pub record Exact {A : Type 0} (n : ℕ) (Q : Token → Type 0) (p : Parse A) (E 
   pub again : (x : Pieces) (a : A) (R : Text) → S a x → Low n x → E (first (plain x ++ R)) → F a (first R) → p (plain x ++ R) ≡ Ok (a, R)
   -- or stops at its first token that opens a level past n;
   pub deep : (x : Pieces) (t : Piece) (w : Pieces) (a : A) (Y : Text) → S a (x ++ t ∷ w) → Low n x → n < t.1 → E (first (plain x ++ t.0 ∷ Y)) → p (plain x ++ t.0 ∷ Y) ≡ stop TooDeep (t.0 ∷ Y)
-  -- and its levels are told by its tokens
+  -- and its levels are given by its tokens
   pub one : (x y : Pieces) (a b : A) (R : Text) → S a x → S b y → Low n x → Low n y → E (first (plain x ++ R)) → F a (first R) → F b (first R) → plain x ≡ plain y → x ≡ y
 
 abbrev pub Any : Option Token → Type 0
@@ -153,7 +154,7 @@ pub nonempty : (v : Pieces) (t : Piece) (w : Pieces) → v ++ t ∷ w ≡ [] →
 nonempty [] t w e = cc
 nonempty (s ∷ v) t w e = cc
 
--- one behind the other ---------------------------------------------------------------------------------------------
+-- one after the other ----------------------------------------------------------------------------------------------
 
 abbrev pub Both : {A B : Type 0} → (A → Pieces → Type 0) → (A → B → Pieces → Type 0) → B → Pieces → Type 0
 Both {A} S S' b z = (a : A) × (S a ⋅ S' a b) z

@@ -97,11 +97,11 @@ AfterText x b z = Of (λ (s : Step × Place). after x (step_view s.0)) (StepText
 abbrev ElementText : ℕ → Identifier → AssignTree → Texts
 ElementText l x b z = Both (IndexText l) (λ i b. opens mark.Assign 0 ⋅ Of (set_element x i) (IsRvalue l) b) b z
 
--- behind the name of a variable
+-- after the name of a variable
 abbrev VariableText : ℕ → Identifier → AssignTree → Texts
 VariableText l x b z = SetText l x b z ⊎ (UpdateText l x b z ⊎ AfterText x b z)
 
--- behind the name
+-- after the name
 abbrev pub RestText : ℕ → Identifier → AssignTree → Texts
 RestText l x b z = ElementText l x b z ⊎ VariableText l x b z
 
@@ -157,7 +157,7 @@ step_no_open : (s : Step) (at : Place) → is_mark mark.OpenParen (Some (token (
 step_no_open step.Increment at = refl
 step_no_open step.Decrement at = refl
 
--- what holds of each mark behind the name of a variable holds of the first token
+-- what holds of each mark after the name of a variable holds of the first token
 variable_first : (P : Option Token → Type 0) → ((at : Place) → P (Some (token mark.Assign at))) →
     ((op : Operator) (at : Place) → P (Some (token (mark_of_update op) at))) →
     ((s : Step) (at : Place) → P (Some (token (mark_of_step s) at)))
@@ -174,7 +174,7 @@ element_first : (P : Option Token → Type 0) → ((at : Place) → P (Some (tok
 element_first P h l x b u v z o e (i, (p, q, f, (c, d, g, m, t), r)) =
     first_opened P mark.OpenBracket (l + 1) c (d ++ (q ++ v)) z o (e ∙ regroup u v p q f ∙ regroup p (q ++ v) c d g) m h
 
--- no parenthesis comes behind the name
+-- no parenthesis comes after the name
 pub rest_no_open : (l : ℕ) (x : Identifier) (b : AssignTree) (u v z : Pieces) (o : Option Token) → z ≡ u ++ v → RestText l x b u → is_mark mark.OpenParen (first_or z o) ≡ false
 rest_no_open l x b u v z o e (inl s) = element_first (λ i. is_mark mark.OpenParen i ≡ false) (λ at. refl) l x b u v z o e s
 rest_no_open l x b u v z o e (inr s) = variable_first (λ i. is_mark mark.OpenParen i ≡ false) (λ at. refl) update_no_open step_no_open l x b u v z o e s
@@ -347,11 +347,11 @@ skipped_first S F m k other begins a x o (u, v, e, inr s, t) f =
     let same : x ≡ v = e ∙ ap (λ (w : Pieces). w ++ v) s in
     subst (λ (w : Pieces). is_mark m (first_or w o) ≡ false) (sym same) (begins a v o t (λ i. f (same ∙ i)))
 
--- a type, and what comes behind it
+-- a type, and what comes after it
 abbrev pub TypedText : {A : Type 0} → (NumberType → A → Pieces → Type 0) → A → Texts
 TypedText S b z = (t : NumberType) × (IsType t ⋅ S t b) z
 
--- `int`, or `long` with what may stand behind it
+-- `int`, or `long` with what may come after it
 abbrev EitherType : {A : Type 0} → (NumberType → A → Pieces → Type 0) → A → Texts
 EitherType S b z = (opens mark.Int 0 ⋅ S Int b) z ⊎ (opens mark.Long 0 ⋅ ((spells mark.Long ∣ empty) ⋅ ((spells mark.Int ∣ empty) ⋅ S Long b))) z
 
@@ -385,7 +385,7 @@ sides_same : {A : Type 0} (b : Bool) (r s q u : Read A) → r ≡ s → q ≡ u 
 sides_same true r s q u e f = e
 sides_same false r s q u e f = f
 
--- behind a type
+-- after a type
 pub exact_type : {n : ℕ} {A : Type 0} {F : A → Option Token → Type 0} (p : NumberType → Parse A) (S : NumberType → A → Pieces → Type 0)
     → ((t : NumberType) → Exact n IsInner (p t) Any (S t) (S t) F) → ((t : NumberType) → (a : A) × (x : Pieces) × S t a x)
     → LongBegins mark.Int S F → LongBegins mark.Long S F → Exact n IsInner (seq type_words p) Any (TypedText S) (TypedText S) F
@@ -419,7 +419,7 @@ given_in : (l : ℕ) (m : Option RvalueTree) (z : Pieces) → IsGiven l m z → 
 given_in l None z s = inr (refl, s)
 given_in l (Some a) z (u, v, e, s, t) = inl (u, v, e, s, (a, refl, t))
 
--- behind the name
+-- after the name
 abbrev ShapedText : ℕ → Identifier → DeclaratorTree → Texts
 ShapedText l x b = Of (declarator_of x) (IsScalarOrArray (IsGiven l)) b
 

@@ -14,7 +14,7 @@ use Rattle.lra_parser_spec.proofs.{Chain.regroup, Chain.Items, Chain.AfterLast, 
 use Rattle.lra_parser_spec.proofs.{ExactLabels.AfterLabels, ExactLabels.exact_labels, ExactStatements.AfterStmt, ExactStatements.BracesText, Forms.widen, Forms.retell, Forms.entry, Forms.mapped}
 use Rattle.lra_parser_spec.proofs.{Forms.branch, Forms.exact_done, Marks.is_mark_some, Parts.token, Parts.exact_behind, Parts.exact_ended, Tokens.IsInner, Tokens.some_place}
 
--- a statement behind labels ----------------------------------------------------------------------------------------
+-- a statement after labels -----------------------------------------------------------------------------------------
 
 abbrev pub LabelledText : ℕ → LabelledTree → Texts
 LabelledText l c z = Both (λ bs z. Items IsLabel bs z) (λ bs c. Of (λ t. (bs, t)) (StatedText l) c) c z
@@ -22,7 +22,7 @@ LabelledText l c z = Both (λ bs z. Items IsLabel bs z) (λ bs c. Of (λ t. (bs,
 abbrev AfterCase : LabelledTree → Option Token → Type 0
 AfterCase c o = AfterStmt c.1 o
 
--- the first token of a text whose first part has a label at its front
+-- the first token of a text whose first part has a label at its start
 front_label : (b : PlacedLabel) (u v x y z : Pieces) (o : Option Token) → IsLabel b u → x ≡ u ++ v → z ≡ x ++ y → begins_label (first_or z o) ≡ true
 front_label b u v x y z o s f e =
     let same : first_or z o ≡ first_or u (first_or (v ++ y) o) = ap (λ (w : Pieces). first_or w o) (e ∙ regroup x y u v f) ∙ first_or-both u (v ++ y) o in
@@ -61,7 +61,7 @@ abbrev AfterCases : List LabelledTree → Option Token → Type 0
 AfterCases [] o = begins_label o ≡ false
 AfterCases (c ∷ cs) o = AfterLast AfterCase (AfterCase c) cs o × (begins_case o ≡ false)
 
--- what stands behind the first
+-- what comes after the first
 behind_first : (l : ℕ) (c : LabelledTree) (ds : List LabelledTree) (y : Pieces) (o : Option Token) → Items (LabelledText l) ds y
     → (y ≡ [] → AfterCases (c ∷ ds) o) → AfterCase c (first_or y o)
 behind_first l c [] y o e f = subst (λ (w : Pieces). AfterCase c (first_or w o)) (sym e) (f e).0
@@ -121,7 +121,7 @@ to_cases : (l : ℕ) (cs : List LabelledTree) (z : Pieces) → CasesText l cs z 
 to_cases l cs z (inl s) = some_to_cases l cs z s
 to_cases l cs z (inr (e, f)) = subst (λ (ds : List LabelledTree). AreCases l (cases_from ds) z) (sym e) f
 
--- and back: what stands behind a label, and behind a statement
+-- and back: what comes after a label, and after a statement
 pub record Split (l : ℕ) (cs : CasesTree) (z : Pieces) : Type 0 where
   pub first : LabelledTree
   pub further : List LabelledTree

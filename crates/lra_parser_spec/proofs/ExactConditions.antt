@@ -114,7 +114,7 @@ begun_long z b e = let f = b.2 in cc
 pub begun_first : (z : Pieces) (o : Option Token) → Begun z → first_or z o ≡ first_or z None
 begun_first z o b = rw (b.2) refl
 
--- behind an expression ---------------------------------------------------------------------------------------------
+-- after an expression ----------------------------------------------------------------------------------------------
 
 abbrev Compared : ℕ → ExprTree → TestTree → Texts
 Compared l e b z = ((k : Comparison) × (spells (mark_of_comparison k) ⋅ Of (compare e (comparison_view k)) (IsExpr l) b) z) ⊎ ((b ≡ value e) × (z ≡ []))
@@ -213,7 +213,7 @@ joined l (conjunction (one_test (group_of c))) b x y h s = strict_test l _ b x y
 joined l (conjunction (and c t)) b x y h s = strict_test l _ b x y tt h s.0 s.1
 joined l (or c d) b x y h s = strict_test l _ b x y tt h s.0 s.1
 
--- each condition in parentheses is the front of a test
+-- each condition in parentheses is the start of a test
 group_some : (l : ℕ) (c : CondTree) (z : Pieces) (m : Option ExprTree) → (b : TestTree) × (y : Pieces) × AfterAlone l c m b y
 group_some l c z (Some e) = (value (term (unary (group e))), [], (unary (group e), ([], [], refl, none, (term (unary (group e)), ([], [], refl, none, inr (refl, refl))))))
 group_some l c z None = (group_of c, [], (refl, refl))
@@ -292,7 +292,7 @@ module _ (n l : ℕ) (u : Parse UnaryTree) (U : Exact n IsInner u Any (IsUnary l
   exact_after_alone c (Some e) = exact_from_unary n l u U (group e)
   exact_after_alone c None = exact_done n IsInner (group_of c) Any (AfterAlone l c None) AfterTest (λ o h. tt)
 
-  -- behind a parenthesis
+  -- after a parenthesis
   exact_grouped : (p : Parse CondTree) → Exact n IsInner (in_parens p) Any (Grouped l) (Grouped l) Free →
       Exact n IsInner (seq (in_parens p) (after_group u)) Any (TestAt l (Some at_open)) (TestAt l (Some at_open)) AfterTest
   exact_grouped p P = then P (λ c. exact_after_alone c (alone c)) (TestAt l (Some at_open))

@@ -47,7 +47,7 @@ sum_is n = record { exact = exact_operator n sum_mark sum_operators (refl, (refl
 
 -- what may follow: no operator that goes on -------------------------------------------------------------------------
 
--- and behind a name no bracket, which would make it an element
+-- and after a name no bracket, which would make it an element
 abbrev pub AfterUnary : UnaryTree → Option Token → Type 0
 AfterUnary (negated u) o = AfterUnary u o
 AfterUnary (positive u) o = AfterUnary u o
@@ -57,7 +57,7 @@ AfterUnary input o = ⊤
 AfterUnary (group e) o = ⊤
 AfterUnary (element x e) o = ⊤
 
--- behind a term's last factor
+-- after a term's last factor
 abbrev pub AfterFactor : TermTree → Option Token → Type 0
 AfterFactor (unary u) o = AfterUnary u o
 AfterFactor (times t u) o = AfterUnary u o
@@ -67,7 +67,7 @@ AfterFactor (modulo t u) o = AfterUnary u o
 abbrev pub AfterTerm : TermTree → Option Token → Type 0
 AfterTerm t o = AfterFactor t o × (has (factor_operator o) ≡ false)
 
--- behind an expression's last summand
+-- after an expression's last summand
 abbrev pub AfterSummand : ExprTree → Option Token → Type 0
 AfterSummand (term t) o = AfterTerm t o
 AfterSummand (plus e t) o = AfterTerm t o
@@ -235,7 +235,7 @@ InputText b = opens mark.Input 0 ⋅ (opens mark.OpenParen 0 ⋅ (λ z. (b ≡ i
 abbrev pub IndexText : ℕ → ExprTree → Texts
 IndexText l e = in_brackets l (IsExpr (l + 1) e)
 
--- behind a name
+-- after a name
 abbrev pub NamedUnary : ℕ → Identifier → UnaryTree → Texts
 NamedUnary l x b z = Of (element x) (IndexText l) b z ⊎ ((b ≡ variable x) × (z ≡ []))
 

@@ -61,7 +61,7 @@ exact_signature n d e h =
     (λ ps p x y s r. (ps, (x, y, refl, s, r))) in
     exact_behind mark.OpenParen 0 (omega arith) both (some_signed h)
 
--- globals, behind a type and a name
+-- globals, after a type and a name
 abbrev OnlyGlobals : Lead → ExternalTree → Texts
 OnlyGlobals (lead.Typed t x) p = GlobalsText t x p
 OnlyGlobals (lead.Void x) p = λ z. ⊥

@@ -19,7 +19,7 @@ AfterValue v o = ⊤
 abbrev AfterGlobal : GlobalTree → Option Token → Type 0
 AfterGlobal g o = AfterShape AfterValue g.shape o
 
--- as the grammar has it behind a name
+-- as the grammar has it after a name
 abbrev FirstValue : Option SignedLiteral → Texts
 FirstValue None = empty
 FirstValue (Some v) = spells mark.Assign ⋅ IsSigned v
@@ -32,7 +32,7 @@ value_in : (m : Option SignedLiteral) (z : Pieces) → FirstValue m z → GivenT
 value_in None z s = inr (refl, s)
 value_in (Some a) z (u, v, e, s, t) = inl (u, v, e, s, (a, refl, t))
 
--- behind the name
+-- after the name
 abbrev pub ShapedText : Identifier → GlobalTree → Texts
 ShapedText x g = Of (global_of x) (IsScalarOrArray FirstValue) g
 
@@ -70,7 +70,7 @@ exact_global n =
     (λ x g y o s f. tt) (λ x z v. (global_of x (scalar None), [], (x, (z, [], refl, v, (scalar None, refl, refl))))) (λ x g u v s r. (x, (u, v, refl, s, r))) in
     retell t IsGlobal to_global (λ g z s. from_global g.name g.shape z s)
 
--- globals, behind the name of the first ----------------------------------------------------------------------------
+-- globals, after the name of the first -----------------------------------------------------------------------------
 
 abbrev Listed : Identifier → GlobalTree × List GlobalTree → Texts
 Listed x gs = ShapedText x gs.0 ⋅ further IsGlobal gs.1

@@ -194,7 +194,7 @@ pub from_step : (l : ℕ) (e : Option AssignTree) (z : Pieces) → IsForStep l e
 from_step l None z s = s
 from_step l (Some a) z s = s
 
--- the parentheses of a `for`, and what comes behind them
+-- the parentheses of a `for`, and what comes after them
 abbrev pub ForRest : ℕ → InitTree → Option CondTree → Option AssignTree → Texts → Texts
 ForRest l i c e R = spells mark.OpenParen ⋅ IsInit l i ⋅ IsForTest l c ⋅ spells mark.Semicolon ⋅ IsForStep l e ⋅ spells mark.CloseParen ⋅ R
 

@@ -97,7 +97,7 @@ exact_arguments n d l h =
     (λ all z o s f. some_inside l all z o s) in
     rename b (ArgumentsText l) (λ all z s. elim s [ inl k ↦ none_out l all z k | inr k ↦ some_out l all z k ]) (λ all z s. arguments_sides l all z s)
 
--- behind the name
+-- after the name
 abbrev pub CallText : ℕ → Identifier → CallTree → Texts
 CallText l x c = opens mark.OpenParen 0 ⋅ Of (call_of x) (ArgumentsText l) c
 
@@ -128,7 +128,7 @@ IsName (times t u) = ⊥
 IsName (over t u) = ⊥
 IsName (modulo t u) = ⊥
 
--- an expression that is a name alone, which a parenthesis behind it would make a call
+-- an expression that is a name alone, which a parenthesis after it would make a call
 abbrev pub IsNameAlone : ExprTree → Type 0
 IsNameAlone (term t) = IsName t
 IsNameAlone (plus e t) = ⊥
@@ -138,7 +138,7 @@ abbrev pub AfterRvalue : RvalueTree → Option Token → Type 0
 AfterRvalue (expression e) o = AfterExpr e o × (IsNameAlone e → is_mark mark.OpenParen o ≡ false)
 AfterRvalue (result c) o = ⊤
 
--- what may follow an expression, and what its beginning tells of that
+-- what may follow an expression, and what its beginning says of that
 abbrev AfterPlain : RvalueTree → Option Token → Type 0
 AfterPlain (expression e) o = AfterExpr e o
 AfterPlain (result c) o = ⊤
@@ -182,11 +182,11 @@ sum_no_open sum.Minus at = refl
 abbrev FromTerm : ℕ → TermTree → RvalueTree → Texts
 FromTerm l t b = Of expression (λ e z. ExprSteps l e (term t) z) b
 
--- behind a unary that an expression begins with
+-- after a unary that an expression begins with
 abbrev FromUnary : ℕ → UnaryTree → RvalueTree → Texts
 FromUnary l a b z = Both (λ t z. TermSteps l t (unary a) z) (FromTerm l) b z
 
--- behind a name that an expression begins with
+-- after a name that an expression begins with
 abbrev FromName : ℕ → Identifier → RvalueTree → Texts
 FromName l x b z = Both (NamedUnary l x) (FromUnary l) b z
 

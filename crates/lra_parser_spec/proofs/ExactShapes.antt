@@ -1,4 +1,4 @@
--- The readers of an array's length, and of what stands behind a declared name, are exact.
+-- The readers of an array's length, and of what comes after a declared name, are exact.
 use Rattle.std.proofs.Common.{◌≡◌, ℕ, true, false, ◌⊎◌, [], Option, Some, None, refl, sym, subst, arith, inl, inr}
 use Rattle.std.specs.Bool.{⊤}
 use Rattle.lra_base.specs.declared.number_types.NumberType.TheVariants.{Int}
@@ -26,7 +26,7 @@ pub exact_length : (n : ℕ) → Exact n IsInner length_at Any IsLength IsLength
 exact_length n = exact_behind mark.OpenBracket 0 (omega arith) (exact_ended mark.CloseBracket (exact_count n) (λ a at. tt))
     (length_of some_literal, _, (_, _, refl, (Int, refl), (some_place, refl)))
 
--- behind a declared name ---------------------------------------------------------------------------------------------
+-- after a declared name ----------------------------------------------------------------------------------------------
 
 -- what may follow: a name alone is followed by no `=` and no bracket
 abbrev AfterGiven : {A : Type 0} → (A → Option Token → Type 0) → Option A → Option Token → Type 0
@@ -37,7 +37,7 @@ abbrev pub AfterShape : {A : Type 0} → (A → Option Token → Type 0) → Sca
 AfterShape F (scalar m) o = AfterGiven F m o
 AfterShape F (array n) o = ⊤
 
--- a value behind `=`, or nothing
+-- a value after `=`, or nothing
 abbrev pub GivenText : {A : Type 0} → (A → Texts) → Option A → Texts
 GivenText S m z = (opens mark.Assign 0 ⋅ Of Some S m) z ⊎ ((m ≡ None) × (z ≡ []))
 

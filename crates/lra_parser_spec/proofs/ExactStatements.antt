@@ -90,7 +90,7 @@ BracesText o l cs = opens mark.OpenBrace o ⋅ AreCases l cs ⋅ spells mark.Clo
 abbrev pub SwitchText : ℕ → ℕ → StmtTree → Texts
 SwitchText o l b z = Both (λ at z. opens_at mark.Switch at o z) (λ at b z. Both (IsSwitched l) (λ e b. Of (switch at e) (BracesText (l + 1) (l + 1)) b) b z) b z
 
--- behind a name that a statement begins with
+-- after a name that a statement begins with
 abbrev NamedRest : ℕ → Identifier → StmtTree → Texts
 NamedRest l x b z = Of call (λ c. CallText l x c ⋅ spells mark.Semicolon) b z ⊎ Of assign (λ a. RestText l x a ⋅ spells mark.Semicolon) b z
 
@@ -234,7 +234,7 @@ module _ (n d l o : ℕ) (h : d + l ≡ n) (low : o ≤ n) (branches : Parse Stm
   conds : Exact n IsInner (in_parens (cond_at d)) Any (InParens l) (InParens l) Free
   conds = exact_parens n l 0 (cond_at d) (omega arith) (exact_cond n d l h)
 
-  -- behind the first branch
+  -- after the first branch
   closed_before : (t : StmtTree) (k : Option Token) → AfterStmt t k → is_mark mark.Else k ≡ true → TakesElse t → ⊥
   closed_before t k a e i = let f = a i in cc
 

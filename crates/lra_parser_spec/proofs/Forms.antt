@@ -36,7 +36,7 @@ module _ {n : ℕ} {Q : Token → Type 0} {A : Type 0} {p : Parse A} {E : Option
     one = P.one;
   }
 
-  -- the same texts, told otherwise
+  -- the same texts, stated differently
   pub rename : (S' : A → Pieces → Type 0) → ((a : A) (x : Pieces) → S a x → S' a x) → ((a : A) (x : Pieces) → S' a x → S a x) → Exact n Q p E S' V F
   rename S' to from = record {
     ok = λ T a R i e. let l = P.ok T a R i e in (l.0, l.1, l.2, l.3, to a l.0 l.4, l.5);
@@ -56,7 +56,7 @@ module _ {n : ℕ} {Q : Token → Type 0} {A : Type 0} {p : Parse A} {E : Option
     one = λ x y a b R s s' low low' i f f' e. P.one x y a b R s s' low low' (h _ i) f f' e;
   }
 
-  -- of the tokens that are read less is told
+  -- of the tokens that are read less is reported
   pub loose : Exact n (λ t. ⊤) p E S V F
   loose = record {
     ok = λ T a R i e. let l = P.ok T a R i e in (l.0, l.1, l.2, free l.0, l.4, l.5);
@@ -78,7 +78,7 @@ module _ {n : ℕ} {Q : Token → Type 0} {A : Type 0} {p : Parse A} {E : Option
     one = P.one;
   }
 
-  -- the same follow, told otherwise
+  -- the same follow, stated differently
   pub follows : (F' : A → Option Token → Type 0) → ((a : A) (o : Option Token) → F a o → F' a o) → ((a : A) (o : Option Token) → F' a o → F a o) → Exact n Q p E S V F'
   follows F' out into = record {
     ok = λ T a R i e. let l = P.ok T a R i e in (l.0, l.1, l.2, l.3, l.4, out a _ l.5);
@@ -88,7 +88,7 @@ module _ {n : ℕ} {Q : Token → Type 0} {A : Type 0} {p : Parse A} {E : Option
     one = λ x y a b R s s' low low' i f f' e. P.one x y a b R s s' low low' i (into a _ f) (into b _ f') e;
   }
 
-  -- what its beginning tells of the token behind a text
+  -- what its beginning says of the token after a text
   pub noted : (G : A → Option Token → Type 0) → ((a : A) (x : Pieces) (o : Option Token) → S a x → E (first_or x o) → G a o) → Exact n Q p E S V (λ a o. F a o × G a o)
   noted G h = record {
     ok = λ T a R i e. let l = P.ok T a R i e in (l.0, l.1, l.2, l.3, l.4, (l.5, h a l.0 (first R) l.4 (subst E (ap first l.1 ∙ sym (first_or-is l.0 R)) i)));
@@ -182,12 +182,12 @@ module _ {n : ℕ} {Q : Token → Type 0} {A : Type 0} {p : Parse A} {E : Option
         P.one x y s.0 s'.0 R s.2 s'.2 low low' i (into s.0 (first R) (subst (λ (c : B). F' c (first R)) (sym s.1) h)) (into s'.0 (first R) (subst (λ (c : B). F' c (first R)) (sym s'.1) h')) e;
   }
 
--- the same texts, told otherwise, also where reading stops
+-- the same texts, stated differently, also where reading stops
 pub retell : {n : ℕ} {Q : Token → Type 0} {A : Type 0} {p : Parse A} {E : Option Token → Type 0} {S : A → Pieces → Type 0} {F : A → Option Token → Type 0} → Exact n Q p E S S F
     → (S' : A → Pieces → Type 0) → ((a : A) (x : Pieces) → S a x → S' a x) → ((a : A) (x : Pieces) → S' a x → S a x) → Exact n Q p E S' S' F
 retell P S' to from = rename (widen P S' to) S' to from
 
--- a text of the form, where the next token tells v
+-- a text of the form, where the next token reports v
 module _ {n : ℕ} {Q : Token → Type 0} {A K : Type 0} {p : Parse A} {E : Option Token → Type 0} {S V : A → Pieces → Type 0} {F : A → Option Token → Type 0} (P : Exact n Q p E S V F)
     (key : Option Token → K) (v : K) (long : (a : A) (x : Pieces) → S a x → x ≡ [] → ⊥) where
   told : (x : Pieces) (R : Text) (o : Option Token) → (x ≡ [] → ⊥) → first (plain x ++ R) ≡ first_or x o
@@ -203,7 +203,7 @@ module _ {n : ℕ} {Q : Token → Type 0} {A K : Type 0} {p : Parse A} {E : Opti
     one = λ x y a b R s s' low low' i f f' e. P.one x y a b R s.0 s'.0 low low' i.1 f f' e;
   }
 
--- one of several forms, told by the next token ----------------------------------------------------------------------
+-- one of several forms, given by the next token ---------------------------------------------------------------------
 
 module _ {n : ℕ} {Q : Token → Type 0} {A K : Type 0} (key : Option Token → K) {sel : K → Parse A} {S : K → A → Pieces → Type 0} {W : A → Pieces → Type 0} {E : Option Token → Type 0}
     {F : A → Option Token → Type 0}
@@ -241,7 +241,7 @@ module _ {n : ℕ} {Q : Token → Type 0} {A K : Type 0} (key : Option Token →
         (each s.0).one x y a b R s.1 (subst (λ (c : K). S c b y) same s'.1) low low' (k, i) h h' e;
   }
 
--- one of two forms, told by a test
+-- one of two forms, given by a test
 module _ {n : ℕ} {Q : Token → Type 0} {A : Type 0} (tells : Option Token → Bool) {p q : Parse A} {S S' W : A → Pieces → Type 0} {E : Option Token → Type 0} {F : A → Option Token → Type 0}
     (P : Exact n Q p (λ o. E o × (tells o ≡ true)) S W F) (R' : Exact n Q q (λ o. E o × (tells o ≡ false)) S' W F) where
   picked : Bool → Parse A

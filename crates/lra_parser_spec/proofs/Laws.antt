@@ -1,4 +1,4 @@
--- What an exact reader tells of its language: one tree, and one first fault.
+-- What an exact reader says of its language: one tree, and one first fault.
 use Rattle.std.proofs.Common.{◌≡◌, ℕ, suc, ◌+◌, ◌≤◌, ◌<◌, [], ◌∷◌, ◌++◌, length, ◌⊎◌, inl, inr, Ok, Err, refl, sym, ap, subst, ◌∙◌, append_assoc, length-append, arith}
 use Rattle.std.proofs.{lemmas.Bool.cases_lt, lemmas.List.append-nil}
 use Rattle.lra_base.specs.{declared.refusals.Cause.Cause, declared.refusals.Cause.TheVariants.Syntax, declared.refusals.Cause.TheVariants.TooDeep}
@@ -75,7 +75,7 @@ parted (v ∷ F) (w ∷ G) t u R S e =
       | inr (inr s) ↦ inr (inr (s.0, (let f = s.1 in cc)))
     ]
 
--- pieces of two texts, one behind the other
+-- pieces of two texts, one after the other
 cut : (x : Pieces) (F G : Text) → plain x ≡ F ++ G → (u : Pieces) × (v : Pieces) × (x ≡ u ++ v) × (plain u ≡ F) × (plain v ≡ G)
 cut x [] G e = ([], x, refl, refl, e)
 cut [] (t ∷ F) G e = absurd cc
@@ -99,7 +99,7 @@ same_left : (S T : Text) → (let r : Read FileTree = stop TooDeep S in r) ≡ s
 unfolding left_of
 same_left S T e = ap left_of e
 
--- a piece that is too deep stands behind the low ones
+-- a piece that is too deep comes after the low ones
 behind_low : (x y u : Pieces) (t : Piece) (v : Pieces) → x ++ y ≡ u ++ t ∷ v → Low 64 x → 64 < t.1 → length x ≤ length u
 behind_low [] y u t v e low past = omega arith
 behind_low (p ∷ x) y [] t v e low past = let same : p ≡ t = cc in let h : p.1 ≤ 64 = low.0 in absurd (omega (arith, ap (λ (q : Piece). q.1) same))
@@ -112,7 +112,7 @@ plain_length (p ∷ x) = ap suc (plain_length x)
 abbrev Past : Text → Token → Type 0
 Past F u = (t : FileTree) × (x : Pieces) × (level : ℕ) × (y : Pieces) × Spells t (x ++ (u, level) ∷ y) × (plain x ≡ F) × IsLow x × (greatest_level < level)
 
--- reading stops at a token that is too deep, whatever comes behind it
+-- reading stops at a token that is too deep, whatever comes after it
 stops : (F : Text) (u : Token) (Y : Text) → Past F u → file_at 63 (F ++ u ∷ Y) ≡ stop TooDeep (u ∷ Y)
 stops F u Y (t, x, level, y, s, e, low, past) = subst (λ (G : Text). file_at 63 (G ++ u ∷ Y) ≡ stop TooDeep (u ∷ Y)) e (the_file.deep x (u, level) y t Y s low past tt)
 

@@ -1,4 +1,4 @@
--- Marks told apart by their numbers.
+-- Marks distinguished by their numbers.
 use Rattle.std.proofs.Common.{◌≡◌, ℕ, true, nat_eq, List, [], ◌∷◌, slice_get, Some, refl, ap, eq-eqb, ◌∙◌}
 use denote.Enum.Declared.{tag_of}
 use denote.Enum.Bare.{sameb, same_true}

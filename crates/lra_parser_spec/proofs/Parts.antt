@@ -1,4 +1,4 @@
--- Exact readers behind and before a mark, and what a table tells of the next token.
+-- Exact readers after and before a mark, and what a table says of the next token.
 use Rattle.std.proofs.Common.{◌≡◌, ℕ, ◌≤◌, true, List, [], ◌∷◌, Option, Some, None, refl, sym, ap, subst, arith}
 use Rattle.lra_base.specs.declared.refusals.Place.{Place}
 use Rattle.lra_syntax.specs.{Texts.Pieces, Texts.◌⋅◌, Texts.opens, Texts.mark, declared.tokens.Kind.TheVariants.Mark as MarkOf, declared.tokens.Mark.Mark, declared.tokens.Token.Token}
@@ -33,7 +33,7 @@ exact_ended {n} {A} {S = S} {F = F} m P fine =
     rename t (λ b. S b ⋅ mark m)
     (λ b z s. (s.1.0, s.1.1, s.1.2, subst (λ (c : A). S c s.1.0) (sym s.1.4.0) s.1.3, s.1.4.1)) (λ b z s. (b, (s.0, s.1, s.2, s.3, (refl, s.4))))
 
--- the token that a table tells of
+-- the token that a table says of
 some_is : {A : Type 0} (o : Option A) → has o ≡ true → (a : A) × (o ≡ Some a)
 some_is None e = absurd cc
 some_is (Some a) e = (a, refl)

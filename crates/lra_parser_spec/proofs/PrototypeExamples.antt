@@ -41,7 +41,7 @@ unnamed_stops = refl
 pub unnamed_parameter : IsTextFault Spells (ended_at unnamed 15) Syntax (in_line 13)
 unnamed_parameter = text_fault (ended_at unnamed 15) (record { cause = Syntax; left = 3 }) (ends unnamed 15 refl) unnamed_stops (mark_token mark.OpenBrace 13) refl
 
--- extern int main(){}: behind `extern` stands no body
+-- extern int main(){}: after `extern` stands no body
 abbrev outer_body : Text
 outer_body = mark_token mark.Extern 1 ∷ mark_token mark.Int 8 ∷ word_at (codes "main") 12 ∷ mark_token mark.OpenParen 16 ∷ mark_token mark.CloseParen 17 ∷ mark_token mark.OpenBrace 18 ∷
     mark_token mark.CloseBrace 19 ∷ []
@@ -53,7 +53,7 @@ outer_body_stops = refl
 pub body_of_extern : IsTextFault Spells (ended_at outer_body 20) Syntax (in_line 18)
 body_of_extern = text_fault (ended_at outer_body 20) (record { cause = Syntax; left = 3 }) (ends outer_body 20 refl) outer_body_stops (mark_token mark.OpenBrace 18) refl
 
--- void f(long int int);: a parameter without a name ends behind its type
+-- void f(long int int);: a parameter without a name ends after its type
 abbrev two_ints : Text
 two_ints = mark_token mark.Void 1 ∷ word_at (codes "f") 6 ∷ mark_token mark.OpenParen 7 ∷ mark_token mark.Long 8 ∷ mark_token mark.Int 13 ∷ mark_token mark.Int 17 ∷ mark_token mark.CloseParen 20 ∷
     mark_token mark.Semicolon 21 ∷ []

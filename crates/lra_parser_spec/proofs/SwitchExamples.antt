@@ -39,7 +39,7 @@ pub lone_label : IsTextFault Spells (ended_at label_last 39) Syntax (in_line 36)
 lone_label = text_fault (ended_at label_last 39) (record { cause = Syntax; left = 3 }) (ends label_last 39 refl) label_last_stops
     (mark_token mark.CloseBrace 36) refl
 
--- switch(1){ case 1: long z; } : and a declaration behind a label
+-- switch(1){ case 1: long z; } : and a declaration after a label
 abbrev declares : Text
 declares = braces (mark_token mark.Case 28 ∷ token_at (Number Int 1) 33 ∷ mark_token mark.Colon 34 ∷ mark_token mark.Long 36 ∷ token_at (Name (122 ∷ [])) 41
     ∷ mark_token mark.Semicolon 42 ∷ mark_token mark.CloseBrace 44 ∷ mark_token mark.CloseBrace 46 ∷ [])
@@ -77,7 +77,7 @@ outside_stops = refl
 pub label_outside : IsTextFault Spells (ended_at outside 28) Syntax (in_line 17)
 label_outside = text_fault (ended_at outside 28) (record { cause = Syntax; left = 6 }) (ends outside 28 refl) outside_stops (mark_token mark.Case 17) refl
 
--- switch(1){ case -1: default: ; break; } : two labels before one statement, and a second one behind it
+-- switch(1){ case -1: default: ; break; } : two labels before one statement, and a second one after it
 abbrev two_labels : Text
 two_labels = braces (mark_token mark.Case 28 ∷ mark_token mark.Minus 33 ∷ token_at (Number Int 1) 34 ∷ mark_token mark.Colon 35 ∷ mark_token mark.Default 37
     ∷ mark_token mark.Colon 44

@@ -47,7 +47,7 @@ next_or o = one_of ((mark.Or, tt {0}) ∷ []) o
 
 -- parts ------------------------------------------------------------------------------------------------------------
 
--- behind a mark
+-- after a mark
 abbrev pub after_mark : {A : Type 0} → Mark → Parse A → Parse A
 after_mark m p = seq (expect m (tt {0})) (λ _. p)
 
@@ -94,7 +94,7 @@ literal_tree l = literal l.number_type l.value
 abbrev pub read_literal : Parse UnaryTree
 read_literal = map_read literal_tree (take_by next_literal)
 
--- behind a name: an element, or else the variable; index reads an index with its brackets
+-- after a name: an element, or else the variable; index reads an index with its brackets
 abbrev pub named_unary : Parse ExprTree → Identifier → Parse UnaryTree
 named_unary index x T = cond (is_mark mark.OpenBracket (first T)) (map_read (element x) index T)
     (done_with (variable x) T)
@@ -132,13 +132,13 @@ expr_at d = expr_of (unary_at d)
 
 -- conditions -------------------------------------------------------------------------------------------------------
 
--- behind an expression: a comparison, or the expression alone
+-- after an expression: a comparison, or the expression alone
 abbrev pub compared : Parse UnaryTree → ExprTree → Parse TestTree
 compared u e T = cond (has (next_comparison (first T)))
     (seq (take_by next_comparison) (λ op. map_read (compare e (comparison_view op)) (expr_of u)) T)
     (done_with (value e) T)
 
--- behind a unary that a condition begins with
+-- after a unary that a condition begins with
 abbrev pub from_unary : Parse UnaryTree → UnaryTree → Parse TestTree
 from_unary u a = seq (factors u (unary a)) (λ t. seq (summands u (term t)) (compared u))
 
@@ -155,7 +155,7 @@ abbrev pub after_alone : Parse UnaryTree → CondTree → Option ExprTree → Pa
 after_alone u c (Some e) = from_unary u (group e)
 after_alone u c None = done_with (group_of c)
 
--- behind a condition in parentheses, which is the front of an expression if it is one itself
+-- after a condition in parentheses, which is the start of an expression if it is one itself
 abbrev pub after_group : Parse UnaryTree → CondTree → Parse TestTree
 after_group u c = after_alone u c (alone c)
 
@@ -219,7 +219,7 @@ conjunction_at d = conjunction_of (test_at d)
 abbrev pub cond_at : ℕ → Parse CondTree
 cond_at d = cond_of (test_at d)
 
--- behind a mark that opens a level, of which d are left ---------------------------------------------------------------
+-- after a mark that opens a level, of which d are left ----------------------------------------------------------------
 
 abbrev pub negated_at : ℕ → Parse UnaryTree
 negated_at zero T = stop TooDeep T

@@ -61,7 +61,7 @@ built_ins = (mark.Input, of_input) ∷ (mark.Assert, of_assert) ∷ (mark.Assume
 abbrev pub next_built_in : Option Token → Option BuiltIn
 next_built_in o = one_of built_ins o
 
--- behind a type, or behind `void`
+-- after a type, or after `void`
 abbrev pub named : Option NumberType → Identifier → Lead
 named (Some t) x = lead.Typed t x
 named None x = lead.Void x
@@ -86,7 +86,7 @@ read_lead T = cond (is_mark mark.Extern (first T)) (after_mark mark.Extern (map_
 
 -- parameters --------------------------------------------------------------------------------------------------------
 
--- the marks behind a parameter: a comma, or else the closing parenthesis
+-- the marks after a parameter: a comma, or else the closing parenthesis
 abbrev pub parameter_ends : List (Mark × Bool)
 parameter_ends = (mark.Comma, true) ∷ (mark.CloseParen, false) ∷ []
 
@@ -100,7 +100,7 @@ no_name T = cond (ends_parameter (first T)) (done_with None T) (stop Syntax T)
 abbrev pub parameter_of : NumberType → Identifier → Option Parameter
 parameter_of t x = Some (record { number_type = t; name = x })
 
--- a name behind a type, or nothing
+-- a name after a type, or nothing
 abbrev pub name_or_none : NumberType → Parse (Option Parameter)
 name_or_none t T = cond (has (next_name (first T))) (map_read (parameter_of t) (take_by next_name) T) (no_name T)
 
@@ -134,13 +134,13 @@ signature_of (Some h) ps = option_map (λ xs. (h, xs)) (all_named ps)
 abbrev pub function_of : Heading × List Parameter → ItemsTree × Place → FunctionTree
 function_of s b = record { result_type = s.0.0; name = s.0.1; parameters = s.1; body = b.0; end = b.1 }
 
--- behind the parameters: a body, where the part may be a function, or a semicolon; d levels are left inside
+-- after the parameters: a body, where the part may be a function, or a semicolon; d levels are left inside
 abbrev pub ending : ℕ → Option (Heading × List Parameter) → Parse ExternalTree
 ending d None = expect mark.Semicolon prototype
 ending d (Some s) = λ T. cond (is_mark mark.OpenBrace (first T))
     (map_read (λ b. function (function_of s b)) (body_of (items_at d)) T) (expect mark.Semicolon prototype T)
 
--- behind what it begins with
+-- after what it begins with
 abbrev pub signature_at : ℕ → Option Heading → Parse ExternalTree
 signature_at d h = after_mark mark.OpenParen (seq parameters_at (λ ps. ending d (signature_of h ps)))
 
@@ -149,7 +149,7 @@ signature_at d h = after_mark mark.OpenParen (seq parameters_at (λ ps. ending d
 abbrev pub global_of : Identifier → ScalarOrArrayTree SignedLiteral → GlobalTree
 global_of x s = record { name = x; shape = s }
 
--- behind the name of a global
+-- after the name of a global
 abbrev pub global_rest : Identifier → Parse GlobalTree
 global_rest x = map_read (global_of x) (shape_at signed_at)
 
@@ -159,14 +159,14 @@ global_at = seq (take_by next_name) global_rest
 abbrev pub globals_of : NumberType → GlobalTree × List GlobalTree → ExternalTree
 globals_of t gs = globals (record { number_type = t; first = gs.0; rest = gs.1 })
 
--- behind their type and the name of the first
+-- after their type and the name of the first
 abbrev pub globals_at : NumberType → Identifier → Parse ExternalTree
 globals_at t x = map_read (globals_of t)
     (ended mark.Semicolon (commas_from (global_rest x) global_at))
 
 -- parts -------------------------------------------------------------------------------------------------------------
 
--- what a part may go on as: with a name behind a type as a function or as globals, else with this head of a signature
+-- what a part may go on as: with a name after a type as a function or as globals, else with this head of a signature
 abbrev pub split_lead : Lead → Result (NumberType × Identifier) (Option Heading)
 split_lead (lead.Typed t x) = Ok (t, x)
 split_lead (lead.Void x) = Err (Some (None, x))

@@ -1,4 +1,4 @@
--- Readers: functions from a text of tokens to a value and the text behind it, or to the fault at which reading stops.
+-- Readers: functions from a text of tokens to a value and the text after it, or to the fault at which reading stops.
 use Rattle.std.specs.Prelude.{◌≡◌, ℕ, zero, suc, nat_le, Bool, true, false, cond, drop, List, [], ◌∷◌, ◌++◌, length}
 use Rattle.std.specs.Prelude.{Option, Some, None, Result, Ok, Err, ⊤}
 use Rattle.lra_base.specs.declared.refusals.Cause.TheVariants.{Syntax}
@@ -29,7 +29,7 @@ abbrev pub ◌>>=◌ : {A B : Type 0} → Read A → (A × Text → Read B) → 
 (Ok x) >>= f = f x
 (Err e) >>= f = Err e
 
--- one reader behind the other
+-- one reader after the other
 abbrev pub seq : {A B : Type 0} → Parse A → (A → Parse B) → Parse B
 seq p q T = p T >>= λ r. q r.0 r.1
 
@@ -141,6 +141,6 @@ chain op start grow p = seq p (λ i. chain_rest op grow p (start i))
 abbrev pub list_step : {I : Type 0} → Parse I → List I → Parse (List I)
 list_step p is = map_read (λ i. is ++ i ∷ []) p
 
--- items one behind the other
+-- items one after the other
 abbrev pub list_of : {I : Type 0} → (Option Token → Bool) → Parse I → Parse (List I)
 list_of more p = turns more (list_step p) []

@@ -27,7 +27,7 @@ use Rattle.lra_parser_spec.specs.Reading.{place_of, take_by, next_name, Literal,
 use Rattle.lra_parser_spec.specs.Reading.{list_of}
 use Rattle.lra_parser_spec.specs.Tests.{first, is_mark, begins_label}
 
--- the text behind the mark, if it is there
+-- the text after the mark, if it is there
 abbrev pub skip : Mark → Text → Text
 skip m T = cond (is_mark m (first T)) (tail T) T
 
@@ -44,7 +44,7 @@ commas p = commas_from p p
 abbrev pub listed : {A : Type 0} → A × List A → List A
 listed es = es.0 ∷ es.1
 
--- behind the opening parenthesis
+-- after the opening parenthesis
 abbrev pub arguments_at : ℕ → Parse (List ExprTree)
 arguments_at d T = cond (is_mark mark.CloseParen (first T)) (expect mark.CloseParen [] T)
     (ended mark.CloseParen (map_read listed (commas (expr_at d))) T)
@@ -52,15 +52,15 @@ arguments_at d T = cond (is_mark mark.CloseParen (first T)) (expect mark.ClosePa
 abbrev pub call_of : Identifier → List ExprTree → CallTree
 call_of x es = record { name = x; arguments = es }
 
--- behind the name of a function
+-- after the name of a function
 abbrev pub call_rest : ℕ → Identifier → Parse CallTree
 call_rest d x = after_mark mark.OpenParen (map_read (call_of x) (arguments_at d))
 
--- behind a unary that an expression begins with
+-- after a unary that an expression begins with
 abbrev pub rvalue_from : ℕ → UnaryTree → Parse RvalueTree
 rvalue_from d a = seq (factors (unary_at d) (unary a)) (λ t. map_read expression (summands (unary_at d) (term t)))
 
--- behind a name
+-- after a name
 abbrev pub rvalue_rest : ℕ → Identifier → Parse RvalueTree
 rvalue_rest d x T = cond (is_mark mark.OpenParen (first T)) (map_read result (call_rest d x) T)
     (seq (named_unary (index_at d) x) (rvalue_from d) T)
@@ -86,7 +86,7 @@ step_marks = (mark.Increment, step.Increment) ∷ (mark.Decrement, step.Decremen
 abbrev pub next_step : Option Token → Option (Step × Place)
 next_step o = option_map (λ s. (s, place_of o)) (one_of step_marks o)
 
--- behind the name of a variable
+-- after the name of a variable
 abbrev pub variable_rest : ℕ → Identifier → Parse AssignTree
 variable_rest d x T =
     cond (is_mark mark.Assign (first T)) (after_mark mark.Assign (map_read (set x) (rvalue_at d)) T)
@@ -94,11 +94,11 @@ variable_rest d x T =
     (λ op. map_read (update x (operator_view op)) (expr_at d)) T)
     (map_read (λ s. after x (step_view s.0)) (take_by next_step) T))
 
--- behind an element
+-- after an element
 abbrev pub element_rest : ℕ → Identifier → ExprTree → Parse AssignTree
 element_rest d x i = after_mark mark.Assign (map_read (set_element x i) (rvalue_at d))
 
--- behind a name
+-- after a name
 abbrev pub assign_rest : ℕ → Identifier → Parse AssignTree
 assign_rest d x T = cond (is_mark mark.OpenBracket (first T))
     (seq (index_at d) (element_rest d x) T)
@@ -128,12 +128,12 @@ length_of l = record { value = l.value; place = l.place }
 abbrev pub length_at : Parse ArrayLength
 length_at = brackets_parser (map_read length_of (take_by next_literal))
 
--- what a scalar gets behind `=`, or nothing
+-- what a scalar gets after `=`, or nothing
 abbrev pub given_at : {A : Type 0} → Parse A → Parse (Option A)
 given_at p T = cond (is_mark mark.Assign (first T)) (after_mark mark.Assign (map_read Some p) T)
     (done_with None T)
 
--- behind a name that is declared; p reads a value
+-- after a name that is declared; p reads a value
 abbrev pub shape_at : {A : Type 0} → Parse A → Parse (ScalarOrArrayTree A)
 shape_at p T = cond (is_mark mark.OpenBracket (first T)) (map_read array length_at T)
     (map_read scalar (given_at p) T)
@@ -235,7 +235,7 @@ abbrev pub init_of : Option AssignTree → InitTree
 init_of None = no_init
 init_of (Some a) = assigned a
 
--- what a loop begins with, and the semicolon behind it
+-- what a loop begins with, and the semicolon after it
 abbrev pub init_at : ℕ → Parse InitTree
 init_at d T = cond (begins_type (first T)) (map_read declared_first (declaration_at d) T)
     (map_read init_of (up_to mark.Semicolon (assign_at d)) T)
@@ -271,7 +271,7 @@ read_switch d cases = seq (expect_at mark.Switch) (λ at. seq (in_parens (expr_a
 abbrev pub read_nothing : Parse StmtTree
 read_nothing = map_read nothing (expect_at mark.Semicolon)
 
--- behind a name that a statement begins with
+-- after a name that a statement begins with
 abbrev pub named_rest : ℕ → Identifier → Parse StmtTree
 named_rest d x T = cond (is_mark mark.OpenParen (first T)) (map_read call (ended mark.Semicolon (call_rest d x)) T)
     (map_read assign (ended mark.Semicolon (assign_rest d x)) T)
@@ -332,7 +332,7 @@ body_of items = after_mark mark.OpenBrace (seq items (λ is. map_read (λ end. (
 abbrev pub block_from : ItemsTree × Place → StmtTree
 block_from b = block b.0 b.1
 
--- a statement of a `switch`, behind its labels
+-- a statement of a `switch`, after its labels
 abbrev pub LabelledTree : Type 0
 LabelledTree = List PlacedLabel × StmtTree
 

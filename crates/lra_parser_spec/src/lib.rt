@@ -1,7 +1,7 @@
 //! Readers of the grammar's productions, and that each of them is exact.
 //!
-//! `specs/` has the readers: functions from a text of tokens to a value and the text behind it, or to a fault.
-//! `proofs/` shows that each reads exactly what its production spells: `Exact` tells what that is, the files up to
+//! `specs/` has the readers: functions from a text of tokens to a value and the text after it, or to a fault.
+//! `proofs/` shows that each reads exactly what its production spells: `Exact` says what that is, the files up to
 //! `Parts` are the library, and those named `Exact..` have the productions.
 //! The code has what reads a single token, and faults. `lra_parse_expressions` and `lra_parse` compute the readers of
 //! the rest.

@@ -65,7 +65,7 @@ pub fn next_is(rest: &[Token], mark: Mark) -> bool
     }
 }
 
-/// What comes behind the next token, if there is one.
+/// What comes after the next token, if there is one.
 pub fn tail(rest: &[Token]) -> &[Token]
     ensures shorter { length result.now ≤ length rest.now }
     ensures value { result.now ≡ tail rest.now }
@@ -76,7 +76,7 @@ pub fn tail(rest: &[Token]) -> &[Token]
     }
 }
 
-/// What comes behind the mark.
+/// What comes after the mark.
 pub fn expect(rest: &[Token], mark: Mark) -> Result<&[Token], Stopped>
     ensures shorter { IfOk result (λ r. length r.now < length rest.now) }
     ensures gives { ParsesAs (λ r. (tt {0}, r.now)) result (expect mark (tt {0}) rest.now) }
@@ -88,7 +88,7 @@ pub fn expect(rest: &[Token], mark: Mark) -> Result<&[Token], Stopped>
     }
 }
 
-/// The mark's place, and what comes behind it.
+/// The mark's place, and what comes after it.
 pub fn expect_at(rest: &[Token], mark: Mark) -> Result<(Place, &[Token]), Stopped>
     ensures shorter { IfOk result (λ r. length r.1.now < length rest.now) }
     ensures gives { ParsesAs (λ r. (r.0, r.1.now)) result (expect_at mark rest.now) }
@@ -172,7 +172,7 @@ pub fn read_name(alloc: Global, rest: &[Token]) -> Result<(Identifier, &[Token])
     }
 }
 
-/// Puts what a reader gave in a box behind the others of a list. Not inlined, so that a reader that calls itself holds
+/// Puts what a reader gave in a box after the others of a list. Not inlined, so that a reader that calls itself holds
 /// no more than the box.
 #[inline(never)]
 pub fn push_boxed<T: Drop>(list: &mut Vec<T>, item: Box<T>) -> Result<(), AllocError>

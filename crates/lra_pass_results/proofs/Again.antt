@@ -1,4 +1,5 @@
--- A pass from the same value again: only the first flagged point can differ, and that is told by what was flagged before.
+-- A pass from the same value again: only the first flagged point can differ, and that is given by what was flagged
+-- before.
 use Rattle.std.proofs.Common.{◌≡◌, ℕ, zero, suc, ◌-◌, Bool, true, List, [], ◌∷◌, Option, Some, None, refl, sym, ap, subst, ◌∙◌}
 use Rattle.lra_domain.specs.{Abstraction.Abstraction, Interference.Interference, declared.Exactness.Exactness}
 use Rattle.lra_program.specs.Program.{Expr, Cond}
@@ -162,7 +163,7 @@ module _ {V H : Type 0} (o : Interference V) (m : Abstraction V H) (set : Plan) 
       let begins = none_before (lossy_operations m) (absorbed o m) set g kept.before v r none kept.passed.pass in
       subst (λ (x : PassResult V). IsPassed o m set g None v x) (with_flag r None none) (subst (λ (x : Option ℕ). IsPassed o m set g x v r) begins kept.passed)
 
-  -- it stays kept behind a further operation
+  -- it stays kept after a further operation
   pub kept_noted : (q : ℕ) (e : Exactness) (f : Option ℕ) (v : V) (r : PassResult V) → IsKept o m set g f v r → IsKept o m set g (noted q e f) v r
   kept_noted q e f v r kept = record { before = kept.before; passed = kept.passed; unflagged = λ none. kept.unflagged (none_noted q e f none) }
 
@@ -212,7 +213,7 @@ module _ {V H : Type 0} (o : Interference V) (m : Abstraction V H) (set : Plan) 
     one ∙ sym two,
   )
 
-  -- the kept turns, with what is flagged behind the condition
+  -- the kept turns, with what is flagged after the condition
   pub kept_inside : (q : ℕ) (e : Exactness) (f inside : Option ℕ) (kept : Option (LoopRound V)) → inside ≡ noted q e f
       → AreKept o m set g f kept → AreKept o m set g inside kept
   kept_inside q e f inside kept flagged before = subst (λ (x : Option ℕ). AreKept o m set g x kept) (sym flagged) (all_noted q e f kept before)

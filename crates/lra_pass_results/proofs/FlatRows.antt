@@ -1,4 +1,4 @@
--- Rows with no tree in their trees, that are passed along behind what was found before them.
+-- Rows with no tree in their trees, that are passed along after what was found before them.
 use Rattle.std.proofs.Common.{◌≡◌, ℕ, suc, ◌+◌, ◌≤◌, List, ◌∷◌, Option, refl, sym, ap, subst, ◌∙◌, arith}
 use Rattle.lra_analysis_spec.specs.{LiveLimit.most_live, Pass.PassResult, Pass.in_turn, Plan.Plan}
 use Rattle.lra_domain.specs.{Abstraction.Abstraction, Interference.Interference}
@@ -22,7 +22,7 @@ pub other_takes : (k a : ℕ) → k ≡ 1 → k ≡ 2 + a → ⊥
 other_takes k a one more = omega (arith, one, more)
 
 module _ {V H : Type 0} (o : Interference V) (m : Abstraction V H) (set : Plan) where
-  -- whatever a pass of the rest finds, the whole finds that, behind what was found before the row
+  -- whatever a pass of the rest finds, the whole finds that, after what was found before the row
   pub record FlatLoop (g rest : graph.Node) (begun so_far : PassOutcome V) : Type 0 where
     pub few : m.dims so_far.normal ≤ most_live
     pub fits : TreeFits rest (m.dims so_far.normal)

@@ -14,7 +14,7 @@ pub record JoinLoop {V H : Type 0} (m : Abstraction V H) (first : V) (all rest :
   pub joins : (e : Exactness) (w : V) → AreJoined (lossy_operations m) now rest e w →
       AreJoined (lossy_operations m) first all (worse so_far e) w
 
--- the next, and those behind it
+-- the next, and those after it
 item_at : {X : Type 0} (xs : List X) (i : ℕ) (x : X) → i < length xs → x ≡ get_or xs i x → drop i xs ≡ x ∷ drop (i + 1) xs
 item_at {X} xs i x below at = drop-cons xs i x below ∙ ap (λ (y : X). y ∷ drop (suc i) xs) (sym at) ∙ rw add-one refl
 

@@ -1,4 +1,4 @@
--- Trees with no tree in them, that are passed behind what was found before them.
+-- Trees with no tree in them, that are passed after what was found before them.
 use Rattle.std.proofs.Common.{Vec, Global, map, ◌≡◌, ℕ, List, [], ◌∷◌, ◌++◌, Option, refl, sym, ap, subst, ◌∙◌}
 use Rattle.std.proofs.lemmas.List.{append-nil, map-append}
 use Rattle.std.specs.Prelude.{OnOk}
@@ -71,7 +71,7 @@ module _ {V H : Type 0} (o : Interference V) (m : Abstraction V H) (set : Plan) 
       OnOk R (Follows o m set g' so_far r) → OnOk R (Follows o m set g so_far r)
   followed_given g g' r R same h = subst (λ x. OnOk R (Follows o m set x so_far r)) (sym same) h
 
-  -- behind nothing
+  -- after nothing
   pub passed_alone : (g : graph.Node) (r : PassOutcome V) (f : Option ℕ) (v : V) →
       ((u : V) (d : Option ℕ) → ended so_far.found u d ≡ goes_on [] u d) → so_far.normal ≡ v → so_far.flag ≡ f →
       Follows o m set g so_far r → IsPassed o m set g f v (outcome_view r)

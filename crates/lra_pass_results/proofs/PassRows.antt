@@ -1,5 +1,5 @@
 -- Trees that are passed one after the other, along a sequence of them: what was found so far, with whatever the rest
--- finds behind it, is what a pass of the whole finds.
+-- finds after it, is what a pass of the whole finds.
 use Rattle.std.proofs.Common.{◌≡◌, ℕ, suc, ◌+◌, List, [], ◌∷◌, map, Option, refl, sym, ap, subst, ◌∙◌, arith}
 use Rattle.std.proofs.{lemmas.List.append_assoc, lemmas.List.Sums.sum_by-cons}
 use Rattle.std.specs.List.{sum_by}
@@ -37,7 +37,7 @@ turns x y t v w u f g h = same_lists u h _ _ _ _ _ _ _ _ (sym (append_assoc x.en
     (sym (append_assoc x.breaks y.breaks t.breaks))
     (sym (append_assoc x.continues y.continues t.continues)) (sym (append_assoc x.returns y.returns t.returns))
 
--- the first, and those behind it
+-- the first, and those after it
 pub row_first : (gs gs' : List Node) (x last : Node) → gs ≡ x ∷ gs' →
     row (map node_view gs) (node_view last) ≡ graph.seq (node_view x) (row (map node_view gs') (node_view last))
 row_first gs gs' x last is = ap (λ (z : List Node). row (map node_view z) (node_view last)) is

@@ -133,7 +133,7 @@ module _ {V H : Type 0} (m : Abstraction V H) where
       fits continued u h = absurd (no_element u h)
       fits returned u h = absurd (no_element u h)
 
-  -- one behind the other
+  -- one after the other
   pub seq_fits : (a b : graph.Node) (n : ℕ) (s t r : PassResult V) (v : V) (f : Option ℕ) → r ≡ in_turn s t v f → JumpsFit m a n s → JumpsFit m b (live_after a n) t → JumpsFit m (graph.seq a b) n r
   seq_fits a b n s t r v f is one two = subst (λ (x : PassResult V). JumpsFit m (graph.seq a b) n x) (sym is) fits
     where
@@ -160,7 +160,7 @@ module _ {V H : Type 0} (m : Abstraction V H) where
       fits continued u h = inner continued u (subst (λ (vs : List V). Contains vs u) continues h)
       fits returned u h = inner returned u (subst (λ (vs : List V). Contains vs u) returns h)
 
-  -- behind a catch
+  -- after a catch
   behind_fits : (q : ℕ) (j : Exit) (a : graph.Node) (n : ℕ) (s : PassResult V) (w : V) (f : Option ℕ) → JumpsFit m a n s → (k : Exit) (u : V) → Contains (jumps_of k (jumps_caught j s w f)) u
       → JumpsWith (graph.catch q j a) n k (m.dims u)
   behind_fits q broken a n s w f inner broken u h = absurd (no_element u h)
@@ -209,7 +209,7 @@ module _ {V H : Type 0} (m : Abstraction V H) where
   caught_have q k a n s fits jumps dims = all_have (m.dims s.normal) (jumps_of k s) (λ u h. fits.1 (m.dims u) (jumps k u h) ∙ sym dims)
 
 module _ {V H : Type 0} (o : Interference V) (m : Abstraction V H) (set : Plan) where
-  -- behind a catch
+  -- after a catch
   pub catch_passes : (q : ℕ) (j : Exit) (a : graph.Node) (f : Option ℕ) (v : V) (s r : PassResult V) → LossyPass o m set a f v s → Catches m q j s r
       → LossyPass o m set (graph.catch q j a) f v r
   catch_passes q j a f v s r pass (w, e, joined, is) = (w, e, s, pass, joined, is)

@@ -6,7 +6,7 @@ use Rattle.lra_analysis_spec.specs.Plan.{Widening, mode_at}
 use Rattle.lra_analysis_spec.specs.{Operations.lossy_operations, Pass.PassResult, Pass.noted}
 use Rattle.lra_pass_results.specs.declared.heads.Growing.{Growing}
 
--- the head's value, with what is flagged behind it
+-- the head's value, with what is flagged after it
 abbrev pub IsValued : {V H : Type 0} → Abstraction V H → ℕ → Option ℕ → H → V → Option ℕ → Type 0
 IsValued m q f head v f' = (e : Exactness) × (lossy_operations m).valued head e v × (f' ≡ noted q e f)
 

@@ -44,7 +44,7 @@ running_on r = record { found = r.found; normal = Some r.normal; flag = r.flag }
 abbrev pub headed : {V : Type 0} → ℕ → V → PassResult V → PassResult V
 headed q v s = record s { entries = value q v ∷ s.entries }
 
--- what the first two found, one behind the other, is the third, whatever their ends
+-- what the first two found, one after the other, is the third, whatever their ends
 abbrev pub AreInTurn : {V : Type 0} → PassFindings V → PassFindings V → PassFindings V → Type 0
 AreInTurn {V} x y z = (u v w : V) (d e f : Option ℕ) → ended z w f ≡ in_turn (ended x u d) (ended y v e) w f
 
@@ -69,13 +69,13 @@ AreBranchesJoined {V} m q s t r = (w : V) × (e : Exactness) × (lossy_operation
 abbrev pub JumpsFit : {V H : Type 0} → Abstraction V H → Node → ℕ → PassResult V → Type 0
 JumpsFit {V} m g n r = (k : Exit) (u : V) → Contains (jumps_of k r) u → JumpsWith g n k (m.dims u)
 
--- a loop is left with the value at its head, what its last round found behind it, and that value where the condition is
+-- a loop is left with the value at its head, what its last round found after it, and that value where the condition is
 -- false
 abbrev pub LeavesWith : {V H : Type 0} → Abstraction V H → ℕ → ℕ → Cond → V → PassResult V → PassResult V → Type 0
 LeavesWith {V} m q base c top s r = (out : V) × (e : Exactness) × Filters (lossy_operations m) base c false top e out ×
     (r ≡ record (headed q top s) { normal = out; flag = noted q e s.flag })
 
--- a pass over the tree, behind which, and at whose jumps, values have as many dimensions as live there
+-- a pass over the tree, after which, and at whose jumps, values have as many dimensions as live there
 pub record IsPassed {V H : Type 0} (o : Interference V) (m : Abstraction V H) (set : Plan) (g : Node) (f : Option ℕ)
     (v : V)
     (r : PassResult V) : Type 0 where

@@ -64,7 +64,7 @@ fn leaf_of<'a>(plan: &'a Plan, node: &'a Node) -> Leaf<'a>
     }
 }
 
-/// What the pass of a row of trees with none in them finds comes behind what was found before it.
+/// What the pass of a row of trees with none in them finds comes after what was found before it.
 fn pass_along<D: Domain>(
     alloc: Global,
     plan: &Plan,
@@ -102,7 +102,7 @@ impl<'a> Flat<'a> {
         }
     }
 
-    /// What its pass finds comes behind what was found before it.
+    /// What its pass finds comes after what was found before it.
     pub fn pass_on<D: Domain>(
         self,
         alloc: Global,

@@ -98,7 +98,7 @@ fn pass_leave<D: Domain>(
     Ok(())
 }
 
-/// What the pass of a tree with no tree in it finds comes behind what was found before it.
+/// What the pass of a tree with no tree in it finds comes after what was found before it.
 pub fn pass_on<D: Domain>(
     alloc: Global,
     plan: &Plan,

@@ -81,7 +81,7 @@ impl<D: Domain> LoopCache<D> {
         Ok(())
     }
 
-    /// What the loop of this point gave, where it began with the same value: passed anew it would give the same, but
+    /// What the loop of this point gave, where it began with the same value: passed again it would give the same, but
     /// for what is flagged so far.
     fn recall<F: Interfere<D>>(
         &self,

@@ -42,7 +42,7 @@ impl<D: Drop> Drop for PassFindings<D> {
     }
 }
 
-/// What a pass gives: what is found on the way, the value behind the tree, and the point of the first flagged
+/// What a pass gives: what is found on the way, the value after the tree, and the point of the first flagged
 /// operation.
 #[derive(Drop)]
 pub struct PassOutcome<D> {
@@ -137,7 +137,7 @@ fn copy_values<D: Domain>(alloc: Global, values: &[D]) -> Result<Vec<D>, AllocEr
     Ok(copies)
 }
 
-/// The first flagged point so far, behind an operation of this point.
+/// The first flagged point so far, after an operation of this point.
 pub fn note(point: usize, exactness: Exactness, flag: Option<usize>) -> Option<usize>
     ensures { result ≡ noted point exactness flag }
 {
@@ -161,7 +161,7 @@ impl<D: Drop> PassFindings<D> {
         }
     }
 
-    /// What the other found comes behind; nothing is left in the other.
+    /// What the other found comes after; nothing is left in the other.
     pub fn append(&mut self, more: &mut PassFindings<D>) -> Result<(), AllocError>
         ensures { OnOk result (AreInTurn self.old more.old self.new) }
     {
@@ -182,7 +182,7 @@ impl<D: Drop> PassFindings<D> {
             && self.returns.is_empty()
     }
 
-    /// What a pass found comes behind, and its end is the end.
+    /// What a pass found comes after, and its end is the end.
     pub fn follow_with(self, outcome: PassOutcome<D>) -> Result<PassOutcome<D>, AllocError>
         ensures { IfOk result (λ r. AreInTurn self outcome.found r.found × (r.normal ≡ outcome.normal) ×
             (r.flag ≡ outcome.flag)) }
@@ -359,7 +359,7 @@ impl<D: Drop> LoopRound<D> {
     }
 }
 
-/// The kept turn of a loop's body, where the same value enters it again: passed anew it would give the same, but for
+/// The kept turn of a loop's body, where the same value enters it again: passed again it would give the same, but for
 /// what is flagged so far.
 fn reuse_turn<D: Domain, F: Interfere<D>>(
     kept: Option<LoopRound<D>>,

@@ -8,8 +8,8 @@ use lra_options::Options;
 use std::alloc::{AllocError, Global};
 use std::marker::Model;
 
-/// What an iteration is told: the options of an analysis, and the constants of the program, which are the thresholds of
-/// its loops where the options ask for such.
+/// What an iteration is given: the options of an analysis, and the constants of the program, which are the thresholds
+/// of its loops where the options ask for such.
 pub struct Plan {
     options: Options,
     constants: Vec<i64>,

@@ -76,13 +76,13 @@ module _ {V H : Type 0} (o : Interference V) (m : Abstraction V H) (set : Plan) 
       PassIsUnderWay o m set ps whole n new
   went_on ps whole under n new owed may leads = record { part = under; begun = may; owed = owed; leads = leads }
 
-  -- the loop, where what comes next is told by an equation
+  -- the loop, where what comes next is given by an equation
   module _ (ps : List (place.PassFrame V H)) (whole : PassTask V) (n : next.Next V H) (memory : LoopCache V)
       (way : PassIsUnderWay o m set ps whole n memory) where
     pub leads_on : (n' : next.Next V H) → n ≡ n' → PassStepLeads o m set way.part n' memory
     leads_on n' is = subst (λ (x : next.Next V H). PassStepLeads o m set way.part x memory) is way.leads
 
-    -- the innermost place goes on, and owes this, with what is made there
+    -- the innermost place goes on, and must guarantee this, with what is made there
     pub popped : (left : List (place.PassFrame V H)) (last : Option (place.PassFrame V H)) (p : place.PassFrame V H) (r : PassOutcome V) →
         n ≡ Passed r → ps ≡ left ++ option_to_list last → last ≡ Some p → (under : PassTask V) × (part : PassTask V) ×
         ArePassFrames o m set left whole under × MayBePassed o m set under × IsPassFrame o m set p under part ×
@@ -172,7 +172,7 @@ module _ {V H : Type 0} (o : Interference V) (m : Abstraction V H) (set : Plan) 
         },
       )
 
-  -- behind what the tree under way found
+  -- after what the tree under way found
   pub row_followed : (r : RowFrame V) (whole part : PassTask V) (memory : LoopCache V) (outcome so_far : PassOutcome V) →
       IsRow o m set r whole part → IsMade o m set part (outcome_view outcome) memory →
       AreInTurn r.found outcome.found so_far.found → so_far.normal ≡ outcome.normal → so_far.flag ≡ outcome.flag →
@@ -184,7 +184,7 @@ module _ {V H : Type 0} (o : Interference V) (m : Abstraction V H) (set : Plan) 
       _ _ refl (outcome_view outcome) so_far.found so_far.normal so_far.flag memory made.stays made.passed
       (λ u d. turn part.value outcome.normal u part.flag outcome.flag d) one two
 
-  -- behind what the last found
+  -- after what the last found
   pub last_made : (found : PassFindings V) (whole part : PassTask V) (memory : LoopCache V) (outcome all : PassOutcome V) →
       IsPassFrame o m set (Last found) whole part → IsMade o m set part (outcome_view outcome) memory →
       AreInTurn found outcome.found all.found → all.normal ≡ outcome.normal → all.flag ≡ outcome.flag →
@@ -248,7 +248,7 @@ module _ {V H : Type 0} (o : Interference V) (m : Abstraction V H) (set : Plan) 
       (subst (λ (v : V). Filters (lossy_operations m) k.base c false v sides.off.exactness sides.off.value) (sym first) off)
       (splits.off_dims ∙ ap m.dims (sym first))
 
-  -- behind it, the second
+  -- after it, the second
   pub branch_leads : (k : ChoiceFrame V) (first : PassOutcome V) (b : Box (BranchFrame V) Global) (flag : Option ℕ)
       (whole part : PassTask V) (memory : LoopCache V) → b.value ≡ record { point = k.choice.point; first = first } →
       MayBePassed o m set whole → IsChoice o m set k whole part → IsMade o m set part (outcome_view first) memory →

@@ -1,4 +1,4 @@
--- A row of trees that is under way: what was found so far, with whatever the rest finds behind it, is what a pass of the
+-- A row of trees that is under way: what was found so far, with whatever the rest finds after it, is what a pass of the
 -- whole finds.
 use Rattle.std.proofs.Common.{◌≡◌, ℕ, ◌≤◌, [], Option, sym, ap, subst, ◌∙◌}
 use Rattle.lra_domain.specs.{Abstraction.Abstraction, Interference.Interference}
@@ -32,7 +32,7 @@ module _ {V H : Type 0} (o : Interference V) (m : Abstraction V H) (set : Plan) 
   module _ (g : graph.Node) (f : Option ℕ) (v : V) (rest : graph.Node) (found : PassFindings V) (behind : V)
       (so_far : Option ℕ) (old memory : LoopCache V)
       (loop : RowLoop o m set g f v rest found behind so_far old memory) where
-    -- what is next, and what stands behind it
+    -- what is next, and what comes after it
     module _ (next others : graph.Node) (is : rest ≡ graph.seq next others) where
       pub next_fits : TreeFits next (m.dims behind)
       next_fits = (subst (λ x. TreeFits x (m.dims behind)) is loop.fits).0

@@ -1,5 +1,5 @@
 -- A `switch` whose arms are gone through: what is left where no label matches, what comes in at labels, what its trees
--- find, and what comes out behind the last arm.
+-- find, and what comes out after the last arm.
 use Rattle.std.proofs.Common.{Bor, Box, Global, ◌≡◌, ◌≤◌, ℕ, ℤ, List, [], ◌∷◌, map, Option, None, Some, Bool, true, false, refl, sym, ap, subst, ◌∙◌, append-nil}
 use Rattle.std.specs.{List.Contains, List.list_any, Prelude.IfOk}
 use Rattle.std.specs.Prelude as outcome_or
@@ -269,7 +269,7 @@ module _ {V H : Type 0} (o : Interference V) (m : Abstraction V H) (set : Plan) 
           in_both (λ x. JumpsWith a (m.dims v) returned (m.dims x)) (λ x. ArmsJumpWith arms (m.dims v) returned (m.dims x)) s.returns t.returns u
           (one returned u) (two returned u) there
 
-  -- behind what it found, the arms behind it
+  -- after what it found, the arms after it
   pub select_follows : (a : Node) (arms : Arms) (found : PassFindings V) (running : Option V) (so_far : Option ℕ) (memory new : LoopCache V) (value : V)
       (outcome all : PassOutcome V)
       → Loop (arm a arms) found running so_far memory → RunsFrom (lossy_operations m) (m.dims v) set.parts running value → m.dims value ≡ m.dims v
@@ -294,7 +294,7 @@ module _ {V H : Type 0} (o : Interference V) (m : Abstraction V H) (set : Plan) 
         subst (λ (x : PassResult V). IsPassed o m set g f v x) same both;
   }
 
-  -- behind the last arm
+  -- after the last arm
   pub select_ends : (one : Running V) (r : PassOutcome V) (memory : LoopCache V) → Loop no_arms one.found one.normal one.flag memory →
       ComesOutAt m q d other one r
       → IsPassed o m set g f v (outcome_view r)
@@ -431,7 +431,7 @@ module _ {V H : Type 0} (o : Interference V) (m : Abstraction V H) (set : Plan) 
     pub other_running : RunHas m (m.dims s.other) running
     other_running = subst (λ (n : ℕ). RunHas m n running) (sym loop.other_dims) loop.running_dims
 
-  -- what the first owes, the second owes along the arms that are left
+  -- what the first must guarantee, the second must guarantee along the arms that are left
   abbrev pub OwesArms : Selecting V → List Arm → List Arm → Running V → Running V → Type 0
   OwesArms s arms left one two = (whole : PassTask V) (memory : LoopCache V) → IsSelecting o m set s whole
       → SelectsOn o m set s whole (arms_of (map arm_view arms)) one.found one.normal one.flag memory

@@ -14,11 +14,11 @@ use Rattle.lra_pass_results.proofs.PassSteps.{tree_steps_of}
 first_steps : (n : ℕ) (arms behind : List Arm) (a : Arm) → arms ≡ a ∷ behind → arms_steps n arms ≡ suc (arm_steps n a) + arms_steps n behind
 first_steps n arms behind a is = ap (arms_steps n) is ∙ sum_by-cons (λ x. suc (arm_steps n x)) a behind
 
--- so many are left behind a label
+-- so many are left after a label
 pub entry_less : (n k : ℕ) (arms behind : List Arm) (a : Arm) → arms ≡ a ∷ behind → arms_steps n arms ≤ k → arms_steps n behind ≤ k
 entry_less n k arms behind a is few = let first = first_steps n arms behind a is in omega (arith, first, few)
 
--- and behind a tree, together with the tree
+-- and after a tree, together with the tree
 pub tree_less : (n k : ℕ) (arms behind : List Arm) (a : Arm) (g : Node) → arms ≡ a ∷ behind → a ≡ Tree g → arms_steps n arms ≤ k
     → (1 + arms_steps n behind) + node_steps n g ≤ k
 tree_less n k arms behind a g is here few =

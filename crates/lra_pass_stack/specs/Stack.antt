@@ -1,4 +1,4 @@
--- What is owed where a pass is under way along a list of open places: in each of them a tree is under way, and with
+-- What must hold where a pass is under way along a list of open places: in each of them a tree is under way, and with
 -- that the pass of the place's own tree is to be made.
 use Rattle.std.specs.List.{Contains}
 use Rattle.std.specs.Prelude.{◌≡◌, ℕ, ◌≤◌, Bool, true, false, List, [], ◌∷◌, map, Option, None, Some, ⊤}
@@ -35,7 +35,7 @@ use Rattle.lra_pass_stack.specs.declared.stack.Next as next
 use Rattle.lra_pass_stack.specs.declared.stack.PassFrame as place
 use Rattle.lra_pass_stack.specs.declared.stack.Step as step
 
--- a pass that is due: of this tree, from this value, behind what is flagged so far and with what is kept
+-- a pass that is due: of this tree, from this value, after what is flagged so far and with what is kept
 pub record PassTask (V : Type 0) : Type 0 where
   pub tree : Node
   pub value : V
@@ -45,7 +45,7 @@ pub record PassTask (V : Type 0) : Type 0 where
 abbrev pub pass_task : {V : Type 0} → Entering V → LoopCache V → PassTask V
 pass_task e memory = record { tree = node_view e.node.now; value = e.value; flag = e.flag; memory = memory }
 
--- trees one after the other: what stands behind what was found so far fits, and whatever its pass finds comes behind,
+-- trees one after the other: what comes after what was found so far fits, and whatever its pass finds comes after,
 -- as a pass of the whole
 pub record RowLoop {V H : Type 0} (o : Interference V) (m : Abstraction V H) (set : Plan) (g : Node) (f : Option ℕ)
     (v : V)
@@ -103,7 +103,7 @@ RunHas m n (Some v) = m.dims v ≡ n
 abbrev pub ArmJumpsFit : {V H : Type 0} → Abstraction V H → Arms → ℕ → PassResult V → Type 0
 ArmJumpsFit {V} m arms n r = (k : Exit) (u : V) → Contains (jumps_of k r) u → ArmsJumpWith arms n k (m.dims u)
 
--- the arms of a `switch` at point q: whatever those that are left find, from what runs there, comes behind what was
+-- the arms of a `switch` at point q: whatever those that are left find, from what runs there, comes after what was
 -- found so far, as a pass of the whole
 pub record SelectLoop {V H : Type 0} (o : Interference V) (m : Abstraction V H) (set : Plan) (g : Node) (f : Option ℕ)
     (v : V)
@@ -120,7 +120,7 @@ pub record SelectLoop {V H : Type 0} (o : Interference V) (m : Abstraction V H) 
       m.dims t.normal ≡ m.dims v → ArmJumpsFit m arms (m.dims v) t →
       IsPassed o m set g f v (in_turn (ended found v so_far) t t.normal t.flag)
 
--- behind what led to v with this exactness, what is left of it where none of the labels is the expression's value
+-- after what led to v with this exactness, what is left of it where none of the labels is the expression's value
 abbrev pub NoneSoFar : {V H : Type 0} → Abstraction V H → ℕ → Expr → List CaseLabel → V → Exactness → V → Exactness →
     Type 0
 NoneSoFar m base e labels v before w all = (x : Exactness) × MatchesNone (lossy_operations m) base e labels v x w ×
@@ -150,7 +150,7 @@ pub record EntersAt {V H : Type 0} (m : Abstraction V H) (q base : ℕ) (e : Exp
   pub found : new.found ≡ old.found
   pub dims : m.dims runs ≡ m.dims v
 
--- what comes out behind the last arm
+-- what comes out after the last arm
 pub record ComesOutAt {V H : Type 0} (m : Abstraction V H) (q : ℕ) (has_default : Bool) (other : V) (old : Running V)
     (r : PassOutcome V) : Type 0 where
   pub exactness : Exactness
@@ -249,7 +249,7 @@ module _ {V H : Type 0} (o : Interference V) (m : Abstraction V H) (set : Plan) 
     pub head : IsHead g.the_loop whole g.first g.growing None part.memory
     pub entered : HasEntered g.the_loop g.growing.value g.growing.flag g.entered part
 
-  -- a stable head, narrowed so far: so many rounds are left behind this turn
+  -- a stable head, narrowed so far: so many rounds are left after this turn
   pub record IsNarrowed (l : Loop) (whole : PassTask V) (first : V) (last : HeadRound V) (left : ℕ)
       (memory : LoopCache V)
       : Type 0 where
@@ -316,7 +316,8 @@ module _ {V H : Type 0} (o : Interference V) (m : Abstraction V H) (set : Plan) 
       (part.flag ≡ whole.flag) × (part.memory ≡ whole.memory)
   IsPassFrame (Select s) whole part = IsSelect s.value whole part
 
-  -- the places from the outermost on: what each has under way is what the next one owes; the innermost has this
+  -- the places from the outermost on: what each has under way is what the next one must guarantee; the innermost has
+  -- this
   abbrev pub ArePassFrames : List (place.PassFrame V H) → PassTask V → PassTask V → Type 0
   ArePassFrames [] whole part = part ≡ whole
   ArePassFrames (p ∷ ps) whole part =

@@ -30,7 +30,7 @@ module _ {V H : Type 0} (m : Abstraction V H) (b : ℕ) (set : Plan) where
   abbrev pub turns_left : Loop → ℕ → ℕ
   turns_left l n = 1 + n * suc (tree_steps l.body.now)
 
-  -- at a place, behind the tree that is under way there
+  -- at a place, after the tree that is under way there
   abbrev pub place_left : place.PassFrame V H → ℕ
   place_left (Row r) = 1 + row_steps (most_rounds b set) r.behind.trees.now r.behind.last.now
   place_left (Last x) = 1

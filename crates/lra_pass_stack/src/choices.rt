@@ -65,7 +65,7 @@ pub fn open_choice<'a, D: Domain, F: Interfere<D>>(
     Ok(Next::Opens(PassFrame::Choice(ChoiceFrame { choice, off }), branch))
 }
 
-/// Behind the first branch, the one where the condition is false is next.
+/// After the first branch, the one where the condition is false is next.
 pub fn go_on_choice<'a, D: Domain, F: Interfere<D>>(
     alloc: Global,
     place: ChoiceFrame<'a, D>,

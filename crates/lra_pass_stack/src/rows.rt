@@ -15,7 +15,7 @@ use lra_operations::Node;
 use lra_pass_results::{Flat, PassOutcome, Plan, Row};
 use std::alloc::{AllocError, Global};
 
-/// The first of the trees behind which these stand is next: what was found before it stays at its place.
+/// The first of the trees after which these stand is next: what was found before it stays at its place.
 fn open_first<'a, D: Domain, F: Interfere<D>>(
     behind: Row<'a>,
     node: &'a Node,
@@ -109,7 +109,7 @@ fn next_of_row<'a, D: Domain, F: Interfere<D>>(
     next_of_last::<D, F>(alloc, plan, last, so_far)
 }
 
-/// The first of the trees that isn't flat is next, behind those before it.
+/// The first of the trees that isn't flat is next, after those before it.
 pub fn open_row<'a, D: Domain, F: Interfere<D>>(
     alloc: Global,
     the_row: Row<'a>,
@@ -133,7 +133,7 @@ pub fn open_row<'a, D: Domain, F: Interfere<D>>(
     next_of_row::<D, F>(alloc, the_row, PassOutcome::nothing_yet(alloc, value, flag))
 }
 
-/// What the tree under way found comes behind what was found before it, and the next one begins with its end.
+/// What the tree under way found comes after what was found before it, and the next one begins with its end.
 pub fn go_on_row<'a, D: Domain, F: Interfere<D>>(
     alloc: Global,
     place: RowFrame<'a, D>,

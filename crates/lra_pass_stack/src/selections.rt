@@ -29,7 +29,7 @@ use std::alloc::{AllocError, Global};
 
 // no match ------------------------------------------------------------------------------------------------------------
 
-/// What is left of the value where the label doesn't name what is seen, behind what led to it; all of it for `default`.
+/// What is left of the value where the label doesn't name what is seen, after what led to it; all of it for `default`.
 fn leave_label<D: Domain>(
     alloc: Global,
     seen: &Linearized,
@@ -260,7 +260,7 @@ fn value_of_run<D: Domain>(
     }
 }
 
-/// The tree of an arm is next: the arms behind it, and what was found before it, stay at its place.
+/// The tree of an arm is next: the arms after it, and what was found before it, stay at its place.
 fn open_arm<'a, D: Domain, F: Interfere<D>>(
     alloc: Global,
     selecting: Selecting<'a, D>,
@@ -298,7 +298,7 @@ fn open_arm<'a, D: Domain, F: Interfere<D>>(
     Ok(Next::Opens(PassFrame::Select(place), Entering { node, value, flag }))
 }
 
-/// What runs behind the last arm; where no label is `default`, what has no match joins it.
+/// What runs after the last arm; where no label is `default`, what has no match joins it.
 fn join_other<D: Domain>(
     point: usize,
     has_default: bool,
@@ -325,7 +325,7 @@ fn join_other<D: Domain>(
     })
 }
 
-/// What comes out behind the last arm; where nothing runs there, what has no match.
+/// What comes out after the last arm; where nothing runs there, what has no match.
 fn come_out<D: Domain>(
     selecting: Selecting<'_, D>,
     so_far: Running<D>,
@@ -360,7 +360,7 @@ fn come_out<D: Domain>(
     }
 }
 
-/// The labels that come next are entered, then the tree behind them is next; where no arm is left, the whole is passed.
+/// The labels that come next are entered, then the tree after them is next; where no arm is left, the whole is passed.
 fn next_of_arms<'a, D: Domain, F: Interfere<D>>(
     alloc: Global,
     selecting: Selecting<'a, D>,
@@ -458,7 +458,7 @@ pub fn open_selection<'a, D: Domain, F: Interfere<D>>(
     next_of_arms::<D, F>(alloc, selecting, selection.arms, so_far)
 }
 
-/// What the tree of an arm gave comes behind what was found before it, and runs on in the arms behind.
+/// What the tree of an arm gave comes after what was found before it, and runs on in the later arms.
 pub fn go_on_selection<'a, D: Domain, F: Interfere<D>>(
     alloc: Global,
     place: SelectFrame<'a, D>,

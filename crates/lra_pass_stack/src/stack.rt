@@ -25,7 +25,7 @@ pub struct Entering<'a, D> {
     pub flag: Option<usize>,
 }
 
-/// The trees behind one that is under way, and what those before it found.
+/// The trees after one that is under way, and what those before it found.
 #[derive(Drop)]
 pub struct RowFrame<'a, D> {
     pub behind: Row<'a>,
@@ -55,7 +55,7 @@ pub struct GrowingFrame<'a, D, H> {
     pub entered: D,
 }
 
-/// A loop that is narrowed: its first value, the value at its head, and how many rounds are left behind the one from
+/// A loop that is narrowed: its first value, the value at its head, and how many rounds are left after the one from
 /// that value.
 #[derive(Drop)]
 pub struct Narrowing<'a, D> {
@@ -83,7 +83,7 @@ pub struct Selecting<'a, D> {
     pub other: D,
 }
 
-/// A `switch` in which the tree of an arm is under way, the arms behind it, and what was found before it.
+/// A `switch` in which the tree of an arm is under way, the arms after it, and what was found before it.
 #[derive(Drop)]
 pub struct SelectFrame<'a, D> {
     pub selecting: Selecting<'a, D>,

@@ -35,7 +35,7 @@ chain_more : (any : Bool) (c d : Cond) (ds : List Cond) → joined_conditions an
 chain_more true c d ds = refl
 chain_more false c d ds = refl
 
--- the operands behind those that are left stand there, as one chain
+-- the operands after those that are left stand there, as one chain
 abbrev pub IsJoinedBack : List MovesEntry → ℕ → ℕ → Bool → List declared_cond.Cond → List declared_cond.Cond → Both → Type 0
 IsJoinedBack es live base any whole left b = (c : declared_cond.Cond) × (cs : List declared_cond.Cond) × (whole ≡ left ++ c ∷ cs) ×
     HasBoth es live base (chain_of any (cond_view c) (map cond_view cs)) b

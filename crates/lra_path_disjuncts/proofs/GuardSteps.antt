@@ -1,4 +1,4 @@
--- Moves that are put into a table, one behind the other: what stands there stays, and is found where it was.
+-- Moves that are put into a table, one after the other: what stands there stays, and is found where it was.
 use Rattle.std.proofs.Common.{◌≡◌, ◌<◌, ℕ, zero, suc, List, [], ◌∷◌, ◌++◌, length, Some, refl, sym, ap, ◌∙◌, subst, arith, append-nil, append_assoc}
 use Rattle.std.proofs.lemmas.List.{map-append}
 use Rattle.std.specs.Prelude as outcome
@@ -37,7 +37,7 @@ pub join_has : (es fs : List MovesEntry) (i a b : ℕ) (p q : Moves) → Has es 
 join_has es fs i a b p q one two has =
     has ∙ ap (λ m. Some (join_of m (moves_at es b))) (has_at es a p one) ∙ ap (λ m. Some (join_of p m)) (has_at es b q two)
 
--- changes, one behind the other
+-- changes, one after the other
 pub turned_first : (es : List MovesEntry) (place : ℕ) (whole : List Change) → Has es place stay → IsTurned es place (actions_of whole) whole
 turned_first es place whole has = ([], sym (append-nil (actions_of whole)), has)
 

@@ -1,4 +1,4 @@
--- How many variables live behind a least change.
+-- How many variables live after a least change.
 use Rattle.std.proofs.{Common.◌≡◌, Common.ℕ, Common.◌-◌, Common.length, Common.Some, Common.◌∙◌, Common.arith, lemmas.List.length-take, lemmas.Option.same_Some}
 use Rattle.std.specs.Prelude.{min}
 use Rattle.lra_program.specs.Step.{State, environment_at, Op, append, fill, store_value, store_element, havoc, push, push_for, truncate_to, run_op}

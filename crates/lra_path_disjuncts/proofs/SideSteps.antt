@@ -131,7 +131,7 @@ module _ (s t : List ℤ) where
     | inr later ↦ elim (some_apart ways more later) [ inl a ↦ inl (inr a) | inr b ↦ inr b ]
   ]
 
-  -- one list behind each of the others
+  -- one list after each of the others
   behind_each : (ways : List (List Action)) (way : List Action) (u : List ℤ) → SomeLeads ways s u → LeadsAll way u t → SomeLeads (map (λ x. x ++ way) ways) s t
   behind_each [] way u first led = absurd first
   behind_each (next ∷ ways) way u first led = elim first [

@@ -1,4 +1,4 @@
--- Tables of moves: what is added leaves the others where they are, and each entry is told by those before it.
+-- Tables of moves: what is added leaves the others where they are, and each entry is given by those before it.
 use Rattle.std.proofs.Common.{◌≡◌, ◌≤◌, ◌<◌, ℕ, zero, suc, ◌+◌, ◌*◌, List, [], ◌∷◌, ◌++◌, length, map, Some, None, refl, sym, ap, ◌∙◌, subst, arith, length-append, inl, inr}
 use Rattle.std.proofs.Math.Nat.{mul-zero, zero-mul, mul-suc, mul_comm, le-mul_of_pos_right, min-eq_left, min-eq_right}
 use Rattle.std.proofs.{lemmas.Bool.cases_lt, lemmas.List.length-map, lemmas.Option.slice_get_within, lemmas.Option.slice_get_past}

@@ -13,7 +13,7 @@ HasBoth es live base c b = Has es b.so (guard live base true c) × Has es b.not 
 abbrev pub AreIn : List MovesEntry → Both → Type 0
 AreIn es b = (b.so < length es) × (b.not < length es)
 
--- the last of these changes are made, one behind the other
+-- the last of these changes are made, one after the other
 abbrev pub IsTurned : List MovesEntry → ℕ → List Action → List Change → Type 0
 IsTurned es place whole left = (more : List Action) × (whole ≡ actions_of left ++ more) × Has es place (in_turn more)
 

@@ -8,7 +8,7 @@ use Rattle.lra_analysis_spec.specs.{Moves.AreMade, Operations.Operations}
 use Rattle.lra_path_segments.specs.Segments.{SegmentStep, each_then, RunsOps}
 use Rattle.lra_path_disjuncts.specs.StepMoves.{step_moves, dims_after_step}
 
--- of one behind the other the sides of the later are the outer ones; a join's stand one behind the other
+-- of one after the other the sides of the later are the outer ones; a join's stand one after the other
 abbrev pub disjuncts : Moves → List (List Action)
 disjuncts stay = [] ∷ []
 disjuncts (make step) = (step ∷ []) ∷ []
@@ -39,7 +39,7 @@ on_paths = record {
   valued = λ h e paths. ⊥;
 }
 
--- what an iteration makes of a list of paths by these moves: the sides, each behind each of the paths
+-- what an iteration makes of a list of paths by these moves: the sides, each after each of the paths
 abbrev pub DisjunctsAreMade : Type 0
 DisjunctsAreMade = (p : Moves) (paths : List (List Action)) (e : Exactness) (more : List (List Action)) →
     AreMade on_paths p paths e more ↔ ((more ≡ each_then paths (disjuncts p)) × (e ≡ Exact))

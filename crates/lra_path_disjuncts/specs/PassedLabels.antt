@@ -11,7 +11,7 @@ abbrev pub PutsLabel : List MovesEntry → List MovesEntry → ℕ → Linearize
 PutsLabel es fs live s a later place = (labels : List CaseLabel) → Has es later (unmatched_moves live s labels) →
     Has fs place (unmatched_moves live s (label_at a ++ labels))
 
--- the labels behind those that are left are passed
+-- the labels after those that are left are passed
 abbrev pub ArePassed : List MovesEntry → ℕ → Linearized → List Arm → List Arm → ℕ → Type 0
 ArePassed es live s arms left place = (labels : List CaseLabel) × (labels_in arms ≡ labels_in left ++ labels) ×
     Has es place (unmatched_moves live s labels)

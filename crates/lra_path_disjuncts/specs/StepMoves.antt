@@ -23,7 +23,7 @@ abbrev pub step_moves : ℕ → SegmentStep → Moves
 step_moves live (does op) = moves_of live op
 step_moves live (goes base e labels l) = label_moves live (linearized live base e) labels l
 
--- how many variables live behind it
+-- how many variables live after it
 abbrev pub dims_after_step : SegmentStep → ℕ → ℕ
 dims_after_step (does op) live = live_after_op op live
 dims_after_step (goes base e labels l) live = live

@@ -1,4 +1,4 @@
--- Moves in a table, each behind those of which it is made, so that what stands in several of them stands there once;
+-- Moves in a table, each after those of which it is made, so that what stands in several of them stands there once;
 -- and how many sides each has, counted no further than is asked.
 use Rattle.std.specs.Prelude.{◌≡◌, ◌<◌, ℕ, suc, ◌-◌, ◌/◌, ◌%◌, min, nat_lt, if◌then◌else◌, List, [], ◌∷◌, ◌++◌, length}
 use Rattle.std.specs.Prelude.{Option, Some, None, slice_get}
@@ -23,7 +23,7 @@ abbrev pub or_stay : Option Moves → Moves
 or_stay None = stay
 or_stay (Some p) = p
 
--- what an entry behind these moves stands for
+-- what an entry after these moves stands for
 abbrev pub made_of : List Moves → MovesNode → Moves
 made_of ms Stay = stay
 made_of ms (Make change) = make (action_of change)
@@ -66,7 +66,7 @@ Grows es fs = (i : ℕ) (p : Moves) → Has es i p → Has fs i p
 
 -- sides -------------------------------------------------------------------------------------------------------------
 
--- The side of this number, where there are no more than may be: of moves one behind the other those of the later are
+-- The side of this number, where there are no more than may be: of moves one after the other those of the later are
 -- the outer ones.
 abbrev pub disjunct_at : Moves → ℕ → List Action
 disjunct_at stay n = []

@@ -199,7 +199,7 @@ fn push_new(
     push_within(frame, place, number_type, appended, entries)
 }
 
-/// So many variables live behind a new one; where forms over them have no room, nothing can be made.
+/// So many variables live after a new one; where forms over them have no room, nothing can be made.
 fn one_more(live: usize) -> Result<usize, AllocError>
     ensures is { IfOk result (λ n. n ≡ suc live) }
     ensures few { OnOk result (live < 2 ^ 62 - 3) }
@@ -297,7 +297,7 @@ fn push_global(
     )
 }
 
-/// The global variables behind so many, each with its first value.
+/// The global variables after so many, each with its first value.
 fn push_globals_from(
     alloc: Global,
     live: usize,
@@ -318,7 +318,7 @@ fn push_globals_from(
     push_first_then(entries, one, others)
 }
 
-/// The globals at their first values, one behind the other.
+/// The globals at their first values, one after the other.
 pub fn push_globals(
     alloc: Global,
     globals: &[GlobalVariable],
@@ -512,7 +512,7 @@ fn sum_of(live: usize, more: usize) -> Result<usize, AllocError>
     }
 }
 
-/// How many variables live behind the least change.
+/// How many variables live after the least change.
 fn live_behind_op(live: usize, op: &Op) -> Result<usize, AllocError>
     ensures { IfOk result (λ n. n ≡ live_after_op (op_view op.now) live) }
 {
@@ -526,7 +526,7 @@ fn live_behind_op(live: usize, op: &Op) -> Result<usize, AllocError>
     }
 }
 
-/// How many variables live behind what is done.
+/// How many variables live after what is done.
 fn live_behind_move(live: usize, step: Move) -> Result<usize, AllocError>
     ensures { IfOk result (λ n. n ≡ dims_after_step (move_view step.entry) live) }
 {
@@ -536,7 +536,7 @@ fn live_behind_move(live: usize, step: Move) -> Result<usize, AllocError>
     }
 }
 
-/// The moves of a way, one behind the other, over so many variables.
+/// The moves of a way, one after the other, over so many variables.
 pub fn push_segment(
     alloc: Global,
     live: usize,

@@ -39,7 +39,7 @@ pub struct Both {
 
 // divisions ---------------------------------------------------------------------------------------
 
-/// The changes, one behind the other.
+/// The changes, one after the other.
 fn push_in_turn(entries: &mut Vec<MovesEntry>, changes: Vec<Change>) -> Result<usize, AllocError>
     requires { IsTable entries.old.items }
     ensures table { OnOk result (IsTable entries.new.items) }
@@ -252,7 +252,7 @@ pub fn opposite_both(both: Both) -> Both
     }
 }
 
-/// `&&`: the one behind the other; where it is false, the first is, or the first is true and the second is false.
+/// `&&`: the one after the other; where it is false, the first is, or the first is true and the second is false.
 pub fn both_of(one: Both, other: Both, entries: &mut Vec<MovesEntry>) -> Result<Both, AllocError>
     requires table { IsTable entries.old.items }
     requires one { AreIn entries.old.items one }

@@ -1,4 +1,4 @@
-//! Moves in a table, each behind those of which it is made, so that what stands in several of them stands there once;
+//! Moves in a table, each after those of which it is made, so that what stands in several of them stands there once;
 //! and their sides, which are counted before they are written out.
 
 ghost use Rattle.std.specs.Prelude.{[], ◌∷◌, ◌≡◌, ◌<◌, ◌≤◌, ◌+◌, ◌*◌, ◌++◌, length, IfOk, OnOk};
@@ -12,7 +12,7 @@ ghost use Rattle.lra_path_disjuncts.specs.Tables.{IsMadeOfEarlier, IsTable, Has,
 use lra_domain::Change;
 use std::alloc::{AllocError, Global};
 
-/// How moves are made: of nothing, of a change, or of the moves at two places before them, the one behind the other or
+/// How moves are made: of nothing, of a change, or of the moves at two places before them, the one after the other or
 /// joined.
 pub enum MovesNode {
     Stay,
@@ -79,7 +79,7 @@ pub fn disjuncts_at(entries: &[MovesEntry], place: usize) -> usize
 
 // entries -----------------------------------------------------------------------------------------
 
-/// Moves behind all others, at the place that is given.
+/// Moves after all others, at the place that is given.
 fn push_entry(
     entries: &mut Vec<MovesEntry>,
     sides: usize,
@@ -176,7 +176,7 @@ pub struct PendingDisjunct {
     pub number: usize,
 }
 
-/// What is done first of a side comes behind what is written; the rest of it is due.
+/// What is done first of a side comes after what is written; the rest of it is due.
 fn write_next<'t>(
     entries: &'t [MovesEntry],
     due: PendingDisjunct,
@@ -283,7 +283,7 @@ pub fn write_disjunct<'t>(
     Ok(side)
 }
 
-/// All sides of the moves at the place, in order, behind others.
+/// All sides of the moves at the place, in order, after others.
 pub fn write_disjuncts<'t>(
     alloc: Global,
     entries: &'t [MovesEntry],

@@ -1,4 +1,5 @@
--- Lists that are made of each of the ones: over those that pass a test, over others that were made, one behind the other.
+-- Lists that are made of each of the ones: over those that pass a test, over others that were made, one after the
+-- other.
 use Rattle.std.proofs.Common.{◌≡◌, List, [], ◌∷◌, ◌++◌, map, filter, flat_map, Bool, true, false, cond, refl, sym, ap, ◌∙◌}
 use Rattle.std.proofs.{lemmas.Grind.flat_map-append, lemmas.List.map-append}
 

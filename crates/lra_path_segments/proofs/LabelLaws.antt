@@ -55,7 +55,7 @@ inside_row (arm a arms) =
     ap (λ ways. inside a ++ segments_by (exit_suffixes a normal) ways ++ inside (arms_row arms)) (enter_row arms)
     ∙ ap (λ xs. inside a ++ segments_by (exit_suffixes a normal) (enter_arms arms) ++ xs) (inside_row arms)
 
--- behind a label that isn't there nothing stands
+-- after a label that isn't there nothing stands
 pub none_behind : (l : CaseLabel) (arms : Arms) → list_any (is_same_case l) (entries_of arms) ≡ false → row_behind l arms ≡ empty
 none_behind l no_arms never = refl
 none_behind l (entry k arms) never =

@@ -24,7 +24,7 @@ map_nil : {A : Type 0} (xs : List (List A)) → map (λ x. x ++ []) xs ≡ xs
 map_nil [] = refl
 map_nil (x ∷ xs) = ap (λ y. y ∷ map (λ z. z ++ []) xs) (append-nil x) ∙ ap (λ ys. x ∷ ys) (map_nil xs)
 
--- behind them nothing
+-- after them nothing
 pub each_then_nil : {A : Type 0} (xs : List (List A)) → each_then xs ([] ∷ []) ≡ xs
 each_then_nil xs = append-nil (map (λ x. x ++ []) xs) ∙ map_nil xs
 
@@ -36,7 +36,7 @@ map_twice y z (x ∷ xs) =
 pub each_then_append : {A : Type 0} (xs ys zs : List (List A)) → each_then xs (ys ++ zs) ≡ each_then xs ys ++ each_then xs zs
 each_then_append xs ys zs = flat_map-append (λ y. map (λ x. x ++ y) xs) ys zs
 
--- one list behind all
+-- one list after all
 each_then_onto : {A : Type 0} (xs ys : List (List A)) (z : List A) → each_then xs (map (λ y. y ++ z) ys) ≡ map (λ w. w ++ z) (each_then xs ys)
 each_then_onto xs [] z = refl
 each_then_onto xs (y ∷ ys) z =

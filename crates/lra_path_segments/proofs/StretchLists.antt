@@ -1,4 +1,4 @@
--- Steps of loops over stretches: what is seen of the lists that they make.
+-- Steps of loops over segments: what is seen of the lists that they make.
 use Rattle.std.proofs.Common.{◌≡◌, ℕ, ◌+◌, ◌<◌, List, [], ◌∷◌, ◌++◌, map, filter, length, take, get_or, Bool, true, false, not, cond, refl, sym, ap, ◌∙◌, subst, append_assoc, append-nil}
 use Rattle.std.proofs.{lemmas.Grind.flat_map-append, lemmas.List.map-append, lemmas.List.take_more, lemmas.List.Elements.filter-append}
 use Rattle.std.specs.Prelude as outcome
@@ -40,7 +40,7 @@ module _ (k : Kind) (front : List D) (x : D) (old new : List D) (b : Bool) (is :
   others_more en eo =
       picked_more (λ s. not (is_of k s)) front x old new (cond b [] (x ∷ [])) en (seen_off b x ∙ ap (λ c. cond (not c) (tree_segment_view x ∷ []) []) is) eo
 
--- each made into another, behind all ---------------------------------------------------------------------------------------
+-- each made into another, after all -----------------------------------------------------------------------------------
 
 module _ (f : TreeSegment → TreeSegment) (before old new : List D) (y : D) (en : new ≡ old ++ y ∷ []) where
   pub mapped_more : (front : List D) (x : D) → tree_segment_view y ≡ f (tree_segment_view x) → seen old ≡ seen before ++ map f (seen front) →
@@ -79,14 +79,14 @@ joined_at xs ys before old new i y en inside at eo =
 pub none_yet : (xs : List TreeSegment) → xs ≡ xs ++ []
 none_yet xs = sym (append-nil xs)
 
--- lists behind each other
+-- lists after each other
 pub seen_append : (xs ys zs : List D) → zs ≡ xs ++ ys → seen zs ≡ seen xs ++ seen ys
 seen_append xs ys zs e = ap seen e ∙ map-append tree_segment_view xs ys
 
 pub seen_push : (xs ys : List D) (x : D) → ys ≡ xs ++ x ∷ [] → seen ys ≡ seen xs ++ tree_segment_view x ∷ []
 seen_push xs ys x e = ap seen e ∙ seen_more xs x
 
--- those of a kind, each made into another, behind all
+-- those of a kind, each made into another, after all
 module _ (k : Kind) (f : TreeSegment → TreeSegment) where
   pub if_so : {T E : Type 0} (r : outcome.Result T E) (b : Bool) (v : TreeSegment) (old new : List TreeSegment) → b ≡ is_of k v → b ≡ true
       → OnOk r (new ≡ old ++ f v ∷ []) → OnOk r (new ≡ old ++ map f (segments_of_kind k (v ∷ [])))

@@ -1,4 +1,4 @@
--- The stretches of a tree are its ways, each kind in its order.
+-- The segments of a tree are its ways, each kind in its order.
 use Rattle.std.proofs.Common.{◌≡◌, ℕ, List, [], ◌∷◌, ◌++◌, map, filter, flat_map, Bool, true, false, not, cond, Option, Some, None, refl, sym, ap, ◌∙◌, append-nil, append_assoc}
 use Rattle.std.specs.List.{list_any}
 use Rattle.lra_base.specs.{CaseLabels.is_same_case, declared.case_labels.CaseLabel.CaseLabel, declared.case_labels.CaseLabel.TheVariants.Default}
@@ -453,7 +453,7 @@ module _ (q base : ℕ) (c : Cond) where
       reaches = loop_meets;
     }
 
--- jumps that come out behind the tree ------------------------------------------------------------------------------------
+-- jumps that come out after the tree ----------------------------------------------------------------------------------
 
 not_caught : {A : Type 0} (j k i : Exit) (xs : List A) → cond (not (same_exit k i)) (cond (same_exit j i) xs []) [] ≡ cond (same_exit j k) []
     (cond (same_exit j i) xs [])

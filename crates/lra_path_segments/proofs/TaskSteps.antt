@@ -280,7 +280,7 @@ pub arms_fall : {T E : Type 0} (r : outcome.Result T E) (ds es fs : List Task) (
 arms_fall (outcome.Ok v) ds es fs arms before last is h k = let size = arms_steps arms before last is in omega (arith, size, h, k)
 arms_fall (outcome.Err e) ds es fs arms before last is h k = tt
 
--- all of them are due, behind them nothing is done
+-- all of them are due, after them nothing is done
 pub selection_run : {T E : Type 0} (r : outcome.Result T E) (ds es fs : List Task) (selection : Selection) (s t u : List (List TreeSegment))
     (past : List TreeSegment)
     → t ≡ past ∷ s → u ≡ nothing_done ∷ t
@@ -325,7 +325,7 @@ pub selection_falls : {T E : Type 0} (r : outcome.Result T E) (n : declared.Node
 selection_falls (outcome.Ok v) n ds es q base x arms is h = let size = ap steps_of is ∙ steps_select q base x arms in omega (arith, size, h)
 selection_falls (outcome.Err e) n ds es q base x arms is h = tt
 
--- the last stays, and its beginnings are behind the label
+-- the last stays, and its beginnings are after the label
 pub one_labelled : {T E : Type 0} (r : outcome.Result T E) (step : SegmentStep) (s t u v w : List (List TreeSegment)) (row later all : List TreeSegment) →
     row ≡ top s
     → t ≡ below s → later ≡ top t → u ≡ below t → all ≡ labelled step row later → v ≡ all ∷ u → OnOk r (w ≡ row ∷ v) → OnOk r (w ≡ labelled_last step s)
@@ -385,6 +385,6 @@ pub run_last : (ds : List Task) (vs : List V) (xs : List declared_stretch.TreeSe
     top (stack vs) → seen xs ≡ w
 run_last ds vs xs w none i h = h ∙ ap top (sym (ap (λ u. run u (stack vs)) (nil_from_length ds none)) ∙ i)
 
--- the tree's stretches are its ways
+-- the tree's segments are its ways
 pub ways_made : (xs : List declared_stretch.TreeSegment) (g : Node) → seen xs ≡ tree_segments g → AreSegmentsOf (seen xs) g
 ways_made xs g is = subst (λ ss. AreSegmentsOf ss g) (sym is) (are_ways g)

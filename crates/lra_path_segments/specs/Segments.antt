@@ -134,7 +134,7 @@ abbrev mutual
   through_arms (arm a arms) normal = each_then (through a normal) (through_arms arms normal)
   through_arms (arm a arms) (jump j) = through a (jump j) ++ each_then (through a normal) (through_arms arms (jump j))
 
-  -- from each label those behind it, in text order
+  -- from each label those after it, in text order
   pub through_labels : (CaseLabel → SegmentStep) → Arms → Completion → List (List SegmentStep)
   through_labels go no_arms h = []
   through_labels go (entry l arms) h = map (prepend_step (go l)) (through_arms arms h) ++ through_labels go arms h

@@ -1,4 +1,4 @@
--- The stretches, their moves and ends, that values of the code's types stand for.
+-- The segments, their moves and ends, that values of the code's types stand for.
 use Rattle.std.specs.Prelude.{List, map}
 use Rattle.lra_base.specs.declared.case_labels.CaseLabel.{CaseLabel}
 use Rattle.lra_program.specs.ProgramViews.{cond_view, expr_view}

@@ -10,7 +10,7 @@ use Rattle.lra_operations.specs.Tree.{choose, iterate, catch, leave, select, Arm
 use Rattle.lra_path_segments.specs.Segments.{SegmentStep, does, Goal, comes_to, violates, GoalSegment, Segment, Suffix}
 use Rattle.lra_path_segments.specs.Segments.{same_exit, goes_in, through, enter, exit_suffixes, inside}
 
--- where a stretch ends: the tree is left so, or a goal is met
+-- where a segment ends: the tree is left so, or a goal is met
 pub data End : Type 0 where
   exits : Completion → End
   reaches : Goal → End
@@ -40,7 +40,7 @@ abbrev pub exits_as : Completion → End → Bool
 exits_as h (exits k) = same_how h k
 exits_as h (reaches goal) = false
 
--- what stretches are told apart by: whether they begin at the tree's start, or whether they leave it so
+-- what segments are distinguished by: whether they begin at the tree's start, or whether they leave it so
 pub data Kind : Type 0 where
   starting : Kind
   leaving : Completion → Kind
@@ -68,7 +68,7 @@ abbrev pub sequenced : List TreeSegment → List TreeSegment → List TreeSegmen
 sequenced xs ys = segments_not_of_kind (leaving normal) xs ++
     all_joined (segments_of_kind (leaving normal) xs) (segments_of_kind starting ys) ++ segments_not_of_kind starting ys
 
--- behind this, where it begins at the tree's start
+-- after this, where it begins at the tree's start
 abbrev pub prefixed_by : SegmentStep → Option ℕ → List SegmentStep → End → TreeSegment
 prefixed_by step None ops e = tree_segment None (step ∷ ops) e
 prefixed_by step (Some p) ops e = tree_segment (Some p) ops e
@@ -109,7 +109,7 @@ at_loop q base c =
 abbrev pub looped : ℕ → ℕ → Cond → List TreeSegment → List TreeSegment
 looped q base c ss = at_loop q base c ++ map (turned q (does (test base c true))) (body_order ss)
 
--- jumps of this kind come out behind the tree
+-- jumps of this kind come out after the tree
 abbrev pub ended : TreeSegment → TreeSegment
 ended s = tree_segment s.source s.ops (exits normal)
 
@@ -125,7 +125,7 @@ abbrev pub past_all : (CaseLabel → SegmentStep) → Bool → List TreeSegment
 past_all go true = []
 past_all go false = tree_segment None (go Default ∷ []) (exits normal) ∷ []
 
--- from a label those that begin the trees behind it, before those from the later ones
+-- from a label those that begin the trees after it, before those from the later ones
 abbrev pub labelled : SegmentStep → List TreeSegment → List TreeSegment → List TreeSegment
 labelled step row later = map (prefixed step) (segments_of_kind starting row) ++ later
 
@@ -177,7 +177,7 @@ segments_at None ops e = []
 segments_at (Some p) ops (exits k) = []
 segments_at (Some p) ops (reaches goal) = record { source = p; to_goal = record { ops = ops; goal = goal } } ∷ []
 
--- a stretch as one of each kind of ways
+-- a segment as one of each kind of ways
 abbrev pub passed : Completion → TreeSegment → List (List SegmentStep)
 passed h s = if starts s.source then (if exits_as h s.end then s.ops ∷ [] else []) else []
 
@@ -190,7 +190,7 @@ gone h s = if exits_as h s.end then suffixes_at s.source s.ops else []
 abbrev pub met : TreeSegment → List Segment
 met s = segments_at s.source s.ops s.end
 
--- the stretches are the tree's ways, each kind in its order
+-- the segments are the tree's ways, each kind in its order
 pub record AreSegmentsOf (ss : List TreeSegment) (g : Node) : Type 0 where
   pub passes : (h : Completion) → flat_map (passed h) ss ≡ through g h
   pub enters : flat_map entered ss ≡ enter g

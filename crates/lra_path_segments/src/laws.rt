@@ -2,7 +2,7 @@
 
 ghost use Rattle.lra_path_segments.specs.TreeSegments.{TreeSegmentsAreExact};
 
-/// The stretches of a tree, which are made in one list from its leaves up, are its ways, each kind in its order.
+/// The segments of a tree, which are made in one list from its leaves up, are its ways, each kind in its order.
 pub fn tree_segments_are_exact()
     ensures { TreeSegmentsAreExact }
 {}

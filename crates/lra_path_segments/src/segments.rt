@@ -46,7 +46,7 @@ pub enum Completion {
     Jump(Exit),
 }
 
-/// Where a stretch ends: the tree is left so, or a goal is met.
+/// Where a segment ends: the tree is left so, or a goal is met.
 #[derive(Clone, Copy)]
 pub enum End {
     Exits(Completion),
@@ -61,7 +61,7 @@ pub struct TreeSegment<'g> {
     pub end: End,
 }
 
-/// What stretches are told apart by: whether they begin at the tree's start, or whether they leave it so.
+/// What segments are distinguished by: whether they begin at the tree's start, or whether they leave it so.
 #[derive(Clone, Copy)]
 enum Kind {
     Starting,
@@ -169,7 +169,7 @@ fn join<'g>(
     })
 }
 
-/// Each of the ones, and then the other, behind all.
+/// Each of the ones, and then the other, after all.
 fn push_joined<'g>(
     alloc: Global,
     ones: &[TreeSegment<'g>],
@@ -186,7 +186,7 @@ fn push_joined<'g>(
     Ok(())
 }
 
-/// Each of the ones with each of the others, behind all.
+/// Each of the ones with each of the others, after all.
 fn push_all_joined<'g>(
     alloc: Global,
     ones: &[TreeSegment<'g>],
@@ -202,7 +202,7 @@ fn push_all_joined<'g>(
     Ok(())
 }
 
-/// Each that ends the one tree, with each that begins the other; what is left at once before, what begins later behind.
+/// Each that ends the one tree, with each that begins the other; what is left at once before, what begins later after.
 fn join_parts<'g>(
     alloc: Global,
     first: Parted<'g>,
@@ -241,7 +241,7 @@ pub fn sequence<'g>(
 
 // choices -----------------------------------------------------------------------------------------
 
-/// Behind a move, where it begins at the tree's start.
+/// After a move, where it begins at the tree's start.
 fn prefix<'g>(first: Move<'g>, stretch: TreeSegment<'g>) -> Result<TreeSegment<'g>, AllocError>
     ensures { IfOk result (λ s. tree_segment_view s ≡
         ways.prefixed (move_view first.entry) (tree_segment_view stretch.entry)) }
@@ -260,7 +260,7 @@ fn prefix<'g>(first: Move<'g>, stretch: TreeSegment<'g>) -> Result<TreeSegment<'
     }
 }
 
-/// Each behind a move, where it begins at the tree's start, behind all.
+/// Each after a move, where it begins at the tree's start, after all.
 fn push_prefixed<'g>(
     first: Move<'g>,
     stretches: Vec<TreeSegment<'g>>,
@@ -296,7 +296,7 @@ pub fn choose<'g>(
 
 // switches ----------------------------------------------------------------------------------------
 
-/// Behind a move, which the stretch stays without.
+/// After a move, which the segment stays without.
 fn push_led<'g>(
     alloc: Global,
     first: Move<'g>,
@@ -318,7 +318,7 @@ fn push_led<'g>(
     Ok(())
 }
 
-/// Behind the move, where it begins at the start.
+/// After the move, where it begins at the start.
 fn push_if_starting<'g>(
     alloc: Global,
     first: Move<'g>,
@@ -336,7 +336,7 @@ fn push_if_starting<'g>(
     }
 }
 
-/// Behind the move come those that begin at the start.
+/// After the move come those that begin at the start.
 fn push_entering<'g>(
     alloc: Global,
     first: Move<'g>,
@@ -352,7 +352,7 @@ fn push_entering<'g>(
     Ok(())
 }
 
-/// From a label those that begin the trees behind it, before those from the later ones.
+/// From a label those that begin the trees after it, before those from the later ones.
 pub fn enter_row<'g>(
     alloc: Global,
     first: Move<'g>,
@@ -402,7 +402,7 @@ fn at_most_one<'g>(alloc: Global, only: Option<Move<'g>>) -> Result<Vec<Move<'g>
     }
 }
 
-/// A stretch of at most one move behind all.
+/// A segment of at most one move after all.
 pub fn push_short<'g>(
     alloc: Global,
     source: Option<usize>,
@@ -429,7 +429,7 @@ fn back_to(point: usize, end: End) -> End
     }
 }
 
-/// A stretch of a loop's body, which is entered from the loop's point behind its test.
+/// A segment of a loop's body, which is entered from the loop's point after its test.
 fn turn<'g>(
     point: usize,
     first: Move<'g>,
@@ -462,7 +462,7 @@ fn push_turned<'g>(
     Ok(())
 }
 
-/// Those that end the tree behind the others, or before them.
+/// Those that end the tree after the others, or before them.
 fn ending_last<'g>(
     alloc: Global,
     stretches: Vec<TreeSegment<'g>>,
@@ -546,7 +546,7 @@ pub fn go_round<'g>(
 
 // jumps -------------------------------------------------------------------------------------------
 
-/// Each ends the tree, behind all.
+/// Each ends the tree, after all.
 fn push_ended<'g>(
     stretches: Vec<TreeSegment<'g>>,
     all: &mut Vec<TreeSegment<'g>>,
@@ -566,7 +566,7 @@ fn push_ended<'g>(
     Ok(())
 }
 
-/// The ways of a tree behind which jumps of this kind come out.
+/// The ways of a tree after which jumps of this kind come out.
 pub fn catch_jumps<'g>(
     alloc: Global,
     exit: Exit,

@@ -27,7 +27,7 @@ use std::alloc::{AllocError, Global};
 /// What is still to be done with the ways that are there, of which the last are the newest.
 #[derive(Clone, Copy)]
 pub enum Task<'g> {
-    /// The ways of the tree come behind.
+    /// The ways of the tree come after.
     Tree(&'g Node),
     /// These trees stand before that of the last ways.
     Row(&'g [Node]),
@@ -37,7 +37,7 @@ pub enum Task<'g> {
     Choice(usize, &'g Cond),
     /// The last ways are those of the body of a loop with this point.
     Round(usize, usize, &'g Cond),
-    /// Jumps of this kind come out behind the tree of the last ways.
+    /// Jumps of this kind come out after the tree of the last ways.
     Catch(Exit),
     /// The trees of these arms stand before that of the last ways, and ways from their labels before those from later
     /// labels, which are there below.
@@ -200,7 +200,7 @@ fn catch_last<'g>(
     put_last(done, whole)
 }
 
-/// The last ways stay, and their beginnings are behind the label.
+/// The last ways stay, and their beginnings are after the label.
 fn label_last<'g>(
     alloc: Global,
     first: Move<'g>,
@@ -254,7 +254,7 @@ fn push_both<'g>(
     push_task(left, Task::Tree(first))
 }
 
-/// The trees in a row, the last of them first: each stands before those behind it.
+/// The trees in a row, the last of them first: each stands before those after it.
 fn open_row<'g>(trees: &'g [Node], left: &mut Vec<Task<'g>>) -> Result<(), AllocError>
     ensures runs { OnOk result ((s : List (List ways.TreeSegment)) →
         run left.new.items s ≡ run left.old.items (row_on (map node_view trees.now) s)) }
@@ -306,7 +306,7 @@ fn put_past<'g>(
     }
 }
 
-/// An arm is due, before those behind it.
+/// An arm is due, before those after it.
 fn push_arm<'g>(
     selection: Selection<'g>,
     arm: &'g Arm,
@@ -322,7 +322,7 @@ fn push_arm<'g>(
     }
 }
 
-/// The arms of a `switch`, the last of them first: each stands before those behind it.
+/// The arms of a `switch`, the last of them first: each stands before those after it.
 fn open_arms<'g>(
     selection: Selection<'g>,
     arms: &'g [Arm],
@@ -342,7 +342,7 @@ fn open_arms<'g>(
     }
 }
 
-/// The arms of a `switch` are due; behind the last of them there is nothing to do, and no label is left.
+/// The arms of a `switch` are due; after the last of them there is nothing to do, and no label is left.
 fn open_selection<'g>(
     alloc: Global,
     selection: Selection<'g>,

@@ -232,7 +232,7 @@ module _ (go : CaseLabel → SegmentStep) (l : CaseLabel) (arms : Arms) where
       subst (λ n. IsLabelled go (entry l arms) u (go n ∷ x)) (sym (alike_are k l is)) (label_here u x i)
   label_by k false u x is there each i = label_later u (go k ∷ x) (each there i)
 
--- where the label is there, each way behind it is one from it
+-- where the label is there, each way after it is one from it
 label_first : (go : CaseLabel → SegmentStep) (l : CaseLabel) (arms : Arms) (u : RunExtent) (x : List SegmentStep) →
     list_any (is_same_case l) (entries_of arms) ≡ true
     → IsFirstSegment (row_behind l arms) u x → IsLabelled go arms u (go l ∷ x)

@@ -158,7 +158,7 @@ module _ (P : Program) (g : Node) (has : FollowsRuns P g) where
       (subst (λ (v : State). SomeLeads (actions_between P g (suc p1) (violates q)) v.store a.state.store) (sym state)
       (subst (λ (t : List ℤ). SomeLeads (actions_between P g (suc p1) (violates q)) m1.store t) store led))
 
-  -- on the trail of the run
+  -- on the trace of the run
   failing : (c : Config) (q : ℕ) (s : Site) (run : Reaches P c) → slice_get T q ≡ Some s → IsOn c (point_of s) → IsFailing c.items c.here c.state
       → (xs : List (TraceEvent Point))
       × TreeRunsUpTo NoChange P g run.draws (to_failure q) (record { state = c.state; events = visit (point_of s) c.state ∷ xs })
@@ -182,7 +182,7 @@ module _ (P : Program) (g : Node) (has : FollowsRuns P g) where
   -- what paths keep --------------------------------------------------------------------------------------------------
 
   module _ (holds : Goal → List ℤ → Type 0) (k : AreInductiveAlong P g holds) where
-    -- along a trail, from its end back
+    -- along a trace, from its end back
     kept_on : (xs : List (TraceEvent Point)) (draws : List ℤ) (q : ℕ) (a : Trace Point) → a.events ≡ xs → TreeRunsUpTo NoChange P g draws (to_point q) a →
         holds (comes_to q)
         a.state.store

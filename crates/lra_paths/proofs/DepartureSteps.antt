@@ -141,7 +141,7 @@ adds_one s t fs goal before way place live ops is less one has table two put mor
           ∙ ap (λ p. to_goal es s.segments.items g ++ cond (same_goal (goal_view goal) g) (disjuncts p) []) moves;
     }
 
--- a stretch more
+-- a segment more
 pub adds_next : (s t u : Source) (before live : ℕ) (point : Option ℕ) (xs : List declared_stretch.TreeSegment) (i : ℕ) (x : declared_stretch.TreeSegment)
     → i < length xs → x ≡ get_or xs i x → before < length s.entries.items
     → Adds s t (all_departing (moves_at s.entries.items before) live point (seen (take i xs)))

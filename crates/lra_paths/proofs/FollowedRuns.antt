@@ -5,7 +5,7 @@ use Rattle.lra_program.specs.{Program.Program, Run.Point, Sites.Site, Sites.site
 use Rattle.lra_operations.specs.{Agree.AreDistinct, Agree.IsInlinedTree, Traces.to_point, TracesAgree.TreeRunsUpTo, TracesAgree.TracesAgree, Tree.Node}
 use Rattle.lra_inline_sound.proofs.{Agreement.graphs_have_trails, DistinctSites.distinct_sites, Performed.performed}
 
--- the tree comes to the points of the program's runs, on their trails; no two points are the same
+-- the tree reaches the points of the program's runs, on their traces; no two points are the same
 pub record FollowsRuns (P : Program) (g : Node) : Type 0 where
   pub globals : AreGoodGlobals P.globals
   pub distinct : AreDistinct (sites_of P)

@@ -1,5 +1,5 @@
--- In the tree of a program each condition that is asserted stands right behind its point: so only ways from that point lead to
--- where it is false.
+-- In the tree of a program each condition that is asserted stands right after its point: so only ways from that point
+-- lead to where it is false.
 use Rattle.std.proofs.Common.{◌≡◌, ◌≢◌, ℕ, zero, suc, ◌+◌, ◌<◌, ◌≤◌, List, [], ◌∷◌, ◌++◌, map, filter, flat_map, length, Option, Bool, true, false, cond, inl, inr, refl, sym, ap, ◌∙◌, subst, arith}
 use Rattle.std.proofs.lemmas.List.Elements.{All-nil, All-cons, All-head, All-tail, All-append, All-map, All-weaker}
 use Rattle.std.proofs.{Common.append-nil, lemmas.Bool.cases_lt, lemmas.Bool.eqb-true}
@@ -97,7 +97,7 @@ own_act q op = record { first = All-nil EndsAtPoint; next = All-nil EndsAtOwn }
 own_leave : (n : ℕ) (k : Exit) → AreOwn (leave n k)
 own_leave n k = record { first = All-nil EndsAtPoint; next = All-nil EndsAtOwn }
 
--- behind its point
+-- after its point
 own_check : (q base : ℕ) (c : Cond) → AreOwn (seq (point q) (check q base c))
 own_check q base c = record {
   first = All-cons EndsAtPoint (record { ops = []; goal = comes_to q }) [] tt (All-nil EndsAtPoint);

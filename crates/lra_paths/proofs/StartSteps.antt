@@ -9,7 +9,7 @@ use Rattle.lra_path_disjuncts.specs.Disjuncts.{disjuncts, written}
 use Rattle.lra_paths.specs.Paths.{from_start}
 use Rattle.lra_path_disjuncts.proofs.{SideSteps.disjuncts_lead, SideSteps.then_leads, WrittenSteps.written_from}
 
--- from the start, where the globals come to their first values
+-- from the start, where the globals get their first values
 pub start_leads : (P : Program) → AreGoodGlobals P.globals → (ops : List SegmentStep) (draws : List ℤ) (t : State) → RunsOps ops (begun P draws) t → SomeLeads
     (from_start P ops) [] t.store
 start_leads P good ops draws t r =

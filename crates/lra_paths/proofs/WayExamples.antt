@@ -55,7 +55,7 @@ step_next : inside with_step ≡ record { source = 0; to_goal = record { ops = d
     ∷ record { source = 1; to_goal = record { ops = does drop_more ∷ []; goal = comes_to 0 } } ∷ []
 step_next = refl
 
--- `break` goes behind the loop, and on
+-- `break` goes after the loop, and on
 abbrev broken_off : Node
 broken_off = seq (catch 0 broken (iterate 0 0 is_so (seq (point 1) (leave 1 broken)))) (point 2)
 
@@ -77,7 +77,8 @@ branch_through : through (choose 0 0 is_so empty (act 0 drop_all)) normal
     ≡ (does (test 0 is_so true) ∷ []) ∷ (does (test 0 is_so false) ∷ does drop_all ∷ []) ∷ []
 branch_through = refl
 
--- switch(x){ case 1: case 2: x=0; default: ; } : two labels lead to the first statement, behind which the last one stands
+-- switch(x){ case 1: case 2: x=0; default: ; } : two labels lead to the first statement, after which the last one
+-- stands
 abbrev its_labels : List CaseLabel
 its_labels = Case (pos 1) ∷ Case (pos 2) ∷ Default ∷ []
 
@@ -88,7 +89,7 @@ a_switch = seq (point 1) (catch 1 broken (select 1 0 x
 abbrev to_label : CaseLabel → SegmentStep
 to_label l = goes 0 x its_labels l
 
--- catches a way from a label past the statement behind it, one for all labels of it, and a fall through that is lost
+-- catches a way from a label past the statement after it, one for all labels of it, and a fall through that is lost
 switch_next : inside a_switch ≡ record { source = 1; to_goal = record { ops = to_label (Case (pos 1)) ∷ []; goal = comes_to 2 } }
     ∷ record { source = 1; to_goal = record { ops = to_label (Case (pos 2)) ∷ []; goal = comes_to 2 } }
     ∷ record { source = 1; to_goal = record { ops = to_label Default ∷ []; goal = comes_to 3 } }
@@ -102,7 +103,7 @@ past_default = refl
 past_labels : through (select 1 0 x (entry (Case (pos 1)) (arm (point 2) no_arms))) normal ≡ (goes 0 x (Case (pos 1) ∷ []) Default ∷ []) ∷ []
 past_labels = refl
 
--- behind the last label nothing stands: its way goes past the whole, before that of no label
+-- after the last label nothing stands: its way goes past the whole, before that of no label
 last_label : through (select 1 0 x (entry (Case (pos 1)) no_arms)) normal
     ≡ (goes 0 x (Case (pos 1) ∷ []) (Case (pos 1)) ∷ []) ∷ (goes 0 x (Case (pos 1) ∷ []) Default ∷ []) ∷ []
 last_label = refl
@@ -121,7 +122,7 @@ c = action.forget 2
 abbrev d : Action
 d = action.forget 3
 
--- of one join behind another the later's sides are the outer ones: catches the other order
+-- of one join after another the later's sides are the outer ones: catches the other order
 outer_sides : disjuncts (first_then (join_of (make a) (make b)) (join_of (make c) (make d)))
     ≡ (a ∷ c ∷ []) ∷ (b ∷ c ∷ []) ∷ (a ∷ d ∷ []) ∷ (b ∷ d ∷ []) ∷ []
 outer_sides = refl

@@ -1,4 +1,4 @@
--- What paths owe to runs: each piece of a run goes along one of them, and what they keep holds in all runs.
+-- What paths must guarantee to runs: each piece of a run goes along one of them, and what they keep holds in all runs.
 use Rattle.std.specs.Prelude.{◌≡◌, ℕ, suc, ℤ, List, [], ◌∷◌, Bool, IsTrue, Some, slice_get, Contains, length}
 use Rattle.lra_domain.specs.Moves.{SomeLeads}
 use Rattle.lra_program.specs.Run.{start, Point, IsOn, Reaches, At, Fails, IsFailing}

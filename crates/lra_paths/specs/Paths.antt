@@ -25,7 +25,7 @@ live_of (Some s) = s.live
 abbrev pub live_at : Program → ℕ → ℕ
 live_at P q = live_of (slice_get (sites_of P) q)
 
--- from the start: the globals come to their first values, and then what is done on the way
+-- from the start: the globals get their first values, and then what is done on the way
 abbrev pub started : List GlobalVariable → List SegmentStep → List (List Action)
 started globals ops = each_then (disjuncts (first_values 0 globals)) (written (length globals) ops)
 

@@ -46,14 +46,14 @@ ending before live goal ops (exits h) = []
 ending before live goal ops (reaches g) =
     cond (same_goal g goal) (disjuncts (first_then before (segment_moves live ops))) []
 
--- of a stretch, where it is from this point
+-- of a segment, where it is from this point
 abbrev pub departing : Moves → ℕ → Option ℕ → Goal → TreeSegment → List (List Action)
 departing before live point goal s = cond (same_point s.source point) (ending before live goal s.ops s.end) []
 
 abbrev pub all_departing : Moves → ℕ → Option ℕ → List TreeSegment → Goal → List (List Action)
 all_departing before live point ss goal = flat_map (departing before live point goal) ss
 
--- what is done first from the source of this number, how many variables live behind that, and which point it is
+-- what is done first from the source of this number, how many variables live after that, and which point it is
 abbrev pub first_from : List GlobalVariable → ℕ → Moves
 first_from globals zero = first_values 0 globals
 first_from globals (suc p) = stay
@@ -84,7 +84,7 @@ pub record IsSource (s : Source) : Type 0 where
   pub table : IsTable s.entries.items
   pub placed : ArePlaced s.entries.items s.segments.items
 
--- these paths come behind the others
+-- these paths come after the others
 pub record Adds (s t : Source) (paths : Goal → List (List Action)) : Type 0 where
   pub is : IsSource t
   pub grows : Grows s.entries.items t.entries.items

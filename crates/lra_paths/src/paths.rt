@@ -69,7 +69,7 @@ fn is_same_point(one: Option<usize>, other: Option<usize>) -> bool
 
 // ways --------------------------------------------------------------------------------------------
 
-/// A way to the goal by these moves comes behind the others.
+/// A way to the goal by these moves comes after the others.
 fn push_source_way(
     alloc: Global,
     departure: Departure,
@@ -89,7 +89,7 @@ fn push_source_way(
     Ok(())
 }
 
-/// Where a goal is met, the way comes behind the others.
+/// Where a goal is met, the way comes after the others.
 fn push_meeting(
     alloc: Global,
     departure: Departure,
@@ -114,7 +114,7 @@ fn push_meeting(
     }
 }
 
-/// Where the stretch is from there, its way comes behind the others.
+/// Where the segment is from there, its way comes after the others.
 fn push_departing(
     alloc: Global,
     departure: Departure,
@@ -134,7 +134,7 @@ fn push_departing(
     }
 }
 
-/// All ways from there come behind the others, in their order.
+/// All ways from there come after the others, in their order.
 fn push_all_departing(
     alloc: Global,
     departure: Departure,
@@ -166,7 +166,7 @@ fn live_at(sites: &[Site], point: usize) -> usize
 }
 
 impl Paths<'_> {
-    /// The start is the source 0; what is done first there is that the globals come to their first values.
+    /// The start is the source 0; what is done first there is that the globals get their first values.
     fn depart(
         &self,
         alloc: Global,

@@ -40,7 +40,7 @@ fn is_same_goal(one: Goal, other: Goal) -> bool
     }
 }
 
-/// The paths of a way that is to be written come behind the others.
+/// The paths of a way that is to be written come after the others.
 fn write_if<'s>(
     alloc: Global,
     entries: &'s [MovesEntry],

@@ -76,7 +76,7 @@ pub met_anew : (p view : Polyhedron) (more : List LinearRow) (made : Polyhedron)
     IsTried p.dims (with_positivity p.dims []) (p.rows ++ more) made o → IsMetWith p more made o
 met_anew p view more made o e fails t = inr (subst (λ (q : Polyhedron). ¬ (MayGoOn q.dims q.generators)) e fails, t)
 
--- what was tried tells what is made
+-- what was tried says what is made
 tried_becomes : (n : ℕ) (first all : List LinearRow) (made : Polyhedron) (o : Outcome) → IsPositive n first → IsTried n first all made o → IsOfRows n (drop 1 first ++ all) made o
 tried_becomes n first all made o positive t =
     let rows = drop 1 first ++ all in

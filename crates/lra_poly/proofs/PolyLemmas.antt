@@ -1,4 +1,4 @@
--- What the operations' lists tell of sets of points.
+-- What the operations' lists say of sets of points.
 use Rattle.std.proofs.Common.{◌≡◌, ◌≢◌, ℕ, suc, Bool, List, [], ◌∷◌, ◌++◌, length, ap, sym, ◌∙◌, subst, ℤ, pos, ◌≤ℤ◌, inl, inr, refl, arith}
 use Rattle.std.specs.{List.Contains, Prelude.◌↔◌, Prelude.◌==◌, Prelude.IsTrue}
 use Rattle.lra_linear_spec.specs.OperationStrain.{ConstraintsStrain, FromRowsStrains, FromGeneratorsStrains, MeetStrains, AddTestStrains, HullStrains, ResultStrains}
@@ -39,7 +39,7 @@ pub if_flagged : (P Q : Loss → Type 0) (o : Outcome) → ((loss : Loss) → P 
 if_flagged P Q Exact f h = tt
 if_flagged P Q (Flagged loss) f h = f loss h
 
--- the first loss tells
+-- the first loss says
 pub losses_exact : (P : Type 0) (losses : List Loss) (o : Outcome) → o ≡ first_loss losses → (losses ≡ [] → P) → IfExact P o
 losses_exact P losses o e h = subst (IfExact P) (sym e) (by_list losses h)
   where
@@ -58,7 +58,7 @@ losses_flagged P losses o e h = subst (IfFlagged P) (sym e) (by_list losses h)
 pub exactly : (n : ℕ) (P : PointSet) (strains : Loss → Type 0) (p : Polyhedron) → IsPolyhedronOf n P p → Becomes n P strains p Exact
 exactly n P strains p h = record { dims = h.dimensions; canonical = h.canonical; within = h.points.0; exact = h; flagged = tt }
 
--- told of the losses of a pair
+-- reported of the losses of a pair
 pub becomes_told : (n : ℕ) (P : PointSet) (strains : Loss → Type 0) (made pair : Polyhedron) (o : Outcome) (losses : List Loss) → made ≡ pair → o ≡ first_loss losses →
     IsMadeFor n P strains pair losses → Becomes n P strains made o
 becomes_told n P strains made pair o losses same told m =
@@ -70,7 +70,7 @@ becomes_told n P strains made pair o losses same told m =
       flagged = losses_flagged strains losses o told m.flagged;
     })
 
--- other words for the set, and for when it strains
+-- other words for the set, and for when it exceeds a limit
 pub becomes_same : (n : ℕ) (P Q : PointSet) (s t : Loss → Type 0) (p : Polyhedron) (o : Outcome) → SameSet n P Q → ((loss : Loss) → t loss → s loss) →
     Becomes n Q t p o → Becomes n P s p o
 becomes_same n P Q s t p o same strains b = record {
@@ -104,7 +104,7 @@ emptiness p list kinds b h e ek n is = let said = none_counted kinds b is in (
   λ s. said.1 (none_given is_line list.rows kinds n (ap (rows_by_kind is_line list.rows) ek ∙ e ∙ none_where_empty p h s)),
 )
 
--- ---- as the code tells it
+-- ---- as the code states it
 -- the exact result of constraints that have no other points than the old value; a value that lies in it; the old value
 pub exact_inside : (n m : ℕ) (list old : List LinearRow) (self made : Polyhedron) (o : Outcome) → o ≡ Exact → self ≡ made → n ≡ m → IfExact (IsPolyhedronOf m (Con list) made) o →
     IsWithin n (Con list) (Con old) → IsWithin n (Con self.rows) (Con old)
@@ -157,7 +157,7 @@ stays_flagged p made new more o loss h eo es b = subst (λ (q : Polyhedron). IsO
   flagged = b.flagged;
 })
 
--- what stands behind the positivity row
+-- what comes after the positivity row
 pub kept_positive : (n m : ℕ) (taken listed : List LinearRow) → taken ≡ inequality (positivity n) ∷ listed → n ≡ m → IsPositive m taken
 kept_positive n m taken listed et e = (listed, et ∙ ap (λ (k : ℕ). inequality (positivity k) ∷ listed) e)
 
@@ -264,7 +264,7 @@ hull_becomes p q r list o h k e el b = record {
   flagged = hull_strain p q list o h k e el b.flagged;
 }
 
--- ---- generators taken in after those of a polyhedron that has a point
+-- ---- generators added after those of a polyhedron that has a point
 -- which stays among theirs
 some_beside : (p : Polyhedron) (more : List LinearRow) → IsPolyhedron p → p.generators ≢ [] → ¬ (IsEmptySet p.dims (Gen (p.generators ++ more)))
 some_beside p more (inl none) some empty = some none.1

@@ -27,7 +27,7 @@ same_points p q b h k d is = (
   λ s. is.1 (same_points_same_lists p q h k (sym d) s),
 )
 
--- what tells that both are the same is their equality
+-- what says that both are the same is their equality
 pub same_is_eq : (p q : Polyhedron) (b : Bool) → IsTrue b ↔ (p ≡ q) → b ≡ polyhedron_eq p q
 same_is_eq p q b is = one_answer b (polyhedron_eq p q) is (polyhedron_Decides p q)
 

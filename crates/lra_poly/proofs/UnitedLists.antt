@@ -1,4 +1,4 @@
--- What is told of generators that strain.
+-- What is reported about generators that exceed a limit.
 use Rattle.std.proofs.Common.{◌≡◌, ◌≢◌, ◌∙◌, ℕ, List, [], ◌∷◌, ◌++◌, refl, subst, sym, inl, inr}
 use Rattle.lra_linear_spec.specs.{Descriptions.LinearRow, Polyhedra.Polyhedron, Strain.Loss, declared.GenKind.GenKind}
 use Rattle.lra_systems.specs.LinearSystems.{LinearSystem, generators}

@@ -1,4 +1,4 @@
--- What the calls that make or change a polyhedron tell: that the result is the exact one, or a loss.
+-- What the calls that make or change a polyhedron report: that the result is the exact one, or a loss.
 use Rattle.std.specs.Prelude.{◌≡◌, ℕ, List, [], ◌∷◌}
 use Rattle.lra_linear_spec.specs.Descriptions.{Con, Gen, LinearRow}
 use Rattle.lra_linear_spec.specs.OperationStrain.{FromRowsStrains, FromGeneratorsStrains}
@@ -18,18 +18,18 @@ abbrev pub IfFlagged : (strain.Loss → Type 0) → Outcome → Type 0
 IfFlagged P Exact = Unit {0}
 IfFlagged P (Flagged loss) = P loss
 
--- what is told of a call and of a later one together: what the first lost, or else what the later one tells
+-- what is reported about a call and of a later one together: what the first lost, or else what the later one says
 abbrev pub first_of : Outcome → Outcome → Outcome
 first_of Exact later = later
 first_of (Flagged loss) later = Flagged loss
 
--- what is told of losses: the first of them
+-- what is reported about losses: the first of them
 abbrev pub first_loss : List strain.Loss → Outcome
 first_loss [] = Exact
 first_loss (loss ∷ later) = Flagged loss
 
 -- A value of n dimensions is made for the set P. Flagged or not, it has all points of P; where it is exact it has no
--- other. It is flagged only where that strains, and then the loss is told.
+-- other. It is flagged only where that exceeds a limit, and then the loss is reported.
 pub record Becomes (n : ℕ) (P : PointSet) (strains : strain.Loss → Type 0) (new : Polyhedron) (o : Outcome)
     : Type 0 where
   pub dims : new.dims ≡ n

@@ -7,14 +7,14 @@ use Rattle.lra_duality.specs.{Inclusions.IsInclusion, Incremental.MayGoOn, decla
 use Rattle.lra_poly.specs.declared.outcome.Outcome.TheVariants.{Exact, Flagged}
 use Rattle.lra_poly.specs.{Outcomes.first_loss, declared.outcome.Outcome.Outcome}
 
--- the rows were tried behind the first ones, and the first loss is told
+-- the rows were tried after the first ones, and the first loss is reported
 pub record IsTried (n : ℕ) (first all : List LinearRow) (made : Polyhedron) (o : Outcome) : Type 0 where
   pub losses : List Loss
   pub told : o ≡ first_loss losses
   pub of : IsOfTried n first all made losses
 
 -- The polyhedron of a polyhedron's rows and of further ones. Where both lists at hand make a cone, the further ones are
--- tried behind that; else all of them from nothing.
+-- tried after that; else all of them from nothing.
 abbrev pub IsMetWith : Polyhedron → List LinearRow → Polyhedron → Outcome → Type 0
 IsMetWith p more made o =
     (MayGoOn p.dims p.generators × IsTried p.dims (with_positivity p.dims p.rows) more made o)

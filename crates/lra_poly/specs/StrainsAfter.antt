@@ -1,9 +1,9 @@
--- Losses of rows that are tried behind others.
+-- Losses of rows that are tried after others.
 use Rattle.std.specs.List.{Contains}
 use Rattle.std.specs.Prelude.{◌≡◌, ◌⊎◌, ℕ, suc, List, [], ◌∷◌, ◌++◌}
 use Rattle.lra_linear_spec.specs.{Descriptions.LinearRow, Strain.Loss, Strain.Strains}
 
--- behind the first rows, and some of the others, the next one strains, or all of these themselves
+-- after the first rows, and some of the others, the next one exceeds a limit, or all of these themselves
 pub record StrainsAfter (n : ℕ) (first all : List LinearRow) (loss : Loss) : Type 0 where
   pub before : List LinearRow
   pub chosen : loss.chosen ≡ first ++ before

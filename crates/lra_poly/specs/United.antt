@@ -1,17 +1,17 @@
--- What hulls, and generators that are taken in, make of a polyhedron where they are flagged.
+-- What hulls, and generators that are added, make of a polyhedron where they are flagged.
 use Rattle.std.specs.Prelude.{◌≡◌, ◌⊎◌, ℕ, List, ◌++◌}
 use Rattle.lra_linear_spec.specs.{Descriptions.LinearRow, Polyhedra.Polyhedron, Strain.Loss}
 use Rattle.lra_description_pair.specs.{TakenPoints.IsOfPoints, TriedRows.StrainsWhenTried}
 use Rattle.lra_duality.specs.Incremental.{MayTurn}
 use Rattle.lra_poly.specs.{Outcomes.first_loss, declared.outcome.Outcome.Outcome}
 
--- the generators were tried from nothing, and the first loss is told
+-- the generators were tried from nothing, and the first loss is reported
 pub record AreTriedPoints (n : ℕ) (given : List LinearRow) (made : Polyhedron) (o : Outcome) : Type 0 where
   pub losses : List Loss
   pub told : o ≡ first_loss losses
   pub of : IsOfPoints n given made losses
 
--- its lists make no cone, or behind that these generators strain
+-- its lists make no cone, or after that these generators exceed a limit
 abbrev pub CannotExtend : Polyhedron → List LinearRow → Type 0
 CannotExtend p more = (¬ (MayTurn p.dims p.rows p.generators)) ⊎ StrainsWhenTried p.dims p.generators more
 

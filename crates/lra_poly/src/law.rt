@@ -1,4 +1,4 @@
-//! One spelling of each set of points, and what a flag of a meet tells.
+//! One spelling of each set of points, and what a flag of a meet reports.
 
 ghost use Rattle.std.specs.Prelude.{◌≡◌, List};
 ghost use Rattle.lra_linear_spec.specs.Descriptions.{Con, Gen, LinearRow};
@@ -19,8 +19,9 @@ pub fn polyhedra_have_one_spelling()
     ensures both { (p : Polyhedron) → IsPolyhedron p → SameSet p.dims (Con p.rows) (Gen p.generators) }
 {}
 
-/// Where both lists of a polyhedron make a cone, a meet or a test is flagged only where a new row strains behind the
-/// polyhedron's own and those of the new ones that were taken in before it, or where the list of all of these strains.
+/// Where both lists of a polyhedron make a cone, a meet or a test is flagged only where a new row exceeds a limit after
+/// the polyhedron's own and those of the new ones that were added before it, or where the list of all of these exceeds
+/// a limit.
 ///
 /// Does nothing: its contract is the theorem.
 pub fn flagged_meets_go_on()

@@ -1,4 +1,4 @@
-//! What the calls that make or change a polyhedron tell.
+//! What the calls that make or change a polyhedron report.
 
 ghost use Rattle.std.specs.Prelude.{◌≡◌, ◌↔◌, IsTrue};
 ghost use Rattle.lra_poly.specs.Outcomes.{first_loss, first_of};
@@ -31,7 +31,7 @@ impl Outcome {
         }
     }
 
-    /// What is told of this call and of a later one together: the first loss.
+    /// What is reported about this call and of a later one together: the first loss.
     #[tactic(auto, using(crate::proofs::OutcomeLemmas::later_told, crate::proofs::OutcomeLemmas::own_told))]
     pub fn and(self, later: Outcome) -> Outcome
         ensures first { result ≡ first_of self later }
@@ -42,7 +42,7 @@ impl Outcome {
     }
 }
 
-/// What is told of the losses: the first of them.
+/// What is reported about the losses: the first of them.
 pub fn outcome_of(losses: Vec<Loss>) -> Outcome
     ensures { result ≡ first_loss losses.items }
 {

@@ -85,7 +85,7 @@ fn of_pair(alloc: Global, pair: DescriptionPair) -> Poly
     }
 }
 
-// The polyhedron of the constraints that were taken into the cone behind the positivity row, and of further ones.
+// The polyhedron of the constraints that were added to the cone after the positivity row, and of further ones.
 fn of_cone(alloc: Global, cone: Cone, more: &ConSys) -> Result<(Poly, Outcome), AllocError>
     requires small { more.now.dims < too_many_dimensions }
     requires dims { cone.dims ≡ more.now.dims }
@@ -97,7 +97,7 @@ fn of_cone(alloc: Global, cone: Cone, more: &ConSys) -> Result<(Poly, Outcome), 
     Ok((made, outcome_of(losses)))
 }
 
-// The polyhedron of the generators that were taken into the cone, and of further ones, where none of these is left out.
+// The polyhedron of the generators that were added to the cone, and of further ones, where none of these is left out.
 fn of_facets(alloc: Global, cone: Cone, more: &GenSys) -> Result<Option<Poly>, AllocError>
     requires small { more.now.dims < too_many_dimensions }
     requires dims { cone.dims ≡ more.now.dims }
@@ -317,7 +317,7 @@ impl Poly {
         maximum_of(form, true, &self.by_generators)
     }
 
-    /// Whether both have the same dimensions and the same points, which is told by their lists alone.
+    /// Whether both have the same dimensions and the same points, which is given by their lists alone.
     pub fn same(&self, other: &Poly) -> bool
         ensures lists { IsTrue result ↔ (self.now ≡ other.now) }
         ensures points { self.now.dims ≡ other.now.dims →
@@ -368,7 +368,7 @@ impl Poly {
         Ok((made, outcome))
     }
 
-    // The same, where these are taken in after those, by the lists at hand.
+    // The same, where these are added after those, by the lists at hand.
     fn meet_rows(&self, more: &ConSys) -> Result<(Poly, Outcome), AllocError>
         requires { more.now.dims ≡ self.now.dims }
         ensures becomes { IfOk result (λ r.
@@ -459,8 +459,8 @@ impl Poly {
         Ok(outcome)
     }
 
-    /// The polyhedron of its generators and of these, which are taken in after them, by the lists at hand. None where
-    /// one of these isn't taken in, or where a number passes in the canonical generators, or there are too many, or
+    /// The polyhedron of its generators and of these, which are added after them, by the lists at hand. None where
+    /// one of these isn't added, or where a number passes in the canonical generators, or there are too many, or
     /// there are no lists to go on from.
     pub fn extend(&self, more: &GenSys) -> Result<Option<Poly>, AllocError>
         requires dims { more.now.dims ≡ self.now.dims }
@@ -517,7 +517,7 @@ impl Poly {
         }
     }
 
-    /// Takes these generators in: becomes the polyhedron of its own and of these, which are taken in after them, by the
+    /// Takes these generators in: becomes the polyhedron of its own and of these, which are added after them, by the
     /// lists at hand where these can be gone on from. Where it is flagged it has at least their points.
     pub fn add_generators(&mut self, more: &GenSys) -> Result<Outcome, AllocError>
         requires dims { more.now.dims ≡ self.old.dims }
@@ -536,7 +536,8 @@ impl Poly {
 
     /// Becomes the hull with the other: the least closed polyhedron that has the points of both. Where the other is
     /// seen to lie in it, nothing changes. Where it is flagged it has at least its points: then the generators of both
-    /// were converted from nothing, since it can't be gone on from the lists at hand, or one strains behind them.
+    /// were converted from nothing, since it can't be gone on from the lists at hand, or one exceeds a limit after
+    /// them.
     pub fn hull(&mut self, other: &Poly) -> Result<Outcome, AllocError>
         requires { other.now.dims ≡ self.old.dims }
         ensures dims { self.new.dims ≡ self.old.dims }

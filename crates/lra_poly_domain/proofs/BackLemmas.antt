@@ -17,7 +17,7 @@ assigned_back : (x : ℕ) (e : Form) (p : Polyhedron) (s t : List ℤ) → lengt
 assigned_back x e p s t long has l = subst (Con p.rows)
     (ap (λ y. pos 1 ∷ y) l ∙ ap (λ z. pos 1 ∷ slice_set s x z) (sym (form_product e s))) has.1
 
--- so many numbers as behind it
+-- so many numbers as after it
 as_long : (x : ℕ) (e : Form) (s t : List ℤ) (n : ℕ) → Leads (assign x e) s t → length t ≡ n → length s ≡ n
 as_long x e s t n l long = sym (length-set {A = ℤ} s x (form_value e s)) ∙ sym (ap length l) ∙ long
 
@@ -36,7 +36,7 @@ undoes_assignment x e p r o fine b = record {
   flagged = λ f. of_flagged (PreStrains (assign x e) p) o b.flagged f;
 }
 
--- a store that passes and is in P behind the test was there before it
+-- a store that passes and is in P after the test was there before it
 pub undoes_test : (kind : ConKind) (e : Form) (p r : Polyhedron) (o : Outcome) → length e.coefficients ≡ p.dims → IsRepresentable r →
     Becomes p.dims (reached (test kind e) p) (AddTestStrains p (test_row kind e)) r o →
     TransfersBackTo polyhedron_abstraction polyhedron_backward (test kind e) p (exactness_of o) r

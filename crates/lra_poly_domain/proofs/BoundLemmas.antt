@@ -1,4 +1,4 @@
--- What the greatest values of a form and of its opposite tell is what a polyhedron tells of the form.
+-- What the greatest values of a form and of its opposite report is what a polyhedron says of the form.
 use Rattle.std.proofs.Common.{◌≡◌, ◌⊎◌, ℤ, neg_ℤ, List, [], ◌∷◌, None, Result, Ok, Err, IsErr, inl, inr, true, ap, refl, subst, sym}
 use Rattle.std.proofs.lemmas.List.Elements.{All-contains}
 use Rattle.std.specs.{List.All, List.Contains, Prelude.option_map}
@@ -42,7 +42,7 @@ greatest_or_strained p row (Wide place) first tells = inl (tells, refl)
 greatest_or_strained p row (Unbounded place) first tells = inr (none_passes p row first.0, inr tells)
 greatest_or_strained p row (At num den place) first tells = inr (none_passes p row first.0, (num, den, tells, refl))
 
--- the row strains with its opposite
+-- the row exceeds a limit with its opposite
 strains_opposite : (p : Polyhedron) (row : List ℤ) → ProductStrains p row → ProductStrains p (negated row)
 strains_opposite p row (e, x) =
     let same : x.row ≡ inequality row = only (inequality row) x.row x.has_row in

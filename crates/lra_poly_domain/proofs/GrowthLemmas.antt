@@ -137,7 +137,7 @@ struck_none degree.Exact how.Widen p r given f g = (refl, λ t. t)
 struck_none degree.Exact how.Limited p r given f g = (refl, none_struck p r given f g)
 struck_none degree.Exact how.Tightest p r given f g = (refl, none_struck p r given f g)
 
--- the loss of a given row in such a product
+-- the loss of a widening threshold in such a product
 abbrev loss_of : LinearRow → E.Excess → Loss
 loss_of r e = record { chosen = []; further = r; cause = Excess e }
 

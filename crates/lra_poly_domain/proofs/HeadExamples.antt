@@ -24,7 +24,7 @@ at_most_nine = inequality (pos 9 ∷ negsuc 0 ∷ [])
 abbrev at_most_five : LinearRow
 at_most_five = inequality (pos 5 ∷ negsuc 0 ∷ [])
 
--- of the given rows x <= 9 and x <= 5 a widening leaves the first, a join both
+-- of the thresholds x <= 9 and x <= 5 a widening leaves the first, a join both
 pub widening_strikes : thresholds_left how.Limited to_one to_nine (at_most_nine ∷ at_most_five ∷ []) ≡ at_most_nine ∷ []
 widening_strikes = refl
 

@@ -1,4 +1,4 @@
--- What the outcome of an operation tells, by its exactness.
+-- What the outcome of an operation reports, by its exactness.
 use Rattle.std.proofs.Common.{◌≡◌}
 use Rattle.lra_domain.specs.declared.Exactness.TheVariants as degree
 use Rattle.lra_linear_spec.specs.Strain.{Loss}

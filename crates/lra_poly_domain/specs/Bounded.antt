@@ -1,6 +1,6 @@
--- What a polyhedron tells of a form: the least and the greatest value on its rational points, rounded inwards to whole
--- numbers. Nothing is told where there is no point, where there is no such value, or where a product of the form with a
--- generator passes the range.
+-- What a polyhedron says of a form: the least and the greatest value on its rational points, rounded inwards to whole
+-- numbers. Nothing is reported where there is no point, where there is no such value, or where a product of the form
+-- with a generator passes the range.
 use Rattle.std.specs.Int.{int_div_euclid}
 use Rattle.std.specs.Prelude.{◌≡◌, ◌⊎◌, ℤ, neg_ℤ, List, Option, None, Some, option_map}
 use Rattle.lra_linear_forms.specs.Form.{Form, form_row}

@@ -9,12 +9,13 @@ use Rattle.lra_linear_spec.specs.{OperationStrain.InclusionStrains, Points.IsWit
 use Rattle.lra_linear_spec.specs.{Range.InRange, Representable.IsRepresentable, declared.ConKind.ConKind}
 use Rattle.lra_systems.specs.LinearSystems.{LinearSystem}
 
--- what a loop's head holds: the polyhedron that was reached, and the given rows that no growth has struck
+-- what a loop's head holds: the polyhedron that was reached, and the widening thresholds that no growth has struck
 pub record HeadContent : Type 0 where
   pub value : Polyhedron
   pub thresholds : List LinearRow
 
--- a head that is held: its value is, and each given row has a number for each dimension and a constant, in the range
+-- a head that is held: its value is, and each widening threshold has a number for each dimension and a constant, in the
+-- range
 abbrev pub WellFormedHead : HeadContent → Type 0
 WellFormedHead h = IsRepresentable h.value
     × ((g : LinearRow) → Contains h.thresholds g → (length g.row ≡ suc h.value.dims) × All InRange g.row)

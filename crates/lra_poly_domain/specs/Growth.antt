@@ -1,4 +1,4 @@
--- What is told of a head's growth before the head is changed.
+-- What is reported about a head's growth before the head is changed.
 use Rattle.std.specs.List.{list_any}
 use Rattle.std.specs.Prelude.{◌≡◌, ◌≢◌, ◌⊎◌, ◌||◌, ℤ, Bool, true, false, not, IsTrue, List}
 use Rattle.lra_domain.specs.{declared.Exactness.Exactness, declared.Mode.Mode}
@@ -18,7 +18,7 @@ abbrev pub exactness_of : Outcome → Exactness
 exactness_of told.Exact = degree.Exact
 exactness_of (told.Flagged loss) = degree.Flagged
 
--- Q is the join of P and next with this exactness, or covers it where that strains
+-- Q is the join of P and next with this exactness, or covers it where that exceeds a limit
 pub record IsJoined (p next q : Polyhedron) (e : Exactness) : Type 0 where
   pub dims : q.dims ≡ p.dims
   pub canonical : IsPolyhedron q
@@ -26,7 +26,7 @@ pub record IsJoined (p next q : Polyhedron) (e : Exactness) : Type 0 where
   pub exact : e ≡ degree.Exact → IsJoin p next q
   pub flagged : e ≡ degree.Flagged → (loss : Loss) × HullStrains p next loss
 
--- the head became R with the given rows that are left
+-- the head became R with the widening thresholds that are left
 pub record HasGrown (h : HeadContent) (next : Polyhedron) (mode : Mode) (new : HeadContent) (e : Exactness)
     : Type 0 where
   pub dims : new.value.dims ≡ h.value.dims
@@ -43,7 +43,7 @@ pub record HasGrown (h : HeadContent) (next : Polyhedron) (mode : Mode) (new : H
 abbrev pub head : Polyhedron → List LinearRow → HeadContent
 head p given = record { value = p; thresholds = given }
 
--- R is the widening of P by Q with this exactness, or covers it where that strains
+-- R is the widening of P by Q with this exactness, or covers it where that exceeds a limit
 pub record IsWidening (mode : Mode) (p q : Polyhedron) (given : List LinearRow) (r : Polyhedron) (e : Exactness)
     : Type 0 where
   pub dims : r.dims ≡ p.dims
@@ -54,7 +54,7 @@ pub record IsWidening (mode : Mode) (p q : Polyhedron) (given : List LinearRow) 
   pub flagged : e ≡ degree.Flagged → (loss : Loss) × WideningStrains mode p q given loss
   pub falls : r ≢ p → Falls p r given
 
--- ---- given rows that are struck for their products
+-- ---- widening thresholds that are struck for their products
 -- the product of two rows passes
 abbrev pub product_passes : List ℤ → List ℤ → Bool
 product_passes r g = not (fits (checked_product r g))
@@ -66,7 +66,7 @@ row_passes generators r = list_any (λ g. product_passes r g.row) generators
 abbrev pub some_passes : List LinearRow → List LinearRow → Bool
 some_passes generators given = list_any (λ r. row_passes generators r.row) given
 
--- a widening of this mode takes given rows in
+-- a widening of this mode takes thresholds in
 abbrev pub takes_thresholds : Mode → Bool
 takes_thresholds how.Join = false
 takes_thresholds how.Widen = false

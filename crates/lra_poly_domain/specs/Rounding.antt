@@ -1,4 +1,4 @@
--- What is told of a form bounds its value at each store, and is one thing.
+-- What is reported about a form bounds its value at each store, and is one thing.
 use Rattle.std.proofs.Common.{◌≡◌, ◌≢◌, ◌∙◌, ◌⊎◌, ℤ, pos, neg_ℤ, ◌+ℤ◌, ◌*ℤ◌, ◌<ℤ◌, ◌≤ℤ◌, List, [], ◌∷◌, Option, None}
 use Rattle.std.proofs.Common.{Some, inl, inr, ap, sym, refl, subst, arith}
 use Rattle.std.proofs.lemmas.Int.{ints}
@@ -131,7 +131,7 @@ bounded_between p f l h s (inl none) has =
 bounded_between p f l h s (inr some) has = subst (IsBetween l h) (form_product f s)
     (above p (form_row f) l s has some.1, under p (form_row f) h s has some.2)
 
--- ---- one thing is told
+-- ---- one thing is reported
 -- there is no greatest value where there is no point, or no bound
 not_greatest : (p : Polyhedron) (row : List ℤ) (k : ℤ) → IsGreatestRounded p row None →
     ¬ IsGreatestRounded p row (Some k)
@@ -169,7 +169,7 @@ one_told p f l h j k (inr a) (inl b) = absurd (a.0 b.0)
 one_told p f l h j k (inr a) (inr b) =
     (one_least p (form_row f) l j a.1 b.1, one_greatest p (form_row f) h k a.2 b.2)
 
--- nothing is told of a polyhedron without parts
+-- nothing is reported about a polyhedron without parts
 none_greatest : (p : Polyhedron) (row : List ℤ) (h : Option ℤ) → IsEmptySet p.dims (Con p.rows) →
     IsGreatestRounded p row h → h ≡ None
 none_greatest p row None empty is = refl

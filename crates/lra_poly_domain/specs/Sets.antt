@@ -1,4 +1,4 @@
--- The least changes and joins as operations on sets of points, and when they strain.
+-- The least changes and joins as operations on sets of points, and when they exceed a limit.
 use Rattle.std.specs.Prelude.{◌≡◌, ◌-◌, suc}
 use Rattle.lra_domain.specs.Actions.{Action, ActionFits, assign, forget, test, embed, remove_last, dims_after}
 use Rattle.lra_linear_spec.specs.OperationStrain.{AddTestStrains, EmbedStrains, ForgetStrains, ImageStrains}

@@ -1,4 +1,4 @@
-//! How a head's value grows, and which given rows are left.
+//! How a head's value grows, and which widening thresholds are left.
 
 ghost use Rattle.std.specs.Prelude.{◌≡◌, ◌≢◌, [], IfOk};
 ghost use Rattle.lra_domain.specs.{declared.Exactness.TheVariants.Flagged, declared.Mode.TheVariants.Join};
@@ -15,7 +15,8 @@ use lra_poly_widening::held_on_both;
 use lra_systems::{ConSys, TOO_MANY_DIMENSIONS};
 use std::alloc::{AllocError, Global};
 
-/// What a head holds after a growth: its value, the given rows that are left; and whether that is the defined growth.
+/// What a head holds after a growth: its value, the widening thresholds that are left; and whether that is the defined
+/// growth.
 #[derive(Drop)]
 pub struct Growth {
     pub value: Poly,
@@ -23,7 +24,7 @@ pub struct Growth {
     pub exactness: Exactness,
 }
 
-/// All points, and the given rows that hold on them.
+/// All points, and the widening thresholds that hold on them.
 pub fn give_up(alloc: Global, p: &Poly, given: &ConSys) -> Result<Growth, AllocError>
     requires { given.now.dims ≡ p.now.dims }
     ensures all { IfOk result (λ g. IsPolyhedronOf p.now.dims (Con []) g.value) }
@@ -43,7 +44,7 @@ pub fn give_up(alloc: Global, p: &Poly, given: &ConSys) -> Result<Growth, AllocE
     })
 }
 
-// Whether a widening of this mode takes given rows in.
+// Whether a widening of this mode takes thresholds in.
 fn takes_thresholds(mode: Mode) -> bool
     ensures { result ≡ takes_thresholds mode }
 {
@@ -53,7 +54,7 @@ fn takes_thresholds(mode: Mode) -> bool
     }
 }
 
-// Flagged where the widening was, or, where it is limited, where a given row is struck for a product.
+// Flagged where the widening was, or, where it is limited, where a threshold is struck for a product.
 fn strike(exactness: Exactness, mode: Mode, p: &Poly, r: &Poly, given: &ConSys) -> Exactness
     requires given { given.now.dims ≡ p.now.dims }
     requires result { r.now.dims ≡ p.now.dims }

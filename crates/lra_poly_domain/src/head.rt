@@ -17,7 +17,7 @@ use lra_systems::ConSys;
 use std::alloc::{AllocError, Global};
 use std::marker::Model;
 
-/// A head: the polyhedron that was reached, the given rows that no growth has struck, and its rank.
+/// A head: the polyhedron that was reached, the widening thresholds that no growth has struck, and its rank.
 pub struct PolyhedronHead {
     value: Poly,
     thresholds: ConSys,
@@ -51,7 +51,7 @@ impl Model for PolyhedronHead {
 // No memory holds so many rows.
 const TOO_MANY_ROWS: u64 = 1 << 62;
 
-// The rank over the given rows.
+// The rank over the widening thresholds.
 fn rank_of(value: &Poly, given: &ConSys) -> Result<Rank, AllocError>
     requires { given.now.dims ≡ value.now.dims }
     ensures rank { IfOk result (λ r. r ≡ head_rank (head value.now (constraints given.now))) }
@@ -70,7 +70,7 @@ fn rank_of(value: &Poly, given: &ConSys) -> Result<Rank, AllocError>
 }
 
 impl PolyhedronHead {
-    // The head with this value and these given rows.
+    // The head with this value and these widening thresholds.
     pub(crate) fn new(value: Poly, given: ConSys) -> Result<PolyhedronHead, AllocError>
         requires { given.dims ≡ value.dims }
         ensures content { IfOk result (λ h. h ≡ head value (constraints given)) }
@@ -94,7 +94,7 @@ impl PolyhedronHead {
         &self.value
     }
 
-    /// The given rows that are left.
+    /// The widening thresholds that are left.
     pub fn thresholds(&self) -> &ConSys
         ensures rows { constraints result.now ≡ self.now.thresholds }
         ensures dims { result.now.dims ≡ self.now.value.dims }

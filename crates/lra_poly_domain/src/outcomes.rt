@@ -1,4 +1,4 @@
-//! What the operations tell, in the words of a domain.
+//! What the operations report, in the words of a domain.
 
 ghost use Rattle.std.specs.Prelude.{◌≡◌, neg_ℤ, option_map, IfSome};
 ghost use Rattle.lra_linear_spec.specs.Range.{InRange};

@@ -53,7 +53,7 @@ impl Polyhedron {
         &self.poly
     }
 
-    /// The same polyhedron, taken out.
+    /// The polyhedron itself, by value.
     pub fn into_poly(self) -> Poly
         ensures { result ≡ self }
     {
@@ -194,7 +194,7 @@ impl Domain for Polyhedron {
     }
 
     /// Grows by the join with next, or by the widening with that join; is given up where the inclusion is wide. A
-    /// widening leaves of the given rows those that hold on the old value and on the new one, with each product in the
+    /// widening leaves of the thresholds those that hold on the old value and on the new one, with each product in the
     /// range.
     fn grow(head: &mut PolyhedronHead, next: &Self, mode: Mode) -> Result<Grown, AllocError>
         requires { polyhedron_abstraction.head_dims head.old

@@ -46,7 +46,7 @@ image_takes p list all x form h low ed eg ad ag = record {
   same = assigned_generators p (suc x) form h (omega arith) (omega (arith, low));
 }
 
--- as the code tells it
+-- as the code states it
 pub image_taken : (p : Polyhedron) (given list : LinearSystem GenKind) (x : ℕ) (form : List ℤ)
     (r : Result (LinearSystem GenKind) Loss) →
     IsPolyhedron p → x < p.dims → given.dims ≡ p.dims → generators given ≡ p.generators → r ≡ Ok list →

@@ -63,11 +63,11 @@ pub preimage_if_moved : (p : Polyhedron) (k : ℕ) (f g : List ℤ) (made : Opti
     IfSome made (IsPolyhedronOf p.dims (Image p.dims k g (Con p.rows))) → IfSome made (IsPolyhedronOf p.dims (Preimage k f (Con p.rows)))
 preimage_if_moved p k f g made h above t m = IfSome_then made m (λ q i. preimage_moved p q k f g h above t i)
 
--- the form that is told to take back
+-- the form that is reported to take back
 pub back_of : (p : Polyhedron) (k : ℕ) (f g : List ℤ) (told : Option (List ℤ)) → length f ≡ suc p.dims → told ≡ Some g → IfSome told (IsInverse k (length f) f) → IsInverse k (suc p.dims) f g
 back_of p k f g told l e h = subst (λ (w : ℕ). IsInverse k w f g) l (subst (λ (o : Option (List ℤ)). IfSome o (IsInverse k (length f) f)) e h)
 
--- ---- as the code tells it: column x + 1, and the form's row
+-- ---- as the code states it: column x + 1, and the form's row
 pub image_made : (p q : Polyhedron) (x : ℕ) (form row : List ℤ) (told : Option Polyhedron) → row ≡ form → told ≡ Some q →
     IfSome told (IsPolyhedronOf p.dims (Image p.dims (x + 1) row (Con p.rows))) → IsPolyhedronOf p.dims (Image p.dims (suc x) form (Con p.rows)) q
 image_made p q x form row told er e h =

@@ -291,7 +291,7 @@ elapse_exact p q r list o h k e el = if_exact (IsPolyhedronOf p.dims (Gen list) 
     (IsPolyhedronOf p.dims (TimeElapse p.dims (Con p.rows) (Con q.rows)) r) o
     (λ a. elapse_made p q r h k e (subst (λ (l : List LinearRow). IsPolyhedronOf p.dims (Gen l) r) el a))
 
--- where the directions are taken in from the lists at hand
+-- where the directions are added from the lists at hand
 pub elapse_extended : (p q r : Polyhedron) (along second : List LinearRow) → HasPoint p → HasPoint q → q.dims ≡ p.dims →
     along ≡ as_directions second → second ≡ q.generators → IsPolyhedronOf p.dims (Gen (p.generators ++ along)) r →
     IsPolyhedronOf p.dims (TimeElapse p.dims (Con p.rows) (Con q.rows)) r
@@ -341,7 +341,7 @@ elapse_nothing n p q r none canonical dims empty = record {
     never : {y : List ℤ} → OnTheWay n (Con p.rows) (Con q.rows) y → ⊥
     never w = elim none [ inl a ↦ a w.start w.starts w.in_first | inr b ↦ b w.step w.steps w.in_second ]
 
--- ---- as the code tells it
+-- ---- as the code states it
 pub list_is : (p q : Polyhedron) (first second all : List LinearRow) → all ≡ first ++ as_directions second →
     first ≡ p.generators → second ≡ q.generators → all ≡ p.generators ++ as_directions q.generators
 list_is p q first second all e ef es = e ∙ ap (λ (l : List LinearRow). l ++ as_directions second) ef ∙

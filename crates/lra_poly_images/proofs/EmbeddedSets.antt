@@ -15,7 +15,7 @@ use Rattle.lra_mapped_systems.proofs.{ListLemmas.longer_entry, ListLemmas.short_
 use Rattle.lra_poly.proofs.TakenGenerators.{Takes}
 use Rattle.lra_poly_images.proofs.ShortenedSets.{columns_linear, first_columns, short_entry}
 
--- ---- rows with zeros behind them
+-- ---- rows with zeros after them
 zeros_negated : (k : ℕ) → zeros k ≡ negated (zeros k)
 zeros_negated zero = refl
 zeros_negated (suc k) = ap (λ (l : List ℤ). pos 0 ∷ l) (zeros_negated k)

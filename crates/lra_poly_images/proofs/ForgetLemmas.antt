@@ -123,7 +123,7 @@ forget_takes p list all x h low ed eg ad ag = record {
   same = forget_generators p (suc x) h (omega arith) (omega (arith, low));
 }
 
--- where the line is taken in from the lists at hand
+-- where the line is added from the lists at hand
 pub forget_extended : (p : Polyhedron) (made : Option Polyhedron) (along : List LinearRow) (n x : ℕ) → IsPolyhedron p → x < p.dims →
     n ≡ p.dims → along ≡ line (unit_row n (suc x)) ∷ [] → IfSome made (IsPolyhedronOf p.dims (Gen (p.generators ++ along))) →
     IfSome made (IsPolyhedronOf p.dims (Forget p.dims (suc x) (Con p.rows)))

@@ -15,7 +15,7 @@ is_forgotten k p q Exact b = record { dims = b.dims; canonical = b.canonical; wi
 is_forgotten k p q (Flagged loss) b =
     record { dims = b.dims; canonical = b.canonical; within = b.within; exact = inr (loss, b.flagged) }
 
--- in place of generators that strain, and give no more
+-- in place of generators that exceed a limit, and give no more
 pub forgotten_instead : (k : ℕ) (p made new : Polyhedron) (list : LinearSystem GenKind) (o : Outcome) → (o ≡ Exact → ⊥) →
     list.dims ≡ p.dims → IsWithin p.dims (Gen (generators list)) (Forget p.dims k (Con p.rows)) → IsForgetResult k p new →
     IsOfGenerators list.dims (generators list) made o → IsOfGenerators list.dims (generators list) new o

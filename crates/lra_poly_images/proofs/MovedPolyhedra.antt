@@ -1,4 +1,4 @@
--- The image of a polyhedron under an assignment that can be taken back: both canonical lists, moved and made canonical
+-- The image of a polyhedron under an assignment that can be inverted: both canonical lists, moved and made canonical
 -- again.
 use Rattle.std.proofs.Common.{◌≡◌, ℕ, suc, ◌<◌, ◌≤◌, arith, cond, List, [], ◌∷◌, ◌++◌, length, map, ap, refl, sym, ◌∙◌, subst, ℤ, pos, ◌<ℤ◌, ◌≤ℤ◌, inl, inr, ◌⊎◌}
 use Rattle.std.proofs.lemmas.List.{length-map}
@@ -316,7 +316,7 @@ moved_limit p h k f g eqs ineqs lines rays rows list am sc sg few less =
     within : (a b : ℕ) → a ≤ b → b ≤ row_limit → a ≤ row_limit
     within a b e f = omega (arith, e, f)
 
--- ---- as the code tells it
+-- ---- as the code states it
 -- the lists that are made of a polyhedron's
 pub record IsMoving (p : Polyhedron) (k : ℕ) (f g : List ℤ) (rows : LinearSystem ConKind) (list : LinearSystem GenKind) : Type 0 where
   pub canonical : IsPolyhedron p

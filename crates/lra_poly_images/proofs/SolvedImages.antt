@@ -117,7 +117,7 @@ image_meets n k form P above low wide none = (
   λ x i both. solved_image n k form P above low wide none x both.0 both.1,
 )
 
--- ---- as the code tells it
+-- ---- as the code states it
 forgotten_met : (n k : ℕ) (form : List ℤ) (P : PointSet) (free : Polyhedron) → IsPolyhedronOf n (Forget n k P) free →
     SameSet n (Meet (Forget n k P) (Holds (is_value k form))) (Meet (Con free.rows) (Holds (is_value k form)))
 forgotten_met n k form P free h = (

@@ -63,7 +63,7 @@ preimage_strain p k form d list None outcome told a ed same first all lost h =
 preimage_strain p k form d list (Some loss) outcome told a ed same first all lost h =
     subst (IfFlagged (PreimageStrains k form p)) (sym (first loss refl)) (inl lost)
 
--- the first loss is told of the rows that couldn't be formed, or else of those that strain
+-- the first loss is reported of the rows that couldn't be formed, or else of those that exceed a limit
 pub preimage_becomes : (p made : Polyhedron) (k : ℕ) (form : List ℤ) (d : ℕ) (list : List LinearRow)
     (lost : Option Loss) (outcome told : Outcome) → IsAssignment p k form → d ≡ p.dims →
     (lost ≡ None → told ≡ outcome) → ((loss : Loss) → lost ≡ Some loss → told ≡ Flagged loss) →

@@ -4,7 +4,7 @@ use Rattle.lra_linear_spec.specs.OperationStrain.{ForgetStrains}
 use Rattle.lra_linear_spec.specs.Polyhedra.{IsPolyhedron, IsPolyhedronOf, Polyhedron}
 use Rattle.lra_linear_spec.specs.{Descriptions.Con, Points.IsWithin, SetOperations.Forget, Strain.Loss}
 
--- q has the points of p with anything as coordinate k, and no others unless forgetting that coordinate strains
+-- q has the points of p with anything as coordinate k, and no others unless forgetting that coordinate exceeds a limit
 pub record IsForgetResult (k : ℕ) (p q : Polyhedron) : Type 0 where
   pub dims : q.dims ≡ p.dims
   pub canonical : IsPolyhedron q

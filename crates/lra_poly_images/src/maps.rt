@@ -42,7 +42,7 @@ pub fn remove_last(p: &mut Poly, k: usize) -> Result<Outcome, AllocError>
 }
 
 /// Adds k dimensions, the last ones, in which the coordinates may be anything: becomes the set of its points with any
-/// coordinates behind them. Where it is flagged it has at least those.
+/// coordinates after them. Where it is flagged it has at least those.
 pub fn embed(p: &mut Poly, k: usize) -> Result<Outcome, AllocError>
     requires { p.old.dims + k < too_many_dimensions }
     ensures becomes { IfOk result (Becomes (p.old.dims + k)

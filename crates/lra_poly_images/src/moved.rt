@@ -1,4 +1,4 @@
-//! Images and preimages by a form that can be taken back: both lists of a polyhedron are moved, with no conversion.
+//! Images and preimages by a form that can be inverted: both lists of a polyhedron are moved, with no conversion.
 
 ghost use Rattle.std.specs.Prelude.{◌≡◌, ◌<◌, ◌⊎◌, suc, length, IfErr, IfOk, IfSome, IfNone};
 ghost use Rattle.lra_linear_spec.specs.SetOperations.{Image, Preimage};

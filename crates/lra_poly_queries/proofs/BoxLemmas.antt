@@ -1,4 +1,4 @@
--- The least box: no product of a unit row passes, and extents are told one by one.
+-- The least box: no product of a unit row passes, and extents are reported one by one.
 use Rattle.std.proofs.Common.{◌≡◌, ℕ, zero, suc, ◌+◌, Bool, true, false, cond, List, [], ◌∷◌, ◌++◌, length, ap, refl, sym, ◌∙◌, subst, inl, inr, ◌⊎◌, arith, ℤ, pos, negsuc, neg_ℤ, ◌+ℤ◌, ◌*ℤ◌, Result}
 use Rattle.std.proofs.{Common.Ok, Common.Err, Common.IsOk, Common.slice_get, Common.slice_set, Common.Some, Common.replicate, Common.length-append, Common.true≢false, lemmas.Int.ints}
 use Rattle.std.specs.List.{All, Contains}

@@ -92,7 +92,7 @@ valid_spanned p h c s x i k =
     solved : (r : List ℤ) → Contains (all_rows h.equalities h.facets) r → pos 0 ≤ℤ product x r
     solved r m = subst (λ (z : ℤ). pos 0 ≤ℤ z) (product_comm r x) (cone_solved p h x i k r m)
 
--- ---- as the code tells it
+-- ---- as the code states it
 prefix_of : (rows : List (List ℤ)) (kinds : List ConKind) (es is : List (List ℤ)) →
     rows_by_kind is_equality rows kinds ≡ rows_as true es ++ rows_as false is → length kinds ≡ length rows →
     prefix_len is_equality kinds ≡ length es

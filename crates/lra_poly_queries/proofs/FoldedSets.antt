@@ -36,7 +36,7 @@ hull_same : (n : ℕ) (P Q R S : PointSet) → SameSet n P R → SameSet n Q S �
     SameSet n (Hull n (Union P Q)) (Hull n (Union R S))
 hull_same n P Q R S f g = (hull_within n P Q R S f.0 g.0, hull_within n R S P Q f.1 g.1)
 
--- ---- as the code tells it
+-- ---- as the code states it
 fold_exact : (p : Polyhedron) (kept folded : List ℕ) (one two new : Polyhedron)
     (first second third later all : Outcome) → all ≡ first_of first later → later ≡ first_of second third →
     one.dims ≡ length kept → length folded ≡ length kept →

@@ -189,7 +189,7 @@ behind_length n d m dims e =
     let t = counted_length m 0 in
     omega (arith, s, r, t)
 
--- ---- as the code tells it
+-- ---- as the code states it
 pub joined_takes : (p q : Polyhedron) (start own all ps qs : LinearSystem ConKind) (first last : List ℕ) (n m : ℕ) →
     IsPolyhedron p → IsPolyhedron q → n ≡ p.dims → m ≡ q.dims → start.rows ≡ [] → start.dims ≡ n + m →
     own.dims ≡ start.dims → all.dims ≡ own.dims → first ≡ replicate 0 0 ++ counted (n + m) 0 →

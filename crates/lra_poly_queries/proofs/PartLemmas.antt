@@ -106,7 +106,7 @@ some_holds n (part ∷ parts) (p ∷ made) s all w a (inl here) =
 some_holds n (part ∷ parts) (p ∷ made) s all w a (inr later) =
     inr (some_holds n parts made s (λ k d l. all (suc k) d (omega (arith, l))) w a.1 later)
 
--- ---- as the code tells it
+-- ---- as the code states it
 pub made_of : (parts own : List (LinearSystem ConKind)) (made : List Polyhedron) (o : Outcome) → parts ≡ own →
     AreMadeOf parts made o → AreMadeOf own made o
 made_of parts own made o e = subst (λ (l : List (LinearSystem ConKind)). AreMadeOf l made o) e

@@ -1,4 +1,4 @@
--- A coordinate whose new values stand to the old point as a constraint tells.
+-- A coordinate whose new values stand to the old point as a constraint reports.
 use Rattle.std.proofs.Common.{◌≡◌, ℕ, zero, suc, ◌+◌, List, [], ◌∷◌, ◌++◌, length, replicate, slice_set, ap, refl, sym, ◌∙◌, subst, ℤ, inl, inr}
 use Rattle.lra_linear_spec.specs.Polyhedra.{IsPolyhedron, IsPolyhedronOf, Polyhedron}
 use Rattle.lra_linear_spec.specs.{Descriptions.Con, Descriptions.LinearRow, Kinds.is_equality, Points.IsWithin, Points.PointSet, Points.SameSet, Strain.Loss, declared.ConKind.ConKind}

@@ -1,4 +1,4 @@
--- What the generators tell of the signs that a form takes on a polyhedron.
+-- What the generators say of the signs that a form takes on a polyhedron.
 use Rattle.std.proofs.Common.{◌≡◌, ◌≢◌, ◌⊎◌, ℕ, suc, ◌+◌, Bool, true, false, List, [], ◌∷◌, length, ap, refl, sym, ◌∙◌, subst, ℤ, pos, negsuc, neg_ℤ, ◌+ℤ◌, ◌*ℤ◌, ◌<ℤ◌, ◌≤ℤ◌, inl, inr, arith}
 use Rattle.std.proofs.{lemmas.Int.ints, lemmas.List.Elements.All-contains}
 use Rattle.std.specs.{List.All, List.Contains, List.list_all, Prelude.◌↔◌, Prelude.IsTrue, Prelude.unsigned_abs}
@@ -259,7 +259,7 @@ one_side p form n a b = a (λ x i c. elim (cases_sign (product form x)) [
   ]))
 ])
 
--- ---- what the four answers tell
+-- ---- what the four answers report
 flat_where : (p : Polyhedron) → IsPolyhedron p → (form : List ℤ) →
     (All (StaysAbove form) p.generators × All (StaysBelow form) p.generators) ↔
     ValidOn p.dims (Con p.rows) (equality form)

@@ -341,7 +341,7 @@ bounds_points p (inr h) bounds g k = elim (generators_are_generators p (inr h) g
         (as_nonneg b.most (entry y 0) (product g.row y) (b.is_most y i ((con_gen p (inr h)).1 y i gen))))
         g.row m))
 
--- ---- as the code tells it
+-- ---- as the code states it
 given_no : (rows : List (List ℤ)) (kinds : List ConKind) → kinds ≡ [] → rows_by_kind is_equality rows kinds ≡ []
 given_no [] kinds e = refl
 given_no (r ∷ rows) [] e = refl

@@ -17,7 +17,7 @@ use Rattle.lra_poly_queries.specs.Simplified.{AreNeeded, IsRedundant, IsNeededOr
 use Rattle.lra_poly_queries.proofs.{RelatedSets.two_exact, RelatedSets.two_flagged, Sublists.behind, Sublists.sublist_fewer, Sublists.sublist_longer, Sublists.sublist_pushed, Sublists.sublist_whole}
 
 -- ---- lists
--- a list with one more behind it is split at that one, or before it
+-- a list with one more after it is split at that one, or before it
 abbrev LastSplit : {A : Type 0} → List A → A → List A → A → List A → Type 0
 LastSplit {A = A} xs x front y back =
     ((back ≡ []) × (front ≡ xs) × (y ≡ x)) ⊎ ((rest : List A) × (back ≡ rest ++ x ∷ []) × (xs ≡ front ++ y ∷ rest))
@@ -239,7 +239,7 @@ one_kept p context kept g later o told s t = record {
       }) o told s.needed s.flagged t.1;
 }
 
--- ---- as the code tells it
+-- ---- as the code states it
 -- the row at the place is the first that comes from there on
 drop_at : {K : Type 0} (equal : K → Bool) (rows : List (List ℤ)) (kinds : List K) (i : ℕ) (r : List ℤ) (k : K) →
     slice_get rows i ≡ Some r → slice_get kinds i ≡ Some k →
@@ -286,7 +286,7 @@ at_first p context list kept el ek =
     (subst (λ (l : List (List ℤ)). IsSoFar p context (rows_by_kind is_equality l kept.kinds) p.rows Exact) (sym ek)
     (so_far_first p context))
 
--- the one at the place, and those behind it
+-- the one at the place, and those after it
 pub told_at : (n : ℕ) (context : List LinearRow) (list kept others : LinearSystem ConKind) (i : ℕ) (r : List ℤ) (k : ConKind)
     (told : Option Outcome) → slice_get list.rows i ≡ Some r → slice_get list.kinds i ≡ Some k →
     constraints others ≡ constraints kept ++ drop (i + 1) (constraints list) →
@@ -309,7 +309,7 @@ row_at list i n h =
     let k = there_within list.kinds i (omega (arith, n, h)) in
     (record { row = r.0; equal = is_equality k.0 }, at_place list i r.0 k.0 r.1 k.1)
 
--- the place behind, where the one at hand is left out
+-- the next place, where the one at hand is left out
 pub place_left : (p context : Polyhedron) (list kept : LinearSystem ConKind) (i n : ℕ) (o : Outcome) → n ≡ p.dims →
     length list.kinds ≡ length list.rows → i < length list.rows →
     IsSoFar p context (constraints kept) (drop i (constraints list)) o →

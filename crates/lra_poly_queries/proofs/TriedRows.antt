@@ -9,7 +9,7 @@ use Rattle.lra_poly.specs.{declared.outcome.Outcome.Outcome, declared.outcome.Ou
 use Rattle.lra_poly.proofs.PolyLemmas.{if_exact, if_flagged}
 use Rattle.lra_poly_queries.specs.Simplified.{IsRedundant, TellsRedundant, TrialStrains}
 
--- the context, copied, with the others taken in
+-- the context, copied, with the others added
 pub around_given : (context copied around : Polyhedron) (others : List LinearRow) (o : Outcome) → copied ≡ context →
     IsOfRows copied.dims (copied.rows ++ others) around o → IsOfRows context.dims (context.rows ++ others) around o
 around_given context copied around others o e = subst (λ (q : Polyhedron). IsOfRows q.dims (q.rows ++ others) around o) e

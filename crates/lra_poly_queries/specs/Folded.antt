@@ -9,7 +9,7 @@ abbrev pub Folded : Polyhedron → List ℕ → List ℕ → PointSet
 Folded p kept folded =
     Hull (length kept) (Union (Moved p.dims kept (Con p.rows)) (Moved p.dims folded (Con p.rows)))
 
--- the hull of the exact ones strains
+-- the hull of the exact ones exceeds a limit
 pub record MovedHullStrains (p : Polyhedron) (kept folded : List ℕ) (loss : Loss) : Type 0 where
   pub one : Polyhedron
   pub is_one : IsPolyhedronOf (length kept) (Moved p.dims kept (Con p.rows)) one

@@ -44,7 +44,7 @@ turned (At num den place) = greatest.At (neg_ℤ num) den place
 abbrev pub IsMinimum : List ℤ → List LinearRow → Minimum → Type 0
 IsMinimum form generators m = IsMaximum (negated form) generators (turned m)
 
--- a value that is told is of numbers in the range
+-- a value that is reported is of numbers in the range
 abbrev pub LeastInRange : Minimum → Type 0
 LeastInRange Empty = ⊤
 LeastInRange (Wide place) = ⊤

@@ -15,7 +15,7 @@ pub record Moved (n : ℕ) (dims : List ℕ) (P : PointSet) (x : List ℤ) : Typ
   pub inside : P from
   pub same : SamePoint x (chosen dims from)
 
--- the generators moved, which are taken in
+-- the generators moved, which are added
 abbrev pub moved : List ℕ → List LinearRow → List LinearRow
 moved dims generators = map (λ g. record { row = chosen dims g.row; equal = g.equal }) generators
 

@@ -26,7 +26,7 @@ ArePolyhedraOf (part ∷ parts) [] = ⊥
 ArePolyhedraOf (part ∷ parts) (p ∷ ps) =
     IsPolyhedronOf part.dims (Con (constraints part)) p × ArePolyhedraOf parts ps
 
--- one of the lists strains
+-- one of the lists exceeds a limit
 pub record SomePartStrains (parts : List (LinearSystem ConKind)) (loss : Loss) : Type 0 where
   pub part : LinearSystem ConKind
   pub has_part : Contains parts part

@@ -1,4 +1,4 @@
--- A coordinate whose new values stand to the old point as a constraint tells.
+-- A coordinate whose new values stand to the old point as a constraint reports.
 use Rattle.std.specs.Prelude.{◌⊎◌, ℕ, ◌+◌, List, [], ◌∷◌, ◌++◌, slice_set}
 use Rattle.lra_linear_spec.specs.Descriptions.{Con, LinearRow, Holds}
 use Rattle.lra_linear_spec.specs.{OperationStrain.ConstraintsStrain, Points.PointSet, Polyhedra.IsPolyhedronOf}
@@ -16,14 +16,14 @@ replaced n k = slice_set (counted n 0) k n
 abbrev pub Related : ℕ → ℕ → LinearRow → PointSet → PointSet
 Related n k g P = Moved (n + 1) (replaced n k) (Extended n g P)
 
--- ---- the constraints taken in
+-- ---- the constraints added
 abbrev pub extended : LinearRow → Polyhedron → List LinearRow
 extended g p = moved (counted (p.dims + 1) 0) p.rows ++ g ∷ []
 
 abbrev pub ExtendStrains : LinearRow → Polyhedron → Loss → Type 0
 ExtendStrains g p = ConstraintsStrain (p.dims + 1) (Extended p.dims g (Con p.rows)) (extended g p)
 
--- the exact one strains as its dimensions are moved
+-- the exact one exceeds a limit as its dimensions are moved
 pub record ExtendedMoveStrains (k : ℕ) (g : LinearRow) (p : Polyhedron) (loss : Loss) : Type 0 where
   pub longer : Polyhedron
   pub is_longer : IsPolyhedronOf (p.dims + 1) (Extended p.dims g (Con p.rows)) longer

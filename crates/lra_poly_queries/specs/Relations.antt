@@ -1,4 +1,4 @@
--- How a constraint stands to a polyhedron: which signs its form takes at the points, told by the generators.
+-- How a constraint stands to a polyhedron: which signs its form takes at the points, given by the generators.
 use Rattle.std.specs.List.{All}
 use Rattle.std.specs.Prelude.{◌≡◌, ◌↔◌, ℤ, pos, ◌<ℤ◌, List, IsTrue}
 use Rattle.lra_linear_spec.specs.Descriptions.{LinearRow, Con, Holds, inequality, equality}

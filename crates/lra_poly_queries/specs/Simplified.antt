@@ -27,12 +27,12 @@ pub record RelationPasses (n : ℕ) (rows : List LinearRow) (g : LinearRow) (los
   pub is_further : loss.further ≡ g
   pub nothing : loss.chosen ≡ []
 
--- the rows strain as they are taken in, or as the constraint is tried on what they give
+-- the rows exceed a limit as they are added, or as the constraint is tried on what they give
 abbrev pub TrialStrains : ℕ → List LinearRow → LinearRow → Loss → Type 0
 TrialStrains n rows g loss = FromRowsStrains n rows loss ⊎ RelationPasses n rows g loss
 
--- what is told of a constraint: nothing where the context and the others give it; else an outcome, and an exact one
--- only where they don't
+-- what is reported about a constraint: nothing where the context and the others give it; else an outcome, and an exact
+-- one only where they don't
 abbrev pub TellsRedundant : ℕ → List LinearRow → List LinearRow → LinearRow → Option Outcome → Type 0
 TellsRedundant n context others g None = IsRedundant n context others g
 TellsRedundant n context others g (Some o) =
@@ -44,8 +44,8 @@ abbrev pub IsSublist : List LinearRow → List LinearRow → Type 0
 IsSublist kept [] = kept ≡ []
 IsSublist kept (g ∷ rows) = IsSublist kept rows ⊎ ((rest : List LinearRow) × (kept ≡ g ∷ rest) × IsSublist rest rows)
 
--- The own trial of one that is kept between these strains. It is tried beside the context, those kept before it, and
--- all of p's that come later.
+-- The own trial of one that is kept between these exceeds a limit. It is tried beside the context, those kept before
+-- it, and all of p's that come later.
 pub record OwnTrialStrains (p context : Polyhedron) (front : List LinearRow) (tried : LinearRow) (back : List LinearRow)
     (loss : Loss) : Type 0 where
   pub earlier : List LinearRow
@@ -55,7 +55,7 @@ pub record OwnTrialStrains (p context : Polyhedron) (front : List LinearRow) (tr
   pub behind : IsSublist back later
   pub strains : TrialStrains p.dims (context.rows ++ (front ++ later)) tried loss
 
--- the own trial of one of those kept strains
+-- the own trial of one of those kept exceeds a limit
 pub record SimplifyStrains (p context : Polyhedron) (kept : List LinearRow) (loss : Loss) : Type 0 where
   pub front : List LinearRow
   pub tried : LinearRow
@@ -63,14 +63,15 @@ pub record SimplifyStrains (p context : Polyhedron) (kept : List LinearRow) (los
   pub are : kept ≡ front ++ tried ∷ back
   pub strains : OwnTrialStrains p context front tried back loss
 
--- one that is kept between these is needed, or its own trial strains
+-- one that is kept between these is needed, or its own trial exceeds a limit
 abbrev pub IsNeededOrStrains : Polyhedron → Polyhedron → List LinearRow → LinearRow → List LinearRow → Type 0
 IsNeededOrStrains p context front g back =
     (¬ (IsRedundant p.dims context.rows (front ++ back) g))
     ⊎ ((loss : Loss) × OwnTrialStrains p context front g back loss)
 
--- Within the context the same points, told by some of p's constraints in their order. Each of these is needed, or its
--- own trial strains. Where the outcome is exact, all are needed; it is flagged only where the trial of one strains.
+-- Within the context the same points, given by some of p's constraints in their order. Each of these is needed, or its
+-- own trial exceeds a limit. Where the outcome is exact, all are needed; it is flagged only where the trial of one
+-- exceeds a limit.
 pub record IsSimplified (p context : Polyhedron) (kept : List LinearRow) (o : Outcome) : Type 0 where
   pub same : SameSet p.dims (Meet (Con context.rows) (Con kept)) (Meet (Con context.rows) (Con p.rows))
   pub own : IsSublist kept p.rows

@@ -14,7 +14,7 @@ use lra_row::Row;
 use lra_systems::{ConSys, TOO_MANY_DIMENSIONS};
 use std::alloc::{AllocError, Global};
 
-// No constraint. Memory is wanting from 2^62 dimensions on.
+// No constraint. Memory runs out from 2^62 dimensions on.
 fn no_rows(alloc: Global, n: usize) -> Result<ConSys, AllocError>
     ensures dims { IfOk result (λ list. list.dims ≡ n) }
     ensures rows { IfOk result (λ list. list.rows ≡ []) }
@@ -85,7 +85,7 @@ fn try_given(
     }
 }
 
-// The same of the constraint at the place: the others are those kept, and those behind the place.
+// The same of the constraint at the place: the others are those kept, and those after the place.
 fn try_at(
     context: &Poly,
     kept: &ConSys,
@@ -106,9 +106,9 @@ fn try_at(
     Ok(told)
 }
 
-/// Those of the polyhedron's constraints, in their order, that tell its points within the context. From the first on,
-/// each that the context, those kept before it and those behind it give is left out. Where it is flagged, one that they
-/// give may be among them.
+/// Those of the polyhedron's constraints, in their order, that describe its points within the context. From the first
+/// on, each that the context, those kept before it and those after it give is left out. Where it is flagged, one that
+/// they give may be among them.
 pub fn simplify(p: &Poly, context: &Poly) -> Result<(ConSys, Outcome), AllocError>
     requires { context.now.dims ≡ p.now.dims }
     ensures dims { IfOk result (λ r. r.0.dims ≡ p.now.dims) }

@@ -63,7 +63,7 @@ fn choose_list(alloc: Global, list: &GenSys, dims: &[usize]) -> Result<GenSys, A
 
 /// The polyhedron whose dimensions are, in turn, these of the given one: in a new order, without some, or with one
 /// that stands twice: `dims` has the old dimension of each new one. Along one that it hasn't the coordinate is 0. Where
-/// it is flagged it has at least those points. Memory is wanting from 2^62 dimensions on.
+/// it is flagged it has at least those points. Memory runs out from 2^62 dimensions on.
 pub fn map_dims(p: &Poly, dims: &[usize]) -> Result<(Poly, Outcome), AllocError>
     ensures { IfOk result (λ r. Becomes (length dims.now)
         (Moved p.now.dims dims.now (Con p.now.rows)) (MapDimsStrains dims.now p.now) r.0 r.1) }

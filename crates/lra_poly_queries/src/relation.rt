@@ -105,7 +105,7 @@ fn missed_by(form: &Row, list: &GenSys) -> Result<Missed, Excess>
     Ok(missed)
 }
 
-// What is told of a constraint of the kind.
+// What is reported about a constraint of the kind.
 fn relation_of(missed: Missed, kind: ConKind) -> Relation
     ensures flat { IsTrue result.saturated_on_all ↔ (IsTrue missed.below × IsTrue missed.above) }
     ensures unmet { IsTrue result.saturated_nowhere ↔

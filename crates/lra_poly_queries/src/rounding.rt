@@ -99,7 +99,7 @@ fn tighten_row(
 
 /// The constraints, each rounded to whole points: its coefficients in lowest terms, and its constant rounded
 /// downwards; in place of an equality whose coefficients' divisor doesn't divide the constant, as `2*x = 1`, one that
-/// no store meets. The stores stay the same. Memory is wanting from 2^62 dimensions on.
+/// no store meets. The stores stay the same. Memory runs out from 2^62 dimensions on.
 pub fn tighten(alloc: Global, list: &ConSys) -> Result<ConSys, AllocError>
     ensures dims { IfOk result (λ made. made.dims ≡ list.now.dims) }
     ensures each { IfOk result (λ made.

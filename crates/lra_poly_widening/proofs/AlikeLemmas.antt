@@ -98,7 +98,7 @@ bits_at equal generators (x ∷ rows) [] i r n m e = absurd (omega (arith, n))
 bits_at equal generators (x ∷ rows) (k ∷ kinds) zero r n m e = ap (saturated generators) (sym e)
 bits_at equal generators (x ∷ rows) (k ∷ kinds) (suc i) r n m e = bits_at equal generators rows kinds i r (omega (arith, n)) (omega (arith, m)) e
 
--- two values that are told apart
+-- two values that are distinguished
 pub unequal : (a b : Bool) → not (beq a b) ≡ true → a ≢ b
 unequal true true h e = cc
 unequal false false h e = cc

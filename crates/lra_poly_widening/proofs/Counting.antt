@@ -38,7 +38,7 @@ filtered_again {A = A} t s (x ∷ xs) = by_tests (t x) (s x) refl (filtered_agai
     by_tests false true e i = i
     by_tests false false e i = i
 
--- ---- given rows
+-- ---- widening thresholds
 pub kept_held : (p r : Polyhedron) (given : List LinearRow) → held_thresholds r (kept_thresholds p r given) ≡ kept_thresholds p r given
 kept_held p r given = filtered_again (holds_in_range p) (holds_in_range r) given
 

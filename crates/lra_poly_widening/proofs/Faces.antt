@@ -1,5 +1,5 @@
--- The faces of a polyhedron with a point, told by its generators: what is 0 on all of them is spanned by the equalities, and what is at
--- least 0 on them and 0 where a facet is stands beside that facet.
+-- The faces of a polyhedron with a point, given by its generators: what is 0 on all of them is spanned by the
+-- equalities, and what is at least 0 on them and 0 where a facet is stands beside that facet.
 use Rattle.std.proofs.Common.{Bool, List, [], ap, arith, false, inl, inr, length, neg_ℤ, negsuc, pos, refl, subst, suc, sym, true, zero, ℕ, ℤ, ◌*ℤ◌, ◌++◌, ◌+ℤ◌, ◌<◌, ◌∙◌, ◌∷◌, ◌≡◌, ◌≤ℤ◌, ◌⊎◌}
 use Rattle.std.proofs.{lemmas.Int.ints, lemmas.List.Elements.Contains-append_left, lemmas.List.Elements.Contains-append_right}
 use Rattle.std.specs.{Bool.beq, Cmp.signed_Decides, List.Contains, List.list_all, Ordering.int_eq}

@@ -21,7 +21,7 @@ pub filter_step : (test : LinearRow → Bool) (xs ys : List LinearRow) (g : Line
     filter test ys ≡ filter test xs ++ cond (test g) (g ∷ []) []
 filter_step test xs ys g e = ap (filter test) e ∙ filter-append test xs (g ∷ [])
 
--- a row that is put behind the others if it is wanted
+-- a row that is put after the others if it is wanted
 pub kept_step : (test : LinearRow → Bool) (first list more xs ys : List LinearRow) (g : LinearRow) (b : Bool) → ys ≡ xs ++ g ∷ [] → b ≡ test g → list ≡ first ++ filter test xs →
     more ≡ list ++ cond b (g ∷ []) [] →
     more ≡ first ++ filter test ys

@@ -112,7 +112,7 @@ pub never_ok : {A X : Type 0} (q : Result A X) (x : A) → q ≡ Ok x → IsErr 
 never_ok (Ok y) x e h = cc
 never_ok (Err y) x e h = cc
 
--- the loss of a given row
+-- the loss of a widening threshold
 pub given_passes : (p q : Polyhedron) (given : List LinearRow) (r : LinearRow) (e : E.Excess) (loss : Loss) → Contains given r → IsValidity (p.generators ++ q.generators) r (told.Wide e) →
     loss ≡ record { chosen = []; further = r; cause = cause.Excess e } → PassesOnBoth p q given loss
 given_passes p q given r e loss has w is = record {

@@ -1,5 +1,5 @@
 -- The rank falls with each widening that isn't the old value: the affine hull grows or stays; if it stays, each inequality of the result
--- that no given row stands for comes from one of the old value's, no two from the same, and not all are reached.
+-- that no threshold stands for comes from one of the old value's, no two from the same, and not all are reached.
 use Rattle.std.proofs.Common.{Bool, List, [], ap, arith, false, inl, inr, length, pos, refl, subst, suc, sym, true, ℕ, ℤ, ◌*ℤ◌, ◌++◌, ◌<◌, ◌∙◌, ◌∷◌, ◌≡◌, ◌≢◌, ◌≤ℤ◌, ◌⊎◌}
 use Rattle.std.proofs.lemmas.List.Elements.{Contains-append_cases, Contains-append_left, Contains-append_right}
 use Rattle.std.proofs.{lemmas.Bool.cases_lt, lemmas.Bool.or_cases, lemmas.Int.ints}
@@ -70,7 +70,7 @@ record Setting (p r : Polyhedron) (given : List LinearRow) : Type 0 where
 held_given : (p : Polyhedron) (given : List LinearRow) (g : LinearRow) → Contains (held_thresholds p given) g → Contains given g × (holds_in_range p g ≡ true)
 held_given p given g m = filter_from (holds_in_range p) given g m
 
--- a facet of P from which f comes isn't that of a given row, since f would be it too
+-- a facet of P from which f comes isn't that of a widening threshold, since f would be it too
 source_free : (p r : Polyhedron) (given : List LinearRow) (c : Setting p r given) (f s : LinearRow) → IsFree r c.k (kept_thresholds p r given) f → ComesFrom p c.h f s → Contains c.h.facets s.row →
     list_any (is_tight_as p.generators s) (held_thresholds p given) ≡ false
 source_free p r given c f s free from m = by_value (list_any (is_tight_as p.generators s) (held_thresholds p given)) refl
@@ -296,7 +296,7 @@ both_without p r h k d =
     same_points_same_lists p r (inl h) (inl k) d (λ x i c. subst (λ l. Con l x) rows c, λ x i c. subst (λ l. Con l x) (sym rows) c)
 
 -- ---- the law
--- P lies in R, which is another polyhedron; where P has a point, R is that of tight and given rows
+-- P lies in R, which is another polyhedron; where P has a point, R is that of tight and widening thresholds
 pub rank_falls : (p r : Polyhedron) (given : List LinearRow) → IsPolyhedron p → IsPolyhedron r → r.dims ≡ p.dims → IsWithin p.dims (Con p.rows) (Con r.rows) → r ≢ p →
     ((g : LinearRow) → Contains given g → length g.row ≡ suc p.dims) → (HasPoint p → KeepsRows p r given) → Falls p r given
 rank_falls p r given (inl h) (inl k) d w other widths keeps = absurd (other (sym (both_without p r h k d)))

@@ -186,7 +186,7 @@ module _ (n : ℕ) (rows : List LinearRow) (x : List ℤ) (point : IsPoint n x) 
 pub tightest_tell : TightestTell
 tightest_tell n rows x point all r has = holds_below n rows x point all (suc (length (filter (λ s. is_tighter s r) rows))) r has (omega arith)
 
--- ---- loose rows, told by the rows of a list alone
+-- ---- loose rows, given by the rows of a list alone
 and_none : (a : Bool) → (a && false) ≡ false
 and_none true = refl
 and_none false = refl

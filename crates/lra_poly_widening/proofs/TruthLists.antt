@@ -45,7 +45,7 @@ same_back (x ∷ xs) (y ∷ ys) n e k h = by_values x y k h e (λ i j. same_back
     by_values true false k h e rest = cc
     by_values false true k h e rest = cc
 
--- as the code tells it: the first is within the second, and the other way round
+-- as the code states it: the first is within the second, and the other way round
 pub second_decides : (xs ys : List Bool) (b : Bool) → length xs ≡ length ys → IsSubset xs ys → IsTrue b ↔ IsSubset ys xs → b ≡ same_values xs ys
 second_decides xs ys b n a h = by_value b (same_values xs ys) refl refl
   where

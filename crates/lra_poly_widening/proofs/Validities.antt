@@ -1,4 +1,4 @@
--- What the tests of a row with each generator tell.
+-- What the tests of a row with each generator report.
 use Rattle.std.proofs.Common.{Bool, Err, List, Ok, Result, [], ap, arith, cond, false, get_or, inl, inr, length, refl, subst, suc, sym, true, zero, ℕ, ℤ, ◌++◌, ◌<◌, ◌∙◌, ◌∷◌, ◌≡◌, ◌⊎◌, IsOk}
 use Rattle.std.proofs.lemmas.List.Elements.{All-append, All-contains, Contains-append_cases, Contains-append_left, Contains-append_right}
 use Rattle.std.specs.{List.All, List.Contains, List.list_all, Prelude.◌&&◌}
@@ -108,6 +108,6 @@ kept_valid p q xs ys g a e h d same =
     filter_step (λ x. holds_in_range p x && holds_in_range q x) xs ys g e ∙ ap (λ l. l ++ cond (holds_in_range p g && holds_in_range q g) (g ∷ []) []) same ∙
     ap (λ b. valid_on p q xs ++ cond b (g ∷ []) []) tests ∙ sym (filter_step (λ x. is_valid p x && is_valid q x) xs ys g e)
 
--- ---- as the code tells it
+-- ---- as the code states it
 pub seen_validity : (l gens : List LinearRow) (r : LinearRow) (a : Validity) → l ≡ gens → IsValidity l r a → IsValidity gens r a
 seen_validity l gens r a e h = subst (λ x. IsValidity x r a) e h

@@ -1,4 +1,4 @@
--- What the parts of a widening tell of the whole.
+-- What the parts of a widening say of the whole.
 use Rattle.std.proofs.Common.{Bool, List, [], ap, arith, false, inl, inr, length, refl, subst, suc, sym, true, Err, IsOk, IsErr, Ok, Result, ℕ, ℤ, ◌<◌, ◌++◌, ◌∙◌, ◌∷◌, ◌≡◌, ◌≢◌}
 use Rattle.std.proofs.lemmas.List.{append-nil}
 use Rattle.std.proofs.lemmas.List.Elements.{All-contains, Contains-append_cases, Contains-append_left, Contains-append_right}
@@ -136,7 +136,7 @@ limited_told p q given g i = elim (Contains-append_cases (tight_on p q) (kept_th
   | inr b ↦ let f = kept_at p q given g b in inr (f.0, f.1)
 ]
 
--- the polyhedron of some of them, with what is told of it
+-- the polyhedron of some of them, with what is reported about it
 of_some : (p q made : Polyhedron) (given : List LinearRow) (o : Outcome) → HasPoint p → HasPoint q → q.dims ≡ p.dims →
     IsWithin p.dims (Con p.rows) (Con q.rows) →
     IsOfSome p.dims (tight_on p q ++ kept_thresholds p q given) made → HaveColumns p.dims given →
@@ -161,8 +161,8 @@ of_some p q made given o h k d w s columns exact strain =
       };
     }
 
--- ---- what is told where rows are lost
--- what the polyhedron is made of, and what is told of it
+-- ---- what is reported where rows are lost
+-- what the polyhedron is made of, and what is reported about it
 pub record IsMade (p q made : Polyhedron) (list given : List LinearRow) (n : ℕ) (o lost : Outcome) : Type 0 where
   pub first : IsPolyhedron p
   pub second : IsPolyhedron q
@@ -181,7 +181,7 @@ some_limited : (p q made : Polyhedron) (list given : List LinearRow) (n : ℕ) (
 some_limited p q made list given n o lost x =
     subst (λ (l : List LinearRow). IsOfSome p.dims l made) x.rows (subst (λ (j : ℕ). IsOfSome j list made) x.list_dims x.some)
 
--- no given row passes
+-- no widening threshold passes
 pub widened_made : (p q made : Polyhedron) (list given : List LinearRow) (n : ℕ) (o lost : Outcome) → IsMade p q made list given n o lost → lost ≡ Exact → IsLimitedWidening p q given made o
 widened_made p q made list given n o lost x el =
     let h = with_point p x.first x.some_point in
@@ -198,7 +198,7 @@ widened_made p q made list given n o lost x el =
     (λ loss f. inl (constraints_strain p.dims (LimitedWidening p q given) all (tight_on p q ++ valid_on p q given) loss c
     (subst (λ (l : List LinearRow). FromRowsStrains p.dims l loss) e (subst (λ (j : ℕ). FromRowsStrains j list loss) x.list_dims f)))) x.becomes.flagged)
 
--- some given row passes
+-- some widening threshold passes
 pub widened_passed : (p q made : Polyhedron) (list given : List LinearRow) (n : ℕ) (o lost : Outcome) → IsMade p q made list given n o lost → ¬ (lost ≡ Exact) → IsLimitedWidening p q given made lost
 widened_passed p q made list given n o Exact x other = absurd (other refl)
 widened_passed p q made list given n o (Flagged loss) x other =
@@ -209,7 +209,7 @@ widened_passed p q made list given n o (Flagged loss) x other =
 pub not_exact : (b : Bool) (o : Outcome) → IsTrue b ↔ (o ≡ Exact) → b ≡ false → ¬ (o ≡ Exact)
 not_exact b o h f e = let t = h.1 e in cc
 
--- ---- the standard widening is that with no given row
+-- ---- the standard widening is that with no threshold
 standard_limited : (n : ℕ) (p q : Polyhedron) → SameSet n (StandardWidening p q) (LimitedWidening p q [])
 standard_limited n p q = (λ x i s. (s, λ g m a b. absurd (contains_none g m)), λ x i l. l.0)
 

@@ -3,7 +3,7 @@ pub mod Saturated
 pub mod Validity
 pub mod Rank
 pub mod Widenings
--- Limited by the tightest of the given rows.
+-- Limited by the tightest of the widening thresholds.
 pub mod Tightest
--- What stays behind a flag.
+-- What stays after a flag.
 pub mod StayingRows

@@ -1,5 +1,5 @@
--- The rank of a polyhedron over given rows. It falls with each widening that isn't the old value: the affine hull
--- grows, or a given row is lost, or an inequality goes that none of these rows stands for.
+-- The rank of a polyhedron over thresholds. It falls with each widening that isn't the old value: the affine hull
+-- grows, or a threshold is lost, or an inequality goes that none of these rows stands for.
 use Rattle.std.specs.Prelude.{◌≡◌, ◌⊎◌, ◌<◌, ◌&&◌, ℕ, suc, Bool, true, false, not, List, [], ◌∷◌, length, Result, Ok}
 use Rattle.std.specs.{List.filter, List.list_all, List.list_any, Prelude.Err}
 use Rattle.lra_linear_spec.specs.Widening.{holds_with, is_tight_as}

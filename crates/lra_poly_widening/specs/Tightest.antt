@@ -1,4 +1,4 @@
--- Of given rows the tightest alone, and a widening that is limited by these. It gives the set of the widening that is
+-- Of thresholds the tightest alone, and a widening that is limited by these. It gives the set of the widening that is
 -- limited by all of them (`TightestTell`), from a shorter list.
 use Rattle.std.specs.Prelude.{◌⊎◌, ◌&&◌, ℕ, ℤ, Bool, false, not, List, [], ◌∷◌, int_lt}
 use Rattle.std.specs.{Cmp.Lexicographic.pointwise, List.filter, List.list_any, Ordering.int_eq}
@@ -28,8 +28,8 @@ tightest rows = filter (λ r. not (is_loose rows r)) rows
 abbrev pub TightestTell : Type 0
 TightestTell = (n : ℕ) (rows : List LinearRow) → IsWithin n (Con (tightest rows)) (Con rows)
 
--- the widening that is limited by the tightest of the rows that hold in the range on both strains; or a product of a
--- row of Q, or of one of all given rows, passes
+-- the widening that is limited by the tightest of the rows that hold in the range on both exceeds a limit; or a product
+-- of a row of Q, or of one of all thresholds, passes
 abbrev pub TightestStrains : Polyhedron → Polyhedron → List LinearRow → Loss → Type 0
 TightestStrains p q given loss =
     LimitedStrains p q (tightest (kept_thresholds p q given)) loss

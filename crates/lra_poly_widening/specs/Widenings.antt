@@ -1,4 +1,4 @@
--- What is told of a widening.
+-- What is reported about a widening.
 use Rattle.std.specs.List.{Contains}
 use Rattle.std.specs.Prelude.{◌≡◌, ◌⊎◌, ℕ, suc, true, List, [], ◌++◌, length}
 use Rattle.lra_linear_spec.specs.declared.Excess as E
@@ -49,7 +49,7 @@ pub record PassesOnBoth (p q : Polyhedron) (given : List LinearRow) (loss : stra
   pub is_further : loss.further ≡ passes.row
   pub nothing : loss.chosen ≡ []
 
--- R is what the widening of P by Q, limited by the given rows, gives, and the outcome what it tells
+-- R is what the widening of P by Q, limited by the thresholds, gives, and the outcome what it says
 pub record IsLimitedWidening (p q : Polyhedron) (given : List LinearRow) (r : Polyhedron) (o : Outcome) : Type 0 where
   pub becomes : Becomes p.dims (LimitedWidening p q given) (LimitedStrains p q given) r o
   pub old : IsWithin p.dims (Con p.rows) (Con r.rows)

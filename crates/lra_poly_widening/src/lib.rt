@@ -1,4 +1,4 @@
-//! The standard and the limited widening of closed polyhedra, also by the tightest of the given rows alone, and the
+//! The standard and the limited widening of closed polyhedra, also by the tightest of the thresholds alone, and the
 //! rank that falls with each.
 #![tactic(auto)]
 

@@ -44,7 +44,7 @@ pub fn universe(alloc: Global, n: usize) -> Result<Poly, AllocError>
     Ok(all)
 }
 
-// Puts a copy of the row behind the others.
+// Puts a copy of the row after the others.
 fn push_copy(list: &mut ConSys, row: &Row, kind: ConKind) -> Result<(), AllocError>
     requires { length row.now ≡ suc list.old.dims }
     ensures dims { list.new.dims ≡ list.old.dims }
@@ -57,7 +57,7 @@ fn push_copy(list: &mut ConSys, row: &Row, kind: ConKind) -> Result<(), AllocErr
     Ok(())
 }
 
-/// Puts a copy of the row behind the others if it is wanted.
+/// Puts a copy of the row after the others if it is wanted.
 pub fn push_if(list: &mut ConSys, row: &Row, kind: ConKind, wanted: bool) -> Result<(), AllocError>
     requires { length row.now ≡ suc list.old.dims }
     ensures dims { list.new.dims ≡ list.old.dims }
@@ -99,7 +99,7 @@ pub fn tight_rows(alloc: Global, p: &Poly, q: &Poly) -> Result<ConSys, AllocErro
     Ok(tight)
 }
 
-/// Puts the given constraints that hold in the range on both behind the others.
+/// Puts the given constraints that hold in the range on both after the others.
 pub fn add_held(list: &mut ConSys, p: &Poly, q: &Poly, given: &ConSys) -> Result<(), AllocError>
     requires second { q.now.dims ≡ p.now.dims }
     requires given { given.now.dims ≡ p.now.dims }

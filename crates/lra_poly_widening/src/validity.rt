@@ -1,4 +1,4 @@
-//! Whether rows hold on polyhedra, told by their generators.
+//! Whether rows hold on polyhedra, given by their generators.
 
 ghost use Rattle.std.specs.Option.{MatchOption};
 ghost use Rattle.std.specs.Prelude.{◌≡◌, ◌&&◌, ◌++◌, ◌⊎◌, suc, length};

@@ -24,7 +24,7 @@ told_no A S i t e = subst (λ (j : Included). AnswersWhether A S j) e t
 pub told_wide : (A S : Type 0) (i : Included) → AnswersWhether A S i → i ≡ Wide → S
 told_wide A S i t e = subst (λ (j : Included). AnswersWhether A S j) e t
 
--- some of them strains, and each strains or isn't so
+-- some of them exceeds a limit, and each exceeds a limit or isn't so
 abbrev pub Open : {V : Type 0} → (V → Type 0) → (V → Type 0) → List V → Type 0
 Open P S qs = SomePart S qs × EachPart (λ q. S q ⊎ ¬ P q) qs
 

@@ -13,7 +13,7 @@ each_not : {V : Type 0} (P : V → Type 0) (qs : List V) → ¬ SomePart P qs �
 each_not P [] n = tt
 each_not P (q ∷ qs) n = (λ h. n (inl h), each_not P qs (λ h. n (inr h)))
 
--- a part that stays, and those behind it that stay
+-- a part that stays, and those after it that stay
 kept_from : {V H : Type 0} (m : Abstraction V H) (before : List V) (p : V) (ps : List V) (is : List Included)
     → AnswerDropped m before ps is → all_decided is ≡ Exact → ((x : V) → m.included x p → SomePart (m.included x) before)
     → EachPart (λ q. ¬ (m.included p q × ¬ m.included q p)) ps
@@ -51,7 +51,7 @@ apart_left : {V H : Type 0} (m : Abstraction V H) (ps qs : List V) → IsAnticha
 apart_left m [] qs a = tt
 apart_left m (p ∷ ps) qs a = (each_left (λ q. (¬ m.included p q) × (¬ m.included q p)) ps qs a.0, apart_left m ps qs a.1)
 
--- behind a join only the last part is new
+-- after a join only the last part is new
 pub further_apart : {V H : Type 0} (m : Abstraction V H) (cap : ℕ) (ps qs : List V) → CollapsesOnce m cap ps Further qs
     → PrefixIsAntichain m qs
 further_apart {V} m cap ps qs (left, r, over, t) = record {
@@ -62,7 +62,7 @@ further_apart {V} m cap ps qs (left, r, over, t) = record {
       (subst (λ (xs : List V). IsAntichain m xs) t.old (reduced_apart m ps left r)));
 }
 
--- what is told where only the last is new -----------------------------------------------------------------------------------
+-- what is reported where only the last is new -------------------------------------------------------------------------
 
 apart_before : {V H : Type 0} (m : Abstraction V H) (before : List V) (p : V) (behind : List V)
     → IsAntichain m (before ++ p ∷ behind) → EachPart (λ b. ¬ m.included p b) before
@@ -114,7 +114,8 @@ told_at_last m front last No t = only t
     only n (inr h) = h
 told_at_last m front last Wide t = (inl t.0, t.1, tt)
 
--- what was told of the parts before the rest, and what will be told of the rest and the last, is told of all
+-- what was reported about the parts before the rest, and what will be reported of the rest and the last, is reported of
+-- all
 pub record LastLoop {V H : Type 0} (m : Abstraction V H) (front rest : List V) (last : V) (told : List Included) : Type 0 where
   pub before : List V
   pub cut : front ≡ before ++ rest
@@ -147,7 +148,7 @@ last_ends {V} m front rest last told i l e t =
     (subst (λ (xs : List V). AnswersWhether (SomePart (m.included last) xs) (IsUndecided m xs last) i) whole t) in
     l.more (i ∷ []) (subst (λ (xs : List V). AnswerDropped m l.before (xs ++ last ∷ []) (i ∷ [])) (sym e) (at, tt))
 
--- a part of the front has the dimensions of each
+-- a part of the prefix has the dimensions of each
 pub last_alike : {V H : Type 0} (m : Abstraction V H) (n : ℕ) (front rest behind : List V) (p last : V) (told : List Included)
     → LastLoop m front rest last told → rest ≡ p ∷ behind → HaveDims m n front → m.dims p ≡ n
 last_alike {V} m n front rest behind p last told l e dims = (each_right (λ q. m.dims q ≡ n) l.before (p ∷ behind)

@@ -192,7 +192,7 @@ set_joins m one two new e same dims cap s = record {
 
 -- parts that are appended -------------------------------------------------------------------------------------------------
 
--- what is behind the old list are parts that were changed
+-- what is after the old list are parts that were changed
 abbrev pub Appended : {V H : Type 0} → Abstraction V H → Action → List V → List V → Exactness → List V → Type 0
 Appended {V} m step old ps e new = (qs : List V) × (new ≡ old ++ qs) × AreChanged m step ps e qs
 

@@ -96,7 +96,8 @@ whole_below m (many (q ∷ qs)) p n = inl (omega arith)
 whole_below m (one h) p n = inl (omega arith)
 whole_below m (whole q) p n = absurd n
 
--- the given rows that are left: the whole asks for none, a single part's head for its own, parts that became one for none
+-- the widening thresholds that are left: the whole asks for none, a single part's head for its own, parts that became
+-- one for none
 left_whole : {V H : Type 0} (m : Abstraction V H) (given : LinearSystem ConKind) (old : HeadForm V H) (mode : Mode) (p : V)
     → FormLeft m given old mode (whole p)
 left_whole m given (many ps) Join p = tt
@@ -264,7 +265,7 @@ one_has_grown {V} {H} m l pl n c given old new next mode Stable w same dims o =
 one_has_grown m l pl n c given old new next mode (grew_by e) w same dims o =
     one_grew m l pl n c given old new next mode e w same dims o
 
--- one of next's parts isn't in the single part's head, or can't be told to be
+-- one of next's parts isn't in the single part's head, or can't be reported to be
 some_or : {V H : Type 0} (m : Abstraction V H) → Laws m → (h : H) (mode : Mode) (qs : List V)
     → SomePart (λ q. m.answers h q mode No ⊎ m.answers h q mode Wide) qs
     → SomePart (λ q. m.answers h q mode Wide) qs ⊎ ¬ EachPart (λ q. m.stays h q mode) qs
@@ -331,7 +332,7 @@ pub many_stays : {V H : Type 0} (m : Abstraction V H) (old : SetHead V H) (ps : 
 many_stays {V} {H} m old ps next mode form st = grown_stable m old next mode old refl
     (subst (λ (f : HeadForm V H). FormStays m f next.parts mode) (sym form) st)
 
--- an inclusion in its parts strains, and the head is given up
+-- an inclusion in its parts exceeds a limit, and the head is given up
 pub many_wide : {V H : Type 0} (m : Abstraction V H) (old new : SetHead V H) (ps : List V) (next : SetContent V) (mode : Mode)
     → old.form ≡ many ps → next.dims ≡ old.dims → HasAll m old new
     → AreUndecided m next.parts ps → HasGrown m old next mode (grew_by Flagged) new
@@ -340,7 +341,7 @@ many_wide {V} {H} m old new ps next mode form same a strains =
     (subst (λ (f : HeadForm V H). NotWhole f) (sym form) tt)
     (inl (subst (λ (f : HeadForm V H). HeadFormStrains m f next.parts mode) (sym form) strains))
 
--- its parts become one where that strains, and the head is given up
+-- its parts become one where that exceeds a limit, and the head is given up
 pub many_strains : {V H : Type 0} (m : Abstraction V H) (old new : SetHead V H) (ps : List V) (next : SetContent V) (mode : Mode)
     → mode ≢ Join → old.form ≡ many ps → next.dims ≡ old.dims → HasAll m old new → ¬ PartsIncluded m.included next.parts ps
     → BecomesOne m old.thresholds ps next.parts mode None → HasGrown m old next mode (grew_by Flagged) new
@@ -394,7 +395,8 @@ many_unite {V} {H} m old new ps h next mode w was same fits dims cap rows form o
 parts_same : {V H : Type 0} (ps qs : List V) → (let f : HeadForm V H = many ps in f) ≡ many qs → ps ≡ qs
 parts_same ps qs e = cc
 
--- the same of what the code has: other parts in which next doesn't lie, next's parts as a list, an answer that is told
+-- the same of what the code has: other parts in which next doesn't lie, next's parts as a list, an answer that is
+-- reported
 pub united : {V H : Type 0} (m : Abstraction V H) {old new : SetHead V H} {ps rs qs : List V} {o : Option H} {h : H} (next : SetContent V)
     (mode : Mode) → mode ≢ Join → old.form ≡ many ps → next.dims ≡ old.dims → HeadFits m old → new.dims ≡ old.dims
     → new.cap ≡ old.cap → new.thresholds ≡ old.thresholds → new.form ≡ one h → old.form ≡ many rs

@@ -1,4 +1,4 @@
--- What holds of each or of some part of one list behind another.
+-- What holds of each or of some part of one list after another.
 use Rattle.std.proofs.Common.{List, [], ◌∷◌, ◌++◌, inl, inr}
 use Rattle.lra_powerset.specs.Lists.{EachPart, SomePart}
 

@@ -1,4 +1,4 @@
--- What the reduction of a set keeps, and what it gives, whether it ends or memory is wanting.
+-- What the reduction of a set keeps, and what it gives, whether it ends or memory runs out.
 use Rattle.std.proofs.Common.{◌≡◌, ℕ, ◌≤◌, List, length, sym, ap, subst, arith}
 use Rattle.std.specs.Prelude.{Result, Ok, Err, IfOk, OnOk, OnErr}
 use Rattle.lra_domain.specs.{Abstraction.Abstraction, Laws.BaseLaws, declared.Exactness.Exactness, declared.Exactness.TheVariants.Exact, declared.Exactness.TheVariants.Flagged}

@@ -34,7 +34,7 @@ cover_trans m pl ps qs rs c d = each_map (λ p. SomePart (m.leq p) qs) (λ p. So
     (λ p some. some_of_each (λ q. SomePart (m.leq q) rs) (m.leq p) (SomePart (m.leq p) rs)
     (λ q more pq. some_map (m.leq q) (m.leq p) (λ r qr. pl.leq_transitive p q r pq qr) rs more) qs d some) ps c
 
--- the part lies in what stays so far, or below one that stands behind
+-- the part lies in what stays so far, or below one that comes after
 abbrev Holds : {V H : Type 0} → Abstraction V H → List V → List V → V → Type 0
 Holds m front rest x = SomePart (m.leq x) front ⊎ SomePart (λ q. m.included x q × ¬ m.included q x) rest
 

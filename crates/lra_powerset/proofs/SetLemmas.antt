@@ -76,7 +76,7 @@ pub join_joins : {V H : Type 0} (m : Abstraction V H) (one two new : SetContent 
 join_joins {V} m one two new e all same dims cap is fit settled = set_joins m one two new e same dims cap
     (subst (λ (xs : List V). IsCollapsed m one.dims one.cap xs e new.parts) is (settled one.dims fit))
 
--- a head that starts anew
+-- a head that starts again
 pub anew_starts : {V H : Type 0} (m : Abstraction V H) (given : LinearSystem ConKind) (n cap : ℕ) (ps qs all rs : List V) (e : Exactness)
     (f : HeadForm V H) → all ≡ ps ++ qs → EachPart (PartFits m n) all
     → ((k : ℕ) → EachPart (PartFits m k) all → IsCollapsed m k cap all e rs) → FormStarts m given rs f
@@ -174,7 +174,7 @@ pub others_fit : {V H : Type 0} (m : Abstraction V H) (n k : ℕ) (ps qs : List 
 others_fit {V} m n k ps qs e d fit = subst (λ (xs : List V). EachPart (PartFits m k) xs) d
     (subst (λ (i : ℕ). EachPart (PartFits m i) ps) e fit)
 
--- the parts of both sets, one behind the other
+-- the parts of both sets, one after the other
 pub joined_fit : {V H : Type 0} (m : Abstraction V H) (n i k : ℕ) (ps qs xs ys all : List V) → n ≡ k → i ≡ k → all ≡ xs ++ ys
     → xs ≡ ps → ys ≡ qs → EachPart (PartFits m n) ps → EachPart (PartFits m i) qs → EachPart (PartFits m n) all
 joined_fit m n i k ps qs xs ys all own others is first second a b =

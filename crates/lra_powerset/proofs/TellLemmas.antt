@@ -1,4 +1,4 @@
--- Lemmas on the loops that tell of each part whether it goes, and leave out those that go.
+-- Lemmas on the loops that say of each part whether it goes, and leave out those that go.
 use Rattle.std.proofs.Common.{◌≡◌, ℕ, suc, ◌+◌, ◌-◌, ◌<◌, List, [], ◌∷◌, ◌++◌, length, take, refl, ap, sym, subst, ◌∙◌, arith, append_assoc, append-nil, length-append}
 use Rattle.std.proofs.{Math.Seq.take-append_seam, lemmas.List.Edits.remove-append_right}
 use Rattle.std.specs.List.{remove}
@@ -6,7 +6,7 @@ use Rattle.lra_domain.specs.{Abstraction.Abstraction, declared.Included.Included
 use Rattle.lra_powerset.proofs.PartLists.{each_left, each_right}
 use Rattle.lra_powerset.specs.{Outcomes.AnswersWhether, Outcomes.AnswerDropped, Outcomes.HaveDims, Outcomes.kept, Reduction.IsDropped, Reduction.DropStrains}
 
--- what was told of the parts before the rest, and what will be told of the rest, is told of all
+-- what was reported about the parts before the rest, and what will be reported of the rest, is reported of all
 pub record TellLoop {V H : Type 0} (m : Abstraction V H) (parts rest : List V) (told : List Included) : Type 0 where
   pub before : List V
   pub all : parts ≡ before ++ rest
@@ -36,7 +36,7 @@ pub tell_ends : {V H : Type 0} (m : Abstraction V H) (parts rest : List V) (told
 tell_ends {V} m parts rest told t e = subst (λ (js : List Included). AnswerDropped m [] parts js) (append-nil told)
     (t.more [] (subst (λ (xs : List V). AnswerDropped m t.before xs []) (sym e) tt))
 
--- the dimensions of what stands before, at and behind a part
+-- the dimensions of what stands before, at and after a part
 pub cut_dims : {V H : Type 0} (m : Abstraction V H) (n : ℕ) (parts rest behind : List V) (p : V) (told : List Included)
     → (t : TellLoop m parts rest told) → rest ≡ p ∷ behind → HaveDims m n parts
     → HaveDims m (m.dims p) t.before × HaveDims m (m.dims p) behind

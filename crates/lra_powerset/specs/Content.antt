@@ -10,14 +10,14 @@ pub record SetContent (V : Type 0) : Type 0 where
   pub cap : ℕ
   pub parts : List V
 
--- what stands behind the head of a set: parts, not one; the head of a single part; or, where it was given up, the part
+-- what comes after the head of a set: parts, not one; the head of a single part; or, where it was given up, the part
 -- with all stores
 pub data HeadForm (V H : Type 0) : Type 0 where
   many : List V → HeadForm V H
   one : H → HeadForm V H
   whole : V → HeadForm V H
 
--- the head of a set: its dimensions, the most parts, the given rows, and what stands behind it
+-- the head of a set: its dimensions, the most parts, the widening thresholds, and what comes after it
 pub record SetHead (V H : Type 0) : Type 0 where
   pub dims : ℕ
   pub cap : ℕ

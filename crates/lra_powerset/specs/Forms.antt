@@ -1,4 +1,4 @@
--- What stands behind the head of a set, and what is so of every head.
+-- What comes after the head of a set, and what is so of every head.
 use Rattle.std.specs.Prelude.{◌≡◌, ◌≢◌, ◌≤◌, ◌<◌, ◌^◌, ℕ, length}
 use Rattle.lra_domain.specs.{Abstraction.Abstraction, Rank.RankFits}
 use Rattle.lra_powerset.specs.Content.{HeadForm, many, one, whole, SetHead, PartFits}

@@ -12,18 +12,18 @@ use Rattle.lra_powerset.specs.Heads.{FormStarts, FormCovered, FormStays, FormVal
 use Rattle.lra_powerset.specs.{Abstraction.set_abstraction, Forms.HeadFits, Heads.GrowsBy, Heads.form_rank}
 use Rattle.lra_powerset.specs.{Joins.Merges, Joins.MergeStrains, Lists.EachPart, Lists.SomePart, Outcomes.IsCollapsed}
 
--- the join of the parts, which covers each of them; or a join strains
+-- the join of the parts, which covers each of them; or a join exceeds a limit
 abbrev pub MergesExactly : {V H : Type 0} → Abstraction V H → List V → Option V → Type 0
 MergesExactly m ps None = MergeStrains m ps
 MergesExactly m ps (Some j) = Merges m ps j × EachPart (λ p. m.leq p j) ps × m.well_formed j
 
--- next's parts come in, and the head starts anew
+-- next's parts come in, and the head starts again
 abbrev pub StartsAnew : {V H : Type 0} → Abstraction V H → LinearSystem ConKind → ℕ → ℕ → List V → List V → Exactness →
     HeadForm V H
     → Type 0
 StartsAnew {V} m given n cap ps qs e f = (rs : List V) × IsCollapsed m n cap (ps ++ qs) e rs × FormStarts m given rs f
 
--- the head that started with the join of the parts grew by the other, without loss; or something strains
+-- the head that started with the join of the parts grew by the other, without loss; or something exceeds a limit
 abbrev pub StartsAndGrows : {V H : Type 0} → Abstraction V H → LinearSystem ConKind → List V → V → Mode → Option H →
     Type 0
 StartsAndGrows {V} {H} m given ps k mode None = MergeStrains m ps
@@ -34,7 +34,7 @@ StartsAndGrows {V} {H} m given ps k mode (Some h) = (j : V) × (g : H)
     × ((s : List ℤ) → SomePart (λ p. m.gamma p s) ps → m.head_gamma h s)
     × ((s : List ℤ) → m.gamma k s → m.head_gamma h s)
 
--- parts, not one, became one by joins without loss, which grew without loss; or something strains
+-- parts, not one, became one by joins without loss, which grew without loss; or something exceeds a limit
 abbrev pub BecomesOne : {V H : Type 0} → Abstraction V H → LinearSystem ConKind → List V → List V → Mode → Option H →
     Type 0
 BecomesOne m given ps qs mode None = WidenStrains m given (many ps) qs mode
@@ -44,7 +44,7 @@ BecomesOne {V} {H} m given ps qs mode (Some h) =
     × ((s : List ℤ) → SomePart (λ p. m.gamma p s) ps → m.head_gamma h s)
     × ((s : List ℤ) → SomePart (λ q. m.gamma q s) qs → m.head_gamma h s)
 
--- whether each part is told to lie in the head, which then stays as it was
+-- whether each part is reported to lie in the head, which then stays as it was
 abbrev pub StaysWithAll : {V H : Type 0} → Abstraction V H → H → List V → Mode → Bool → H → Type 0
 StaysWithAll m old qs mode true new = (new ≡ old) × EachPart (λ q. m.stays old q mode) qs
 StaysWithAll m old qs mode false new = SomePart (λ q. m.answers old q mode No ⊎ m.answers old q mode Wide) qs
@@ -60,7 +60,7 @@ pub record OneGrew {V H : Type 0} (m : Abstraction V H) (old : H) (qs : List V) 
   pub lower : RankBelow (m.rank new) (m.rank old)
 
 -- what became of a single part's head: it stays, or grew; or nothing is known of it, since the join of next's parts
--- strains, and one of them doesn't lie in it or can't be told to
+-- exceeds a limit, and one of them doesn't lie in it or can't be reported to
 abbrev pub OneAnswers : {V H : Type 0} → Abstraction V H → H → List V → Mode → Option Grown → H → Type 0
 OneAnswers m old qs mode (Some Stable) new = (new ≡ old) × EachPart (λ q. m.stays old q mode) qs
 OneAnswers m old qs mode (Some (grew_by e)) new = OneGrew m old qs mode e new

@@ -72,7 +72,7 @@ pub record HeadValued {V H : Type 0} (m : Abstraction V H) (h : SetHead V H) (v 
   pub cap : v.cap ≡ h.cap
   pub form : FormValued m h.form v.parts
 
--- only the value of a single part strains
+-- only the value of a single part exceeds a limit
 abbrev pub HeadFormValueStrains : {V H : Type 0} → Abstraction V H → HeadForm V H → Type 0
 HeadFormValueStrains m (many ps) = ⊥
 HeadFormValueStrains m (one h) = m.value_strains h
@@ -92,8 +92,8 @@ FormStays m (whole p) qs mode = Unit {0}
 abbrev pub HeadStays : {V H : Type 0} → Abstraction V H → SetHead V H → SetContent V → Mode → Type 0
 HeadStays m h v mode = (v.dims ≡ h.dims) × FormStays m h.form v.parts mode
 
--- an inclusion in a single part's head strains: that of the join of next's parts; or of one of them, where that join
--- strains
+-- an inclusion in a single part's head exceeds a limit: that of the join of next's parts; or of one of them, where that
+-- join exceeds a limit
 abbrev pub OneStrains : {V H : Type 0} → Abstraction V H → H → List V → Mode → Type 0
 OneStrains {V} m h qs mode =
     ((j : V) × Merges m qs j × m.answers h j mode Wide)
@@ -149,7 +149,7 @@ pub record HeadGrown {V H : Type 0} (m : Abstraction V H) (old : SetHead V H) (n
   pub rows : new.thresholds ≡ old.thresholds
   pub form : FormGrown m old next.parts mode new.form
 
--- a join of parts strains, or the growth of the single part
+-- a join of parts exceeds a limit, or the growth of the single part
 abbrev pub WidenStrains : {V H : Type 0} → Abstraction V H → LinearSystem ConKind → HeadForm V H → List V → Mode →
     Type 0
 WidenStrains m given (many []) qs mode = MergeStrains m qs
@@ -180,15 +180,15 @@ pub record HeadGivenUp {V H : Type 0} (m : Abstraction V H) (old : SetHead V H) 
   pub cap : new.cap ≡ old.cap
   pub form : FormGivenUp m old.dims old.form mode new.form
 
--- the given rows that are left ---------------------------------------------------------------------
+-- the widening thresholds that are left ------------------------------------------------------------
 
--- parts that become one start with all given rows, and grow without loss
+-- parts that become one start with all widening thresholds, and grow without loss
 abbrev pub BeginsAsOne : {V H : Type 0} → Abstraction V H → LinearSystem ConKind → Mode → H → Type 0
 BeginsAsOne {V} {H} m given mode h =
     (p : V) × (g : H) × m.started p given g × ((h ≡ g) ⊎ ((k : V) × m.grown g k mode h))
 
--- In joining the head starts anew with its given rows, or is given up. Outside joining they are left as the single
--- part's head leaves them.
+-- In joining the head starts again with its widening thresholds, or is given up. Outside joining they are left as the
+-- single part's head leaves them.
 abbrev pub FormLeft : {V H : Type 0} → Abstraction V H → LinearSystem ConKind → HeadForm V H → Mode → HeadForm V H →
     Type 0
 FormLeft {V} m given old Join (one h) = (p : V) × m.started p given h

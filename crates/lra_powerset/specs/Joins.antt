@@ -8,7 +8,7 @@ abbrev pub JoinsOn : {V H : Type 0} → Abstraction V H → V → List V → V �
 JoinsOn m a [] j = j ≡ a
 JoinsOn {V} m a (p ∷ ps) j = (b : V) × m.joined a p b × JoinsOn m b ps j
 
--- one of these joins strains, and those before it don't lose anything
+-- one of these joins exceeds a limit, and those before it don't lose anything
 abbrev pub JoinsOnStrains : {V H : Type 0} → Abstraction V H → V → List V → Type 0
 JoinsOnStrains m a [] = ⊥
 JoinsOnStrains {V} m a (p ∷ ps) = m.join_strains a p ⊎ ((b : V) × m.joined a p b × JoinsOnStrains m b ps)
@@ -32,7 +32,7 @@ pub record LastTwoJoin {V H : Type 0} (m : Abstraction V H) (ps qs : List V) : T
   pub joined : m.joined one two both
   pub new : qs ≡ front ++ both ∷ []
 
--- their join strains
+-- their join exceeds a limit
 pub record LastTwoStrain {V H : Type 0} (m : Abstraction V H) (ps : List V) : Type 0 where
   pub front : List V
   pub one : V
@@ -47,7 +47,7 @@ CollapsesTo m cap zero ps qs = Reduces m ps qs × (length qs ≤ cap)
 CollapsesTo {V} m cap (suc n) ps qs = (left next : List V) × Reduces m ps left × (cap < length left)
     × LastTwoJoin m left next × CollapsesTo m cap n next qs
 
--- an operation on the way strains, after so many joins
+-- an operation on the way exceeds a limit, after so many joins
 abbrev pub CollapseStrains : {V H : Type 0} → Abstraction V H → ℕ → ℕ → List V → Type 0
 CollapseStrains {V} m cap zero ps =
     ReduceStrains m ps ⊎ ((left : List V) × Reduces m ps left × (cap < length left) × LastTwoStrain m left)

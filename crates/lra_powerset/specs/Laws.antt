@@ -185,7 +185,7 @@ parts_one_bounded m law (p ∷ q ∷ ps) fine f l h j k a b =
 
 -- heads, by their stores --------------------------------------------------------------------------
 
--- what stands behind a head is formed
+-- what comes after a head is formed
 abbrev pub FormFine : {V H : Type 0} → Abstraction V H → HeadForm V H → Type 0
 FormFine m (many ps) = EachPart m.well_formed ps
 FormFine m (one h) = m.head_well_formed h

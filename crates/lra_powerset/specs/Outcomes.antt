@@ -11,7 +11,7 @@ use Rattle.lra_powerset.specs.declared.joins.Collapsing.TheVariants.{Within, Str
 use Rattle.lra_powerset.specs.{Content.PartFits, Content.nonempty_parts, Reduction.IsDropped, Reduction.DropStrains}
 use Rattle.lra_powerset.specs.{Values.IsKept, Values.PartsIncluded, declared.joins.Collapsing.Collapsing}
 
--- an answer is right: it is so, it isn't, or something strains
+-- an answer is right: it is so, it isn't, or something exceeds a limit
 abbrev pub AnswersWhether : Type 0 → Type 0 → Included → Type 0
 AnswersWhether so strains Yes = so
 AnswersWhether so strains No = ¬ so
@@ -47,7 +47,7 @@ all_decided (i ∷ is) = worse (decided i) (all_decided is)
 abbrev pub HaveDims : {V H : Type 0} → Abstraction V H → ℕ → List V → Type 0
 HaveDims m n ps = EachPart (λ p. m.dims p ≡ n) ps
 
--- of each part it is told whether it goes
+-- of each part it is reported whether it goes
 abbrev pub AnswerDropped : {V H : Type 0} → Abstraction V H → List V → List V → List Included → Type 0
 AnswerDropped m before [] [] = Unit {0}
 AnswerDropped m before [] (i ∷ is) = ⊥
@@ -63,7 +63,7 @@ kept (p ∷ ps) (Yes ∷ is) = kept ps is
 kept (p ∷ ps) (No ∷ is) = p ∷ kept ps is
 kept (p ∷ ps) (Wide ∷ is) = p ∷ kept ps is
 
--- a reduction in which a part of which it isn't told whether it goes stays
+-- a reduction in which a part of which it isn't reported whether it goes stays
 pub record IsReduced {V H : Type 0} (m : Abstraction V H) (ps : List V) (e : Exactness) (qs : List V) : Type 0 where
   pub answers : List Included
   pub told : AnswerDropped m [] ps answers
@@ -121,7 +121,7 @@ pub record IsCollapsed {V H : Type 0} (m : Abstraction V H) (n cap : ℕ) (ps : 
   pub few : length qs ≤ cap
   pub fit : EachPart (PartFits m n) qs
 
--- behind the parts that were there comes the part, changed, unless it became empty
+-- after the parts that were there comes the part, changed, unless it became empty
 pub record IsAppended {V H : Type 0} (m : Abstraction V H) (step : Action) (p : V) (e : Exactness)
     (before after : List V)
     : Type 0 where

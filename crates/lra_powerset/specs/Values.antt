@@ -25,12 +25,12 @@ PartsIncluded R ps qs = EachPart (λ p. SomePart (R p) qs) ps
 abbrev pub SetIncluded : {V H : Type 0} → Abstraction V H → SetContent V → SetContent V → Type 0
 SetIncluded m a b = (a.dims ≡ b.dims) × PartsIncluded m.included a.parts b.parts
 
--- of the part it isn't told whether it lies in one of the others: that strains with one of them, and with each of them
--- strains or isn't so
+-- of the part it isn't reported whether it lies in one of the others: that exceeds a limit with one of them, and with
+-- each of them exceeds a limit or isn't so
 abbrev pub IsUndecided : {V H : Type 0} → Abstraction V H → List V → V → Type 0
 IsUndecided m qs p = SomePart (m.inclusion_strains p) qs × EachPart (λ q. m.inclusion_strains p q ⊎ ¬ m.included p q) qs
 
--- of some part it isn't told, and each of the others lies in one, or of it it isn't told either
+-- of some part it isn't reported, and each of the others lies in one, or of it it isn't reported either
 abbrev pub AreUndecided : {V H : Type 0} → Abstraction V H → List V → List V → Type 0
 AreUndecided m ps qs =
     SomePart (IsUndecided m qs) ps × EachPart (λ p. SomePart (m.included p) qs ⊎ IsUndecided m qs p) ps
@@ -66,7 +66,7 @@ pub record SetTransferred {V H : Type 0} (m : Abstraction V H) (step : Action) (
   pub joins : ℕ
   pub settled : CollapsesTo m old.cap joins (nonempty_parts m changed) new.parts
 
--- the part has all points to which the action leads from the other, and is held with the dimensions behind it
+-- the part has all points to which the action leads from the other, and is held with the dimensions after it
 pub record IsKept {V H : Type 0} (m : Abstraction V H) (step : Action) (p q : V) : Type 0 where
   pub keeps : m.keeps step p q
   pub dims : m.dims q ≡ dims_after step (m.dims p)
@@ -80,7 +80,7 @@ pub record SetKeeps {V H : Type 0} (m : Abstraction V H) (step : Action) (old ne
   pub kept : PartByPart (IsKept m step) old.parts changed
   pub covered : PartsIncluded m.leq (nonempty_parts m changed) new.parts
 
--- the action strains on a part, or what comes behind it strains on the parts that it gives
+-- the action exceeds a limit on a part, or what comes after it exceeds a limit on the parts that it gives
 abbrev pub SetStrains : {V H : Type 0} → Abstraction V H → Action → SetContent V → Type 0
 SetStrains {V} m step old =
     SomePart (m.strains step) old.parts
@@ -97,8 +97,8 @@ pub record SetJoined {V H : Type 0} (m : Abstraction V H) (one two new : SetCont
 abbrev pub SetJoinStrains : {V H : Type 0} → Abstraction V H → SetContent V → SetContent V → Type 0
 SetJoinStrains m one two = (joins : ℕ) × CollapseStrains m one.cap joins (one.parts ++ two.parts)
 
--- the lowest of what the parts tell from below and the highest from above: none where a part tells none, and nothing of
--- no parts
+-- the lowest of what the parts report from below and the highest from above: none where a part says none, and nothing
+-- of no parts
 abbrev pub PartsBounded : {V H : Type 0} → Abstraction V H → List V → Form → Option ℤ → Option ℤ → Type 0
 PartsBounded m [] f l h = (l ≡ None) × (h ≡ None)
 PartsBounded m (p ∷ []) f l h = m.bounded p f l h

@@ -1,4 +1,4 @@
-//! How what stands behind a head starts, and grows.
+//! How what comes after a head starts, and grows.
 
 ghost use Rattle.std.specs.Prelude.{◌≡◌, ◌≢◌, ◌≤◌, ◌<◌, ◌⊎◌, ℕ, List, Some, true, false, length, IfOk, IfSome, OnErr};
 ghost use Rattle.lra_domain.specs.declared.Exactness.{Exactness};
@@ -14,7 +14,7 @@ use lra_domain::{BaseDomain, Domain, Exactness, Grown, Mode};
 use lra_systems::ConSys;
 use std::alloc::{AllocError, Global};
 
-/// What stands behind the head of a set.
+/// What comes after the head of a set.
 pub enum Held<V, H> {
     /// Parts, not one.
     Many(Vec<V>),
@@ -34,7 +34,7 @@ impl<V: Drop, H: Drop> Drop for Held<V, H> {
     }
 }
 
-/// What stands behind a head that starts with the parts: a single one becomes a head of its own.
+/// What comes after a head that starts with the parts: a single one becomes a head of its own.
 pub fn start_with<D: BaseDomain>(
     alloc: Global,
     parts: Vec<D>,
@@ -65,7 +65,7 @@ pub fn value_one<D: BaseDomain>(
     Ok((parts, exactness))
 }
 
-/// The parts and next's, reduced and kept within the cap; with them a head starts anew.
+/// The parts and next's, reduced and kept within the cap; with them a head starts again.
 pub fn start_anew<D: BaseDomain>(
     alloc: Global,
     cap: usize,
@@ -117,7 +117,7 @@ fn is_exact(grown: Grown) -> bool
     }
 }
 
-/// The parts become one, which grows by the other; nothing where a join of parts or its growth strains.
+/// The parts become one, which grows by the other; nothing where a join of parts or its growth exceeds a limit.
 fn start_and_grow<D: BaseDomain>(
     alloc: Global,
     given: &ConSys,
@@ -145,7 +145,7 @@ fn start_and_grow<D: BaseDomain>(
     }
 }
 
-/// The parts, not one, become one, which grows by next's; nothing where a join of parts or its growth strains.
+/// The parts, not one, become one, which grows by next's; nothing where a join of parts or its growth exceeds a limit.
 pub fn become_one<D: BaseDomain>(
     alloc: Global,
     given: &ConSys,
@@ -176,7 +176,7 @@ pub fn become_one<D: BaseDomain>(
     }
 }
 
-/// Whether each of the parts is told to lie in the head. Where one isn't, the head may have grown by it.
+/// Whether each of the parts is reported to lie in the head. Where one isn't, the head may have grown by it.
 fn stays_with_all<D: BaseDomain>(
     head: &mut D::Head,
     parts: &[D],

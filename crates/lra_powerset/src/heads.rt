@@ -192,7 +192,7 @@ impl<D: BaseDomain> PowerSetHead<D> {
         Ok(())
     }
 
-    // The join with next, where it is told whether next lies in it, whose value has these parts.
+    // The join with next, where it is reported whether next lies in it, whose value has these parts.
     fn join_told(
         &mut self,
         parts: Vec<D>,

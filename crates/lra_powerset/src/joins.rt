@@ -100,7 +100,7 @@ fn settle_once<D: BaseDomain>(
     Ok(Collapsing::Further)
 }
 
-/// The parts reduced and kept within the cap, by what is yet untried: behind a join that is the last part alone.
+/// The parts reduced and kept within the cap, by what is yet untried: after a join that is the last part alone.
 fn settle_untried<D: BaseDomain>(
     alloc: Global,
     cap: usize,

@@ -78,7 +78,7 @@ fn lies_below_some<D: BaseDomain>(part: &D, others: &[D]) -> Included
     either(here, lies_below_some(part, later))
 }
 
-/// Whether the part goes, with these before it and these behind it.
+/// Whether the part goes, with these before it and these after it.
 fn goes<D: BaseDomain>(before: &[D], part: &D, behind: &[D]) -> Included
     requires before { HaveDims D.abstraction (D.abstraction.dims part.now) before.now }
     requires behind { HaveDims D.abstraction (D.abstraction.dims part.now) behind.now }
@@ -125,7 +125,7 @@ fn leave_out<D: BaseDomain>(parts: &mut Vec<D>, told: &[Included])
     }
 }
 
-/// Reduces the list. A part of which it isn't told whether it goes stays, and flags.
+/// Reduces the list. A part of which it isn't reported whether it goes stays, and flags.
 #[tactic(auto, using(crate::proofs::TellLemmas::told_long))]
 pub fn reduce<D: BaseDomain>(alloc: Global, parts: &mut Vec<D>) -> Result<Exactness, AllocError>
     requires { (n : ℕ) × HaveDims D.abstraction n parts.old.items }

@@ -102,7 +102,7 @@ pub fn copy_alone<D: BaseDomain>(alloc: Global, part: &D) -> Result<Vec<D>, Allo
     Ok(parts)
 }
 
-/// The lowest of what the parts tell of the form from below and the highest from above; nothing of no parts.
+/// The lowest of what the parts say of the form from below and the highest from above; nothing of no parts.
 fn bounds_of<D: BaseDomain>(parts: &[D], e: &LinExpr) -> (Option<i128>, Option<i128>)
     requires { HaveDims D.abstraction (length e.now.coefficients) parts.now }
     ensures { PartsBounded D.abstraction parts.now e.now result.0 result.1 }
@@ -118,7 +118,7 @@ fn bounds_of<D: BaseDomain>(parts: &[D], e: &LinExpr) -> (Option<i128>, Option<i
     (join_lows(low, other_low), join_highs(high, other_high))
 }
 
-/// Appends what rows tell of the parts.
+/// Appends what rows say of the parts.
 fn append_rows<D: BaseDomain>(
     alloc: Global,
     all: &mut Vec<ConSys>,
@@ -139,7 +139,7 @@ fn append_rows<D: BaseDomain>(
     Ok(())
 }
 
-/// Does nothing: what the rows of the parts tell is all of them.
+/// Does nothing: what the rows of the parts report is all of them.
 fn tell_each<D: BaseDomain + ExactParts>(parts: &[D])
     ensures { (n : ℕ) → HaveDims D.abstraction n parts.now → (s : List ℤ) → length s ≡ n →
         SomePartHolds (flat_map D.abstraction.parts parts.now) s →
@@ -202,7 +202,7 @@ impl<D: BaseDomain> PowerSet<D> {
     }
 
     /// The parts are reduced: one that lies in another goes; of two that lie in each other the first stays. Each call
-    /// that changes the set does this by itself. A part of which it isn't told whether it goes stays, and flags.
+    /// that changes the set does this by itself. A part of which it isn't reported whether it goes stays, and flags.
     pub fn reduce(&mut self) -> Result<Exactness, AllocError>
         ensures covers { OnOk result
             (PartsIncluded D.abstraction.leq self.old.parts self.new.parts) }
@@ -285,7 +285,7 @@ impl<D: BaseDomain> Domain for PowerSet<D> {
         self.parts.is_empty()
     }
 
-    /// The lowest and the highest that the parts tell.
+    /// The lowest and the highest that the parts report.
     fn bounds(&self, e: &LinExpr) -> (Option<i128>, Option<i128>) {
         bounds_of(self.parts.as_slice(), e)
     }
@@ -347,8 +347,8 @@ impl<D: BaseDomain> Domain for PowerSet<D> {
     }
 
     /// In joining it becomes the set's join with next. Otherwise a head that isn't one part becomes one, the join of
-    /// its parts in order, and that part grows by the join of next's parts in order. Where that can't be told, it is
-    /// given up.
+    /// its parts in order, and that part grows by the join of next's parts in order. Where that can't be reported, it
+    /// is given up.
     fn grow(head: &mut PowerSetHead<D>, next: &Self, mode: Mode) -> Result<Grown, AllocError> {
         let (_before, _next) = (head.dims(), next.items());
         let grown = head.grow(next, mode)?;

@@ -65,7 +65,7 @@ two_draws = refl
 long_draw : run_op (fill pair_of_ints) (drawing (pos 1 ∷ pos 2147483648 ∷ [])) ≡ None
 long_draw = refl
 
--- x[input()] = input(): the index's draw is the first, and no index waits behind it
+-- x[input()] = input(): the index's draw is the first, and no index waits after it
 index_first : run_op (store_element 0 (at_index pair_of_ints input) input)
     (record (drawing (pos 1 ∷ pos 4 ∷ [])) { arrays = (at 6, pos 0 ∷ pos 0 ∷ []) ∷ [] }) ≡
     Some (record (drawing []) { arrays = (at 6, pos 0 ∷ pos 4 ∷ []) ∷ (at 6, pos 0 ∷ pos 0 ∷ []) ∷ [] })
@@ -104,7 +104,7 @@ too_few_draws : visited written (pos 7 ∷ pos 8 ∷ []) ≡ ([], 1, []) ∷ []
 too_few_draws = refl
 
 -- long g; long f(void){ g=1; return 7; } long a[2]; int main(void){ a[g]=f(); assert(a[0]==7); assert(a[1]==0); }
--- catches an index that is computed behind the call, and global arrays without zeros
+-- catches an index that is computed after the call, and global arrays without zeros
 abbrev g : Variable
 g = long_variable (global 0)
 
@@ -175,7 +175,8 @@ target_first : op_accesses (store_element 0 (at_index single (number 0)) (elemen
     ≡ at_index single (number 0) ∷ record { array = single; place = at 53; index = number 1 } ∷ []
 target_first = refl
 
--- of `b[0]=f(b[1], b[2]);` the third access is outside, where b has two elements; catches arguments that are not told
+-- of `b[0]=f(b[1], b[2]);` the third access is outside, where b has two elements; catches arguments that are not
+-- reported
 abbrev pair : Array
 pair = record single { length = 2 }
 
@@ -199,7 +200,8 @@ right_of_either : OpOutOfBounds (test 0 (either_of (compare above (element singl
     (holding (pos 0 ∷ [])) 1
 right_of_either = inr (0, refl, [], refl, inl (inr ((pos 1, []), refl, refl, refl)))
 
--- `long s=b[1];` and `switch (b[1]) {}`; catches accesses of a declarator's value, or of a value that is looked for, that are not told
+-- `long s=b[1];` and `switch (b[1]) {}`; catches accesses of a declarator's value, or of a value that is looked for,
+-- that are not reported
 abbrev here : CallContext
 here = record { path = []; base = 0 }
 
@@ -215,7 +217,7 @@ returned_strays : IsOutOfBounds outside 0 (run (return 2 (Some (value (element s
 returned_strays = inr ((pos 1, []), refl, refl, refl)
 
 -- `b[1]` within a sign, on either side of an operator, in an index, on the right of a comparison, as a condition, within `!`, on the left of
--- `&&` and `||`, and in an argument: catches an access that is evaluated and not told
+-- `&&` and `||`, and in an argument: catches an access that is evaluated and not reported
 abbrev outside_one : Expr
 outside_one = element single (at 53) (number 1)
 

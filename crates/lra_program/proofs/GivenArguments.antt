@@ -9,7 +9,7 @@ use Rattle.lra_program.specs.Program as program
 abbrev argument_of : NumberType → program.Expr → value.Argument
 argument_of t e = record { number_type = t; value = e }
 
--- the copy behind those so far is that of the first one left
+-- the copy after those so far is that of the first one left
 pub pair_taken : (given now : List Argument) (t : NumberType) (ts : List NumberType) (e : Expr) (es : List Expr) (copy : Expr) (all : List value.Argument)
     (types : List NumberType) (left : List Expr) → types ≡ t ∷ ts → left ≡ e ∷ es → expr_view copy ≡ expr_view e → now ≡ given ++ record { number_type = t; value = copy } ∷ []
     → map argument_view given ++ arguments_for types (map expr_view left) ≡ all → map argument_view now ++ arguments_for ts (map expr_view es) ≡ all

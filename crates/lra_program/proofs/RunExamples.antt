@@ -55,7 +55,7 @@ no_draw : visited one_variable [] ≡ ([], 1, []) ∷ []
 no_draw = refl
 
 -- int main(void){ long x; x = 2; assert(x >= 3); }
--- the run ends at the assertion: nothing behind it is reached
+-- the run ends at the assertion: nothing after it is reached
 abbrev pub failing : Program
 failing = main_alone (declaration (fresh 1) (statement (assign 2 (long_variable (local 0)) (value (literal Int 2))) (statement (assert 3 (compare at_least x (literal Int 3))) no_more))) 4
 
@@ -111,7 +111,8 @@ return_in_loop : visited (nested 5) (pos 0 ∷ pos 0 ∷ pos 1 ∷ []) ≡ ([], 
     ∷ ([], 5, pos 0 ∷ pos 0 ∷ []) ∷ ([], 6, pos 0 ∷ pos 0 ∷ []) ∷ ([], 8, pos 0 ∷ pos 0 ∷ []) ∷ ([], 9, pos 0 ∷ pos 0 ∷ []) ∷ []
 return_in_loop = refl
 
--- with one round in place of five: `break` leaves the inner loop alone, and the block's end behind it isn't passed by `break`
+-- with one round in place of five: `break` leaves the inner loop alone, and the block's end after it isn't passed by
+-- `break`
 break_in_loop : visited (nested 1) (pos 0 ∷ pos 0 ∷ pos 0 ∷ pos 0 ∷ pos 0 ∷ [])
     ≡ ([], 1, []) ∷ ([], 2, pos 0 ∷ []) ∷ ([], 3, pos 0 ∷ pos 0 ∷ []) ∷ ([], 4, pos 0 ∷ pos 0 ∷ [])
     ∷ ([], 5, pos 0 ∷ pos 0 ∷ []) ∷ ([], 6, pos 0 ∷ pos 0 ∷ []) ∷ ([], 8, pos 0 ∷ pos 0 ∷ []) ∷ ([], 10, pos 0 ∷ pos 0 ∷ []) ∷ ([], 11, pos 0 ∷ pos 1 ∷ [])
@@ -122,7 +123,7 @@ break_in_loop : visited (nested 1) (pos 0 ∷ pos 0 ∷ pos 0 ∷ pos 0 ∷ pos 
 break_in_loop = refl
 
 -- long inc(long x){ x=x+1; return x; } int main(void){ long x=inc(1); x=inc(x); assert(x==3); }
--- catches a callee's variable that shares its caller's place, and a store that isn't cut back behind the call;
+-- catches a callee's variable that shares its caller's place, and a store that isn't cut back after the call;
 -- the function's `}` (3) isn't passed by `return`
 abbrev pub inc : Function
 inc = record {
@@ -178,7 +179,8 @@ counted_run : visited counted [] ≡ ([], 3, pos 2 ∷ []) ∷ (3 ∷ [], 1, pos
 counted_run = refl
 
 -- long f(void){ return g(); } long g(void){ } int main(void){ long v = f(); }
--- v gets a draw at the end of g, and the `return` behind g's result draws nothing more; call paths have the innermost call first
+-- v gets a draw at the end of g, and the `return` after g's result draws nothing more; call paths have the innermost
+-- call first
 abbrev handed_on : Program
 handed_on = record {
   globals = [];
@@ -226,7 +228,7 @@ left_blocks_run : visited left_blocks (pos 5 ∷ pos 6 ∷ pos 7 ∷ []) ≡ ([]
     ∷ ([], 3, pos 0 ∷ []) ∷ ([], 1, pos 1 ∷ []) ∷ ([], 4, pos 1 ∷ []) ∷ ([], 5, pos 1 ∷ pos 1 ∷ []) ∷ ([], 6, pos 1 ∷ pos 1 ∷ []) ∷ ([], 9, []) ∷ []
 left_blocks_run = refl
 
--- int main(void){ { long y; ; } ; } : the block's end has y still live, and behind it y is gone
+-- int main(void){ { long y; ; } ; } : the block's end has y still live, and after it y is gone
 abbrev inner_block : Program
 inner_block = main_alone (statement (block (declaration (fresh 1) (statement (nothing 2) no_more)) 3) (statement (nothing 4) no_more)) 5
 

@@ -46,7 +46,7 @@ abbrev pub falling : Program
 falling = main_alone (declaration input_to_x (declaration (record { label = 2; number_type = Long; rvalue = Some (value (number 0)) }) (statement
     (switch 3 x three_labels) (statement (set 8 0 (number 0)) no_more)))) 9
 
--- `case 1` falls through to the statements of `case 2`, and `break` goes behind the `switch`
+-- `case 1` falls through to the statements of `case 2`, and `break` goes after the `switch`
 -- catches a fall through that is lost, and a `break` that ends nothing
 one_falls : visited falling (pos 0 ∷ pos 1 ∷ pos 0 ∷ []) ≡ ([], 1, []) ∷ ([], 2, pos 1 ∷ []) ∷ ([], 3, pos 1 ∷ pos 0 ∷ []) ∷ ([], 4, pos 1 ∷ pos 0 ∷ [])
     ∷ ([], 5, pos 1 ∷ pos 1 ∷ []) ∷ ([], 6, pos 1 ∷ pos 3 ∷ []) ∷ ([], 8, pos 1 ∷ pos 3 ∷ []) ∷ ([], 9, pos 0 ∷ pos 3 ∷ []) ∷ []
@@ -73,7 +73,7 @@ five_breaks : visited three_switches (pos 5 ∷ []) ≡ ([], 1, []) ∷ ([], 2, 
     ∷ ([], 6, pos 5 ∷ []) ∷ ([], 7, pos 1 ∷ []) ∷ ([], 8, pos 1 ∷ []) ∷ []
 five_breaks = refl
 
--- -1: the second `switch` has neither its value nor a `default`, and the run goes on behind it; the third goes to
+-- -1: the second `switch` has neither its value nor a `default`, and the run goes on after it; the third goes to
 -- `case -1` and not to `default`, which stands before it
 minus_one : visited three_switches (negsuc 0 ∷ []) ≡ ([], 1, []) ∷ ([], 2, negsuc 0 ∷ []) ∷ ([], 3, negsuc 0 ∷ []) ∷ ([], 5, negsuc 0 ∷ [])
     ∷ ([], 7, negsuc 0 ∷ []) ∷ ([], 8, negsuc 0 ∷ []) ∷ []
@@ -135,6 +135,6 @@ continue_in_switch h = let e : false ≡ true = h.1.0 in cc
 continue_around : IsGoodStmt one_variable in_loop 0 (switch 1 (number 1) (case_of 1 (stated (continue 2) no_cases)))
 continue_around = (refl, (refl, tt))
 
--- numbers in text order, all of them: catches a statement behind a label that has none
+-- numbers in text order, all of them: catches a statement after a label that has none
 in_order : AreInTextOrder (in_a_loop.main ∷ []) × AreInTextOrder (three_switches.main ∷ [])
 in_order = (refl, refl)

@@ -1,4 +1,4 @@
--- Trails of small programs.
+-- Traces of small programs.
 use Rattle.std.proofs.Common.{◌≡◌, ℕ, ℤ, pos, List, [], ◌∷◌, ◌⊎◌, inl, inr, refl}
 use Rattle.lra_program.specs.{Run.Point, Step.State, Traces.visit, Traces.NoChange, Traces.Arrives, Traces.ViolatesAssertion}
 use Rattle.lra_program.proofs.RunExamples.{one_variable, failing}
@@ -38,8 +38,8 @@ failing_trail = (
 abbrev MayBeFive : State → State → Type 0
 MayBeFive s t = (t ≡ s) ⊎ (t ≡ state_of (pos 5 ∷ []) s.draws)
 
--- where that happens at the assertion's point, the run goes on behind it: what is met there is x as it came, and what
--- is tested is x as it became. Catches a change before the point is met, and one behind the step
+-- where that happens at the assertion's point, the run goes on after it: what is met there is x as it came, and what
+-- is tested is x as it became. Catches a change before the point is met, and one after the step
 past_failure : Arrives MayBeFive failing (pos 7 ∷ []) (point_of_main 4) (record {
   state = state_of (pos 5 ∷ []) [];
   events = visit (point_of_main 3) (state_of (pos 2 ∷ []) []) ∷ visit (point_of_main 2) (state_of (pos 7 ∷ []) []) ∷ visit (point_of_main 1) (state_of [] (pos 7 ∷ [])) ∷ [];

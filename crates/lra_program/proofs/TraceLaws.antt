@@ -1,4 +1,4 @@
--- A walk where nothing changes the state is a run; what a walk met before it stays behind it; from a point it goes on.
+-- A walk where nothing changes the state is a run; what a walk met before it stays after it; from a point it goes on.
 use Rattle.std.proofs.Common.{◌≡◌, ℕ, zero, suc, ℤ, List, [], ◌∷◌, ◌++◌, Option, Some, None, ◌⊎◌, inl, inr, refl, sym, ap, ◌∙◌, subst, IsTrue, append_assoc}
 use Rattle.std.specs.List.{AllByRecursion}
 use Rattle.lra_program.specs.Run.{Steps, start, label_on, Point, IsOn, Reaches, At, IsFailing, Fails}
@@ -46,7 +46,7 @@ denies_of P c p r on false_there =
 -- walks in parts -------------------------------------------------------------------------------------------------------
 
 module _ (may : State → State → Type 0) (P : Program) where
-  -- one behind the other
+  -- one after the other
   pub walk_on : (m n : ℕ) (c d e : Config) (xs ys zs : List (TraceEvent Point)) → TracedSteps may P m c xs d ys → TracedSteps may P n d ys e zs →
       (k : ℕ) × TracedSteps may P k c xs e zs
   walk_on zero n c d e xs ys zs (i, j) w = (n, rw (i, j) w)

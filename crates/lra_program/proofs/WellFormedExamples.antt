@@ -7,7 +7,8 @@ use Rattle.lra_program.specs.WellFormed.{AreInTextOrder, no_jumps, IsGoodExpr, I
 use Rattle.lra_program.proofs.RunExamples as run
 
 -- int main(void){ for (long i=0; ; i=i+1) { long j=i; if (j==1) break; continue; } }
--- catches a `for` whose labels are told with its body before its step, and a declared variable that doesn't live in the loop
+-- catches a `for` whose labels are reported with its body before its step, and a declared variable that doesn't live in
+-- the loop
 left_blocks_are_good : AreInTextOrder (run.left_blocks.main ∷ []) × IsGoodFunction run.left_blocks run.left_blocks.main
 left_blocks_are_good = (refl, (((refl, tt), refl, (omega arith, (((omega arith, refl), refl, tt), (refl, tt))), (omega arith, (omega arith, refl))), tt))
 

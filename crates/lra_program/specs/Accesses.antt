@@ -53,7 +53,7 @@ op_accesses_any op = nat_lt 0 (length (op_accesses op))
 
 -- the n-th has an index outside its array, when it is evaluated ------------------------------------------------------
 
--- the n-th of all is the m-th of those behind `first`
+-- the n-th of all is the m-th of those after `first`
 abbrev pub IsNthAfter : List Element → ℕ → ℕ → Type 0
 IsNthAfter first m n = n ≡ length first + m
 
@@ -93,7 +93,7 @@ ArgumentsOutOfBounds (a ∷ rest) s draws n = ExprOutOfBounds a.value s draws n 
     ((m : ℕ) × IsNthAfter (expr_accesses a.value) m n × (r : ℤ × List ℤ) × (value_of a.value s draws ≡ Some r) ×
     (z : ℤ) × (number a.number_type r.0 ≡ Some z) × ArgumentsOutOfBounds rest s r.1 m)
 
--- of an element and of what is done behind its index
+-- of an element and of what is done after its index
 abbrev pub AimedOutOfBounds : ℕ → Element → (State → ℕ → Type 0) → State → ℕ → Type 0
 AimedOutOfBounds base x Behind s n = ExprOutOfBounds (read_of x) (environment_at base s) s.draws n ⊎
     ((m : ℕ) × IsNthAfter (aim_accesses x) m n × (t : State) × (aim base x s ≡ Some t) × Behind t m)

@@ -1,5 +1,5 @@
--- What arrays hold. An array is told by the place where the source declares it, and what it holds stays until its
--- declarator fills it anew: in an accepted source calls are written out and nothing recurs, so a declarator has one
+-- What arrays hold. An array is given by the place where the source declares it, and what it holds stays until its
+-- declarator fills it again: in an accepted source calls are written out and nothing recurs, so a declarator has one
 -- array at a time.
 use Rattle.std.specs.Prelude.{ℕ, ℤ, pos, negsuc, Bool, ◌&&◌, if◌then◌else◌, nat_eq, nat_lt, List, [], ◌∷◌, Option, Some}
 use Rattle.std.specs.Prelude.{None, slice_set}

@@ -29,7 +29,7 @@ module _ (Q : Op → State → Type 0) (P : Program) where
   ReturnOpIs None k h s = ⊥
   ReturnOpIs (Some e) k h s = RvalueOpIs (receiver_of P (return_target k)) e h s
 
-  -- behind the new variable
+  -- after the new variable
   abbrev pub DeclaratorOpIs : NumberType → Option Rvalue → CallContext → State → Type 0
   DeclaratorOpIs t None h s = ⊥
   DeclaratorOpIs t (Some e) h s = (m : State) × (run_op (append t) s ≡ Some m) ×

@@ -40,7 +40,7 @@ CondOverflows (both_of c d) s draws = CondOverflows c s draws ⊎
 CondOverflows (either_of c d) s draws = CondOverflows c s draws ⊎
     ((left : List ℤ) × (truth_of c s draws ≡ Some (false, left)) × CondOverflows d s left)
 
--- or has a value that doesn't come to the receiver
+-- or has a value that doesn't reach the receiver
 abbrev pub GivenOverflows : Receiver → Expr → Environment → List ℤ → Type 0
 GivenOverflows x e s draws = ExprOverflows e s draws ⊎
     ((r : ℤ × List ℤ) × (value_of e s draws ≡ Some r) × (accepts x r.0 ≡ false))
@@ -89,7 +89,7 @@ op_computes (test base c wanted) = cond_computes c
 
 -- least changes -----------------------------------------------------------------------------------------------------
 
--- the element's index does, or what is done behind it
+-- the element's index does, or what is done after it
 abbrev pub AimedOverflows : ℕ → Element → (State → Type 0) → State → Type 0
 AimedOverflows base x Behind s = ExprOverflows x.index (environment_at base s) s.draws ⊎
     ((m : State) × (aim base x s ≡ Some m) × Behind m)

@@ -84,7 +84,7 @@ mutual
     call : ℕ → Call → Stmt
     -- the branch where the condition is true, and the one where it is false
     if : ℕ → Cond → Stmt → Stmt → Stmt
-    -- a loop: its body, and the step behind each round
+    -- a loop: its body, and the step after each round
     loop : ℕ → Cond → Stmt → Stmt → Stmt
     -- a `for`: how it begins, and its loop's test, body and step; at the loop's end the store is cut back
     for : ℕ → BlockItems → Cond → Stmt → Stmt → Stmt

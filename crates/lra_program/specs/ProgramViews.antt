@@ -94,7 +94,7 @@ given_view = option_map rvalue_view
 abbrev pub declarator_view : Declarator → program.Declarator
 declarator_view d = record { label = d.label; number_type = d.number_type; rvalue = given_view d.rvalue }
 
--- statements: an item of a block is what it puts before the items behind it -----------------------
+-- statements: an item of a block is what it puts before the items after it ------------------------
 
 abbrev pub ItemPart : Type 0
 ItemPart = program.BlockItems → program.BlockItems
@@ -103,7 +103,7 @@ abbrev pub items_of : List ItemPart → program.BlockItems
 items_of [] = program.no_more
 items_of (f ∷ fs) = f (items_of fs)
 
--- and one of a `switch` is what it puts before those behind it
+-- and one of a `switch` is what it puts before those after it
 abbrev pub CasePart : Type 0
 CasePart = program.Cases → program.Cases
 

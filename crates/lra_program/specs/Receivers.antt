@@ -10,7 +10,7 @@ use Rattle.lra_program.specs.declared.receivers.ConversionChain.TheVariants.{Wid
 use Rattle.lra_program.specs.{declared.arrays.Array.Array, declared.receivers.ConversionChain.ConversionChain}
 use Rattle.lra_program.specs.{declared.receivers.Receiver.Receiver, declared.receivers.Target.Target}
 
--- a further type stands before those of the way, which are told as far as they matter
+-- a further type stands before those of the way, which are reported as far as they matter
 abbrev pub with_conversion : NumberType → ConversionChain → ConversionChain
 with_conversion Int Wide = Short
 with_conversion Int Short = Short
@@ -59,7 +59,7 @@ nobody = record { target = None; conversions = Wide }
 abbrev pub result_receiver : Option NumberType → Receiver → Receiver
 result_receiver t r = record r { conversions = passed_on t r.conversions }
 
--- a parameter of this type, whose place is told elsewhere
+-- a parameter of this type, whose place is reported elsewhere
 abbrev pub parameter_of : NumberType → Receiver
 parameter_of t = result_receiver (Some t) nobody
 
@@ -69,7 +69,7 @@ is_shorter Long Long = false
 is_shorter Int t = false
 
 -- a value of this type is converted from 64 bits to 32 on its way to the receiver. (Of each receiver made above the way
--- alone tells it: the target's type is on it.)
+-- alone reports it: the target's type is on it.)
 abbrev pub shortens : NumberType → Option Target → Bool
 shortens t None = false
 shortens t (Some x) = is_shorter t x.number_type

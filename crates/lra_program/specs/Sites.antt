@@ -1,5 +1,5 @@
--- The points of a program with its calls written out, in text order, a callee's points behind its call's.
--- No path has more than 32 calls: a further one is told in place of its points.
+-- The points of a program with its calls written out, in text order, a callee's points after its call's.
+-- No path has more than 32 calls: a further one is reported in place of its points.
 use Rattle.std.specs.Prelude.{ℕ, zero, suc, ◌+◌, Bool, true, false, List, [], ◌∷◌, ◌++◌, length, Option, Some, None}
 use Rattle.std.specs.Prelude.{slice_get}
 use Rattle.lra_base.specs.TextOrder.{for_order}
@@ -26,7 +26,7 @@ greatest_calls = 32
 abbrev pub plain_site : List ℕ → ℕ → ℕ → Event
 plain_site path at live = comes (record { path = path; label = at; live = live; asserts = false })
 
--- how many variables live behind some items; an array is none
+-- how many variables live after some items; an array is none
 abbrev pub live_after_items : ℕ → BlockItems → ℕ
 live_after_items live no_more = live
 live_after_items live (declaration d items) = live_after_items (suc live) items

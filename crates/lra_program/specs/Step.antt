@@ -133,7 +133,7 @@ pub data Item : Type 0 where
   next_round : Stmt → Stmt → ℕ → Item
   -- what is left of a `switch`: its labels do nothing
   cases : Cases → Item
-  -- behind a `switch`, and how long the store is there
+  -- after a `switch`, and how long the store is there
   end_switch : ℕ → Item
   end_for : ℕ → Item
   -- a function's end
@@ -146,7 +146,7 @@ pub record Config : Type 0 where
   pub here : CallContext
   pub state : State
 
--- what `break` leaves: how long the store is at the nearest loop or `switch` of this call, and the items behind it
+-- what `break` leaves: how long the store is at the nearest loop or `switch` of this call, and the items after it
 pub record BreakTarget : Type 0 where
   pub length : ℕ
   pub rest : List Item
@@ -165,7 +165,7 @@ break_target (end_for n ∷ k) = break_target k
 break_target (return_frame b ∷ k) = None
 break_target (leave_call ∷ k) = break_target k
 
--- where `continue` goes on: the nearest round's end of this call, and the items behind it
+-- where `continue` goes on: the nearest round's end of this call, and the items after it
 pub record ContinueTarget : Type 0 where
   pub step : Stmt
   pub again : Stmt
@@ -278,13 +278,13 @@ do_return P (Some (value e)) k h s =
     do_leave (return_target k) (run_op (store_value h.base (receiver_of P (return_target k)) e) s)
 do_return P (Some (result c)) k h s = do_rvalue P (receiver_of P (return_target k)) (result c) (leave_call ∷ k) h s
 
--- what stands behind the first such label
+-- what comes after the first such label
 abbrev pub cases_after_label : CaseLabel → Cases → Cases
 cases_after_label l no_cases = no_cases
 cases_after_label l (labelled m cs) = cond (is_same_case l m) cs (cases_after_label l cs)
 cases_after_label l (stated a cs) = cases_after_label l cs
 
--- what runs of them for this value: what stands behind the label that names it, else behind `default`, else nothing
+-- what runs of them for this value: what comes after the label that names it, else after `default`, else nothing
 abbrev pub chosen : ℤ → Cases → Cases
 chosen z cs = cases_after_label (goal_of z (labels_of cs)) cs
 
@@ -323,7 +323,7 @@ do_all (declaration d b) k h s = go (declare d ∷ all b ∷ k) h (Some s)
 do_all (array at a b) k h s = go (declare_array at a ∷ all b ∷ k) h (Some s)
 do_all (statement a b) k h s = go (run a ∷ all b ∷ k) h (Some s)
 
--- the statements behind a label run one after the other, past further labels
+-- the statements after a label run one after the other, past further labels
 abbrev pub do_cases : Cases → List Item → CallContext → State → Option Config
 do_cases no_cases k h s = go k h (Some s)
 do_cases (labelled l cs) k h s = go (cases cs ∷ k) h (Some s)

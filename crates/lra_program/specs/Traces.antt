@@ -4,7 +4,7 @@ use Rattle.std.specs.Prelude.{◌≡◌, ℕ, zero, suc, ℤ, List, [], ◌∷�
 use Rattle.lra_program.specs.Run.{start, label_on, Point, IsOn, IsFailing}
 use Rattle.lra_program.specs.{Program.Program, Step.State, Step.Config, Step.next_at}
 
--- what a run meets; A is what tells points apart
+-- what a run meets; A is what distinguishes points
 pub data TraceEvent (A : Type 0) : Type 0 where
   -- the point, and the state that came there
   visit : A → State → TraceEvent A
@@ -36,12 +36,12 @@ module _ (may : State → State → Type 0) where
       (next_at P c.items c.here s ≡ Some e)
       × TracedSteps P n e (with_visit (label_on c.items) c.here.path c.state xs) d ys
 
-  -- a run with these draws, any numbers, comes to the point on this trail
+  -- a run with these draws, any numbers, reaches the point on this trace
   abbrev pub Arrives : Program → List ℤ → Point → Trace Point → Type 0
   Arrives P draws p a =
       (n : ℕ) × (c : Config) × TracedSteps P n (start P draws) [] c a.events × IsOn c p × (c.state ≡ a.state)
 
-  -- and the point is that of an assertion, which is passed, and false in the state that the trail ends with
+  -- and the point is that of an assertion, which is passed, and false in the state that the trace ends with
   abbrev pub ViolatesAssertion : Program → List ℤ → Point → Trace Point → Type 0
   ViolatesAssertion P draws p a =
       (n : ℕ) × (c : Config) × (xs : List (TraceEvent Point)) × TracedSteps P n (start P draws) [] c xs × IsOn c p ×

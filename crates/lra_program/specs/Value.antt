@@ -53,7 +53,7 @@ compares at_least x y = int_le y x
 compares equal x y = if int_le x y then int_le y x else false
 compares differs x y = not (if int_le x y then int_le y x else false)
 
--- where a variable stands in the store: the call's own come behind the first `base`
+-- where a variable stands in the store: the call's own come after the first `base`
 abbrev pub index_of : ℕ → Slot → ℕ
 index_of base (global k) = k
 index_of base (local k) = base + k
@@ -64,7 +64,7 @@ pub record Environment : Type 0 where
   pub store : List ℤ
   pub arrays : Contents
 
--- a result and the draws behind it
+-- a result and the draws after it
 abbrev pub Drawn : Type 0 → Type 0
 Drawn A = Option (A × List ℤ)
 

@@ -1,6 +1,6 @@
 -- Well-formed programs: what holds of the program that a source without faults means. A program made by hand may have a
 -- number that its type doesn't have, one label twice, a variable that isn't there, or a call without a callee; its runs
--- are told all the same, and stop or go on as they may. Whether a variable has the type that it is read with isn't
+-- are reported all the same, and stop or go on as they may. Whether a variable has the type that it is read with isn't
 -- asked here, nor whether an array is there: the steps ask it where they read one, and lose what is written to one.
 use Rattle.std.specs.List.{AllByRecursion, Contains, flat_map, range_with_len}
 use Rattle.std.specs.Prelude.{◌≡◌, ℕ, suc, ◌<◌, pos, Bool, true, false, List, [], ◌∷◌, ◌++◌, length, Option, Some, None}

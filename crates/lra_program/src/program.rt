@@ -175,7 +175,7 @@ pub enum Stmt {
     Call(usize, Call),
     /// The branch where the condition is true, and the one where it is false.
     If(usize, Cond, Box<Stmt>, Box<Stmt>),
-    /// The body, and the step behind each round.
+    /// The body, and the step after each round.
     Loop(usize, Cond, Box<Stmt>, Box<Stmt>),
     /// Its variables live at the label too.
     For {

@@ -14,7 +14,7 @@ pub enum ConversionChain {
     Wide,
     /// One has 32 bits, and none before it 64.
     Short,
-    /// One of 32 bits stands behind one of 64.
+    /// One of 32 bits comes after one of 64.
     Shortened,
 }
 

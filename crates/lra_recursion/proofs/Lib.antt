@@ -8,7 +8,7 @@ mod Placing
 mod Reading
 -- A call is added to the row of its caller.
 mod Adding
--- What is come to by places is what functions reach, and the first call that comes back.
+-- What is reached by places is what functions reach, and the first call that comes back.
 mod Reaching
 -- Each source has a first recursive call, or none.
 pub mod Deciding

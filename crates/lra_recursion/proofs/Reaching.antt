@@ -1,4 +1,4 @@
--- What is come to by places is what functions reach; what the first call that comes back says of the source.
+-- What is reached by places is what functions reach; what the first call that comes back says of the source.
 use Rattle.std.proofs.Common.{◌≡◌, ℕ, ◌<◌, List, [], ◌∷◌, ◌++◌, length, map, Option, Some, None, slice_get, get_or, refl, sym, ap, ◌∙◌, subst, arith}
 use Rattle.std.proofs.{lemmas.List.length-map, lemmas.Option.slice_get-get_or, lemmas.Option.get_or_from_slice_get, lemmas.Option.slice_get_within}
 use Rattle.std.specs.{List.Contains, List.AllByRecursion, Prelude.option_to_list, Prelude.Vec, Prelude.Result, Prelude.Ok, Prelude.Err, Prelude.IfOk, Prelude.MatchOption, declared.alloc.Global.Global}

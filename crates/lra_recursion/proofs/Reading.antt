@@ -15,7 +15,7 @@ calls_both : (F : List FunctionTree) (k : ℕ) (a b : List Identifier) → calls
 calls_both F k [] b = refl
 calls_both F k (x ∷ a) b = ap (λ cs. option_to_list (call_of F k x) ++ cs) (calls_both F k a b) ∙ sym (append_assoc (option_to_list (call_of F k x)) (calls_by F k a) (calls_by F k b))
 
--- the first label from a place on, and those behind it
+-- the first label from a place on, and those after it
 first_called : (ls : List Labelled) (i n : ℕ) → called_names (take (suc n) (drop i ls)) ≡ called_at (slice_get ls i) ++ called_names (take n (drop (suc i) ls))
 first_called [] zero zero = refl
 first_called [] zero (suc n) = refl
@@ -34,7 +34,7 @@ one_label F k ls i end l =
 no_label : (ls : List Labelled) (i end : ℕ) → end ≤ i → labels_between ls i end ≡ []
 no_label ls i end l = let n : end - i ≡ 0 = omega (arith, l) in ap (λ m. take m (drop i ls)) n
 
--- the labels that are left, behind one more
+-- the labels that are left, after one more
 pub further_label : (F : List FunctionTree) (k : ℕ) (ls : List Labelled) (i end : ℕ) (o : Option Call) (old new whole : List Call) → i < end
     → option_to_list o ≡ calls_by F k (called_at (label_at ls (i + 1))) → new ≡ old ++ option_to_list o
     → old ++ calls_by F k (called_names (labels_between ls i end)) ≡ whole → new ++ calls_by F k (called_names (labels_between ls (i + 1) end)) ≡ whole

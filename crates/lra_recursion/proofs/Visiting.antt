@@ -6,7 +6,7 @@ use Rattle.std.specs.List.{Contains}
 use Rattle.lra_recursion.specs.Search.{IsReachableFrom, begins, goes_on, IsVisited, missing, MarksVisited}
 use Rattle.lra_recursion.proofs.Elements.{only_one, has_one, nothing_in, same_at}
 
--- All that is met is come to; what a search begins with is met, and so is the row of each place that is met, unless the
+-- All that is met is reached; what a search begins with is met, and so is the row of each place that is met, unless the
 -- place is still open.
 pub record IsUnderWay (rows : List (List ℕ)) (start : ℕ) (met : List Bool) (open_ones : List ℕ) : Type 0 where
   pub size : length met ≡ length rows

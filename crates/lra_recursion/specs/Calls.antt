@@ -40,11 +40,11 @@ abbrev pub called_at : Option Labelled → List Identifier
 called_at None = []
 called_at (Some l) = option_to_list l.called
 
--- the labels of a function that ends at the label `end`, behind those before
+-- the labels of a function that ends at the label `end`, after those before
 abbrev pub labels_between : List Labelled → ℕ → ℕ → List Labelled
 labels_between ls before end = take (end - before) (drop before ls)
 
--- the calls of functions at these places by their labels, behind those before
+-- the calls of functions at these places by their labels, after those before
 abbrev pub calls_behind : List FunctionTree → List Labelled → ℕ → List ℕ → List Function → List Call
 calls_behind F ls before callers [] = []
 calls_behind F ls before [] (f ∷ fs) = []

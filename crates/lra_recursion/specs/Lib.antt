@@ -1,4 +1,4 @@
--- The calls of functions by places, which places a search comes to, and which calls come back.
+-- The calls of functions by places, which places a search reaches, and which calls come back.
 pub mod Calls
 pub mod Search
 pub mod Recursion

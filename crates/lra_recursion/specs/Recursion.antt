@@ -1,9 +1,9 @@
--- Calls whose callee comes to their caller, in the places of functions.
+-- Calls whose callee reaches their caller, in the places of functions.
 use Rattle.std.specs.{List.AllByRecursion, Prelude.◌≡◌, Prelude.ℕ, Prelude.List, Prelude.◌∷◌, Prelude.◌++◌}
 use Rattle.lra_base.specs.declared.refusals.Place.{Place}
 use Rattle.lra_recursion.specs.{Search.IsReachableFrom, declared.calls.Call.Call}
 
--- the callee comes to the caller
+-- the callee reaches the caller
 abbrev pub IsRecursiveCall : List (List ℕ) → Call → Type 0
 IsRecursiveCall rows c = IsReachableFrom rows c.callee c.caller
 

@@ -1,8 +1,8 @@
--- Which places are come to, and how a search comes to them.
+-- Which places are reached, and how a search reaches them.
 use Rattle.std.specs.Prelude.{◌≡◌, ◌<◌, ◌+◌, ◌⊎◌, ℕ, Bool, true, false, List, length, slice_index_or, slice_get, Some}
 use Rattle.std.specs.{List.sum_by, Prelude.Contains}
 
--- that with which a search begins, and those in the row of one that is come to
+-- that with which a search begins, and those in the row of one that is reached
 pub data IsReachableFrom (rows : List (List ℕ)) (start : ℕ) : ℕ → Type 0 where
   begins : start < length rows → IsReachableFrom rows start start
   goes_on : (j k : ℕ) (row : List ℕ) → k < length rows → IsReachableFrom rows start j → slice_get rows j ≡ Some row →

@@ -17,7 +17,7 @@ use lra_scopes::Functions;
 use lra_syntax::TranslationUnit;
 use std::alloc::{AllocError, Global};
 
-/// Whether the callee comes to the caller.
+/// Whether the callee reaches the caller.
 fn is_back(alloc: Global, rows: &[Vec<usize>], call: Call) -> Result<bool, AllocError>
     ensures { IfOk result (λ b. IsTrue b ↔ IsRecursiveCall (map (λ row. row.items) rows.now) call) }
 {
@@ -25,7 +25,7 @@ fn is_back(alloc: Global, rows: &[Vec<usize>], call: Call) -> Result<bool, Alloc
     Ok(call.caller < met.len() && met[call.caller])
 }
 
-/// The place of the first of these calls whose callee comes to its caller.
+/// The place of the first of these calls whose callee reaches its caller.
 fn first_back(
     alloc: Global,
     rows: &[Vec<usize>],
@@ -43,7 +43,7 @@ fn first_back(
     Ok(None)
 }
 
-/// The place of the first call, in text order, whose callee reaches the function that holds it; what is called is told
+/// The place of the first call, in text order, whose callee reaches the function that holds it; what is called is given
 /// by the labels of the source's program.
 pub fn first_recursive(
     alloc: Global,

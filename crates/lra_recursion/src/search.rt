@@ -1,4 +1,4 @@
-//! Which places are come to from one, by rows of further places: a worklist.
+//! Which places are reached from one, by rows of further places: a worklist.
 
 ghost use Rattle.std.specs.Prelude.{◌↔◌, ◌∷◌, [], ℕ, map, IfOk};
 ghost use Rattle.lra_recursion.specs.Search.{IsReachableFrom, IsVisited, MarksVisited};
@@ -39,7 +39,7 @@ impl Search {
     }
 }
 
-/// For each place whether it is come to.
+/// For each place whether it is reached.
 pub fn reached(alloc: Global, rows: &[Vec<usize>], start: usize) -> Result<Vec<bool>, AllocError>
     ensures { IfOk result
         (λ met. (k : ℕ) → IsVisited met.items k ↔ IsReachableFrom (map (λ row. row.items) rows.now) start k) }

@@ -1,4 +1,4 @@
--- The rows and generators of canonical lists are such as a text tells apart.
+-- The rows and generators of canonical lists are such as a text distinguishes.
 use Rattle.std.proofs.Common.{◌≡◌, ℕ, zero, suc, ◌<◌, ℤ, pos, negsuc, nat_abs, ◌<ℤ◌, false, List, [], ◌∷◌, refl, ap, arith, inl, inr}
 use Rattle.std.proofs.lemmas.Int.{ints}
 use Rattle.std.specs.List.{AllByRecursion}

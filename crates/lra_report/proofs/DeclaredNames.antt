@@ -23,7 +23,7 @@ AreFew most live = AllByRecursion (λ n. is_name_word n ≡ true) live × (lengt
 abbrev pub AreFewAt : ℕ → Labelled → Type 0
 AreFewAt most l = AreFew most l.live × AreFew most l.live_in_call
 
--- and no more than most with a name for each piece of the text behind
+-- and no more than most with a name for each piece of the text after
 abbrev pub HasRoom : ℕ → List (List ℕ) → Pieces → Type 0
 HasRoom most live z = AllByRecursion (λ n. is_name_word n ≡ true) live × (length live + length z ≤ most) × AllByRecursion IsNamed z
 
@@ -74,7 +74,7 @@ last_declares ws z a b e d h =
     let n = ap (λ (y : Pieces). length y) e in
     (own.0, omega (arith, some, n, length-append a b))
 
--- behind its name, a scalar declares that, an array nothing
+-- after its name, a scalar declares that, an array nothing
 shape_declares : {A : Type 0} (x : Identifier) (shape : ScalarOrArrayTree A) (z a b : Pieces) → z ≡ a ++ b → name x 0 a → Declares (name_in x.word shape) z
 shape_declares x (scalar v) z a b e is h = first_declares (x.word ∷ []) z a b e (name_declares x 0 a is) h
 shape_declares x (array n) z a b e is h = (tt, omega arith)
@@ -153,7 +153,7 @@ step_few most (Some a) live few = ((few, few), tt)
 
 -- statements ---------------------------------------------------------------------
 
--- an item's text and those of the items behind it
+-- an item's text and those of the items after it
 mutual
   stmt_few : (most o l : ℕ) (t : StmtTree) (live : List (List ℕ)) (z : Pieces) → IsStmt o l t z → HasRoom most live z → AllByRecursion (AreFewAt most)
       (stmt_labels live t)

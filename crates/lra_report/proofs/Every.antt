@@ -1,4 +1,4 @@
--- What holds of all elements of two lists holds of those of the one behind the other, and back.
+-- What holds of all elements of two lists holds of those of the one after the other, and back.
 use Rattle.std.proofs.Common.{List, [], ◌∷◌, ◌++◌}
 use Rattle.std.specs.List.{AllByRecursion}
 

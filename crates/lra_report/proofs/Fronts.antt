@@ -1,4 +1,4 @@
--- Where a text goes on: what stands before is told by what follows it.
+-- Where a text goes on: what stands before is given by what follows it.
 use Rattle.std.specs.{Char.is_ascii_digit, List.AllByRecursion, Prelude.⊤}
 use Rattle.std.proofs.Common.{◌≡◌, ◌≢◌, ℕ, ◌<◌, nat_lt, Bool, true, false, List, [], ◌∷◌, ◌++◌, length, refl, ap, sym, ◌∙◌, arith}
 use Rattle.std.proofs.lemmas.Bool.{both_ways}
@@ -29,7 +29,7 @@ not_longer : (p : ℕ → Bool) (y : ℕ) (ys u : List ℕ) → p y ≡ true →
 not_longer p y ys [] pass end e = cc
 not_longer p y ys (b ∷ u) pass end e = apart p y b pass end (sym (first_same e))
 
--- the longest front that passes
+-- the longest prefix that passes
 pub front_same : (p : ℕ → Bool) (xs ys u v : List ℕ) → Passes p xs → Passes p ys → Ends p u → Ends p v → xs ++ u ≡ ys ++ v → (xs ≡ ys) × (u ≡ v)
 front_same p [] [] u v px py eu ev e = (refl, e)
 front_same p [] (y ∷ ys) u v px py eu ev e = absurd (not_longer p y (ys ++ v) u py.0 eu e)

@@ -1,4 +1,4 @@
--- What the text of a verdict tells.
+-- What the text of a verdict reports.
 pub mod Outcomes
 -- Worked examples.
 pub mod ReportTextExamples

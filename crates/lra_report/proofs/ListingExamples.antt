@@ -70,7 +70,7 @@ unfolding one_variable_body
 one_variable_judged = (refl, tt)
 
 -- `b[1]=0; a[b[0]]=b[1];`, where a is declared at 6 and b at 12: the target's index first, then the target, then what it
--- gets, each at its array's name. Catches accesses that are numbered through all points, or told at the declarator
+-- gets, each at its array's name. Catches accesses that are numbered through all points, or reported at the declarator
 abbrev access_of : ℕ → ℕ → Element
 access_of declared c = record { array = record { declared = at declared; length = 3; number_type = Long }; place = at c; index = input }
 

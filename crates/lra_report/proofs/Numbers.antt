@@ -1,4 +1,4 @@
--- Numbers in a text are told by it.
+-- Numbers in a text are reported by it.
 use Rattle.std.proofs.Common.{◌≡◌, ℕ, zero, suc, ◌<◌, ◌+◌, ◌/◌, ◌%◌, ◌^◌, ◌==◌, ℤ, pos, negsuc, nat_abs, Bool, true, false, List, [], ◌∷◌, ◌++◌, if◌then◌else◌, ap, sym, ◌∙◌, lt-ltb, arith}
 use Rattle.std.proofs.{lemmas.Bool.le-leb, lemmas.Bool.and_from, lemmas.Fmt.decimal_is_IsNumeral_wide, lemmas.Nat.mod_below}
 use Rattle.std.specs.{Char.is_ascii_digit, Fmt.decimal, Fmt.digits, Fmt.digit_glyph, Fmt.digits_onto, Fmt.signed_decimal, Str.Parse.digits_value}

@@ -59,7 +59,7 @@ plain_letter (a ∷ (b ∷ [])) [] h = refl
 plain_letter (a ∷ (b ∷ [])) (c ∷ u) h = rw h refl
 plain_letter (a ∷ (b ∷ (c ∷ w))) u h = rw h refl
 
--- what stands behind the word of a verdict
+-- what comes after the word of a verdict
 behind_word : (w a d p l o r u : List ℕ) → ((((((((((w ++ a) ++ d) ++ a) ++ p) ++ a) ++ l) ++ a) ++ o) ++ 10 ∷ []) ++ r) ++ u ≡ w ++
     (a ++ (d ++ (a ++ (p ++ (a ++ (l ++ (a ++ (o ++ (10 ∷ (r ++ u))))))))))
 behind_word w a d p l o r u = simp append_assoc

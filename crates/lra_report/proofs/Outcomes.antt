@@ -1,4 +1,4 @@
--- The line of a verdict tells whether it holds.
+-- The line of a verdict says whether it holds.
 use Rattle.std.proofs.Common.{◌≡◌, ℕ, Bool, true, false, List, [], ◌∷◌, ◌++◌, refl, ap, sym, ◌∙◌}
 use Rattle.std.proofs.{lemmas.Bool.eqb-false, lemmas.List.append_cancel_left}
 use Rattle.std.specs.Prelude.{get_or}
@@ -17,7 +17,7 @@ apart kind u v e =
     let first : get_or yes 0 10 ≡ get_or no 0 10 = sym (first_of yes u) ∙ ap (λ (t : List ℕ). get_or t 0 10) e ∙ first_of no v in
     eqb-false (get_or yes 0 10) (get_or no 0 10) (row_of kind).apart first
 
--- what stands behind an outcome at the end of a line
+-- what comes after an outcome at the end of a line
 pub outcome_same : (kind : VerdictKind) (b c : Bool) (u v : List ℕ) → outcome_text kind b ++ (10 ∷ u) ≡ outcome_text kind c ++ (10 ∷ v) → (b ≡ c) × (u ≡ v)
 outcome_same kind true true u v e = (refl, rest_same (append_cancel_left (row_of kind).if_holds (10 ∷ u) (10 ∷ v) e))
 outcome_same kind false false u v e = (refl, rest_same (append_cancel_left (row_of kind).if_open (10 ∷ u) (10 ∷ v) e))

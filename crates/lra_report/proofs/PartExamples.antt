@@ -1,4 +1,4 @@
--- Parts that tell what their domain has. Which slip an example would catch stands beside it.
+-- Parts that say what their domain has. Which slip an example would catch stands beside it.
 use Rattle.std.proofs.Common.{◌≡◌, ℕ, zero, suc, ℤ, pos, negsuc, ◌*ℤ◌, List, [], ◌∷◌, refl, arith, length, ◌+ℤ◌}
 use Rattle.std.proofs.lemmas.Int.{ints}
 use Rattle.std.specs.{Int.Signed.le_z_yes, Prelude.get_or, Prelude.map}

@@ -105,7 +105,7 @@ fitting = record {
   verdicts = fit 2 (at 1 26) true ∷ fit 3 (at 1 33) false ∷ [];
 }
 
--- catches a line of what fits that counts, or an option that isn't told
+-- catches a line of what fits that counts, or an option that isn't reported
 fitting_text : report_text fitting ≡ lines (
     codes "analysis box parts 1 delay 1 narrow 1 limited no fits yes"
     ∷ codes "flagged 0"
@@ -131,7 +131,7 @@ accessing = record {
   verdicts = access 2 0 (at 1 27) true ∷ access 2 1 (at 1 32) true ∷ access 3 0 (at 1 38) false ∷ [];
 }
 
--- catches an access that isn't counted, and one that is told by its number at the point
+-- catches an access that isn't counted, and one that is given by its number at the point
 accessing_text : report_text accessing ≡ lines (
     codes "analysis box parts 1 delay 1 narrow 1 limited no"
     ∷ codes "flagged 0"

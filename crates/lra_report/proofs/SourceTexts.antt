@@ -1,4 +1,4 @@
--- Reports of one accepted source are told by their texts.
+-- Reports of one accepted source are given by their texts.
 use Rattle.std.proofs.Common.{sym, ◌∙◌, subst}
 use Rattle.lra_syntax.specs.{Faults.Language, Grammar.Spells, Texts.Pieces, Trees.FileTree}
 use Rattle.lra_report.specs.{Listing.Lists, Report.Report, Spelled.OneAcceptedText, Spelled.OneSourceText}

@@ -1,4 +1,4 @@
--- What one text would tell of two rows, points or variables, where a premise is left out.
+-- What one text would say of two rows, points or variables, where a premise is left out.
 use Rattle.std.proofs.Common.{◌≡◌, ℕ, ℤ, pos, negsuc, List, [], ◌∷◌, codes, refl}
 use Rattle.std.specs.Fmt.{digits}
 use Rattle.lra_linear_spec.specs.{declared.ConKind.TheVariants.Eq, declared.GenKind.TheVariants.Point}

@@ -8,7 +8,7 @@ use Rattle.lra_report.specs.{Report.Invariant, ReportText.further_parts_text, Re
 use Rattle.lra_report.proofs.{Fronts.AreShownNames, Fronts.rest_same, Fronts.both_same, GeneratorTexts.generator_same, RowTexts.row_same, RowTexts.row_not_true}
 use Rattle.lra_report.proofs.GeneratorTexts.{value_pieces}
 
--- the first letter of a line of a state, behind its two blanks; 0 elsewhere
+-- the first letter of a line of a state, after its two blanks; 0 elsewhere
 abbrev pub letter : List ℕ → ℕ
 letter [] = 0
 letter (a ∷ []) = 0

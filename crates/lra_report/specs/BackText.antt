@@ -1,4 +1,4 @@
--- What is written of going back from an assertion: at each point what is left there, as a report tells it, and whether
+-- What is written of going back from an assertion: at each point what is left there, as a report shows it, and whether
 -- the assertion is proved.
 use Rattle.std.specs.Prelude.{ℕ, List, ◌++◌, codes, Option, Bool}
 use Rattle.std.specs.{Fmt.decimal, List.flat_map}

@@ -159,7 +159,7 @@ pub record AreParts (o : Options) (p : PointReport) : Type 0 where
 
 -- what is written of an accepted source of the language L under these options: all its points and what is judged of
 -- them; at each point what every run meets there; no assertion that fails is proved, no run stops by a number where
--- all is told to fit, and none evaluates an access outside its array that is told to be in bounds
+-- all is reported to fit, and none evaluates an access outside its array that is reported to be in bounds
 pub record IsReportOf (L : Language) (o : Options) (source : List ℕ) (r : Report) : Type 0 where
   pub options : r.options ≡ o
   pub tree : FileTree

@@ -1,6 +1,6 @@
--- What a part tells by its rows, and what by its generators: two sets of points with rational coordinates (Minkowski
+-- What a part reports by its rows, and what by its generators: two sets of points with rational coordinates (Minkowski
 -- 1896, Weyl 1935).
--- A report has the generators only over polyhedra, and there both tell the same points.
+-- A report has the generators only over polyhedra, and there both describe the same points.
 use Rattle.std.specs.Prelude.{◌≡◌, ◌↔◌, ℕ, ◌<◌, ℤ, pos, ◌+ℤ◌, ◌*ℤ◌, ◌≤ℤ◌, List, [], ◌∷◌, length, map, get_or, ⊤, Bool}
 use Rattle.std.specs.{List.AllByRecursion, Prelude.true, Prelude.false}
 use Rattle.lra_options.specs.{Domains.shows_generators, declared.options.Domain.Domain}
@@ -48,7 +48,7 @@ pub record IsGenerated (gs : List ReportGenerator) (x : RationalPoint) : Type 0 
   pub numerators : (j : ℕ) → pos multiple *ℤ get_or x.numerators j (pos 0) ≡
       product factors (map (λ (g : ReportGenerator). get_or g.numbers j (pos 0)) gs)
 
--- rows and generators tell the same points of n coordinates
+-- rows and generators describe the same points of n coordinates
 abbrev pub HasSamePoints : ℕ → Part → Type 0
 HasSamePoints n part = (x : RationalPoint) → IsReportPoint n x →
     (LiesInPart part.rows x ↔ IsGenerated part.generators x)

@@ -1,5 +1,5 @@
--- When a text tells what it was written of: canonical lists, numbers of the range, and names of variables that can be
--- told apart.
+-- When a text says what it was written of: canonical lists, numbers of the range, and names of variables that can be
+-- distinguished.
 use Rattle.std.specs.List.{AllByRecursion}
 use Rattle.std.specs.Prelude.{◌≡◌, ℕ, ℤ, pos, List, ◌∷◌, length, true, false, ⊤, ◌<◌, ◌^◌, Option, Some, None}
 use Rattle.lra_linear_spec.specs.LowestTerms.{IsPrimitive}

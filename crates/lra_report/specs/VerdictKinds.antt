@@ -9,8 +9,8 @@ use Rattle.lra_report.specs.declared.verdict_kinds.VerdictKind.TheVariants.{Asse
 
 -- `word` begins its lines. Its outcome is `if_holds` where no run breaks it, `if_open` where that isn't known. Those
 -- that count are in the last line and in the status. `own_place`: they have a place of their own, not their point's,
--- and JSON tells it. In JSON they stand under `key`, where it `stands` for these options and for whether any verdict
--- is told under it: surely where one is.
+-- and JSON reports it. In JSON they stand under `key`, where it `stands` for these options and for whether any verdict
+-- is reported under it: surely where one is.
 pub record VerdictRow : Type 0 where
   pub word : List ℕ
   pub if_holds : List ℕ
@@ -20,7 +20,7 @@ pub record VerdictRow : Type 0 where
   pub key : List ℕ
   pub stands : Options → Bool → Bool
   pub tells : (options : Options) → stands options true ≡ true
-  -- the word begins with another byte than a blank, and the outcomes with different bytes: a text tells which it has
+  -- the word begins with another byte than a blank, and the outcomes with different bytes: a text says which it has
   pub begins : nat_eq (get_or word 0 32) 32 ≡ false
   pub apart : nat_eq (get_or if_holds 0 10) (get_or if_open 0 10) ≡ false
 
@@ -53,7 +53,7 @@ fit_row = record {
   apart = refl;
 }
 
--- an access of an array, told at the array's name; its key stands where there is one
+-- an access of an array, reported at the array's name; its key stands where there is one
 abbrev pub access_row : VerdictRow
 access_row = record {
   word = codes "access";

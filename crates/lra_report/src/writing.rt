@@ -31,7 +31,7 @@ fn push_part(text: &mut String, alloc: Global, part: &Part, names: &Names) -> Re
     }
 }
 
-/// Appends the lines of the parts behind the first.
+/// Appends the lines of the parts after the first.
 fn push_further_parts(
     text: &mut String,
     alloc: Global,
@@ -140,7 +140,7 @@ pub fn push_verdicts(text: &mut String, verdicts: &[Verdict]) -> Result<(), Allo
     Ok(())
 }
 
-/// Appends what is told of an option that is a number.
+/// Appends what is reported about an option that is a number.
 fn push_number_option(
     text: &mut String,
     options: Options,
@@ -157,7 +157,7 @@ fn push_number_option(
     write!(text, " {name} {value}")
 }
 
-/// Appends what is told of the options that are numbers.
+/// Appends what is reported about the options that are numbers.
 fn push_number_options(text: &mut String, options: Options) -> Result<(), AllocError>
     ensures { OnOk result (string_bytes text.new ≡ string_bytes text.old ++
         flat_map (written.number_text options) number_options) }
@@ -168,7 +168,7 @@ fn push_number_options(text: &mut String, options: Options) -> Result<(), AllocE
     Ok(())
 }
 
-/// Appends what is told of an option that is a flag.
+/// Appends what is reported about an option that is a flag.
 fn push_flag_option(
     text: &mut String,
     options: Options,
@@ -185,7 +185,7 @@ fn push_flag_option(
     write!(text, " {name} {word}")
 }
 
-/// Appends what is told of the options that are flags.
+/// Appends what is reported about the options that are flags.
 fn push_flag_options(text: &mut String, options: Options) -> Result<(), AllocError>
     ensures { OnOk result (string_bytes text.new ≡ string_bytes text.old ++
         flat_map (written.flag_option_text options) flag_options) }

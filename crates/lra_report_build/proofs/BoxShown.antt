@@ -1,4 +1,4 @@
--- Boxes are shown by their parts' rows: as many, as wide, holding at each store, and told by their text.
+-- Boxes are shown by their parts' rows: as many, as wide, holding at each store, and given by their text.
 use Rattle.std.proofs.Common.{◌≡◌, ℕ, zero, suc, ◌++◌, List, [], ◌∷◌, length, map, Option, Some, None, Bool, true, false, refl, ap, ◌∙◌}
 use Rattle.std.proofs.lemmas.List.{length-replicate, length-set}
 use Rattle.std.specs.{List.AllByRecursion, Prelude.ℤ, Prelude.pos, Prelude.negsuc, Prelude.neg_ℤ, Prelude.replicate, Prelude.slice_set, Prelude.if◌then◌else◌}

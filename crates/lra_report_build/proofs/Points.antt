@@ -21,7 +21,7 @@ listed_more outside ls k n (x ∷ ss) [] s p listed at is wide = absurd listed
 listed_more outside ls k n (x ∷ ss) (q ∷ ps) s p listed at is wide =
     (listed.0, listed.1, listed_more outside ls (suc k) n ss ps s p listed.2 (omega (arith, at)) is wide)
 
--- a point of the code's types, behind those of the first n sites
+-- a point of the code's types, after those of the first n sites
 behind_first : (outside : List (List ℕ)) (ls : List Labelled) (sites : List code_site.Site) (points : List code_point.PointReport) (s : code_site.Site) (p : PointReport)
     (n : ℕ) (state : Invariant) → AreListed outside ls 1 (map site_view (take n sites)) (map point_report_of points) → s ≡ get_or sites n s → n < length sites
     → p ≡ listed_point outside ls (suc n) (site_view s) state → AllByRecursion (HasWidth s.live) state
@@ -65,7 +65,7 @@ wide_state sites states s state n index are at read inside there =
     (slice_get-map site_view sites n ∙ ap (option_map site_view) (slice_get_read sites (length sites) n s refl (inside_sites sites states n are inside) read'))
     (slice_get-map parts_of states n ∙ ap (option_map parts_of) (slice_get_read states (length states) n state refl inside there))
 
--- its state, behind those of the others
+-- its state, after those of the others
 states_listed : (points more : List code_point.PointReport) (p : code_point.PointReport) (states : List Invariant) (state : Invariant) → map state_of (map point_report_of points) ≡ states
     → more ≡ points ++ p ∷ [] → (point_report_of p).state ≡ state → map state_of (map point_report_of more) ≡ states ++ state ∷ []
 states_listed points more p states state are pushed is =

@@ -1,4 +1,5 @@
--- A polyhedron is shown by its canonical lists: as wide as it has dimensions, with the same points by rows and by generators, and told by its text.
+-- A polyhedron is shown by its canonical lists: as wide as it has dimensions, with the same points by rows and by
+-- generators, and given by its text.
 use Rattle.std.proofs.Common.{◌≡◌, ◌≢◌, ◌∙◌, ◌<◌, ◌⊎◌, ℕ, zero, suc, ℤ, pos, negsuc, ◌<ℤ◌, Bool, true, false, List, [], ◌∷◌, ◌++◌, length, map, inl, inr, refl, sym, ap, subst, arith, append_assoc}
 use Rattle.std.proofs.lemmas.List.Elements.{All-head, All-tail, Contains-append_left, Contains-append_right}
 use Rattle.std.proofs.{lemmas.Int.ints, lemmas.List.map-append}

@@ -1,4 +1,4 @@
--- What is shown by rows with numbers of the range is shown as it is, and told by its text.
+-- What is shown by rows with numbers of the range is shown as it is, and given by its text.
 use Rattle.std.proofs.{Common.◌≡◌, Common.◌∙◌, Common.List, Common.[], Common.◌∷◌, Common.length, Common.map, Common.ap, Common.sym, Common.subst, Common.Vec, Common.Global, lemmas.List.length-map}
 use Rattle.std.specs.{List.AllByRecursion, Prelude.Result, Prelude.Ok, Prelude.Err, Prelude.IfOk}
 use Rattle.lra_options.specs.declared.options.Domain.{Domain}

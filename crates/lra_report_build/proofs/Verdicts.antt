@@ -1,4 +1,4 @@
--- The verdicts of an analysis, told at their points, are those of the assertions and of what is computed.
+-- The verdicts of an analysis, reported at their points, are those of the assertions and of what is computed.
 use Rattle.std.proofs.Common.{◌≡◌, ◌∙◌, sym, ap, refl, subst, ◌+◌, ◌<◌, ℕ, zero, suc, Bool, true, false, List, [], ◌∷◌, ◌++◌, length, map, Some, inl, inr, arith, append_assoc, append-nil, drop, take}
 use Rattle.std.proofs.lemmas.List.{drop_all, drop_more, flat_map_more, get_or-map, map-append, map_more}
 use Rattle.std.proofs.lemmas.Option.{slice_get_read, slice_get_within, get_or_from_slice_get, same_Some, none-some}
@@ -51,7 +51,7 @@ module _ (is : ℕ → Site → Bool) where
   before : (k : ℕ) (s : Site) (ss : List Site) (j : ℕ) → Picked is (suc k) ss j → Picked is k (s ∷ ss) (suc j)
   before k s ss j (t, there, so) = (t, there, subst (λ (n : ℕ). IsTrue (is n t)) (sym (step_number k j)) so)
 
-  -- behind a point that isn't judged
+  -- after a point that isn't judged
   not_picked : (k : ℕ) (s : Site) (ss : List Site) (j : ℕ) → is k s ≡ false → Picked is k (s ∷ ss) j → j ≡ 0 → ⊥
   not_picked k s ss zero never (t, there, so) e =
       let same : s ≡ t = same_Some s t there in
@@ -83,7 +83,7 @@ module _ {A : Type 0} (is : ℕ → Site → Bool) where
         | inr later ↦ let e = above v (k + 0, x.0) vs f.in_order later in omega (arith, e, a.1)
       ]
 
-  -- behind it
+  -- after it
   taken : (k : ℕ) (s : Site) (ss : List Site) (v : ℕ × A) (vs : Verdicts A) → v.0 ≡ k → From k (s ∷ ss) (v ∷ vs) → From (suc k) ss vs
   taken k s ss v vs first f = record {
     of_these = λ q b h.
@@ -224,7 +224,7 @@ accesses_picked at q (s ∷ ss) = go (at q) refl (accesses_picked at (suc q) ss)
         ap (λ (us : List Subject). access_subjects (suc q) s 0 (at q) ++ us) later
         ∙ ap (λ (b : Bool). flat_map (of_point at) (cond b ((suc q, s) ∷ rest) rest)) (sym some)
 
--- what is told of a point's accesses, at whose places it is told
+-- what is reported about a point's accesses, at whose places it is reported
 point_judged : (ls : List Labelled) (number : ℕ) (site : Site) (n : ℕ) (xs : List Element) (js : List (Place × Bool))
     → map (λ (j : Place × Bool). j.0) js ≡ map (λ (x : Element). x.place) xs
     → AreJudged ls (access_subjects number site n xs) (access_verdicts ls number site n js)
@@ -304,7 +304,7 @@ pub told_all_of : (ls : List Labelled) (number : ℕ) (site : Site) (whole so_fa
 told_all_of ls number site whole so_far n js past held =
     sym (append-nil so_far) ∙ ap (λ (xs : List (Place × Bool)). so_far ++ access_verdicts ls number site n xs) (sym (drop_all n js past)) ∙ held
 
--- told at a point of the code's types, numbered from 1
+-- reported at a point of the code's types, numbered from 1
 pub told_at : (ls : List Labelled) (sites : List code_site.Site) (number index : ℕ) (site : code_site.Site) (js : List (Place × Bool)) → number ≡ suc index
     → site ≡ get_or sites index site → index < length sites
     → access_verdicts ls number (site_view site) 0 js ≡ access_verdicts_at ls (map site_view sites) (index, js)
@@ -324,7 +324,7 @@ points_more ls ss start so_far more xs i x inside read held is =
     ∙ flat_map_more (access_verdicts_at ls ss) start (map reported_view (take i xs)) (reported_view x)
     ∙ ap (λ (us : List (ℕ × List (Place × Bool))). start ++ flat_map (access_verdicts_at ls ss) us) (sym next)
 
--- all lists of them, as they are told
+-- all lists of them, as they are stated
 pub all_told : (ls : List Labelled) (ss : List Site) (vs ws : Verdicts Bool) (us : List (ℕ × List (Place × Bool))) (found : List Verdict)
     → found ≡ map (verdict_at ls ss Assertion) vs ++ (map (verdict_at ls ss Fit) ws ++ flat_map (access_verdicts_at ls ss) us) → map reported_of found ≡ reported_all vs ws us
 all_told ls ss vs ws us found is =

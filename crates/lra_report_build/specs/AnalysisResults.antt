@@ -1,6 +1,6 @@
 -- What an analysis hands over: a state for each point, a verdict for each assertion, where it is asked what fits one
--- for each point at which something is computed, and for each point at which arrays are accessed what is told of its
--- accesses. Points are numbered from 0 here.
+-- for each point at which something is computed, and for each point at which arrays are accessed what is reported about
+-- its accesses. Points are numbered from 0 here.
 use Rattle.std.specs.List.{AllByRecursion, flat_map}
 use Rattle.std.specs.Prelude.{◌≡◌, ◌<◌, ℕ, suc, Bool, false, List, [], length, Some, slice_get, slice_index_or, IsTrue}
 use Rattle.std.specs.Prelude.{true, map, ◌++◌, ◌∷◌, Contains}
@@ -52,7 +52,7 @@ pub record AreAccessVerdicts (g : Node) (sites : List Site) (inside : List (ℕ 
 abbrev pub state_of : PointReport → Invariant
 state_of p = p.state
 
--- a verdict as a report tells it, where points are numbered from 1: the kind, the point, which of the kind there, and
+-- a verdict as a report shows it, where points are numbered from 1: the kind, the point, which of the kind there, and
 -- whether it holds
 abbrev pub ReportedVerdict : Type 0
 ReportedVerdict = VerdictKind × ℕ × ℕ × Bool

@@ -1,4 +1,4 @@
--- How a polyhedron is shown: by its constraints and by its generators, which tell the same points.
+-- How a polyhedron is shown: by its constraints and by its generators, which describe the same points.
 use Rattle.std.specs.List.{AllByRecursion}
 use Rattle.std.specs.Prelude.{◌≡◌, ℤ, pos, List, [], ◌∷◌, length, map}
 use Rattle.lra_linear_spec.specs.Descriptions.{LinearRow, Con}
@@ -17,7 +17,7 @@ abbrev pub shown_polyhedron : Polyhedron → Invariant
 shown_polyhedron p = part_if_any p.generators
     (record { rows = map shown_constraint p.rows; generators = map shown_generator p.generators })
 
--- the state tells the polyhedron
+-- the state describes the polyhedron
 pub record ShowsPolyhedron (p : Polyhedron) (state : Invariant) : Type 0 where
   pub wide : AllByRecursion (HasWidth p.dims) state
   pub tell : AllByRecursion (ShowsPart Poly p.dims) state

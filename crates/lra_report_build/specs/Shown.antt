@@ -44,7 +44,7 @@ abbrev pub MeansValue : {V H : Type 0} → Abstraction V H → V → Invariant �
 MeansValue m v state = (s : List ℤ) → length s ≡ m.dims v → (m.gamma v s ↔ InvariantHolds state s)
 
 -- in reports over this domain each value is shown by its rows: as wide as it is and as the domain has them, holding at
--- its stores, as their text tells them
+-- its stores, as their text states them
 pub record ShowsRows {V H : Type 0} (m : Abstraction V H) (domain : Domain) : Type 0 where
   pub wide : (v : V) → AllByRecursion (HasWidth (m.dims v)) (shown_state m v)
   pub tell : (v : V) → AllByRecursion (ShowsPart domain (m.dims v)) (shown_state m v)

@@ -394,7 +394,7 @@ pub struct Outline<'a> {
 
 /// What an analysis found, beside its states: verdicts on assertions, and on points at which something is computed
 /// where it is asked what fits, each in order, with its point's number and whether it holds; of points at which arrays
-/// are accessed, in order, what is told of each access; and the first flagged point.
+/// are accessed, in order, what is reported about each access; and the first flagged point.
 #[derive(Clone, Copy)]
 pub struct Findings<'a> {
     pub assertions: &'a [(usize, bool)],

@@ -1,4 +1,4 @@
-//! What a domain owes to a report.
+//! What a domain must guarantee to a report.
 
 ghost use Rattle.std.specs.{List.AllByRecursion, Prelude.◌≡◌, Prelude.IfOk};
 ghost use Rattle.lra_options.specs.declared.options.Domain as options;
@@ -17,7 +17,7 @@ pub trait Show: Domain {
     /// The state that a value is shown by.
     ghost shown: { Self → Invariant };
 
-    /// The state of the value: a part for each of its parts, each as the domain has it and as its text tells it. Of
+    /// The state of the value: a part for each of its parts, each as the domain has it and as its text states it. Of
     /// the lists with a number for each dimension it holds at the value's stores and at no other.
     fn show(&self, alloc: Global) -> Result<Vec<Part>, AllocError>
         ensures shown { IfOk result (λ s. s.items ≡ shown self.now) }

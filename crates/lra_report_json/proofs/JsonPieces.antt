@@ -1,4 +1,4 @@
--- What a JSON text is written of is told by the text: strings, members of objects and items of lists.
+-- What a JSON text is written of is given by the text: strings, members of objects and items of lists.
 use Rattle.std.proofs.Common.{◌≡◌, ℕ, Bool, true, false, List, [], ◌∷◌, ◌++◌, map, Some, refl, ap, sym, ◌∙◌, append_assoc}
 use Rattle.std.proofs.{lemmas.Bool.eqb-false, lemmas.List.append_cancel_left}
 use Rattle.std.specs.List.{AllByRecursion}

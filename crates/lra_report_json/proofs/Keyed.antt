@@ -1,4 +1,4 @@
--- Verdicts are told by those that stand under each key.
+-- Verdicts are given by those that stand under each key.
 use Rattle.std.proofs.Common.{◌≡◌, ◌∙◌, ◌||◌, refl, ap, sym, subst, ℕ, Bool, true, false, List, [], ◌∷◌, map, filter}
 use Rattle.std.specs.{List.list_any, Prelude.cond, Str.bytes_eq}
 use Rattle.lra_syntax.specs.Labels.{Labelled}

@@ -1,4 +1,4 @@
--- Of two objects with the same keys, whose values tell themselves apart, the text tells the texts of their values, each
+-- Of two objects with the same keys, whose values are distinct, the text reports the texts of their values, each
 -- by its key.
 use Rattle.std.proofs.Common.{◌≡◌, ◌∙◌, ℕ, Bool, true, false, List, [], ◌∷◌, ◌++◌, ◌⊎◌, inl, inr, refl, ap, sym, subst, if◌then◌else◌}
 use Rattle.std.proofs.{lemmas.List.append_cancel_left, lemmas.Map.Text.is_eq-slice_cmp, lemmas.Slice.Eq.bytes_eq-Decides}
@@ -13,7 +13,7 @@ abbrev pub Closes : List ℕ → Type 0
 Closes [] = ⊥
 Closes (b ∷ bs) = (b ≡ 44) ⊎ (b ≡ 125)
 
--- texts that begin with those of the two values tell both, and what follows
+-- texts that begin with those of the two values report both, and what follows
 abbrev pub Apart : Data → Data → Type 0
 Apart d e = (u v : List ℕ) → Closes u → Closes v → compact_text d ++ u ≡ compact_text e ++ v → (compact_text d ≡ compact_text e) × (u ≡ v)
 
@@ -62,7 +62,7 @@ end_closes : (ms : Members) (u : List ℕ) → Closes (members_text true ms ++ u
 end_closes no_members u = inr refl
 end_closes (member k d ms) u = inl refl
 
--- the text of objects that are alike tells the text of each value
+-- the text of objects that are alike reports the text of each value
 pub members_same : (ms ns : Members) (u v : List ℕ) → Alike ms ns → members_text true ms ++ u ≡ members_text true ns ++ v
     → (key : List ℕ) → text_at key ms ≡ text_at key ns
 members_same no_members no_members u v alike e key = refl

@@ -110,7 +110,7 @@ good_points o [] parts readable = tt
 good_points o (p ∷ ps) parts readable =
     (all_both (IsReadablePart (length p.names)) (ShowsPart o.domain (length p.names)) p.state readable.0 parts.0.tell, good_points o ps parts.1 readable.1)
 
--- what stands behind the parts of a point
+-- what comes after the parts of a point
 abbrev after_parts : PointReport → Members
 after_parts p = member (codes "path") (string p.path) (member (codes "place") (string (place_text p.place)) no_members)
 

@@ -25,7 +25,7 @@ fitting_json : report_json fitting
 unfolding digits serde_json_on_literals
 fitting_json = refl
 
--- accesses at their places; catches one among the assertions, or told without its place
+-- accesses at their places; catches one among the assertions, or reported without its place
 accessing_json : report_json accessing
     ≡ text_line (codes "{\"accesses\":[{\"place\":\"1:27\",\"point\":2,\"verdict\":\"in bounds\"}"
     ++ codes ",{\"place\":\"1:32\",\"point\":2,\"verdict\":\"in bounds\"},{\"place\":\"1:38\",\"point\":3,\"verdict\":\"unknown\"}]"

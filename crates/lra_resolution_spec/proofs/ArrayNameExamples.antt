@@ -46,11 +46,11 @@ stored_body = refl
 stored_allowed : name_faults stored ≡ []
 stored_allowed = refl
 
--- its declarator is a point, behind which no variable lives more
+-- its declarator is a point, after which no variable lives more
 stored_names : map (λ l. l.live) (labels_of stored) ≡ [] ∷ [] ∷ (codes "i" ∷ []) ∷ (codes "i" ∷ []) ∷ []
 stored_names = refl
 
--- int main(void){ long x; { long x[2]; x[0]=1; } x=2; } : an array hides a variable, and the variable is there behind it
+-- int main(void){ long x; { long x[2]; x[0]=1; } x=2; } : an array hides a variable, and the variable is there after it
 abbrev hidden : FileTree
 hidden = main_of (declaration (declared_as (x_at 22) None) (statement (block (declaration (of_longs (array_as (x_at 32) 2 34) [])
     (statement (assign (set_element (x_at 38) (literal_text 0) (expression (literal_text 1)))) no_items)) (at 46))
@@ -116,7 +116,7 @@ with_index : name_faults (behind_both (statement (assign (set_element (x_at 31) 
     (statement (assign (set (x_at 39) (expression (alone (element (x_at 41) (literal_text 1)))))) no_items))) ≡ fault NotArray 31 ∷ fault NotArray 41 ∷ []
 with_index = refl
 
--- x[b]=c; : name, index, right side; an unknown name is told as such with an index, too
+-- x[b]=c; : name, index, right side; an unknown name is reported as such with an index, too
 in_text_order : name_faults
     (behind_both (statement (assign (set_element (x_at 31) (alone (element (name_at (codes "b") 33) (literal_text 0))) (expression (use_of (name_at (codes "c") 39))))) no_items)) ≡
     fault NotArray 31 ∷ fault UnknownName 33 ∷ fault UnknownName 39 ∷ []

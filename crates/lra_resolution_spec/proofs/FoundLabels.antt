@@ -6,7 +6,7 @@ use Rattle.lra_syntax.specs.Labels.{label_at}
 use Rattle.lra_resolution_spec.specs.{LabelTable.LabelLists, LabelTable.lists_of, LabelTable.label_in, LabelTable.HaveLists, declared.labels.Label.Label, declared.labels.SymbolEntry.SymbolEntry}
 use Rattle.lra_resolution_spec.proofs.NameLists.{lists_length}
 
--- what is told of it
+-- what is reported about it
 abbrev pub Told : {B : Type 0} → (B → Label) → LabelLists → ℕ → Option B → Type 0
 Told now v n r =
     MatchOption r (label_at v.labels n ≡ None)

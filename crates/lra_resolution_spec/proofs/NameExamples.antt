@@ -110,7 +110,7 @@ misplaced = refl
 own_value : name_faults (main_of (declaration (declared_as (x_at 22) (Some (expression (use_of (x_at 24))))) no_items) 27) ≡ []
 own_value = refl
 
--- int main(void){ { long x; } x=1; } : the block's variable is gone behind it
+-- int main(void){ { long x; } x=1; } : the block's variable is gone after it
 gone : name_faults (main_of (statement (block (declaration (declared_as (x_at 24) None) no_items) (at 27)) (statement (assign (set (x_at 29) (expression (literal_text 1)))) no_items)) 34) ≡
     fault UnknownName 29 ∷ []
 gone = refl
@@ -131,7 +131,7 @@ global_and_function : name_faults (record {
 }) ≡ fault DuplicateName 14 ∷ []
 global_and_function = refl
 
--- the first values of globals: the literal's place, behind its sign; a name's fault stands before its literal's
+-- the first values of globals: the literal's place, after its sign; a name's fault stands before its literal's
 abbrev int_global : Identifier → ℤ → ℕ → GlobalTree
 int_global x z c = record { name = x; shape = scalar (Some (record { value = z; place = at c })) }
 
@@ -157,7 +157,8 @@ name_before_literal : name_faults (with_globals Int (record { name = name_at (co
     fault DuplicateName 8 ∷ fault BadLiteral 10 ∷ []
 name_before_literal = refl
 
--- int main(void){ f(); x=1; } void f(void){} long x; : a function may be defined behind its call, a global must stand before its use
+-- int main(void){ f(); x=1; } void f(void){} long x; : a function may be defined after its call, a global must stand
+-- before its use
 later : name_faults (record {
   parts = function (main_function 5 (statement (call (call_of (name_at (codes "f") 17) [])) (statement (assign (set (x_at 22) (expression (literal_text 1)))) no_items)) 27)
       ∷ function (void_of (codes "f") 34 [] no_items 42) ∷ globals (record { number_type = Long; first = record { name = x_at 49; shape = scalar None }; rest = [] }) ∷ [];

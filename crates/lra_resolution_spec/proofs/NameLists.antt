@@ -143,7 +143,7 @@ added_invariant es ls new l is have live in_call =
     let n = lists_length es in
     subst (HaveLists (length es + 1)) (sym is) (lists_for_last (length es + 1) ls l have (omega (arith, n, live)) (omega (arith, n, in_call)))
 
--- the names of a list, one behind those of the list before
+-- the names of a list, one after those of the list before
 pub names_behind : (es : List SymbolEntry) (n i : ℕ) (e : SymbolEntry) (names before after : List (List ℕ)) → e ≡ get_or es i e → i < length es → n ≡ i + 1 →
     AreOrdered es
     → before ≡ names ++ list_at (lists_of es) e.outer → after ≡ before ++ e.name ∷ [] → after ≡ names ++ list_at (lists_of es) n

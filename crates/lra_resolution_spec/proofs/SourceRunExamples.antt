@@ -14,7 +14,7 @@ call_in_step_run : visited (resolve call_in_step) (pos 7 ∷ pos 8 ∷ []) ≡
 call_in_step_run = refl
 
 -- long k(long d){ return d+1; } int main(void){ for(long i=0;i<9;i=k(i)){ if(i<2) continue; break; } ; }
--- the step comes behind each `continue`, with its call, and never behind `break`
+-- the step comes after each `continue`, with its call, and never after `break`
 repeated_step_run : visited (resolve repeated_step) (pos 6 ∷ []) ≡
     ([], 4, []) ∷ ([], 3, pos 0 ∷ []) ∷ ([], 6, pos 0 ∷ []) ∷ ([], 7, pos 0 ∷ []) ∷ ([], 5, pos 0 ∷ []) ∷ (5 ∷ [], 1, pos 0 ∷ pos 0 ∷ [])
     ∷ ([], 3, pos 1 ∷ []) ∷ ([], 6, pos 1 ∷ []) ∷ ([], 7, pos 1 ∷ []) ∷ ([], 5, pos 1 ∷ []) ∷ (5 ∷ [], 1, pos 1 ∷ pos 1 ∷ [])

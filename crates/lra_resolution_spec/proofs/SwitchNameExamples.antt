@@ -72,7 +72,7 @@ nested : name_faults (with_statement
     (label_at (Case (pos 2)) 69 (stated (nothing (at 72)) no_cases)))))) ≡ []
 nested = refl
 
--- switch(1){ case 1: switch(2){ case 2: ; } case 1: ; } : nor lost behind one
+-- switch(1){ case 1: switch(2){ case 2: ; } case 1: ; } : nor lost after one
 behind_nested : name_faults
     (with_statement (switch (at 17) (literal_text 1) (label_at (Case (pos 1)) 33 (stated (switch (at 36) (literal_text 2) (label_at (Case
     (pos 2)) 52 (stated (nothing (at 55)) no_cases)))

@@ -39,7 +39,7 @@ with_parameter : thread_faults (record {
 }) ≡ fault NoThreads 34 ∷ []
 with_parameter = refl
 
--- void t1(void){x=1;} : names come before; catches a fault at the end that is told first
+-- void t1(void){x=1;} : names come before; catches a fault at the end that is reported first
 unknown_first : thread_faults (record { parts = part (codes "t1") 6 (statement (assign (set (x_at 15) (expression (literal_text 1)))) no_items) 19 ∷ []; end = at 20 })
     ≡ fault UnknownName 15 ∷ fault NoThreads 20 ∷ []
 unknown_first = refl

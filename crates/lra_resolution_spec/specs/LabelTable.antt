@@ -1,4 +1,4 @@
--- Lists of names that share their fronts, and the labels of a source with numbers of such lists.
+-- Lists of names that share their prefixes, and the labels of a source with numbers of such lists.
 use Rattle.std.specs.Prelude.{◌≡◌, ◌≤◌, ◌<◌, ℕ, List, [], ◌∷◌, ◌++◌, slice_get, slice_index_or, Some}
 use Rattle.lra_syntax.specs.Labels.{Labelled}
 use Rattle.lra_resolution_spec.specs.{declared.labels.Label.Label, declared.labels.SymbolEntry.SymbolEntry}
@@ -7,7 +7,7 @@ use Rattle.lra_resolution_spec.specs.{declared.labels.Label.Label, declared.labe
 abbrev pub list_at : List (List (List ℕ)) → ℕ → List (List ℕ)
 list_at lists n = slice_index_or lists n []
 
--- an entry is a further list: that of its number with a name behind it
+-- an entry is a further list: that of its number with a name after it
 abbrev pub lists_behind : List (List (List ℕ)) → List SymbolEntry → List (List (List ℕ))
 lists_behind lists [] = lists
 lists_behind lists (e ∷ es) = lists_behind (lists ++ (list_at lists e.outer ++ e.name ∷ []) ∷ []) es

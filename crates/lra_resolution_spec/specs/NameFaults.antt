@@ -184,7 +184,7 @@ abbrev mutual
   stmt_faults a s (assume at c) = cond_faults s c
   stmt_faults a s (switch at e cs) = expr_faults s e ++ cases_faults (in_a_switch a) s [] cs
 
-  -- behind these labels of the same `switch`, none of which stands again
+  -- after these labels of the same `switch`, none of which stands again
   pub cases_faults : Around → Scope → List CaseLabel → CasesTree → List Refusal
   cases_faults a s earlier no_cases = []
   cases_faults a s earlier (labelled l cs) = fault_if (list_any (is_same_case l.label) earlier) DuplicateCase l.place ++
@@ -227,7 +227,7 @@ globals_faults t names (g ∷ gs) = fault_if (is_taken g.name.word names) Duplic
 abbrev pub global_names : List GlobalTree → List (List ℕ)
 global_names gs = map (λ (g : GlobalTree). g.name.word) gs
 
--- behind the names that the file scope has so far, and the globals among them
+-- after the names that the file scope has so far, and the globals among them
 abbrev pub parts_faults : List FunctionTree → List (List ℕ) → List SymbolEntry → List ExternalTree → List Refusal
 parts_faults F names outside [] = []
 parts_faults F names outside (prototype ∷ ps) = parts_faults F names outside ps

@@ -22,7 +22,7 @@ greatest_points = 2048
 -- calls written out: the first point with too many variables, the first past the greatest number, or the first call
 -- past the longest path -----
 
--- behind n points
+-- after n points
 abbrev pub limit_fault : List Labelled → ℕ → List Event → Option Refusal
 limit_fault ls n [] = None
 limit_fault ls n (comes s ∷ es) =

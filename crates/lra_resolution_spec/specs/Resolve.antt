@@ -91,7 +91,7 @@ abbrev mutual
   resolve_test s (tree.compare a op b) = compare op (resolve_expr s a) (resolve_expr s b)
   resolve_test s (tree.group_of c) = resolve_any_of s c None
 
-  -- the chain and what stands behind it
+  -- the chain and what comes after it
   pub resolve_all_of : Scope → tree.ConjunctionTree → Option Cond → Cond
   resolve_all_of s (tree.test t) None = resolve_test s t
   resolve_all_of s (tree.test t) (Some d) = both_of (resolve_test s t) d
@@ -141,7 +141,7 @@ resolve_assign F s n (tree.after x step) = assign n (variable s x)
 resolve_assign F s n (tree.before at step x) = assign n (variable s x)
     (value (binary (step_operator step) (read (variable s x)) (literal Int 1)))
 
--- declarations of one type: n is the first label, and the items behind follow -----------------------------------------
+-- declarations of one type: n is the first label, and the items after follow ------------------------------------------
 
 -- a name that is declared with this label and type
 abbrev pub resolve_declared : List tree.FunctionTree → Scope → ℕ → NumberType → Identifier →
@@ -266,7 +266,7 @@ arrays_in (tree.globals g ∷ ps) =
     flat_map (λ (x : tree.GlobalTree). arrays_by g.number_type x.name x.shape) (g.first ∷ g.rest) ++ arrays_in ps
 arrays_in (tree.function f ∷ ps) = arrays_in ps
 
--- the functions behind some globals, from the label n on
+-- the functions after some globals, from the label n on
 abbrev pub resolve_parts : List tree.FunctionTree → List SymbolEntry → ℕ → List tree.ExternalTree → List Function
 resolve_parts F outside n [] = []
 resolve_parts F outside n (tree.prototype ∷ ps) = resolve_parts F outside n ps

@@ -47,7 +47,7 @@ abbrev pub width_of_all : List SymbolEntry → ℕ
 width_of_all [] = 0
 width_of_all (e ∷ es) = width_of e.binding + width_of_all es
 
--- what a name means, and a variable's place in the store, behind the variables before it; the slot of an array
+-- what a name means, and a variable's place in the store, after the variables before it; the slot of an array
 -- means nothing
 pub record Lookup : Type 0 where
   pub slot : Slot

@@ -50,6 +50,6 @@ thread_program t place = record {
 abbrev pub thread_programs : FileTree → List Program
 thread_programs t = map (thread_program t) (thread_places t)
 
--- the points of all threads, one thread behind the other
+-- the points of all threads, one thread after the other
 abbrev pub thread_events : FileTree → List Event
 thread_events t = flat_map events_of (thread_programs t)

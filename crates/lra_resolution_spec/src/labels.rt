@@ -1,4 +1,4 @@
-//! The labels of a source with the names that live there. Lists of names share their fronts, so that all of them
+//! The labels of a source with the names that live there. Lists of names share their prefixes, so that all of them
 //! together take no more room than the source has variables and labels.
 
 ghost use Rattle.std.specs.Prelude.{◌≡◌, ◌++◌, ◌∷◌, ◌<◌, ◌≤◌, ◌-◌, [], List, length, take, suc, IfOk, OnErr};
@@ -12,7 +12,7 @@ use lra_syntax::{Identifier, Word};
 use std::alloc::{AllocError, Global};
 use std::marker::Model;
 
-/// A variable: its name stands behind those of a list before.
+/// A variable: its name comes after those of a list before.
 struct SymbolEntry {
     name: Word,
     outer: usize,
@@ -110,7 +110,7 @@ impl Labels {
         }
     }
 
-    /// A list with the name of a newer variable behind those of this list, and its number.
+    /// A list with the name of a newer variable after those of this list, and its number.
     pub fn declare(&mut self, alloc: Global, outer: usize, name: &Word) -> Result<usize, AllocError>
         requires { outer < length self.old.lists }
         ensures lists { IfOk result (λ _. self.new.lists ≡

@@ -1,4 +1,4 @@
--- The list of a `switch`, label by label and statement by statement: what is told and found so far.
+-- The list of a `switch`, label by label and statement by statement: what is reported and found so far.
 use Rattle.std.proofs.Common.{◌≡◌, ℕ, suc, ◌+◌, Bool, false, ◌||◌, List, [], ◌∷◌, ◌++◌, length, map, refl, sym, ap, ◌∙◌, append_assoc, length-append, append-nil, arith, rules, subst, Ok}
 use Rattle.std.proofs.lemmas.List.{map-append}
 use Rattle.std.specs.List.{list_any}
@@ -58,7 +58,7 @@ before_stated old new r cs added =
 abbrev pub cases_count : CasesTree → ℕ
 cases_count cs = length (cases_labels [] cs)
 
--- what is left, behind these labels, is told and found as all of them are
+-- what is left, after these labels, is reported and found as all of them are
 pub record Selects (a : Around) (s : Scope) (old : LabelsSoFar) (all rest : CasesTree) (list : CaseList) (scope : Scope) (new : LabelsSoFar) : Type 0 where
   pub earlier : List CaseLabel
   pub seen : HasSeen list earlier

@@ -29,7 +29,7 @@ main_at (f ∷ fs) (g ∷ gs) e = main_case (is_main f) (list_any is_main fs) g 
 
 pub ruleset function_rules = (tells_front, tells_behind)
 
--- a first value that its type doesn't have, and a length that no array has, are told behind a name that isn't taken
+-- a first value that its type doesn't have, and a length that no array has, are reported after a name that isn't taken
 pub shape_told : (t : NumberType) (names : List (List ℕ)) (g : GlobalTree) (rest : List GlobalTree) (e : SourceError) → is_taken g.name.word names ≡ false
     → IsFirstFault (shape_faults (first_value_faults t) g.shape) e → IsFirstFault (globals_faults t names (g ∷ rest)) e
 shape_told t names g rest e free told =

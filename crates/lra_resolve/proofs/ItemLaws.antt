@@ -1,4 +1,4 @@
--- What an item of a block tells and finds, whatever items stand behind it.
+-- What an item of a block reports and finds, whatever items come after it.
 use Rattle.std.proofs.Common.{◌≡◌, ℕ, ◌+◌, suc, List, [], ◌∷◌, ◌++◌, length, map, refl, arith, rules}
 use Rattle.std.proofs.lemmas.List.{length-map}
 use Rattle.lra_base.specs.declared.error.SourceError.{SourceError}
@@ -64,7 +64,7 @@ statement_counted : (item : code_item.BlockItem) (t : Stmt) (n m : ℕ) → item
     → (rest : ItemsTree) → m + items_count rest ≡ n + items_count (item_view item rest)
 statement_counted item t n m is e rest = rw (statement_is item t rest is) (omega arith)
 
--- what is told and found of all items is that of those behind this one
+-- what is reported and found of all items is that of those after this one
 pub record Passes (a : Around) (item : code_item.BlockItem) (s after : Scope) (old new : LabelsSoFar) (items more : List ProgramItem) : Type 0 where
   pub clean : (rest : ItemsTree) → items_faults a s (item_view item rest) ≡ items_faults a after rest
   pub found : (rest : ItemsTree) → followed (map view.item_view items) (resolve_items a.functions s old.next (item_view item rest))

@@ -49,7 +49,7 @@ live_left : (live : List (List ℕ)) (h : HeadTree) → take (length live) (body
 live_left live (while_head at c) = take-length live
 live_left live (for_head at i c e) = left_of_for live i
 
--- behind the labels of its head those of its body, and it is left
+-- after the labels of its head those of its body, and it is left
 pub loops : (a e f g : LabelsSoFar) (h : HeadTree) (body : StmtTree) (count : ℕ)
     → e.labels ≡ a.labels ++ head_labels a.live h → e.live ≡ body_live a.live h → Adds e f (stmt_labels e.live body)
     → count ≡ length a.live → g.live ≡ take count f.live → g.labels ≡ f.labels

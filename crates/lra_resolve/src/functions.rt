@@ -424,7 +424,7 @@ impl Resolved {
 }
 
 /// The program that a source means, with its statements labelled in text order from 1, and the table of these labels;
-/// or its first fault of names, or want of memory.
+/// or its first fault of names, or running out of memory.
 #[tactic(auto, using(crate::proofs::FunctionLaws::main_rules))]
 pub fn resolve(alloc: Global, tree: &TranslationUnit) -> Result<Resolution, SourceError>
     ensures told { StopsAtFirstFault (name_faults (tree_view tree.now)) result }

@@ -15,7 +15,7 @@ use std::alloc::{AllocError, Global};
 
 /// The digit in the name of the first thread.
 const FIRST_DIGIT: u8 = b'1';
-/// The digit behind that of the last thread that a program may have.
+/// The digit after that of the last thread that a program may have.
 const END_DIGIT: u8 = b'9';
 
 /// The place of the first function of this name in the list of functions, if that function has no parameters.

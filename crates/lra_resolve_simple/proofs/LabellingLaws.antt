@@ -1,4 +1,4 @@
--- What parts of a source add to its labels, one behind the other.
+-- What parts of a source add to its labels, one after the other.
 use Rattle.std.proofs.Common.{◌≡◌, ℕ, suc, ◌+◌, ◌<◌, List, [], ◌∷◌, ◌++◌, length, map, take, get_or, refl, sym, ap, ◌∙◌, append_assoc, append-nil, subst, arith, Option, rules}
 use Rattle.std.proofs.{Math.Seq.take-length, lemmas.Grind.flat_map-append, lemmas.List.map_more, lemmas.List.take-append-le}
 use Rattle.std.specs.List.{flat_map}

@@ -16,7 +16,7 @@ has_seen c Default = c.has_default
 abbrev pub HasSeen : CaseList → List CaseLabel → Type 0
 HasSeen c labels = (l : CaseLabel) → has_seen c l ≡ list_any (is_same_case l) labels
 
--- some parts, each of which is what it puts before those behind it, before others
+-- some parts, each of which is what it puts before those after it, before others
 abbrev pub before_cases : List CasePart → program.Cases → program.Cases
 before_cases [] cs = cs
 before_cases (f ∷ fs) cs = f (before_cases fs cs)

@@ -1,5 +1,5 @@
--- A loop without its body, and what it says of the body: `while` and `for` alike. Here alone is told what stands before
--- a body, in which order.
+-- A loop without its body, and what it says of the body: `while` and `for` alike. Here alone it is stated what stands
+-- before a body, in which order.
 use Rattle.std.specs.Prelude.{ℕ, suc, ◌+◌, List, [], ◌∷◌, ◌++◌, Option, option_map}
 use Rattle.lra_base.specs.{declared.refusals.Place.Place, declared.refusals.Refusal.Refusal}
 use Rattle.lra_syntax.specs.Trees.{CondTree, AssignTree, InitTree, StmtTree, while, for, FunctionTree}

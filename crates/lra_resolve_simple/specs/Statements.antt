@@ -1,4 +1,4 @@
--- Where statements stand, the faults of one declarator, and lists of items that are built from the front.
+-- Where statements stand, the faults of one declarator, and lists of items that are built from the start.
 use Rattle.std.specs.Prelude.{ℕ, List, [], ◌∷◌, ◌++◌, Option, Some, None, ⊤}
 use Rattle.lra_base.specs.declared.number_types.NumberType.{NumberType}
 use Rattle.lra_base.specs.declared.refusals.Cause.TheVariants.{DuplicateName}
@@ -47,7 +47,7 @@ IsSimple (for at i c e b) = ⊥
 IsSimple (switch at e cs) = ⊥
 IsSimple t = ⊤
 
--- some items, each of which is what it puts before those behind it, before others
+-- some items, each of which is what it puts before those after it, before others
 abbrev pub followed : List (program.BlockItems → program.BlockItems) → program.BlockItems → program.BlockItems
 followed [] items = items
 followed (f ∷ fs) items = f (followed fs items)

@@ -54,7 +54,7 @@ impl Head {
         Ok(lra_program::Stmt::If(label, cond, branch, other))
     }
 
-    /// A loop, with a step behind each round.
+    /// A loop, with a step after each round.
     pub fn repeat(
         self,
         alloc: Global,

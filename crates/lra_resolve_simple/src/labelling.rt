@@ -88,7 +88,7 @@ impl Labelling {
         }
     }
 
-    /// The next label, for a declarator: its scalar lives behind it, and so in its call. Gives
+    /// The next label, for a declarator: its scalar lives after it, and so in its call. Gives
     /// [`SourceError::Memory`] only.
     pub fn add_declarator(
         &mut self,

@@ -100,7 +100,7 @@ names_then front back (Err e) next h k = record {
   passes = h.passes;
 }
 
--- ---- calls that may want memory
+-- ---- calls that may run out of memory
 pub names_error : {B : Type 0} (operations : List Excess) (q : Result B Excess) (e : RowError) → NamesFirst operations q → IsExcessOf q e → IsFirstNamed operations e
 names_error {B} operations q (of_row.Excess e) n h = subst (λ (z : Result B Excess). NamesFirst operations z) h n
 names_error operations q of_row.Memory n h = tt

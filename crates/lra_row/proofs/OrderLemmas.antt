@@ -45,7 +45,7 @@ then_equal Less = refl
 then_equal Equal = refl
 then_equal Greater = refl
 
--- the column at hand, with those behind it
+-- the column at hand, with those after it
 column_first : (i : ℕ) (xs ys : List ℤ) → i < length xs → length xs ≡ length ys →
     column_cmp i xs ys ≡ ordering_then (int_cmp (get_or xs i (pos 0)) (get_or ys i (pos 0))) (column_cmp (i + 1) xs ys)
 column_first i xs ys l e = rw (drop_more xs i (pos 0) l, drop_more ys i (pos 0) (omega (arith, l, e))) refl

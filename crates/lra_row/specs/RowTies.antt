@@ -34,7 +34,7 @@ pub row_cmp_ties : IsAntisymmetric row_cmp
 row_cmp_ties xs ys e = constant_last_same xs ys
     (slice_cmp-IsAntisymmetric int_cmp-IsAntisymmetric (constant_last xs) (constant_last ys) e)
 
--- what the order doesn't tell apart is equal, number by number
+-- what the order doesn't distinguish is equal, number by number
 pub row_eq_by_cmp : (xs ys : List ℤ) → pointwise int_eq xs ys ≡ eq_by_cmp row_cmp xs ys
 row_eq_by_cmp xs ys = both_ways (pointwise int_eq xs ys) (eq_by_cmp row_cmp xs ys)
     (λ e. ap (λ r. eq_by_cmp row_cmp r ys) ((signed_items xs ys).0 e) ∙ ap is_eq (tied_itself row_cmp_total ys))

@@ -6,7 +6,7 @@ use Rattle.lra_row.specs.Operations.{product_operations, blend_operations, added
 use Rattle.lra_row.specs.declared.error.RowError as E
 use Rattle.lra_row.specs.declared.error.RowError.TheVariants as of_row
 
--- the excess of an error is the one that the calculation meets; want of memory says nothing
+-- the excess of an error is the one that the calculation meets; running out of memory says nothing
 abbrev pub IsExcessOf : {A : Type 0} → Result A Excess → E.RowError → Type 0
 IsExcessOf r (of_row.Excess e) = r ≡ Err e
 IsExcessOf r of_row.Memory = Unit {0}

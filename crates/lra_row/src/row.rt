@@ -268,7 +268,7 @@ impl Row {
     }
 }
 
-/// Puts copies of the rows behind what is there.
+/// Puts copies of the rows after what is there.
 pub fn push_copies(rows: &mut Vec<Row>, more: &[Row]) -> Result<(), AllocError>
     ensures { OnOk result (rows.new.items ≡ rows.old.items ++ more.now) }
 {

@@ -1,4 +1,4 @@
--- Numbered names, one behind the other.
+-- Numbered names, one after the other.
 use Rattle.std.proofs.Common.{◌≡◌, ℕ, zero, suc, ◌+◌, ◌-◌, ◌<◌, ◌≤◌, List, [], ◌∷◌, ◌++◌, length, refl, ap, ◌∙◌, sym, arith, append_assoc, append-nil}
 use Rattle.std.specs.{Fmt.decimal, Prelude.codes}
 use Rattle.lra_row_text.specs.Whole.{numbered_from}

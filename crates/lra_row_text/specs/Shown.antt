@@ -13,7 +13,7 @@ abbrev pub report_generator : List ℤ → GenKind → ReportGenerator
 report_generator [] kind = record { kind = kind; divisor = 0; numbers = [] }
 report_generator (d ∷ zs) kind = record { kind = kind; divisor = nat_abs d; numbers = zs }
 
--- whether the next term is the first, behind this coefficient
+-- whether the next term is the first, after this coefficient
 abbrev pub is_first_after : Bool → ℤ → Bool
 is_first_after first (pos zero) = first
 is_first_after first (pos (suc n)) = false

@@ -5,7 +5,7 @@ use Rattle.lra_linear_spec.specs.{Descriptions.LinearRow, Vectors.entry, declare
 use Rattle.lra_linear_spec.specs.declared.GenKind.TheVariants as gen
 use Rattle.lra_row_text.specs.{Part.ReportGenerator, Rows.ReportRow, Shown.report_row, Shown.report_generator}
 
--- a line, or what its column 0 tells: a point's is above 0
+-- a line, or what its column 0 reports: a point's is above 0
 abbrev pub generator_kind : Bool → ℤ → GenKind
 generator_kind true z = gen.Line
 generator_kind false (pos zero) = gen.Ray

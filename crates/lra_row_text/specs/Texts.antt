@@ -29,7 +29,7 @@ negated_if b z = if b then opposite_number z else z
 abbrev pub product_text : ℕ → List ℕ → List ℕ
 product_text n name = if nat_eq n 1 then name else decimal n ++ codes "*" ++ name
 
--- the terms behind the first
+-- the terms after the first
 abbrev pub terms_text : List ℤ → List (List ℕ) → List ℕ
 terms_text [] names = []
 terms_text (c ∷ cs) [] = []

@@ -24,7 +24,7 @@ lines_of_generators names gs = flat_map (plain_generator names) gs
 abbrev pub lines_of_part : List (List ℕ) → LinearSystem ConKind → List ℕ
 lines_of_part names p = lines_of_rows names (shown_rows p.rows p.kinds)
 
--- further parts, each behind a line that parts it from those before it
+-- further parts, each after a line that parts it from those before it
 abbrev pub further_lines : List (List ℕ) → List (LinearSystem ConKind) → List ℕ
 further_lines names [] = []
 further_lines names (p ∷ ps) = text_line (codes "or") ++ lines_of_part names p ++ further_lines names ps

@@ -103,7 +103,7 @@ fn push_system(
     }
 }
 
-/// Appends further parts, each behind a line `or`.
+/// Appends further parts, each after a line `or`.
 fn push_others(
     text: &mut String,
     alloc: Global,

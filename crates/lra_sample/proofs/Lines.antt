@@ -76,7 +76,7 @@ given x at e = assign (set (var x at) (expression e))
 abbrev pub sum_of : ℕ → Place → ℕ → ExprTree
 sum_of x at n = plus (use_of (var x at)) (unary (literal Int n))
 
--- the items of a block behind those of a line; of the numbers of the line's tokens with their places
+-- the items of a block after those of a line; of the numbers of the line's tokens with their places
 abbrev pub tree_as : Kind → Line → (ℕ → Place) → ItemsTree → ItemsTree
 tree_as Sum l at rest = statement (given l.first (at 0) (sum_of l.second (at 2) l.value)) rest
 tree_as Choice l at rest = statement (if_else (at 0)
@@ -94,7 +94,7 @@ tree_of before l rest = tree_as l.kind l (item_place before (items_of l)) rest
 
 -- the tokens have the trees ------------------------------------------------------------------------------------------
 
--- a text behind another
+-- a text after another
 pub both : {R Q : Texts} (x y : Pieces) → R x → Q y → (R ⋅ Q) (x ++ y)
 both x y a b = (x, y, refl, a, b)
 

@@ -1,4 +1,4 @@
--- What is told of reports. Which slip an example would catch stands beside it.
+-- What is reported about reports. Which slip an example would catch stands beside it.
 use Rattle.std.proofs.Common.{◌≡◌, ℕ, List, [], ◌∷◌, Option, Some, None, true, false, refl}
 use Rattle.std.specs.{Fmt.digits, List.flat_map, Prelude.codes}
 use Rattle.lra_options.specs.declared.options.Options.{Options}

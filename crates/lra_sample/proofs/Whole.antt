@@ -125,7 +125,7 @@ abbrev pub lines_tree : List ℕ → List Line → (List ℕ → ItemsTree) → 
 lines_tree before [] last = last before
 lines_tree before (l ∷ ls) last = tree_of before l (lines_tree (behind before (items_of l)) ls last)
 
--- behind these bytes
+-- after these bytes
 abbrev pub last_tree : List ℕ → ItemsTree
 last_tree before = statement (assert (item_place before last_items 0)
     (tested (compare (use_of (var 48 (item_place before last_items 2))) at_most

@@ -39,7 +39,7 @@ record Few (k : ℕ) (es : List Event) : Type 0 where
   small : AreSmall es
   few : length es ≤ k
 
--- the points of items behind the four declarations
+-- the points of items after the four declarations
 module _ (inside : List ℕ → ℕ → Call → List Event) (F : List FunctionTree) (s : Scope) where
   abbrev points : ℕ → ItemsTree → List Event
   points n items = items_events inside [] 4 (resolve_items F s n items)

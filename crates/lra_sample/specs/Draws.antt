@@ -4,7 +4,7 @@ use Rattle.std.specs.{Fn.iterate, Prelude.ℕ, Prelude.◌+◌, Prelude.◌*◌,
 abbrev pub next_state : ℕ → ℕ
 next_state state = (6364136223846793005 * state + 1442695040888963407) % 2 ^ 64
 
--- the state behind so many draws
+-- the state after so many draws
 abbrev pub state_after : ℕ → ℕ → ℕ
 state_after state count = iterate next_state count state
 

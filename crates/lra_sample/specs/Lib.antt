@@ -1,5 +1,5 @@
--- In the order in which they are to be read: what is drawn, the source made of it, what is told of its report, which
--- sources are accepted.
+-- In the order in which they are to be read: what is drawn, the source made of it, what is reported about its report,
+-- which sources are accepted.
 pub mod Draws
 pub mod Sample
 pub mod Summary

@@ -38,7 +38,7 @@ line_as kind block = text_line (statements_text kind (decimal block.first) (deci
 abbrev pub block_line : Block → List ℕ
 block_line block = line_as block.kind block
 
--- each block takes four draws, behind those of the blocks before it
+-- each block takes four draws, after those of the blocks before it
 abbrev pub block_lines : ℕ → ℕ → List ℕ
 block_lines seed size = flat_map (λ before. block_line (block_from (state_after seed (4 * before))))
     (range_with_len 0 size)

@@ -1,4 +1,4 @@
--- What is told of the report of a sample source: five lines.
+-- What is reported about the report of a sample source: five lines.
 use Rattle.std.specs.{Fmt.decimal, Prelude.ℕ, Prelude.List, Prelude.length, Prelude.◌++◌, Prelude.codes}
 use Rattle.lra_report.specs.{Report.Report, ReportText.flag_text, ReportText.counts_line}
 use Rattle.lra_row_text.specs.Texts.{text_line}

@@ -32,7 +32,7 @@ impl Kind {
     }
 }
 
-/// A line of statements over two of the variables, told by their numbers, and a constant below 100.
+/// A line of statements over two of the variables, given by their numbers, and a constant below 100.
 #[derive(Clone, Copy)]
 pub(crate) struct Block {
     kind: Kind,

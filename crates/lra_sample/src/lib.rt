@@ -1,6 +1,6 @@
-//! Large sources from a number, and what is told of their reports.
+//! Large sources from a number, and what is reported about their reports.
 //!
-//! [`program`] makes the source of a seed and a size, [`summary`] tells of its report in five lines.
+//! [`program`] makes the source of a seed and a size, [`summary`] says of its report in five lines.
 //! [`samples_are_accepted`] is the law that up to 400 blocks no such source is refused.
 #![tactic(auto)]
 

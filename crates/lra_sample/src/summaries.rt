@@ -1,4 +1,4 @@
-//! What is told of the report of a sample source.
+//! What is reported about the report of a sample source.
 ghost use Rattle.std.specs.Prelude.{◌≡◌, ◌++◌, IfOk, OnOk, string_bytes};
 ghost use Rattle.lra_report.specs.View.{report_of};
 ghost use Rattle.lra_sample.specs.{Sample.sample_source, Summary.sizes_text, Summary.summary_text};
@@ -22,7 +22,7 @@ fn push_sizes(
     )
 }
 
-/// The lines that tell of a sample source of this seed and size and of its report.
+/// The lines that say of a sample source of this seed and size and of its report.
 pub fn summary(
     alloc: Global,
     seed: u64,

@@ -23,7 +23,7 @@ all_tests_faults : (s : Scope) (c : ConjunctionTree) (ts : List TestTree) → co
 all_tests_faults s c [] = sym (append-nil _)
 all_tests_faults s c (t ∷ ts) = all_tests_faults s (and c t) ts ∙ append_assoc (conjunction_faults s c) (test_faults s t) (flat_map (test_faults s) ts)
 
--- the operands and what stands behind them
+-- the operands and what comes after them
 abbrev both_behind : program.Cond → Option program.Cond → program.Cond
 both_behind c None = c
 both_behind c (Some d) = program.both_of c d

@@ -16,12 +16,12 @@ tells_front a b Memory h = tt {0}
 pub tells_behind : (a b : List Refusal) (e : SourceError) → a ≡ [] → IsFirstFault b e → IsFirstFault (a ++ b) e
 tells_behind a b e is h = rw is h
 
--- what the exit by an error returns tells the first fault of the whole
+-- what the exit by an error returns reports the first fault of the whole
 pub exit_tells : {T : Type 0} (whole : List Refusal) (r : Result T SourceError) (e : SourceError) → IsErrAnd r (λ y. y ≡ e) → IsFirstFault whole e →
     StopsAtFirstFault whole r
 exit_tells whole r e is h = let p = err_from_is_err_and r is in rw (p.1, p.2) h
 
--- the same of all that may come behind a part
+-- the same of all that may come after a part
 pub exit_tells_all : {T X : Type 0} (faults : X → List Refusal) (r : Result T SourceError) (e : SourceError)
     → IsErrAnd r (λ y. y ≡ e) → ((rest : X) → IsFirstFault (faults rest) e) → IfErr r (λ y. (rest : X) → IsFirstFault (faults rest) y)
 exit_tells_all faults r e is h = let p = err_from_is_err_and r is in rw (p.1, p.2) h
@@ -41,7 +41,7 @@ parts_tell F xs i x whole err h is e f =
     let z = ap F is in
     rw (e, y, ← z) (tells_front (F x) (flat_map F (drop (i + 1) xs)) err f)
 
--- in a loop whose step tells of all that may come behind it
+-- in a loop whose step says of all that may come after it
 pub rest_tells : {X Y : Type 0} (G : List Y → List Refusal) (v : X → Y) (xs : List X) (i : ℕ) (x : X) (whole : List Refusal) (err : SourceError)
     → i < length xs → x ≡ get_or xs i x → whole ≡ G (map v (drop i xs)) → ((rest : List Y) → IsFirstFault (G (v x ∷ rest)) err) → IsFirstFault whole err
 rest_tells {X = X} G v xs i x whole err h is e f =

@@ -1,4 +1,4 @@
--- Errors that tell the first fault.
+-- Errors that report the first fault.
 pub mod FirstFaults
 -- Loops over the parts of a chain.
 pub mod Loops

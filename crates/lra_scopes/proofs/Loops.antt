@@ -6,16 +6,16 @@ use Rattle.lra_base.specs.{declared.error.SourceError.SourceError, declared.erro
 use Rattle.lra_scopes.specs.Outcome.{IsFirstFault, StopsAtFirstFault}
 use Rattle.lra_scopes.proofs.FirstFaults.{tells_front, tells_behind, exit_tells, exit_tells_all, parts_tell}
 
--- an exit for want of memory
+-- an exit when memory runs out
 pub memory_told : {T : Type 0} (whole : List Refusal) (r : Result T SourceError) → IsErrAnd r (λ y. y ≡ Memory) → StopsAtFirstFault whole r
 memory_told whole r is = exit_tells whole r Memory is (tt {0})
 
--- an exit by an error that wants memory
+-- an exit by an error that runs out of memory
 pub wanting_told : {T : Type 0} (whole : List Refusal) (r : Result T SourceError) (e : SourceError) → e ≡ Memory → IsErrAnd r (λ y. y ≡ e) →
     StopsAtFirstFault whole r
 wanting_told whole r e m is = let t : IsFirstFault whole e = rw m (tt {0}) in exit_tells whole r e is t
 
--- a result that is handed on, of a call that fails for want of memory alone
+-- a result that is handed on, of a call that fails only when memory runs out
 pub made_told : {T : Type 0} (whole : List Refusal) (r : Result T SourceError) → whole ≡ [] → IfErr r (λ y. y ≡ Memory) → StopsAtFirstFault whole r
 made_told whole (Ok v) clean wants = clean
 made_told whole (Err e) clean wants = rw wants (tt {0})
@@ -25,7 +25,7 @@ pub found_so : {T E : Type 0} (r : Result T SourceError) (view : T → E) (a b :
 found_so (Ok v) view a b e h = h ∙ e
 found_so (Err x) view a b e h = tt {0}
 
--- the same of all that may come behind a part
+-- the same of all that may come after a part
 pub memory_told_all : {T X : Type 0} (faults : X → List Refusal) (r : Result T SourceError)
     → IsErrAnd r (λ y. y ≡ Memory) → IfErr r (λ y. (rest : X) → IsFirstFault (faults rest) y)
 memory_told_all faults r is = exit_tells_all faults r Memory is (λ _. tt {0})
@@ -59,7 +59,7 @@ pub all_clean : {X : Type 0} (F : X → List Refusal) (xs : List X) (i : ℕ) (w
     → whole ≡ flat_map F (drop i xs) → length xs ≤ i → whole ≡ []
 all_clean F xs i whole clean h = clean ∙ at_drop_all (flat_map F) xs i h
 
--- behind a first part without faults
+-- after a first part without faults
 pub rest_clean : {X : Type 0} (F : X → List Refusal) (xs ys : List X) (whole a : List Refusal)
     → whole ≡ a ++ flat_map F ys → a ≡ [] → xs ≡ ys → whole ≡ flat_map F xs
 rest_clean F xs ys whole a split clean is = split ∙ rw (clean, is)

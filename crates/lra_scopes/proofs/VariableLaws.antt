@@ -42,7 +42,7 @@ none_left (x ∷ xs) = refl
 
 -- how many scalars are before each ---------------------------------------------------------------------------------------
 
--- of what stands behind so many scalars
+-- of what comes after so many scalars
 abbrev seen_at : (ℕ → Slot) → ℕ → List SymbolEntry → ℕ → Option Lookup
 seen_at slot n es k = option_map (λ (e : SymbolEntry). record { slot = slot (n + width_of_all (take k es)); binding = e.binding }) (slice_get es k)
 
@@ -84,7 +84,7 @@ pushed_length xs ys x y e = let a = length-append xs (x ∷ []) in let b = lengt
 pub taken_length : {A B : Type 0} (n : ℕ) (xs : List A) (ys : List B) → length xs ≡ length ys → length (take n xs) ≡ length (take n ys)
 taken_length n xs ys e = length-take n xs ∙ ap (min n) e ∙ sym (length-take n ys)
 
--- one more, behind all scalars
+-- one more, after all scalars
 pub counted_push : (n : ℕ) (xs : List (List ℕ)) (ps : List Placed) (p : Placed) → length ps ≡ length xs → AreCounted n ps
     → p.scalars ≡ n + width_of_all (entries_of xs ps) → AreCounted n (ps ++ p ∷ [])
 counted_push n [] [] p e counted is = let here : p.scalars ≡ n = omega (arith, is) in (here, tt {0})

@@ -31,6 +31,6 @@ summand_faults s f = term_faults s f.1
 abbrev pub resolve_summand : Scope → SumOperator × TermTree → operators.Operator × program.Expr
 resolve_summand s f = (sum_operator f.0, resolve_term s f.1)
 
--- a chain of `&&`, with nothing behind it
+-- a chain of `&&`, with nothing after it
 abbrev pub resolve_conjunction : Scope → ConjunctionTree → program.Cond
 resolve_conjunction s c = resolve_all_of s c None

@@ -1,4 +1,4 @@
--- What an answer tells of the faults of a part.
+-- What an answer says of the faults of a part.
 pub mod Outcome
 pub mod Names
 pub mod Bindings

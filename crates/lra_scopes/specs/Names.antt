@@ -8,7 +8,7 @@ use Rattle.lra_scopes.specs.declared.names.Declared.{Declared}
 abbrev pub words_of : List Declared → List (List ℕ)
 words_of ds = map (λ (d : Declared). d.word) ds
 
--- behind some names, each declaration hides the newest one of its name before it
+-- after some names, each declaration hides the newest one of its name before it
 abbrev pub Hide : List (List ℕ) → List Declared → Type 0
 Hide before [] = ⊤
 Hide before (d ∷ ds) = (d.hidden ≡ newest d.word before) × Hide (before ++ d.word ∷ []) ds

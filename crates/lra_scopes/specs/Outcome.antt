@@ -1,5 +1,5 @@
--- What an answer tells of the faults of names in a part of a source: none, where there is a value; else the first
--- one, or that memory was wanting.
+-- What an answer says of the faults of names in a part of a source: none, where there is a value; else the first
+-- one, or that memory ran out.
 use Rattle.std.specs.Prelude.{◌≡◌, List, [], ◌∷◌, Option, Some, None, Result, Ok, Err, ⊤}
 use Rattle.lra_base.specs.declared.error.SourceError.TheVariants.{Refused, Memory}
 use Rattle.lra_base.specs.{declared.error.SourceError.SourceError, declared.refusals.Refusal.Refusal}
@@ -8,7 +8,7 @@ abbrev pub first_fault : List Refusal → Option Refusal
 first_fault [] = None
 first_fault (r ∷ rs) = Some r
 
--- the error is the first of these faults, or wants memory
+-- the error is the first of these faults, or runs out of memory
 abbrev pub IsFirstFault : List Refusal → SourceError → Type 0
 IsFirstFault faults (Refused r) = first_fault faults ≡ Some r
 IsFirstFault faults Memory = ⊤

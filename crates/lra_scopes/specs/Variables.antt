@@ -10,7 +10,7 @@ entries_of [] ps = []
 entries_of (x ∷ xs) [] = []
 entries_of (x ∷ xs) (p ∷ ps) = record { name = x; binding = binding_view p.meaning } ∷ entries_of xs ps
 
--- behind so many scalars, each has the number of those before it
+-- after so many scalars, each has the number of those before it
 abbrev pub AreCounted : ℕ → List Placed → Type 0
 AreCounted n [] = ⊤
 AreCounted n (p ∷ ps) = (p.scalars ≡ n) × AreCounted (n + width_of (binding_view p.meaning)) ps

@@ -28,7 +28,7 @@ impl Binding {
     }
 }
 
-/// What a name means, with its place behind the scalars before it; that of an array says nothing.
+/// What a name means, with its place after the scalars before it; that of an array says nothing.
 #[derive(Clone, Copy)]
 pub struct Lookup {
     pub slot: Slot,

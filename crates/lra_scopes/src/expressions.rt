@@ -1,4 +1,4 @@
-//! Expressions: each scalar is a place in the store, and each array is told by its declaration.
+//! Expressions: each scalar is a place in the store, and each array is given by its declaration.
 
 ghost use Rattle.std.specs.Prelude.{◌≡◌, ◌++◌, map, IfOk, IfErr, flat_map};
 ghost use Rattle.lra_base.specs.OperatorViews.{operator_view};

@@ -93,7 +93,7 @@ impl Names {
         self.places.get(name.as_str()).copied()
     }
 
-    /// Whether the name is one of those behind the oldest `count`.
+    /// Whether the name is one of those after the oldest `count`.
     pub fn has_behind(&self, count: usize, name: &Word) -> bool
         ensures { result ≡ list_any (bytes_eq name.now) (drop count self.now) }
     {

@@ -87,7 +87,7 @@ impl Variables {
         }
     }
 
-    /// Whether one behind the oldest `count` has the name.
+    /// Whether one after the oldest `count` has the name.
     pub fn has_behind(&self, count: usize, name: &Word) -> bool
         ensures { result ≡ list_any (bytes_eq name.now) (drop count (names_in self.now)) }
     {

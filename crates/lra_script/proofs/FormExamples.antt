@@ -12,7 +12,7 @@ use Rattle.lra_script.specs.declared.recipes.Mapping.TheVariants.{Image, Preimag
 returns : lines (codes "a" ++ 13 ∷ 10 ∷ 13 ∷ 13 ∷ 10 ∷ (codes "b" ++ 13 ∷ [])) ≡ codes "a" ∷ (13 ∷ []) ∷ codes "b" ∷ []
 returns = refl
 
--- catches a tab as a space, and a comment behind a space
+-- catches a tab as a space, and a comment after a space
 skipped_lines : (is_skipped [] ≡ true) × (is_skipped (codes "  ") ≡ true) × (is_skipped (codes "# con") ≡ true) × (is_skipped (codes " #") ≡ false) × (is_skipped (9 ∷ []) ≡ false)
 skipped_lines = (refl, refl, refl, refl, refl)
 
@@ -72,7 +72,7 @@ combined_lines : (said (codes "meet R P Q") ≡ Some (Make (codes "R") (Combine 
     (said (codes "hull R P Q S") ≡ None)
 combined_lines = (refl, refl, refl, refl, refl, refl)
 
--- catches given constraints that a `widen` may have, a `limited` whose second set is a row, and a `;` behind the sets
+-- catches given constraints that a `widen` may have, a `limited` whose second set is a row, and a `;` after the sets
 widened_lines : (said (codes "widen R P Q") ≡ Some (Make (codes "R") (Widen (codes "P") (codes "Q")))) × (said (codes "widen R P") ≡ None) × (said (codes "widen R P Q >= 1 0") ≡ None) ×
     (said (codes "limited R P Q >= 1 0") ≡ Some (Make (codes "R") (Limited (codes "P") (codes "Q") (inequality (pos 1 ∷ pos 0 ∷ []) ∷ [])))) ×
     (said (codes "limited R P Q") ≡ Some (Make (codes "R") (Limited (codes "P") (codes "Q") []))) × (said (codes "limited R P >= 1 0") ≡ None) × (said (codes "limited R P Q ; >= 1 0") ≡ None)

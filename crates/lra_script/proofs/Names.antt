@@ -22,7 +22,7 @@ refuse : {A : Type 0} (b : Bool) (word : List ℕ) (rest : Option A) → None �
 refuse true word rest e = absurd (none-some word e)
 refuse false word rest e = refl
 
--- behind a name, and behind what is none
+-- after a name, and after what is none
 pub behind_name : {A : Type 0} (word : List ℕ) (o : Option (String Global)) (s : String Global) (rest : Option A) → IsNamed word o → o ≡ Some s → (with_name word rest ≡ rest) × (string_bytes s ≡ word)
 behind_name word o s rest e is = choose (is_name word) word s rest (sym (ap (option_map string_bytes) is) ∙ e)
 
@@ -64,7 +64,7 @@ module _ {A : Type 0} (of : List (List ℕ) → Option A) (make : List ℕ → L
       → IsNamed (slice_index_or ws 1 d).now p → p ≡ Some t → Some (make (string_bytes s) (string_bytes t)) ≡ of (texts ws)
   pair_said ws d o p s t l h n is m js = pair_made make (slice_index_or ws 0 d).now (slice_index_or ws 1 d).now o p s t n is m js ∙ told ws d l h
 
--- lines with words behind their names ---------------------------------------------------------------------------------
+-- lines with words after their names ----------------------------------------------------------------------------------
 
 pub limited_first : (ws : Words) (d : Bor (List ℕ)) (o : Option (String Global)) → 2 ≤ length ws → IsNamed (slice_index_or ws 0 d).now o → o ≡ None → None ≡ form.limited_recipe (texts ws)
 limited_first [] d o l n is = absurd (omega (arith, l))
@@ -82,11 +82,11 @@ pub make_unnamed : (word : List ℕ) (ws : Words) (d : Bor (List ℕ)) (o : Opti
 make_unnamed word [] d o l n is = absurd (omega (arith, l))
 make_unnamed word (a ∷ ws) d o l n is = behind_none a.now o _ n is
 
--- what stands behind the first words
+-- what comes after the first words
 pub all_behind : (n : ℕ) (ws : Words) → take (length ws - n) (drop n ws) ≡ drop n ws
 all_behind n ws = ap (λ (k : ℕ). take k (drop n ws)) (sym (length-drop n ws)) ∙ take-length (drop n ws)
 
--- what is said behind the names
+-- what is said after the names
 said : {S A B : Type 0} (o : Option S) (view : S → A) (v : S) (made : Option A) (make : A → B) → option_map view o ≡ made → o ≡ Some v → Some (make (view v)) ≡ option_map make made
 said o view v made make e is = ap (option_map make) (sym (ap (option_map view) is) ∙ e)
 

@@ -96,7 +96,7 @@ abbrev pub parts_of : {A : Type 0} → (List (List ℕ) → Option A) → List (
 parts_of part_of [] = Some []
 parts_of part_of (word ∷ words) = all_of part_of (slice_split (λ w. bytes_eq w (codes ";")) (word ∷ words))
 
--- what is said behind a name
+-- what is said after a name
 abbrev pub with_name : {A : Type 0} → List ℕ → Option A → Option A
 with_name name said = if is_name name then said else None
 
@@ -196,7 +196,7 @@ pair_recipe word rest =
     else (if bytes_eq word (codes "widen") then widen_recipe rest
     else (if bytes_eq word (codes "limited") then limited_recipe rest else None))))
 
--- what stands behind the name
+-- what comes after the name
 abbrev pub recipe_of : List ℕ → List (List ℕ) → Option Recipe
 recipe_of word rest =
     if bytes_eq word (codes "con") then option_map Con (parts_of row_of rest)

@@ -11,7 +11,7 @@ use Rattle.lra_linear_spec.specs.Range.{in_range}
 abbrev pub without_return : List ℕ → List ℕ
 without_return line = if ends_with nat_eq line (13 ∷ []) then take (length line - 1) line else line
 
--- what stands before, between and behind the line feeds; nothing is behind the last where it ends the script, and such
+-- what stands before, between and after the line feeds; nothing is after the last where it ends the script, and such
 -- a line is skipped
 abbrev pub lines : List ℕ → List (List ℕ)
 lines bytes = map without_return (slice_split (λ b. nat_eq b 10) bytes)

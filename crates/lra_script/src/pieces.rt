@@ -6,7 +6,7 @@ ghost use Rattle.lra_script.specs.Views.{texts};
 
 use std::alloc::{AllocError, Global};
 
-/// What stands before, between and behind the separators.
+/// What stands before, between and after the separators.
 fn pieces(alloc: Global, bytes: &[u8], separator: u8) -> Result<Vec<&[u8]>, AllocError>
     ensures { IfOk result (λ parts. texts parts.items ≡ slice_split (λ b. nat_eq b separator) bytes.now) }
 {

@@ -72,7 +72,7 @@ fn is_semicolon(word: &[u8]) -> bool
     word == b";".as_slice()
 }
 
-/// The words before, between and behind the semicolons.
+/// The words before, between and after the semicolons.
 fn parts<'a, 'b>(alloc: Global, words: &'b [&'a [u8]]) -> Result<Vec<&'b [&'a [u8]]>, AllocError>
     ensures { IfOk result (λ parts. map (λ p. texts p.now) parts.items ≡
         slice_split (λ w. bytes_eq w (codes ";")) (texts words.now)) }
@@ -95,7 +95,7 @@ fn all_rows(alloc: Global, parts: &[&[&[u8]]]) -> Result<Option<Vec<Constraint>>
     Ok(Some(rows))
 }
 
-/// No row, or the rows that stand before, between and behind the semicolons.
+/// No row, or the rows that stand before, between and after the semicolons.
 pub fn rows_of(alloc: Global, words: &[&[u8]]) -> Result<Option<Vec<Constraint>>, AllocError>
     ensures { IfOk result (λ r. constraints_of r ≡ form.parts_of form.row_of (texts words.now)) }
 {
@@ -176,7 +176,7 @@ fn all_generators(alloc: Global, parts: &[&[&[u8]]]) -> Result<Option<Vec<Genera
     Ok(Some(generators))
 }
 
-/// No generator, or those that stand before, between and behind the semicolons.
+/// No generator, or those that stand before, between and after the semicolons.
 pub fn written_generators(
     alloc: Global,
     words: &[&[u8]],

@@ -56,7 +56,8 @@ no_farther_else o l z s = s.1 tt
 abbrev letter : ℕ → ℕ → CondTree
 letter a c = tested (value (use_of (name_at (a ∷ []) c)))
 
--- catches loops that hide an `if` from the `else` behind them: no text has the tree whose `else` belongs to the outer `if`
+-- catches loops that hide an `if` from the `else` after them: no text has the tree whose `else` belongs to the outer
+-- `if`
 no_else_past_loops : (o l : ℕ) (z : Pieces)
     → IsStmt o l (if_else (at 1) (letter 97 4) (while (at 7) (letter 98 13) (for (at 16) no_init None None (if_only (at 24) (letter 99 27) (nothing (at 30))))) (nothing (at 37))) z → ⊥
 no_else_past_loops o l z s = s.1 tt

@@ -47,7 +47,7 @@ is_written rest (skip c ∷ xs) = is_blank c && is_written rest xs
 is_written rest (lexeme c cs k o ∷ xs) =
     (is_spelled (c ∷ cs) k && not (begins_gap c)) && ((ends_there (c ∷ cs) (written xs ++ rest) && nat_le o greatest_level) && is_written rest xs)
 
--- what it tells ----------------------------------------------------------------------------------------------------
+-- what it says -----------------------------------------------------------------------------------------------------
 
 pub and_first : (a b : Bool) → (a && b) ≡ true → a ≡ true
 and_first true b e = refl

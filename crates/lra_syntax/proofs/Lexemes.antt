@@ -18,7 +18,7 @@ written [] = []
 written (skip c ∷ xs) = c ∷ written xs
 written (lexeme c cs k o ∷ xs) = (c ∷ cs) ++ written xs
 
--- what stands behind them
+-- what comes after them
 abbrev pub behind : List ℕ → List ExternalDeclaration → List ℕ
 behind before [] = before
 behind before (skip c ∷ xs) = behind (before ++ c ∷ []) xs
@@ -102,7 +102,7 @@ is_mark m {c} {cs} {after = after} e g low above = record {
   low = low;
 }
 
--- one behind the other ---------------------------------------------------------------------------------------------
+-- one after the other ----------------------------------------------------------------------------------------------
 
 pub written_append : (xs ys : List ExternalDeclaration) → written (xs ++ ys) ≡ written xs ++ written ys
 written_append [] ys = refl

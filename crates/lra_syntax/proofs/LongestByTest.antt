@@ -69,7 +69,7 @@ none_longer (d ∷ u) s b c e =
     let h = none_longer u (s ++ c ∷ []) b d (and_right (is_lexeme (s ++ c ∷ [])) (ends_there (s ++ c ∷ []) (d ∷ u ++ b)) e) in
     subst (λ (z : List ℕ). is_lexeme z ≡ false) (append_assoc s (c ∷ []) (d ∷ u)) h
 
--- the longer of two fronts goes on behind the shorter
+-- the longer of two prefixes goes on after the shorter
 goes_on : (s t a b : List ℕ) → s ++ a ≡ t ++ b → length s < length t → (c : ℕ) × (u : List ℕ) × (t ≡ s ++ c ∷ u) × (a ≡ c ∷ u ++ b)
 goes_on [] [] a b e l = let f : ⊥ = omega (arith, l) in absurd f
 goes_on [] (c ∷ t) a b e l = (c, t, refl, e)
@@ -126,7 +126,7 @@ is_open s none front rest e =
     let g : true ≡ false = sym f ∙ none in
     cc
 
--- no lexeme stands at the front
+-- no lexeme stands at the start
 pub no_lexeme : (rest : List ℕ) → opens_comment rest ≡ false → ends_there [] rest ≡ true → (s after : List ℕ) → rest ≡ s ++ after → Lexeme s → ⊥
 no_lexeme rest other ends s after e lexeme =
     let l = at_most [] s rest after ends e (tested s after (subst (λ (z : List ℕ). opens_comment z ≡ false) e other) lexeme) (cases_lt 0 (length s)) in

@@ -69,7 +69,7 @@ called_twice = record {
   end = at 94;
 }
 
--- long k(long d){ return d+1; } and the functions behind it
+-- long k(long d){ return d+1; } and the functions after it
 abbrev next_number : FunctionTree
 next_number = function_of (codes "k") 6 (long_parameter (name_at (codes "d") 13) ∷ [])
     (statement (return (at 17) (Some (expression (plus (use_of (name_at (codes "d") 24)) (unary (literal Int 1)))))) no_items) 29

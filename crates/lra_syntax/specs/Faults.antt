@@ -30,7 +30,7 @@ CanBegin L tokens = (t : FileTree) × (x : Pieces) × (y : Pieces) × L t (x ++ 
 abbrev pub CanBeginLow : Language → List Token → Type 0
 CanBeginLow L tokens = (t : FileTree) × (x : Pieces) × (y : Pieces) × L t (x ++ y) × (plain x ≡ tokens) × IsLow x
 
--- the token behind `front` is at fault: no text begins so; or it opens a level that is too deep
+-- the token after `front` is at fault: no text begins so; or it opens a level that is too deep
 abbrev pub IsAtFault : Language → Cause → List Token → Token → Type 0
 IsAtFault L Syntax front token = CanBeginLow L front × (CanBegin L (front ++ token ∷ []) → ⊥)
 IsAtFault L TooDeep front token =

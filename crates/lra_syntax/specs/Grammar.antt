@@ -95,7 +95,7 @@ abbrev mutual
   IsCond l (conjunction c) = IsConjunction l c
   IsCond l (or c d) = IsCond l c ⋅ mark mark.Or ⋅ IsConjunction l d
 
--- a condition in parentheses that open no level: behind `if`, `while`, `assert`, `assume`
+-- a condition in parentheses that open no level: after `if`, `while`, `assert`, `assume`
 abbrev pub InParens : ℕ → CondTree → Texts
 InParens l c = mark mark.OpenParen ⋅ IsCond l c ⋅ mark mark.CloseParen
 
@@ -148,7 +148,7 @@ IsCount n z = (t : NumberType) × number_at t n.value n.place z
 abbrev pub IsLength : ArrayLength → Texts
 IsLength n = mark mark.OpenBracket ⋅ IsCount n ⋅ mark mark.CloseBracket
 
--- behind a name: a scalar's value, where it has one, or an array's length
+-- after a name: a scalar's value, where it has one, or an array's length
 abbrev pub IsScalarOrArray : {A : Type 0} → (Option A → Texts) → ScalarOrArrayTree A → Texts
 IsScalarOrArray R (scalar e) = R e
 IsScalarOrArray R (array n) = IsLength n
@@ -178,7 +178,7 @@ IsLabel l = IsCase l.label l.place ⋅ mark mark.Colon
 abbrev pub IsSwitched : ℕ → ExprTree → Texts
 IsSwitched l e = mark mark.OpenParen ⋅ IsExpr l e ⋅ mark mark.CloseParen
 
--- it ends in an `if` without `else`, which would take an `else` behind it
+-- it ends in an `if` without `else`, which would take an `else` after it
 abbrev pub TakesElse : StmtTree → Type 0
 TakesElse (if_only at c t) = ⊤
 TakesElse (if_else at c t e) = TakesElse e
@@ -237,20 +237,20 @@ abbrev mutual
   IsStmt o l (switch at e cs) = opens_at mark.Switch at o ⋅ IsSwitched l e ⋅ opens mark.OpenBrace (l + 1) ⋅
       AreCases (l + 1) cs ⋅ mark mark.CloseBrace
 
-  -- the labels and statements of a `switch`: none, or a label first; behind a label a label or a statement; a
+  -- the labels and statements of a `switch`: none, or a label first; after a label a label or a statement; a
   -- declaration is none
   pub AreCases : ℕ → CasesTree → Texts
   AreCases l no_cases = empty
   AreCases l (labelled b cs) = IsLabel b ⋅ AreLabelled l cs
   AreCases l (stated t cs) = λ z. ⊥
 
-  -- behind a label
+  -- after a label
   pub AreLabelled : ℕ → CasesTree → Texts
   AreLabelled l no_cases = λ z. ⊥
   AreLabelled l (labelled b cs) = IsLabel b ⋅ AreLabelled l cs
   AreLabelled l (stated t cs) = IsStmt (opened_by t l) (level_of t l) t ⋅ AreStated l cs
 
-  -- behind a statement
+  -- after a statement
   pub AreStated : ℕ → CasesTree → Texts
   AreStated l no_cases = empty
   AreStated l (labelled b cs) = IsLabel b ⋅ AreLabelled l cs

@@ -67,7 +67,7 @@ names_of d = name_in d.name.word d.shape
 abbrev pub with_names : List (List ℕ) → List DeclaratorTree → List (List ℕ)
 with_names live ds = live ++ flat_map names_of ds
 
--- a declarator's scalar lives behind its point, and so in its call
+-- a declarator's scalar lives after its point, and so in its call
 abbrev pub declarator_labels : List (List ℕ) → List DeclaratorTree → List Labelled
 declarator_labels live [] = []
 declarator_labels live (d ∷ ds) =
@@ -83,7 +83,7 @@ init_labels live no_init = []
 init_labels live (declared d) = declarator_labels live (d.first ∷ d.rest)
 init_labels live (assigned a) = assign_label live a ∷ []
 
--- a `for`'s own point stands before its test, behind what it declares
+-- a `for`'s own point stands before its test, after what it declares
 abbrev pub live_in_for : List (List ℕ) → InitTree → List (List ℕ)
 live_in_for live no_init = live
 live_in_for live (declared d) = with_names live (d.first ∷ d.rest)

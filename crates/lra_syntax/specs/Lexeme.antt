@@ -128,7 +128,7 @@ is_digit_of hexadecimal c = is_digit c || is_between 65 70 c || is_between 97 10
 abbrev pub digit_value : ℕ → ℕ
 digit_value c = if is_digit c then c - 48 else (if is_between 65 70 c then c - 55 else c - 87)
 
--- the number that the digits write behind those of n
+-- the number that the digits write after those of n
 abbrev pub number_after : Base → ℕ → List ℕ → ℕ
 number_after base n [] = n
 number_after base n (c ∷ cs) = number_after base (n * base_number base + digit_value c) cs
@@ -143,7 +143,7 @@ IsBasePrefix decimal_base front digits = (c : ℕ) × (cs : List ℕ) × (front 
 abbrev pub suffixes : List (List ℕ)
 suffixes = [] ∷ codes "l" ∷ codes "L" ∷ codes "ll" ∷ codes "LL" ∷ []
 
--- the bytes are a literal of this value: a front, digits and a suffix
+-- the bytes are a literal of this value: a prefix, digits and a suffix
 pub record IsLiteral (s : List ℕ) (n : ℕ) : Type 0 where
   pub base : Base
   pub front : List ℕ
@@ -175,7 +175,7 @@ literal_type (c ∷ cs) n = Long
 abbrev pub IsOpen : List ℕ → Type 0
 IsOpen s = (front rest : List ℕ) → s ≡ front ++ codes "*/" ++ rest → ⊥
 
--- `/*` and no `*/` behind it
+-- `/*` and no `*/` after it
 abbrev pub IsUnclosed : List ℕ → Type 0
 IsUnclosed s = (text : List ℕ) × (s ≡ codes "/*" ++ text) × IsOpen text
 

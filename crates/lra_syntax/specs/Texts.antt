@@ -19,7 +19,7 @@ plain pieces = map (λ (p : Piece). p.0) pieces
 abbrev pub Texts : Type 1
 Texts = Pieces → Type 0
 
--- the one behind the other
+-- the one after the other
 infixr 6 ◌⋅◌
 abbrev pub ◌⋅◌ : Texts → Texts → Texts
 (R ⋅ Q) z = (x : Pieces) × (y : Pieces) × (z ≡ x ++ y) × R x × Q y

@@ -51,11 +51,11 @@ pub data IsGap (before gap after : List ℕ) : Type 0 where
       → list_all is_space_or_tab blanks ≡ true → IsWordEnd text → list_all in_line text ≡ true → IsLineEnd after →
       IsGap before gap after
 
--- no gap begins behind these bytes
+-- no gap begins after these bytes
 abbrev pub NoGap : List ℕ → List ℕ → Type 0
 NoGap before rest = (gap after : List ℕ) → rest ≡ gap ++ after → IsGap before gap after → ⊥
 
--- the longest lexeme at the front of rest
+-- the longest lexeme at the start of rest
 pub record IsLongest (s rest : List ℕ) : Type 0 where
   pub lexeme : Lexeme s
   pub after : List ℕ
@@ -97,14 +97,14 @@ IsReading before (token bytes t ∷ ps) after = IsToken before bytes (bytes ++ (
 abbrev pub end_token : List ℕ → Token
 end_token source = record { kind = End; place = place_after source }
 
--- the tokens of the source; behind the last byte stands the end
+-- the tokens of the source; after the last byte stands the end
 abbrev pub Lex : List ℕ → List Token → Type 0
 Lex source tokens = (ps : List Fragment) × (source ≡ bytes_of ps) × IsReading [] ps [] ×
     (tokens ≡ tokens_of ps ++ end_token source ∷ [])
 
 -- faults -----------------------------------------------------------------------------------------------------------
 
--- no token, or no number, can be read at the front of rest
+-- no token, or no number, can be read at the start of rest
 abbrev pub IsFaulty : Cause → List ℕ → List ℕ → Type 0
 IsFaulty BadByte before rest = (rest ≢ []) × NoGap before rest × ((s after : List ℕ) → rest ≡ s ++ after → Lexeme s → ⊥)
 IsFaulty BadLiteral before rest = NoGap before rest

@@ -185,7 +185,7 @@ init_view init.Nothing = tree.no_init
 init_view (init.Declaration d) = tree.declared (declaration_view d)
 init_view (init.Assign a) = tree.assigned (assign_view a)
 
--- statements: an item of a block or of a `switch` is what it puts before those behind it ------------------------------
+-- statements: an item of a block or of a `switch` is what it puts before those after it -------------------------------
 
 abbrev pub ItemPart : Type 0
 ItemPart = tree.ItemsTree → tree.ItemsTree

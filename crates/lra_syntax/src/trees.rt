@@ -606,11 +606,11 @@ impl Drop for Function {
 #[derive(Clone, Copy, PartialEq, Eq, Debug)]
 pub struct SignedLiteral {
     pub value: i64,
-    /// The place of the literal, which stands behind the sign.
+    /// The place of the literal, which comes after the sign.
     pub place: Place,
 }
 
-/// A label of a `switch`, and its place: that of its literal, which stands behind the sign, or of `default`.
+/// A label of a `switch`, and its place: that of its literal, which comes after the sign, or of `default`.
 #[derive(Clone, Copy, PartialEq, Eq, Debug)]
 pub struct PlacedLabel {
     pub label: CaseLabel,

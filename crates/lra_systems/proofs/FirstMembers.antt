@@ -79,7 +79,7 @@ all_gone_through {K = K} Before equal rows kinds i n h before =
     subst (λ (ks : List K). All Before (rows_by_kind equal rows ks)) (take_all i kinds (omega (arith, n, h)))
     (subst (λ (rs : List (List ℤ)). All Before (rows_by_kind equal rs (take i kinds))) (take_all i rows h) before)
 
--- what a checked number tells
+-- what a checked number says
 pub ok_of : {A E : Type 0} (x : A) (q : Result A E) → Ok x ≡ q → IsOk q
 ok_of {A = A} {E = E} x q e = subst (λ (z : Result A E). IsOk z) e refl
 

@@ -24,7 +24,7 @@ pub all_given : {K : Type 0} (equal : K → Bool) (rows : List (List ℤ)) (kind
 all_given equal rows kinds i n e =
     ap (λ (x : List (List ℤ)). rows_by_kind equal x (take i kinds)) (take_all i rows (omega (arith, e))) ∙ ap (rows_by_kind equal rows) (take_all i kinds (omega (arith, e, n)))
 
--- a row that is put behind the others
+-- a row that is put after the others
 pub given_pushed : {K : Type 0} (equal : K → Bool) (rows : List (List ℤ)) (kinds : List K) (i : ℕ) (own : List (List ℤ)) → rows ≡ own → length kinds ≡ length own → i < length rows →
     (before after : List LinearRow) (g : LinearRow) (r : List ℤ) (d : K) → r ≡ get_or rows i r → after ≡ before ++ g ∷ [] → g ≡ record { row = r; equal = equal (get_or kinds i d) } →
     before ≡ rows_by_kind equal (take i rows) (take i kinds) →
@@ -34,7 +34,7 @@ given_pushed {K = K} equal rows kinds i own eo n h before after g r d er ea eg e
     ea ∙ ap (λ (l : List LinearRow). l ++ g ∷ []) eb ∙ ap (λ (x : LinearRow). rows_by_kind equal (take i rows) (take i kinds) ++ x ∷ []) eg ∙
     sym (given_more equal rows kinds i r (get_or kinds i d) n' h er (get_or_default kinds i d (get_or kinds i d) (omega (arith, h, n'))))
 
--- a constraint that is put behind the others
+-- a constraint that is put after the others
 pub constraints_pushed : (old new : LinearSystem ConKind) (r : List ℤ) (k : ConKind) → length old.kinds ≡ length old.rows → new.rows ≡ old.rows ++ r ∷ [] →
     new.kinds ≡ old.kinds ++ k ∷ [] → constraints new ≡ constraints old ++ record { row = r; equal = is_equality k } ∷ []
 constraints_pushed old new r k n er ek =

@@ -1,4 +1,4 @@
--- What the answer to a constraint tells of a point, and what that of all tells of their set of points.
+-- What the answer to a constraint says of a point, and what that of all says of their set of points.
 use Rattle.std.proofs.{Common.◌≡◌, Common.List, Common.◌∷◌, Common.subst, Common.sym, Common.ℤ, Common.Ok, lemmas.List.Elements.All-contains, lemmas.List.Elements.Contains-append_right}
 use Rattle.std.specs.List.{Contains}
 use Rattle.lra_linear_spec.specs.{CheckedArithmetic.checked_product, Descriptions.LinearRow, Descriptions.HoldsWith, Vectors.product}

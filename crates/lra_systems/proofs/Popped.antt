@@ -1,4 +1,4 @@
--- Lists whose last element is taken out.
+-- Lists whose last element is removed.
 use Rattle.std.proofs.Common.{◌≡◌, ◌∙◌, ◌++◌, ◌∷◌, ◌<◌, ◌-◌, ℕ, List, [], Option, Some, None, ap, arith, length, sym, take}
 use Rattle.std.proofs.{Math.Seq.take-append_seam, lemmas.List.append-nil, lemmas.List.length-append, lemmas.List.length-take-le}
 use Rattle.std.specs.Prelude.{IsSome, option_to_list}

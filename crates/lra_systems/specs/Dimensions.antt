@@ -1,4 +1,4 @@
--- From how many dimensions on the answer is want of memory: no memory holds a row of so many columns.
+-- From how many dimensions on the answer is running out of memory: no memory holds a row of so many columns.
 use Rattle.std.specs.Prelude.{ℕ, ◌^◌}
 
 abbrev pub too_many_dimensions : ℕ

@@ -18,7 +18,7 @@ FailsInRange x g = IsOk (checked_product g.row x) × (¬ (Holds g x))
 abbrev pub IsWide : List ℤ → LinearRow → Type 0
 IsWide x g = IsErr (checked_product g.row x)
 
--- the constraint at the place is the first that does not hold in the range, and it is as told
+-- the constraint at the place is the first that does not hold in the range, and it is as stated
 abbrev pub DecidesMembership : List LinearRow → List ℤ → H.MembershipAnswer → Type 0
 DecidesMembership list x Yes = All (HoldsInRange x) list
 DecidesMembership list x (No place) = FirstAt (HoldsInRange x) (FailsInRange x) list place

@@ -45,7 +45,7 @@ module _ (one two : Op) (kept : live_after_op one 1 ≡ 1) (kept_too : live_afte
       last : live_after_op two (live_after_op one 1) ≤ most_live
       last = omega (arith, kept_too)
 
-  -- as many live at its points as are told
+  -- as many live at its points as are reported
   tree_lives : PointsHave steps_sites (tree_of one two) 0
   tree_lives = (
     (λ s there. ap (λ (t : Site). t.live) (same_Some _ s there), (tt, tt)),

@@ -89,7 +89,7 @@ fn judge_tree<D: Domain>(alloc: Global) -> Result<BoundsVerdicts, AllocError> {
     judge_accesses(alloc, &graph.tree, &solution.values, solution.flagged)
 }
 
-/// Whether this is told, and nothing is flagged.
+/// Whether this is reported, and nothing is flagged.
 fn tells(inside: &BoundsVerdicts, want: &[(usize, &[(Place, bool)])]) -> bool {
     let told = inside
         .verdicts
@@ -99,7 +99,7 @@ fn tells(inside: &BoundsVerdicts, want: &[(usize, &[(Place, bool)])]) -> bool {
 }
 
 /// On the right of `&&` `x` is from 0 to 2, so `a[x]` is inside, and `a[0]` is; what an element holds isn't followed.
-/// Behind the condition `a[x]` is inside too; 3 is no index of an array of 3.
+/// After the condition `a[x]` is inside too; 3 is no index of an array of 3.
 #[test]
 fn accesses_are_inside_by_their_points(rt: HostRuntime) -> Result<(), AllocError> {
     let alloc = rt.alloc();

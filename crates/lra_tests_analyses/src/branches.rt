@@ -30,7 +30,7 @@ fn at_least(number_type: NumberType, bound: u64) -> Cond {
     )
 }
 
-/// `x >= 1`, behind which so many levels of parentheses say `|| x >= 1` and `&& x >= 1` in turn.
+/// `x >= 1`, after which so many levels of parentheses say `|| x >= 1` and `&& x >= 1` in turn.
 fn nested(alloc: Global, number_type: NumberType, levels: u32) -> Result<Cond, AllocError> {
     let mut condition = at_least(number_type, 1);
     for level in 0..levels {
@@ -130,7 +130,7 @@ fn sample(
     Ok(InlinedProgram { tree, sites })
 }
 
-/// The rows of the value's parts over one variable, one behind the other.
+/// The rows of the value's parts over one variable, one after the other.
 fn rows_of<D: Domain>(alloc: Global, value: &D) -> Result<Vec<[i128; 2]>, AllocError> {
     let mut rows = Vec::new(alloc);
     for part in &value.parts(alloc)? {
@@ -190,7 +190,7 @@ fn levels_of_conditions(rt: HostRuntime) -> Result<(), AllocError> {
     Ok(())
 }
 
-/// An `int` lies within 32 bits behind its declaration and behind each value that it gets.
+/// An `int` lies within 32 bits after its declaration and after each value that it gets.
 #[test]
 fn ints_lie_within_32_bits(rt: HostRuntime) -> Result<(), AllocError> {
     let alloc = rt.alloc();

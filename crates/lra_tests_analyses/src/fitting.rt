@@ -48,7 +48,7 @@ fn judge_steps<D: Domain>(alloc: Global) -> Result<OverflowVerdicts, AllocError>
     judge(alloc, &graph.tree, &solution.values, solution.flagged)
 }
 
-/// An input has 64 bits, and `x + 1` may be 2147483648: neither fits. Behind that `x` is at least -2147483647, since
+/// An input has 64 bits, and `x + 1` may be 2147483648: neither fits. After that `x` is at least -2147483647, since
 /// the type's bounds hold there, so `x - 1` fits: by the value at its own point, and by none before it.
 #[test]
 fn steps_fit_by_their_points(rt: HostRuntime) -> Result<(), AllocError> {

@@ -12,7 +12,7 @@ fn give(place: usize) -> Node {
     Node::Act(1, Op::Havoc(Receiver::variable(place, NumberType::Int)))
 }
 
-/// A point, and then two gifts, with what others do where one variable is theirs.
+/// A point, and then two writes, with what others do where one variable is theirs.
 fn opened(alloc: Global) -> Result<Node, AllocError> {
     let gifts = put_in_turn(alloc, give(0), give(1))?;
     let tree = put_in_turn(alloc, Node::Point(1), gifts)?;
@@ -33,7 +33,7 @@ fn enters_first(tree: &Node) -> bool {
     *place == 1 && matches!(&**point, Node::Point(1))
 }
 
-/// Whether behind it the first gift is noted.
+/// Whether after it the first write is noted.
 fn notes_first(tree: &Node) -> bool {
     let Node::Seq(_, gifts) = tree else {
         return false;

@@ -18,7 +18,7 @@ pub enum Unfit {
     Row,
     // There are too many dimensions.
     Dimensions,
-    // A row strains.
+    // A row exceeds a limit.
     Strained,
 }
 
@@ -53,7 +53,7 @@ pub fn row_of(alloc: Global, numbers: &[i128]) -> Result<Row, Unfit> {
     Ok(row)
 }
 
-// What is told of a row that is not taken in.
+// What is reported about a row that is not added.
 fn told(
     alloc: Global,
     cone: &mut Cone,
@@ -114,7 +114,7 @@ fn are(rows: &[Row], list: &[&[i128]]) -> bool {
     rows.len() == list.len()
 }
 
-// The values say at which of the rows taken in the ray is tight.
+// The values say at which of the rows added the ray is tight.
 fn row_agrees(values: &BitRow, taken: &[Row], ray: &Row) -> bool {
     if values.width() != taken.len() {
         return false;
@@ -311,7 +311,7 @@ fn product(left: i128, right: i128) -> Excess {
     }
 }
 
-// Whether the row is not taken in for this reason, and the cone has the same rays as before.
+// Whether the row is not added for this reason, and the cone has the same rays as before.
 fn tells(
     alloc: Global,
     cone: &mut Cone,
@@ -324,7 +324,7 @@ fn tells(
     Ok(strained == Some(want) && are(cone.rays(), rays) && agrees(cone))
 }
 
-// The row strains in a product.
+// The row exceeds a limit in a product.
 fn strains_in_product(alloc: Global) -> Result<bool, Unfit> {
     let rays: &[&[i128]] = &[&[1, MAX], &[0, 1]];
     let mut cone = cone_of(alloc, 1, &[], &[&[1, 0], &[-MAX, 1]])?;
@@ -335,7 +335,7 @@ fn strains_in_product(alloc: Global) -> Result<bool, Unfit> {
     tells(alloc, &mut cone, ConKind::Ge, &[0, 2], want, rays)
 }
 
-// The row strains in a pair of rays: the products are 1 and 2 - MAX.
+// The row exceeds a limit in a pair of rays: the products are 1 and 2 - MAX.
 fn strains_in_rays(alloc: Global) -> Result<bool, Unfit> {
     let rays: &[&[i128]] = &[&[2, 1], &[0, 1]];
     let mut cone = cone_of(alloc, 1, &[], &[&[1, 0], &[-1, 2]])?;
@@ -349,7 +349,7 @@ fn strains_in_rays(alloc: Global) -> Result<bool, Unfit> {
     tells(alloc, &mut cone, ConKind::Ge, row, want, rays)
 }
 
-// The row strains in a pair of lines: the products are 1 and MAX.
+// The row exceeds a limit in a pair of lines: the products are 1 and MAX.
 fn strains_in_lines(alloc: Global) -> Result<bool, Unfit> {
     let mut cone = cone_of(alloc, 2, &[&[0, 2, -1]], &[])?;
     let above = member(Family::Lines, 0);

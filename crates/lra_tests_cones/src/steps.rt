@@ -1,4 +1,4 @@
-//! Each step beside all pairs of rays, told apart by the definition of adjacency.
+//! Each step beside all pairs of rays, distinguished by the definition of adjacency.
 
 use crate::cone::{Unfit, powers, row_of};
 use lra_bits::{BitRow, SatMatrix};
@@ -66,7 +66,7 @@ fn combination(row: &Row, up: &Row, down: &Row) -> Result<Option<Row>, Unfit> {
     }
 }
 
-// Puts the ray of a pair behind the others, where the two are adjacent and on both sides of the row.
+// Puts the ray of a pair after the others, where the two are adjacent and on both sides of the row.
 fn push_pair(
     made: &mut Vec<Row>,
     cone: &Cone,
@@ -89,7 +89,7 @@ fn push_pair(
     Ok(())
 }
 
-// Puts the rays of all pairs with the first at `up` behind the others, and before them that ray itself where the row
+// Puts the rays of all pairs with the first at `up` after the others, and before them that ray itself where the row
 // holds.
 fn push_pairs(made: &mut Vec<Row>, cone: &Cone, row: &Row, up: usize) -> Result<(), Unfit> {
     let rays = cone.rays();
@@ -143,7 +143,7 @@ fn are_rays(rays: &[Row], want: &[Row]) -> bool {
     rays.len() == want.len()
 }
 
-// Takes the row in, and tells whether the rays are those of all pairs; where a line is across, pairs tell nothing.
+// Takes the row in, and says whether the rays are those of all pairs; where a line is across, pairs say nothing.
 fn agrees_with_pairs(alloc: Global, cone: &mut Cone, row: &Row) -> Result<bool, Unfit> {
     if row.width() == 0 || row.width() - 1 != cone.dims() {
         return Err(Unfit::Row);
@@ -184,7 +184,7 @@ fn cyclic(alloc: Global, n: usize, points: usize) -> Result<Vec<Row>, Unfit> {
     Ok(rows)
 }
 
-// The numbers with one at the front, 0 but at one place.
+// The numbers with one at the start, 0 but at one place.
 fn numbers_at(
     alloc: Global,
     n: usize,
@@ -200,7 +200,7 @@ fn numbers_at(
     row_of(alloc, &numbers)
 }
 
-// The two rows with these numbers at each place, behind the positivity row.
+// The two rows with these numbers at each place, after the positivity row.
 fn sides(
     alloc: Global,
     n: usize,
@@ -229,7 +229,7 @@ fn drawn_row(alloc: Global, n: usize, from: u64) -> Result<(Row, u64), Unfit> {
     Ok((row, seed))
 }
 
-// So many rows that are drawn, behind the positivity row.
+// So many rows that are drawn, after the positivity row.
 fn drawn(alloc: Global, n: usize, count: usize, from: u64) -> Result<Vec<Row>, Unfit> {
     let mut seed = from;
     let mut rows = Vec::new(alloc);

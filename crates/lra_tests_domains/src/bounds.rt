@@ -15,10 +15,10 @@ use std::alloc::{AllocError, Global};
 /// A constant and two factors.
 type Numbers = (i64, [i64; 2]);
 
-/// What is told from below and from above.
+/// What is reported from below and from above.
 type Told = (Option<i128>, Option<i128>);
 
-/// Three forms that aren't negative, a form, and what is told of it.
+/// Three forms that aren't negative, a form, and what is reported about it.
 type Case = ([Numbers; 3], Numbers, Told);
 
 /// x and y at least 0, 2x + 3y at most 12: the points (0, 0), (6, 0), (0, 4).
@@ -45,7 +45,7 @@ const OF_BOXES: [Case; 8] = [
     (NOTHING, (3, [1, 0]), (None, None)),
 ];
 
-/// x + y is at most 2 where 2x + 2y is at most 5; of other sums the intervals tell.
+/// x + y is at most 2 where 2x + 2y is at most 5; of other sums the intervals say.
 const OF_OCTAGONS: [Case; 8] = [
     (TRIANGLE, (0, [1, 1]), (Some(0), Some(10))),
     (TRIANGLE, (1, [2, -1]), (Some(-3), Some(13))),
@@ -77,7 +77,7 @@ fn told_by<D: Domain>(alloc: Global, value: &D, form: &Numbers) -> Result<Told, 
     Ok(value.bounds(&form))
 }
 
-/// What is told of the form where the three aren't negative.
+/// What is reported about the form where the three aren't negative.
 fn bounds_by<D: Domain>(
     alloc: Global,
     kept: &[Numbers; 3],
@@ -108,7 +108,7 @@ fn bounds_by_hand(rt: HostRuntime) {
     assert!(rt; are_told::<Polyhedron>(rt.alloc(), &of_polyhedra) == Ok(true));
 }
 
-/// A gauge tells nothing.
+/// A gauge says nothing.
 #[test]
 fn bounds_of_a_gauge(rt: HostRuntime) {
     assert!(rt;
@@ -126,7 +126,7 @@ fn four_times<D: Domain>(alloc: Global) -> Result<Told, AllocError> {
     Ok(told)
 }
 
-/// Where the one end passes the range the other is told, but not of a polyhedron.
+/// Where the one end passes the range the other is reported, but not of a polyhedron.
 #[test]
 fn bounds_that_pass(rt: HostRuntime) {
     assert!(rt; four_times::<Boxes>(rt.alloc()) == Ok((Some(0), None)));

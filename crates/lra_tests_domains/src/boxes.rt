@@ -183,7 +183,7 @@ fn boxes_by_hand(rt: HostRuntime) {
 }
 
 /// A coordinate, the constant and factors of the form that is assigned to it, and whether that is exact. x is without
-/// bounds in the end: the last sum ends there, and nothing behind it passes.
+/// bounds in the end: the last sum ends there, and nothing after it passes.
 type Assigned = (usize, i64, [i64; 2], Exactness);
 
 static ASSIGNED: [Assigned; 4] = [

@@ -32,7 +32,8 @@ fn grown(bound: u8, next: u8, mode: Mode) -> Result<(Grown, u8), AllocError> {
     Ok((answer, head.bound))
 }
 
-/// A head whose inclusion strains is given up, though next lies in it; one whose join strains has no bound left.
+/// A head whose inclusion exceeds a limit is given up, though next lies in it; one whose join exceeds a limit has no
+/// bound left.
 #[test]
 fn heads_grow(rt: HostRuntime) {
     for &(bound, next, mode, want, after) in GROWTHS.iter() {
@@ -59,7 +60,7 @@ fn inclusions_strain(rt: HostRuntime) {
     }
 }
 
-/// The bounds of two values; what their join tells, and its bound: sums up to 60 are joined.
+/// The bounds of two values; what their join reports, and its bound: sums up to 60 are joined.
 static JOINS: [(u8, u8, Exactness, u8); 2] = [
     (20, 40, Exactness::Exact, 40),
     (40, 21, Exactness::Flagged, 255),

@@ -38,7 +38,7 @@ fn up_to(alloc: Global, most: i64) -> Result<Polyhedron, AllocError>
     Ok(value)
 }
 
-/// The given rows of `x < 10`: x <= 9 and x <= 10.
+/// The widening thresholds of `x < 10`: x <= 9 and x <= 10.
 fn given_rows(alloc: Global) -> Result<ConSys, AllocError>
     ensures { IfOk result (λ list. list.dims ≡ 1) }
 {
@@ -50,8 +50,8 @@ fn given_rows(alloc: Global) -> Result<ConSys, AllocError>
 
 const EXACT: Grown = Grown::Grew(Exactness::Exact);
 
-/// A mode and how far next goes from 1; what growing the head does, how many given rows are left, and the rows that its
-/// value has then.
+/// A mode and how far next goes from 1; what growing the head does, how many widening thresholds are left, and the rows
+/// that its value has then.
 struct Turn {
     mode: Mode,
     most: i64,
@@ -60,7 +60,7 @@ struct Turn {
     rows: &'static [[i128; 2]],
 }
 
-/// A head of 0 under both given rows: joined, widened up to 9 and up to 10, and beyond.
+/// A head of 0 under both thresholds: joined, widened up to 9 and up to 10, and beyond.
 static TURNS: [Turn; 5] = [
     Turn {
         mode: Mode::Join,

@@ -21,7 +21,7 @@ fn reads<S: Source>(source: &mut S, into: &mut [u8], told: &[&[u8]]) -> bool {
     true
 }
 
-/// Whether the writes of the pieces tell this.
+/// Whether the writes of the pieces report this.
 fn writes<K: Sink>(sink: &mut K, pieces: &[&[u8]], told: &[Result<usize, Failed>]) -> bool {
     for (piece, end) in pieces.iter().zip(told) {
         if sink.write(piece) != *end {
@@ -76,10 +76,10 @@ fn sources_give_their_bytes(rt: HostRuntime) {
 
 static PIECES: [&[u8]; 6] = [b"abc", b"def", b"ghi", b"jkl", b"", b"m"];
 
-/// What the write of each piece tells.
+/// What the write of each piece reports.
 type Writes = [Result<usize, Failed>; 6];
 
-/// A sink's room, how many bytes it takes at most, its writes that fail, what each piece's write tells, and what the
+/// A sink's room, how many bytes it takes at most, its writes that fail, what each piece's write reports, and what the
 /// sink then holds.
 static WRITES: [(usize, usize, &[u64], Writes, &[u8]); 4] = [
     (
@@ -119,7 +119,7 @@ static WRITES: [(usize, usize, &[u64], Writes, &[u8]); 4] = [
     ),
 ];
 
-/// Whether the writes of all pieces into such a sink tell this, and it then holds this.
+/// Whether the writes of all pieces into such a sink report this, and it then holds this.
 fn memory_writes(
     alloc: Global,
     (room, most): (usize, usize),
@@ -162,7 +162,7 @@ static LENGTHS: [(usize, usize, usize, bool); 3] = [
     (5000, 4096, 4097, false),
 ];
 
-/// Whether so many bytes of the front are read, and that is all or not.
+/// Whether so many bytes of the prefix are read, and that is all or not.
 fn ends_so(end: &Result<Vec<u8>, ReadError>, bytes: &[u8], count: usize, fits: bool) -> bool {
     match end {
         Ok(whole) => fits && whole.len() == count && bytes.starts_with(whole),
@@ -294,7 +294,7 @@ impl Write for Device {
 }
 
 /// How often a device is interrupted, its failure then, how many bytes a call moves, what two reads and two writes
-/// tell, and how many calls of the device they make.
+/// report, and how many calls of the device they make.
 type Tries = (
     u32,
     Option<ErrorKind>,
@@ -337,19 +337,19 @@ fn make_device(interrupts: u32, failure: Option<ErrorKind>, moves: usize) -> Dev
     }
 }
 
-/// Whether two reads of the device tell this, and make so many calls.
+/// Whether two reads of the device report this, and make so many calls.
 fn device_reads(mut reader: Device, told: &[&[u8]], calls: u32) -> bool {
     let same = reads(&mut RealSource::new(&mut reader), &mut [0u8; 3], told);
     same && reader.calls == calls
 }
 
-/// Whether two writes to the device tell this, and make so many calls.
+/// Whether two writes to the device report this, and make so many calls.
 fn device_writes(mut writer: Device, told: &[Result<usize, Failed>], calls: u32) -> bool {
     let same = writes(&mut RealSink::new(&mut writer), &[b"abc", b"abc"], told);
     same && writer.calls == calls
 }
 
-/// Of such a device's first read, the error that is told, if there is one.
+/// Of such a device's first read, the error that is reported, if there is one.
 fn told_error(interrupts: u32, failure: Option<ErrorKind>) -> Option<ErrorKind> {
     let mut source = RealSource::new(make_device(interrupts, failure, 1));
     if source.last_error().is_some() {

@@ -639,7 +639,7 @@ static HELP_ON_ANALYSE: [&str; 4] = [
     "lra analyse --domain box a.c --help",
 ];
 
-/// Lines that ask for help on another command, and parts of what it tells.
+/// Lines that ask for help on another command, and parts of what it reports.
 static HELP_ON: [(&str, &[&str]); 7] = [
     (
         "lra help sample",
@@ -708,7 +708,7 @@ fn shows(alloc: Global, line: &str, parts: &[&str]) -> Result<bool, AllocError> 
     Ok(is_help(&text) && parts.iter().all(|part| text.contains(part)))
 }
 
-/// Whether the help of an analysis tells the range and the default of each number.
+/// Whether the help of an analysis reports the range and the default of each number.
 fn tells_ranges(alloc: Global) -> Result<bool, AllocError> {
     let text = shown(alloc, "lra analyse -h")?;
     for option in NUMBER_OPTIONS {
@@ -754,7 +754,7 @@ fn the_version_is_shown(rt: HostRuntime) {
     }
 }
 
-/// Lines that aren't taken, and parts of what is reported of them.
+/// Lines that aren't accepted, and parts of what is reported of them.
 static FAULTS: [(&str, &[&str]); 12] = [
     (
         "lra analyse --domian box",

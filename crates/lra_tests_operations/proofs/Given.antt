@@ -79,7 +79,7 @@ listed vs i v at = subst (λ (w : ℕ × Bool). Contains vs w) (get_or_from_slic
 kept : (ss : List Site) (s : Site) (q : ℕ) → IsAssertion ss q → IsAssertion (ss ++ s ∷ []) q
 kept ss s q (x, at, asserts) = (x, at_old ss s q x at, asserts)
 
--- behind a point that is no assertion
+-- after a point that is no assertion
 verdicts_same : (ss : List Site) (s : Site) (vs : Verdicts) → AreVerdicts ss vs → (IsTrue s.asserts → ⊥) → AreVerdicts (ss ++ s ∷ []) vs
 verdicts_same ss s vs are never = record {
   of_these = λ q b h. kept ss s q (are.of_these q b h);
@@ -93,7 +93,7 @@ verdicts_same ss s vs are never = record {
 alone : (n q : ℕ) (b : Bool) → q ≡ n → Contains {X = ℕ × Bool} ((n, b) ∷ []) (q, b)
 alone n q b is = subst (λ (k : ℕ). Contains {X = ℕ × Bool} ((n, b) ∷ []) (k, b)) (sym is) (contains_head {A = ℕ × Bool} (n, b) [])
 
--- behind an assertion
+-- after an assertion
 verdicts_more : (ss : List Site) (s : Site) (vs : Verdicts) (b : Bool) → AreVerdicts ss vs → IsTrue s.asserts → AreVerdicts (ss ++ s ∷ []) (vs ++ (length ss, b) ∷ [])
 verdicts_more ss s vs b are asserts = record {
   of_these = λ q c h. elim (Contains-push_cases vs (length ss, b) (q, c) h) [

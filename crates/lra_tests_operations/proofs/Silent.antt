@@ -59,7 +59,7 @@ never_any : (xs : List Element) → xs ≡ [] → IsTrue (nat_lt 0 (length xs)) 
 never_any [] e h = let wrong : false ≡ true = h in cc
 never_any (x ∷ xs) e h = cc
 
--- and nothing is told of accesses there
+-- and nothing is reported about accesses there
 pub none_inside : (g : Node) (sites : List Site) → ((q : ℕ) → accesses_at g q ≡ []) → AreAccessVerdicts g sites []
 none_inside g sites none = record {
   verdicts = record {

@@ -54,8 +54,8 @@ fn find(alloc: Global, text: &str, from: usize, goal: Goal) -> Result<Found, Sou
 
 const STRAIGHT: &str = "int main(void){ long x; x = 3; assert(x >= 3); }";
 
-/// A counter that begins anew at 100: points 1 to 8 are the declarator, the loop, two assignments with the `if` between
-/// them, the block's end, the assertion, the end of `main`.
+/// A counter that begins again at 100: points 1 to 8 are the declarator, the loop, two assignments with the `if`
+/// between them, the block's end, the assertion, the end of `main`.
 const COUNTER: &str =
     "int main(void){ long x=0; while(input()){ x=x+1; if(x==100) x=0; } assert(x<=99); }";
 
@@ -70,7 +70,7 @@ const TEN: &str =
 const ELEVEN: &str =
     "int main(void){ long a; assume(a!=0&&a!=1&&a!=2&&a!=3&&a!=4&&a!=5&&a!=6&&a!=7&&a!=8&&a!=9&&a!=10); }";
 
-/// As many paths as the definitions tell, written out by hand: an equation that is false has two sides, and so has a
+/// As many paths as the definitions report, written out by hand: an equation that is false has two sides, and so has a
 /// division.
 const COUNTS: [(&str, usize, Goal, Found); 17] = [
     (STRAIGHT, 0, Goal::ComesTo(0), Found::Paths(1)),

@@ -9,7 +9,7 @@ use std::alloc::{AllocError, Global};
 
 const SMALL: &str = "int main(void){long x; x=2; if(x) assert(x);}";
 
-/// What stands behind the point.
+/// What comes after the point.
 fn behind_its_point(node: &Node, number: usize) -> Option<&Node> {
     match node {
         Node::Seq(before, rest) => match before.as_slice() {

@@ -26,11 +26,11 @@ use lra_syntax::TranslationUnit;
 use lra_systems::{ConKind, ConSys};
 use std::alloc::{AllocError, Global};
 
-/// A call and an assertion behind it.
+/// A call and an assertion after it.
 const SOURCE: &str =
     "long g;\nlong f(long x) { return x; }\nint main(void) { long x = f(2); assert(x == 2); }\n";
 
-/// Its report where the two variables `x` are equal at the second point, and no run comes to another.
+/// Its report where the two variables `x` are equal at the second point, and no run reaches another.
 const REPORT: &str =
     "analysis box parts 1 delay 1 narrow 1 limited no\nflagged at point 2\npoint 1 main 3:23\n  \
     unreachable\npoint 2 main/f@3:27 2:18\n  row x~1 - x = 0\npoint 3 main/f@3:27 2:28\n  unreachable\n\
@@ -51,7 +51,7 @@ fn x_is_x(alloc: Global) -> Result<Part, AllocError>
     Ok(Part::new(rows, None))
 }
 
-/// What holds at a point where so many variables live: at the second that two are equal; no run comes to another.
+/// What holds at a point where so many variables live: at the second that two are equal; no run reaches another.
 fn state_at(alloc: Global, index: usize, live: usize) -> Result<Vec<Part>, AllocError>
     ensures { IfOk result (λ s. AllByRecursion (HasWidth live) s.items) }
 {
@@ -100,7 +100,7 @@ fn accesses_nothing(alloc: Global, tree: &Node) -> Result<bool, AllocError>
     Ok(true)
 }
 
-/// The report of a source of five points in which no run comes to another than the second.
+/// The report of a source of five points in which no run reaches another than the second.
 #[tactic(auto, using(crate::proofs::Given::states_there, crate::proofs::Given::verdicts_there))]
 fn report_of(
     alloc: Global,

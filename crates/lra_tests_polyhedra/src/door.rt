@@ -1,4 +1,4 @@
-//! Lists that are taken in, polyhedra that are the same, under their other type, and changes that are kept as values.
+//! Lists that are added, polyhedra that are the same, under their other type, and changes that are kept as values.
 
 ghost use Rattle.std.specs.Prelude.{◌≡◌, IfOk};
 ghost use Rattle.lra_systems.specs.LinearSystems.{FitKinds};
@@ -25,7 +25,7 @@ fn list_of(alloc: Global, rows: &[[i64; 3]]) -> Result<ConSys, AllocError>
     Ok(list)
 }
 
-/// Four rows taken into the universe give the polyhedron of the rows.
+/// Four rows added to the universe give the polyhedron of the rows.
 fn takes_rows_in(alloc: Global) -> Result<bool, AllocError> {
     let list = list_of(alloc, &SQUARE)?;
     let (made, one) = Poly::from_rows(alloc, &list)?;
@@ -54,7 +54,7 @@ fn corners(alloc: Global) -> Result<GenSys, AllocError>
     Ok(list)
 }
 
-/// Three corners taken into the polyhedron of the fourth give the square.
+/// Three corners added to the polyhedron of the fourth give the square.
 fn takes_generators_in(alloc: Global) -> Result<bool, AllocError> {
     let (square, _) = Poly::from_rows(alloc, &list_of(alloc, &SQUARE)?)?;
     let rows = list_of(alloc, &[[0, 1, 0], [0, -1, 0], [0, 0, 1], [0, 0, -1]])?;

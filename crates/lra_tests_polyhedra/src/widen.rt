@@ -16,7 +16,7 @@ const STRIP: &[Constraint] = &[
     ([1, 0, -1], ConKind::Ge),
 ];
 
-// Given rows, the half line widened by the strip under them, both ways, and the ranks before and after.
+// Thresholds, the half line widened by the strip under them, both ways, and the ranks before and after.
 struct Case {
     given: &'static [Constraint],
     wide: &'static [Constraint],
@@ -26,8 +26,8 @@ struct Case {
     after: (u64, u64, u64),
 }
 
-// Without given rows the bound of x2 isn't kept. That x2 is at most 5 holds on both; that it is at most 0, not on the
-// strip.
+// Without widening thresholds the bound of x2 isn't kept. That x2 is at most 5 holds on both; that it is at most 0, not
+// on the strip.
 static CASES: [Case; 2] = [
     Case {
         given: &[],

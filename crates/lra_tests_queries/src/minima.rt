@@ -70,7 +70,7 @@ fn rounds_up(num: i128, den: i128, bound: i128) -> Option<bool> {
     Some(below < num && num <= product)
 }
 
-/// Whether the least value and the domain's lower bound, which is a whole number, tell the same.
+/// Whether the least value and the domain's lower bound, which is a whole number, report the same.
 fn agrees(
     alloc: Global,
     constraints: &[Constraint],

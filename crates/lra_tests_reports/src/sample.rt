@@ -1,4 +1,4 @@
-//! Sample sources, and what is told of their reports.
+//! Sample sources, and what is reported about their reports.
 
 use lra_base::Place;
 use lra_options::DEFAULT_OPTIONS;
@@ -104,7 +104,7 @@ fn report(alloc: Global, count: u32) -> Result<Report, AllocError> {
     })
 }
 
-/// Sizes with the points of their reports and the lines that are told of them.
+/// Sizes with the points of their reports and the lines that are reported about them.
 static SUMMARIES: [(u32, u32, &str); 2] = [
     (
         0,
@@ -118,7 +118,7 @@ static SUMMARIES: [(u32, u32, &str); 2] = [
     ),
 ];
 
-/// Whether these lines are told of the report with so many points.
+/// Whether these lines are reported of the report with so many points.
 fn is_told(alloc: Global, size: u32, count: u32, lines: &str) -> Result<bool, AllocError> {
     let report = report(alloc, count)?;
     let source = program(alloc, 0, size)?;

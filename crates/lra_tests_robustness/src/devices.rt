@@ -13,7 +13,7 @@ fn each_read_fails_in_turn(rt: HostRuntime) {
     }
 }
 
-/// How a run ends whose write behind so many fails, and whether what these wrote is held.
+/// How a run ends whose write after so many fails, and whether what these wrote is held.
 fn ends_behind(alloc: Global, calls: u8) -> Result<(Status, bool), AllocError> {
     let calls = usize::from(calls);
     let report = PROVED_REPORT.as_bytes();

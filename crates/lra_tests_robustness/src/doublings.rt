@@ -43,7 +43,7 @@ static OVER_POLYHEDRA: [(Pieces, &str); 5] = [
     (LOOP_PAST, "\nflagged at point 129\n"),
 ];
 
-/// A test that no store passes, behind which the entries of an octagon would double six times a variable.
+/// A test that no store passes, after which the entries of an octagon would double six times a variable.
 const EMPTY: Pieces = (
     "int main(void){ long v1=0,v2=0,v3=0,v4=0,v5=0,v6=0,v7=0,v8=0,v9=0,v10=0,v11=0,v12=0",
     "",
@@ -64,7 +64,7 @@ fn doublings(rt: HostRuntime) {
     are_proved(&rt, rt.alloc(), "lra analyse", &OVER_POLYHEDRA);
 }
 
-/// How many rows, true rows, origins, lines along `x` and generators a text tells.
+/// How many rows, true rows, origins, lines along `x` and generators a text reports.
 fn counts_of(text: &str) -> [usize; 5] {
     [
         count_lines(text, "  row "),
@@ -75,14 +75,14 @@ fn counts_of(text: &str) -> [usize; 5] {
     ]
 }
 
-/// How the run over the loop ends, and what its text tells.
+/// How the run over the loop ends, and what its text reports.
 fn loop_tells(alloc: Global) -> Result<(Status, [usize; 5]), AllocError> {
     let source = joined(alloc, LOOP_PAST)?;
     let (end, text) = ended(alloc, "lra analyse", source.as_bytes(), SOUND)?;
     Ok((end, counts_of(&text)))
 }
 
-/// A loop whose value is lost at its last doubling tells nothing at any point, nor of `x` once it is declared.
+/// A loop whose value is lost at its last doubling says nothing at any point, nor of `x` once it is declared.
 #[test]
 fn doublings_past_the_range_tell_nothing(rt: HostRuntime) {
     let told = (Status::Proved, [131, 131, 130, 130, 261]);

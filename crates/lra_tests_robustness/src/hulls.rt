@@ -79,7 +79,7 @@ fn cube(alloc: Global) -> Result<String, AllocError> {
     Ok(source)
 }
 
-/// What stands behind this; nothing where it doesn't occur.
+/// What comes after this; nothing where it doesn't occur.
 fn behind<'a>(text: &'a str, front: &str) -> &'a str {
     match text.split_once(front) {
         Some((_, rest)) => rest,
@@ -92,7 +92,7 @@ pub fn count_lines(text: &str, front: &str) -> usize {
     text.lines().filter(|line| line.starts_with(front)).count()
 }
 
-/// How many rows, points, rays and lines a text tells.
+/// How many rows, points, rays and lines a text reports.
 fn counts_of(text: &str) -> [usize; 4] {
     [
         count_lines(text, "  row "),
@@ -102,7 +102,7 @@ fn counts_of(text: &str) -> [usize; 4] {
     ]
 }
 
-/// How the run over the cube ends, whether it is flagged at point 26, and what point 27 tells.
+/// How the run over the cube ends, whether it is flagged at point 26, and what point 27 reports.
 fn cube_tells(alloc: Global) -> Result<(Status, bool, [usize; 4]), AllocError> {
     let source = cube(alloc)?;
     let bytes = source.as_bytes();

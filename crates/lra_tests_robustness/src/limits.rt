@@ -28,7 +28,7 @@ static PAST: [(Pieces, &str); 9] = [
         "refused 13 TooManyPoints at 1:2064\n",
     ),
     (("", "(", 65536, ""), "refused 4 Syntax at 1:1\n"),
-    // in a function that is called: the parameter is one more, and `main` ends behind the points of the call
+    // in a function that is called: the parameter is one more, and `main` ends after the points of the call
     (
         (
             "void f(long p){}\nint main(void){ long v1,v2,v3,v4,v5,v6,v7,v8,v9,v10,v11,v12",
@@ -125,7 +125,7 @@ fn scripts_and_their_lines_have_a_longest(rt: HostRuntime) {
     assert!(rt; [longest, longer] == [Ok(true), Ok(true)]);
 }
 
-/// How a run over this front of a source ends, and whether it is refused in its line.
+/// How a run over this prefix of a source ends, and whether it is refused in its line.
 fn ends_in_front(alloc: Global, front: &[u8]) -> Result<(Status, bool), AllocError> {
     let (end, text) = ended(alloc, BOXES, front, SOUND)?;
     Ok((end, text.starts_with("refused 4 Syntax at 1:")))

@@ -1,5 +1,5 @@
-//! Rows with numbers round 2^31, which are told to be narrow or not, against products of which each step is checked;
-//! rows of 8 columns, the most that stay inline, and of 9; and the order of rows.
+//! Rows with numbers round 2^31, which are reported to be narrow or not, against products of which each step is
+//! checked; rows of 8 columns, the most that stay inline, and of 9; and the order of rows.
 
 ghost use Rattle.std.specs.{List.All, Prelude.◌≡◌, Prelude.length};
 ghost use Rattle.lra_linear_spec.specs.Range.{InRange};
@@ -35,7 +35,7 @@ fn are_small(numbers: &[i128]) -> bool {
     true
 }
 
-// Whether the product of two rows is that by steps, and is told without a test of any where all numbers are small.
+// Whether the product of two rows is that by steps, and is reported without a test of any where all numbers are small.
 fn multiply_alike(u: &Row, v: &Row) -> bool
     requires { length u.now ≡ length v.now }
 {
@@ -79,7 +79,7 @@ fn products(rt: HostRuntime) {
     assert!(rt; all_multiply_alike(rt.alloc(), &ROWS) == Ok(true));
 }
 
-// Whether the product of the row with itself is this one, and the row is told to be narrow or not as it should.
+// Whether the product of the row with itself is this one, and the row is reported to be narrow or not as it should.
 fn has_square(row: &Row, square: i128, narrow: bool) -> bool {
     row.dot(row) == Ok(square) && row.narrow_dot(row).is_some() == narrow
 }

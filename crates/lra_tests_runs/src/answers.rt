@@ -38,7 +38,7 @@ const UNREACHABLE_REPORT: &str = "analysis box parts 1 delay 1 narrow 1 limited 
     assert 5 main 1:44 proved\n\
     verdicts proved 1 unknown 1\n";
 
-/// An endless loop: behind it nothing is reached.
+/// An endless loop: after it nothing is reached.
 const ENDLESS: &str = "int main(void){ while(1){} assert(0); }";
 
 const ENDLESS_REPORT: &str = "analysis box parts 1 delay 1 narrow 1 limited no\n\

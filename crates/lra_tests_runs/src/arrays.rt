@@ -22,7 +22,7 @@ const NESTED: &str =
     a[a[a[a[a[a[a[a[a[a[a[a[a[a[a[a[a[a[a[a[a[a[a[a[a[a[a[a[a[a[a[a[a[a[a[0]]]]]]]]]]]]]]]]]\
     ]]]]]]]]]]]]]]]]]]]]]]]]]]]]]]]]]]]]]]]]]]]]]]; }";
 
-/// An array that is filled, then read and written behind the loop.
+/// An array that is filled, then read and written after the loop.
 const FILLED: &str = "int main(void){ long a[10], i; for(i=0;i<10;i=i+1) a[i]=i; i=a[9]; a[i]=0; }";
 
 /// Three accesses in a condition, of which one is the index of another.

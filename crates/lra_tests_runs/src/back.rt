@@ -10,7 +10,7 @@ const SUCCESSOR: &str = "int main(void){ long x=input(), y; y=x+1; assert(y!=0);
 /// Two values that are joined, and an assertion between them.
 const EITHER: &str = "int main(void){ long x; if(input()) x=0; else x=5; assert(x!=3); }";
 
-/// What is known of one variable is told by another, until both branches are joined.
+/// What is known of one variable is given by another, until both branches are joined.
 const SIGN: &str =
     "int main(void){ long x=input(), y; if(x>=0) y=1; else y=0; if(y==0) assert(x<0); }";
 
@@ -27,7 +27,7 @@ const COUNTED: &str = "int main(void){ long g=0; for(long i=0;i<3;i=i+1) g=g+2; 
 /// Where both sides are false.
 const OUTSIDE: &str = "int main(void){ long x; assert(x>0 || x<-5); }";
 
-/// Behind a loop, each run fails; the first point on its way is that of the loop's beginning.
+/// After a loop, each run fails; the first point on its way is that of the loop's beginning.
 const NEVER: &str = "int main(void){ for(long i=0;i<3;i=i+1) ; assert(0); }";
 
 /// What is gone back over for the third time passes the range.

@@ -27,7 +27,7 @@ const IN_STEP: &str =
 /// The words that leave narrowing out.
 const UNNARROWED: &str = "lra analyse --domain box --narrow 0";
 
-/// Words with options, and the line that tells them.
+/// Words with options, and the line that reports them.
 static WORDS: [Line; 4] = [
     (
         "lra analyse --domain=box",
@@ -148,7 +148,7 @@ static LOOPS: [Line; 8] = [
 ];
 
 /// Variables of inner blocks and of the head of a `for` end there; the nearest if has the else, through loops too; the
-/// step follows `continue`; behind a `return` nothing is reached.
+/// step follows `continue`; after a `return` nothing is reached.
 static SCOPES: [(&str, &str); 8] = [
     (
         "int main(void){ long x=0; if(0) if(1) x=1; else x=2; assert(x==0); }",

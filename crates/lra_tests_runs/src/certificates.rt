@@ -13,7 +13,7 @@ const FRONT: &str =
     "certificate bytes 48\nint main(void){ long x; x = 3; assert(x >= 3); }\npoint 1\n\
     point 2\npoint 3\n  = -3 1\npoint 4\n  = -3 1\nedge 0 1\nedge 1 2\nedge 2 3\nby 1 0\nby 1 0\nedge 3 4\n";
 
-/// Lines behind that, the status, and what is written.
+/// Lines after that, the status, and what is written.
 type Row = (&'static str, Status, &'static str);
 
 /// Multiples of the rows, and fewer lines.

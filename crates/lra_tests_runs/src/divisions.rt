@@ -1,4 +1,4 @@
-//! Runs over programs that divide by constants: what quotients and remainders are told to be.
+//! Runs over programs that divide by constants: what quotients and remainders are reported to be.
 
 use crate::checks::{Line, have_lines};
 use crate::memory::BOXES;

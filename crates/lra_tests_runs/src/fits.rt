@@ -1,4 +1,4 @@
-//! Which statements can overflow, as `--fits` tells it: behind the last point's rows and the assertions all lines are
+//! Which statements can overflow, as `--fits` reports it: after the last point's rows and the assertions all lines are
 //! asked for, so that none is there for a point that computes nothing; rows that begin at a line ask for those from
 //! there on.
 
@@ -28,11 +28,11 @@ const NODES: &str =
 const APART: &str =
     "int main(void){ int a=0, b=2147483647; if(input()) { a=2147483647; b=0; } a=a+b; }";
 
-/// What is told of a sum above the greatest number behind an input.
+/// What is reported about a sum above the greatest number after an input.
 const OVER: &str =
     "fit 1 main 1:21 may overflow\nfit 2 main 1:32 may overflow\nverdicts proved 0 unknown 0\n";
 
-/// Where a widened head has forgotten the greatest number, and where it is told again.
+/// Where a widened head has forgotten the greatest number, and where it is reported again.
 const FORGOTTEN: &str =
     "assert 11 main 1:99 proved\nfit 5 main 1:64 fits\nfit 8 main 1:88 may overflow\n\
     verdicts proved 1 unknown 0\n";
@@ -89,7 +89,7 @@ static EACH_DOMAIN: [Line; 15] = [
     (OCTAGONS, WIDENED, Status::Proved, FORGOTTEN),
     ("lra analyse --fits", TOLD, Status::Proved, REMEMBERED),
     (OCTAGONS, TOLD, Status::Proved, REMEMBERED),
-    // a relation; over boxes each part tells it
+    // a relation; over boxes each part reports it
     (
         "lra analyse --fits",
         APART,
@@ -177,7 +177,7 @@ static CONDITIONS: [(&str, &str); 5] = [
         "point 6 main 1:58\n  row x >= -2147483648\n  row x <= 2147483647\nfit 2 main 1:24 fits\n\
             fit 4 main 1:41 fits\nverdicts proved 0 unknown 0\n",
     ),
-    // its lines stand behind those of assertions, which don't depend on them
+    // its lines come after those of assertions, which don't depend on them
     (
         "int main(void){ int x; assert(x+1>x); }",
         "assert 2 main 1:24 proved\nfit 2 main 1:24 may overflow\nverdicts proved 1 unknown 0\n",

@@ -103,7 +103,7 @@ static LOOPS: [Line; 8] = [
     ),
 ];
 
-/// States behind assignments and tests.
+/// States after assignments and tests.
 static STATES: [Line; 6] = [
     // a point between whole numbers
     (
@@ -122,7 +122,7 @@ static STATES: [Line; 6] = [
             point 5 main 1:39\n  row true\n  gen point x=0 y=0\n  gen line x=1 y=0\n  gen line x=0 y=1\n\
             verdicts proved 0 unknown 0\n",
     ),
-    // a state that no run reaches, and the one behind it
+    // a state that no run reaches, and the one after it
     (
         ANALYSE,
         "int main(void){ long x; x = input()/0; x = 1; }",

@@ -146,7 +146,7 @@ static WIDENED: [(&str, &str); 12] = [
         "show R\n  row x1 + x2 >= 0\n  row x2 >= 0\n  gen point x1=0 x2=0\n  gen ray x1=-1 x2=1\n\
             \x20 gen ray x1=1 x2=0\nflagged 0\n",
     ),
-    // of the given rows one is valid on both, one on P alone and one on none
+    // of the widening thresholds one is valid on both, one on P alone and one on none
     (
         "dims 2\ncon P = 0 0 1 ; >= 0 1 0\ncon Q >= 0 1 0 ; >= 0 0 1 ; >= 1 0 -1\n\
             limited R P Q >= 5 0 -1 ; >= 0 1 -1 ; >= 1 -1 0\nshow R\nlimited R P Q\nshow R\n",
@@ -171,7 +171,7 @@ static WIDENED: [(&str, &str); 12] = [
         "dims 1\ngen P point 1 170141183460469231731687303715884105727\ncon Q >= 1 2\nwiden R P Q\nshow R\n",
         "show R\n  row true\n  gen point x1=0\n  gen line x1=1\nflagged at line 4\n",
     ),
-    // a given row with which one does is left out
+    // a widening threshold with which one does is left out
     (
         "dims 1\ngen P point 1 170141183460469231731687303715884105727\nlimited R P P >= 1 2\nshow R\n",
         "show R\n  row x1 = 170141183460469231731687303715884105727\n\

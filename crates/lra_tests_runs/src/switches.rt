@@ -1,4 +1,4 @@
-//! Runs over programs with `switch`: what is known behind its labels and behind it, where its jumps go, and what is
+//! Runs over programs with `switch`: what is known after its labels and after it, where its jumps go, and what is
 //! refused of it.
 
 use crate::checks::{Line, are_refused, have_lines};
@@ -18,7 +18,7 @@ const COUNTED: &str =
     "int main(void){ long i, s=0; for(i=0;i<10;i++){ switch(i%3){ case 0: continue; case 1: s++; break; \
     default: s=s+2; } s=s+1; } assert(s>=0); }";
 
-/// A `switch` in a `switch` in a loop, of a value that each round draws anew.
+/// A `switch` in a `switch` in a loop, of a value that each round draws again.
 const NESTED: &str =
     "int main(void){ long x=input(), s=0; while(s<100){ switch(input()){ case 1: switch(x){ default: break; } s++; \
     break; case 0: break; default: return; } if(s>5) break; } assert(s<=100); }";

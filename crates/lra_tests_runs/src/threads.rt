@@ -29,7 +29,7 @@ const INDEXES: &str =
     "int a[4], g; void t1(void){ g=input(); assume(g>=0 && g<4); } void t2(void){ int i=g; \
     if(i>=0 && i<4) a[i]=1; if(g>=0 && g<4) a[g]=1; if(g>=0 && g<4 && a[g]>0) ; }";
 
-/// A thread that never comes to what it would write, and stands behind the other in the source.
+/// A thread that never reaches what it would write, and comes after the other in the source.
 const ENDLESS: &str = "long g=3; void t2(void){ return; } void t1(void){ while(1) ; g=1; }";
 
 /// A function with a thread's name whose number doesn't follow.
@@ -39,7 +39,7 @@ const APART: &str = "void t1(void){;} void t2(void){;} void t4(void){;}";
 const GIFTS: &str = "int g, h, k; int f(void){ } void t1(void){ g=f(); h=input(); } \
     void t2(void){ k=g; assert(k<=2147483647); }";
 
-/// A thread isn't told of what it writes itself.
+/// A thread's own writes aren't reported to it.
 const OWN: &str =
     "long g; void t1(void){ g=7; g=1; assert(g==1); } void t2(void){ long x=g; assert(x<=7); }";
 
@@ -47,7 +47,7 @@ const OWN: &str =
 const MAIN: &str =
     "long g; void main(long k){ g=k; } void t1(void){ main(3); } void t2(void){ assert(g>=0); assert(g<=3); }";
 
-/// A number past 127 bits in the second thread: its points are numbered on behind those of the first.
+/// A number past 127 bits in the second thread: its points are numbered on after those of the first.
 const FLAGGED: &str = "void t1(void){;} void t2(void){ long x=9223372036854775807; \
     x=9223372036854775807*x; x=9223372036854775807*x; }";
 

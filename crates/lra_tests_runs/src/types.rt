@@ -1,4 +1,5 @@
-//! Runs over programs with `int`s: what is told of their values, and sources that are refused for a type or a number.
+//! Runs over programs with `int`s: what is reported about their values, and sources that are refused for a type or a
+//! number.
 
 use crate::checks::{Answer, Line, are_answers, are_proved, are_refused, have_lines};
 use crate::memory::{BOXES, SOUND};
@@ -10,7 +11,7 @@ pub const COUNTING: &str = "int main(void){ int i=0; while(i<10) i=i+1; }";
 /// A number that is read, and the one above it.
 pub const READ: &str = "int main(void){ int x=input(); x=x+1; }";
 
-/// What is told of it behind the number read.
+/// What is reported about it after the number read.
 const ABOVE: &str = "point 2 main 1:32\n  row x >= -2147483648\n  row x <= 2147483647\n";
 
 /// A head whose upper bound is forgotten, since the body may leave x as it is.
@@ -18,7 +19,7 @@ pub const WIDENED: &str =
     "int main(void){ int x=0; while(input()){ if(input()) { if(x<5) x=x+1; } else { if(x>0) x=x-1; } } \
     assert(x>=0); }";
 
-/// The same where it is told in the body.
+/// The same where it is reported in the body.
 pub const TOLD: &str =
     "int main(void){ int x=0; while(input()){ assume(x<=2147483647); if(input()) { if(x<5) x=x+1; } else { if(x>0) \
     x=x-1; } } assert(x>=0); }";
@@ -100,7 +101,7 @@ static VALUES: [(&str, &str); 9] = [
         "point 3 main 1:31\n  row x >= -2147483647\n  row x <= 2147483647\npoint 4 main 1:42\n  row x >= -2147483647\n\
             \x20 row x <= 2147483647\npoint 5 main 1:47\n",
     ),
-    // a product of two `int`s is told, though no run comes behind it; an `int` isn't 2^31
+    // a product of two `int`s is reported, though no run comes after it; an `int` isn't 2^31
     (CONSTANTS, "point 2 main 1:37\n  row a = 4294967296\n"),
     (
         CONSTANTS,

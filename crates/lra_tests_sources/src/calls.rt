@@ -56,7 +56,7 @@ static ROUND: [(&'static [Line], Option<Place>); 4] = [
     ),
 ];
 
-/// Sources of which a recursive call stands behind others, likewise.
+/// Sources of which a recursive call comes after others, likewise.
 static ROUNDS: [(&'static [Line], Option<Place>); 4] = [
     (
         &[&["main", "f"], &["g"], &["f", "g", "f"]],
@@ -95,7 +95,7 @@ fn identifier(alloc: Global, name: &str, line: u32, column: u32) -> Result<Ident
     })
 }
 
-/// A function of this name. What it calls is told by its labels.
+/// A function of this name. What it calls is given by its labels.
 fn function(alloc: Global, name: &str, line: u32) -> Result<Function, AllocError> {
     Ok(Function {
         result_type: Some(NumberType::Int),

@@ -158,7 +158,7 @@ fn write_reading(
     }
 }
 
-/// Whether this is told of the source.
+/// Whether this is reported about the source.
 fn is_read(alloc: Global, source: &[u8], expected: &str) -> Result<bool, AllocError> {
     if source.len() > 65_536 {
         return Ok(false);

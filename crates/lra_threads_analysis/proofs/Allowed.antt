@@ -1,4 +1,4 @@
--- What threads may do to each other by their intervals is what each is told of the others, and brings no variable.
+-- What threads may do to each other by their intervals is what each is reported of the others, and brings no variable.
 use Rattle.std.proofs.Common.{◌≡◌, ◌∙◌, ◌<◌, ℕ, ℤ, List, length, refl}
 use Rattle.lra_domain.specs.Interference as others
 use Rattle.lra_program.specs.{Program.Function, Program.Program, Step.State}

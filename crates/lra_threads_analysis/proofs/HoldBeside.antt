@@ -24,7 +24,7 @@ use Rattle.lra_threads_analysis.specs.{Holding.HoldsInRound, Holding.AllHold, Wr
 use Rattle.lra_threads_analysis.proofs.Allowed.{BecomesAmong, all_allowed, keeps_width}
 use Rattle.lra_threads_analysis.proofs.{ChecksUnder.asks_among, Held.held_among, InsideHolds.inside_holds, NamedWrites.gives_named, NotesWritten.notes_written}
 
--- what is noted is a gift
+-- what is noted is a write
 gift_listed : (found : ThreadResult) (q x : ℕ) (v : BoxContent) → Contains (notes_of found) (q, x, v) → Contains (writes_in found) (x, v)
 gift_listed found q x v among =
     let (note, listed, is) = map_from note_view found.noted.notes.items (q, x, v) among in

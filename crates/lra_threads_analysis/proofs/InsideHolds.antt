@@ -1,4 +1,4 @@
--- Where an access is told to be inside its array, the tree doesn't ask there of one that is outside.
+-- Where an access is reported to be inside its array, the tree doesn't ask there of one that is outside.
 use Rattle.std.proofs.Common.{◌≡◌, ◌∙◌, ℕ, List, length, Option, Some, None, Bool, true, refl, sym, ap, subst}
 use Rattle.std.proofs.lemmas.Option.{same_Some, slice_get_read}
 use Rattle.std.specs.{List.Contains, Prelude.slice_get}
@@ -10,7 +10,7 @@ use Rattle.lra_operations.specs.{CheckedOperations.OpAtPoint, CheckedOperations.
 use Rattle.lra_analysis_spec.specs.{Accesses.InsideAtPoint, Accesses.JudgesAccesses, Judging.answer_of, Operations.lossy_operations}
 use Rattle.lra_analysis_spec.proofs.{AccessesSound.inside_never_stray, Covers.Has}
 
--- what is told of accesses
+-- what is reported about accesses
 abbrev Told : Type 0
 Told = List (Place × Bool)
 

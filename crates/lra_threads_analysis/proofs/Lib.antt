@@ -3,7 +3,7 @@ pub mod ReadyValues
 pub mod OwnAccesses
 pub mod RoundsOf
 pub mod RoundsHold
--- What threads tell and write.
+-- What threads report and write.
 pub mod TellsAll
 pub mod Allowed
 pub mod NotesWritten

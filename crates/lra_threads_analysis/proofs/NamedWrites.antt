@@ -1,4 +1,4 @@
--- What a tree's run gives on a trail with other names of its points, it gives on one with the points' own names.
+-- What a tree's run gives on a trace with other names of its points, it gives on one with the points' own names.
 use Rattle.std.proofs.Common.{◌≡◌, ℕ, zero, suc, Bool, true, false, ◌||◌, inl, inr, refl, ap, subst}
 use Rattle.lra_base.specs.{CaseLabels.is_same_case, declared.case_labels.CaseLabel.CaseLabel}
 use Rattle.lra_program.specs.{Program.Cond, Step.State, Step.test, Traces.Trace}
@@ -24,7 +24,7 @@ module _ {A B : Type 0} (f : A → B) (name : ℕ → A) (may : State → State 
   abbrev GivenArms : CaseLabel → Bool → Arms → Trace B → ℕ → ℕ → Trace B → Type 0
   GivenArms l met arms a p x b = opened.ArmsWriteVariable (λ q. f (name q)) may l met arms a p x b
 
-  -- the trail in the points' own names
+  -- the trace in the points' own names
   abbrev Named : (Trace A → Type 0) → Trace B → Type 0
   Named G b = (d : Trace A) × G d × (b ≡ renamed f d)
 

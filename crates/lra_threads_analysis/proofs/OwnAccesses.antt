@@ -40,7 +40,8 @@ module _ (g : Node) (values : List BoxContent) (before last : Option ℕ) (insid
       subst (λ (f : Option ℕ). JudgesAccesses box_abstraction (exact_operations box_abstraction) g values None inside f) none
       (subst (λ (f : Option ℕ). JudgesAccesses box_abstraction (exact_operations box_abstraction) g values f inside last) (none_before none) so)
 
-  -- a first flag stands where the iteration has its own, or where judging accesses strains behind one without a flag
+  -- a first flag stands where the iteration has its own, or where judging accesses exceeds a limit after one without a
+  -- flag
   pub by_flag : (q : ℕ) → last ≡ Some q
       → (before ≡ Some q) ⊎ ((before ≡ None) × JudgesAccesses box_abstraction (straining_operations box_abstraction) g values None inside (Some q))
   by_flag q some = go before refl

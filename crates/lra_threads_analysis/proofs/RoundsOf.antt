@@ -7,7 +7,7 @@ use Rattle.lra_threads_fixpoint.specs.Rounds.{ResultReadings, IsRound, RoundsEnd
 use Rattle.lra_threads_fixpoint.proofs.FallLemmas.{first_table, next_fits}
 
 module _ {R : Type 0} (finding : ResultReadings R) (globals : ℕ) (A : ℕ → Interference BoxContent → R → Type 0) where
-  -- what is found may be told in another way
+  -- what is found may be reported in another way
   module _ (B : ℕ → Interference BoxContent → R → Type 0) (so : (k : ℕ) (o : Interference BoxContent) (r : R) → A k o r → B k o r) where
     round_told : (count : ℕ) (flag : Option (ℕ × ℕ)) (table : IntervalTable) (found : List R) (written : IntervalTable) (first : Option (ℕ × ℕ))
         → IsRound finding globals A count flag table found written first → IsRound finding globals B count flag table found written first

@@ -1,4 +1,4 @@
--- A number in the interval of one thread's row is in that of the row that another thread is told.
+-- A number in the interval of one thread's row is in that of the row that another thread is reported.
 use Rattle.std.proofs.Common.{◌≡◌, ◌≢◌, ◌<◌, ℕ, zero, suc, ℤ, [], ◌∷◌, Option, None, Some, length, refl, ap, sym, subst, arith}
 use Rattle.std.proofs.{lemmas.List.length-replicate, lemmas.Option.same_Some, lemmas.Option.none-some}
 use Rattle.std.specs.Prelude.{slice_get}

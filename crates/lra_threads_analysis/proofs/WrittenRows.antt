@@ -1,4 +1,4 @@
--- Note by note, what a thread writes is taken in.
+-- Note by note, what a thread writes is added.
 use Rattle.std.proofs.Common.{◌≡◌, ◌∙◌, ◌+◌, ◌≤◌, ◌<◌, ℕ, suc, List, ◌∷◌, length, map, get_or, drop, drop-cons, ap, sym, subst, arith}
 use Rattle.lra_box.specs.{Content.BoxContent, Tables.bound_at}
 use Rattle.lra_fixpoint.specs.declared.tables.Note.{Note}

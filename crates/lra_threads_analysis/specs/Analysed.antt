@@ -13,7 +13,7 @@ use Rattle.lra_threads_analysis.specs.{Found.flag_of_thread, Found.HoldsOf, decl
 
 -- the iteration over the graph among these others; what holds of the runs of the thread's own tree; as many values as
 -- points, and verdicts of all assertions; each value has a dimension for each variable that lives at its point, and
--- that of a note one for its variable; what is judged of accesses behind that
+-- that of a note one for its variable; what is judged of accesses after that
 pub record IsAnalysed (plan : Plan) (globals : List GlobalVariable) (graph : InlinedProgram)
     (o : Interference BoxContent)
     (f : ThreadResult) : Type 0 where

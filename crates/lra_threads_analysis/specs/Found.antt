@@ -54,7 +54,7 @@ verdicts_of f = f.noted.solution.verdicts.items
 abbrev pub notes_of : ThreadResult → List (ℕ × ℕ × BoxContent)
 notes_of f = map note_view f.noted.notes.items
 
--- what is told of accesses, point by point
+-- what is reported about accesses, point by point
 abbrev pub access_verdicts_of : ThreadResult → List (ℕ × List (Place × Bool))
 access_verdicts_of f = map reported_view f.inside.verdicts.items
 
@@ -62,7 +62,7 @@ access_verdicts_of f = map reported_view f.inside.verdicts.items
 abbrev pub flag_of_thread : ThreadResult → Option ℕ
 flag_of_thread f = f.inside.flagged
 
--- the variables that got a value, each with the value behind that
+-- the variables that got a value, each with the value after that
 abbrev pub write_in : Note BoxContent → ℕ × BoxContent
 write_in n = (n.variable, n.value)
 
@@ -105,7 +105,7 @@ pub record IsExactResult (o : Interference BoxContent) (plan : Plan) (P : Progra
 abbrev pub IsExactResultOf : Plan → Program → List Node → ℕ → Interference BoxContent → ThreadResult → Type 0
 IsExactResultOf plan P trees k o f = (g : Node) × (slice_get trees k ≡ Some g) × IsExactResult o plan P g f
 
--- an access that is judged by what the written iteration leaves strains at the point q
+-- an access that is judged by what the written iteration leaves exceeds a limit at the point q
 pub record StrainsInAccess (o : Interference BoxContent) (plan : Plan) (P : Program) (g : Node) (q : ℕ) : Type 0 where
   pub result : PassResult BoxContent
   pub written : ExactIterationUnder o box_abstraction plan P (instrumented (length P.globals) g) result
@@ -115,7 +115,7 @@ pub record StrainsInAccess (o : Interference BoxContent) (plan : Plan) (P : Prog
   pub inside : List (ℕ × List (Place × Bool))
   pub judged : JudgesAccesses box_abstraction (straining_operations box_abstraction) g values None inside (Some q)
 
--- the written iteration over the k-th thread strains there, or judging its accesses behind it
+-- the written iteration over the k-th thread exceeds a limit there, or judging its accesses after it
 abbrev pub StrainsAt : Plan → Program → List Node → ℕ → Interference BoxContent → ℕ → Type 0
 StrainsAt plan P trees k o q = (g : Node) × (slice_get trees k ≡ Some g) ×
     (StrainsUnder o box_abstraction plan P (instrumented (length P.globals) g) q ⊎ StrainsInAccess o plan P g q)

@@ -15,10 +15,10 @@ use Rattle.lra_threads_analysis.specs.Found.{sites_in, thread_values, verdicts_o
 use Rattle.lra_threads_analysis.specs.Found.{flag_of_thread, HoldsOf, IsExactResultOf, StrainsAt, thread_finding}
 use Rattle.lra_threads_analysis.specs.declared.found.ThreadResult.{ThreadResult}
 
--- what was found of the k-th thread, whose own tree this is, is of an iteration among the others, as the table tells
+-- what was found of the k-th thread, whose own tree this is, is of an iteration among the others, as the table states
 -- them, and holds in all runs of that tree among them; a value for each point, with a dimension for each variable that
 -- lives there, a verdict for each assertion, and what is judged of the tree's accesses by these values. Of which plan,
--- and behind which flag, the rounds tell.
+-- and after which flag, the rounds report.
 pub record HoldsInRound (P : Program) (k : ℕ) (graph : InlinedProgram) (g : Node)
     (end : ThreadsFixpoint ThreadResult) : Type 0 where
   pub found : ThreadResult
@@ -48,8 +48,8 @@ pub record AllHold (globals : List GlobalVariable) (graphs : List InlinedProgram
       HoldsInRound P k graph g end
 
 -- Without a flag all rounds are those of the written iterations and of accesses judged by what these leave. A first
--- flag is of a thread whose written iteration strains there, or whose accesses do behind it, and the rounds go as far
--- without a flag. These are the threads' own trees.
+-- flag is of a thread whose written iteration exceeds a limit there, or whose accesses do after it, and the rounds go
+-- as far without a flag. These are the threads' own trees.
 pub record AreFlagged (plan : Plan) (P : Program) (trees : List Node) (end : ThreadsFixpoint ThreadResult) : Type 0
   where
     pub written : end.flag ≡ None →

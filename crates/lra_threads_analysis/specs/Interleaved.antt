@@ -27,13 +27,13 @@ module _ (P : Program) (fs : List Function) (end : ThreadsFixpoint ThreadResult)
     pub proved : (k q : ℕ) (f : Function) (s : Site) (found : ThreadResult) → slice_get fs k ≡ Some f →
         slice_get (sites_of (thread_program P f)) q ≡ Some s → slice_get end.found k ≡ Some found →
         Contains (verdicts_of found) (q, true) → FailsThread P fs k (point_of s) → ⊥
-    -- no thread comes to a point whose value has no part
+    -- no thread reaches a point whose value has no part
     pub unreached : (k q : ℕ) (f : Function) (s : Site) (store : List ℤ) (found : ThreadResult) (v : BoxContent) →
         slice_get fs k ≡ Some f → slice_get (sites_of (thread_program P f)) q ≡ Some s →
         slice_get end.found k ≡ Some found → slice_get (thread_values found) q ≡ Some v →
         IsUnreachable box_abstraction v →
         AtThread P fs k (point_of s) store → ⊥
-    -- no thread evaluates an access outside its array that is told to be inside
+    -- no thread evaluates an access outside its array that is reported to be inside
     pub inside : (k q : ℕ) (f : Function) (s : Site) (found : ThreadResult) (js : List (Place × Bool)) (n : ℕ)
         (place : Place) → slice_get fs k ≡ Some f → slice_get (sites_of (thread_program P f)) q ≡ Some s →
         slice_get end.found k ≡ Some found → Contains (access_verdicts_of found) (q, js) →

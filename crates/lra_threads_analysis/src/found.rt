@@ -5,7 +5,7 @@ use lra_box::Boxes;
 use lra_fixpoint::NotedSolution;
 
 /// What is found of a thread: of the iteration over it among others, and which of its accesses lie inside their arrays.
-/// The flags of accesses stand behind those of the iteration.
+/// The flags of accesses come after those of the iteration.
 #[derive(Drop)]
 pub struct ThreadResult {
     pub noted: NotedSolution<Boxes>,

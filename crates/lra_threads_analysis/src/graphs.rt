@@ -71,7 +71,7 @@ impl Threads for InlinedThreads<'_> {
     }
 }
 
-/// The rounds of threads, until nothing is written that wasn't told.
+/// The rounds of threads, until nothing is written that wasn't reported.
 pub fn analyse_threads(
     alloc: Global,
     plan: &Plan,

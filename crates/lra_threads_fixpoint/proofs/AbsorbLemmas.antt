@@ -1,4 +1,5 @@
--- What a box becomes for a row of intervals: it is formed, keeps its stores, and has what any number of gifts makes of them.
+-- What a box becomes for a row of intervals: it is formed, keeps its stores, and has what any number of writes makes of
+-- them.
 use Rattle.std.proofs.Common.{◌≡◌, ◌∙◌, ◌+◌, ◌≤◌, ◌<◌, ℕ, zero, suc, ℤ, List, [], ◌∷◌, length, get_or, drop, drop-cons, Option, None, Some, refl, ap, sym, subst, arith}
 use Rattle.std.proofs.{Math.ListN.length-set, lemmas.Option.same_Some}
 use Rattle.std.specs.Prelude.{slice_set}
@@ -95,7 +96,7 @@ box_takes v s g z t h = (length-set {A = ℤ} s g z ∙ h.0, by_bounds v.bounds 
     by_bounds None t h = h
     by_bounds (Some is) t h = intervals_take is s g z t h
 
--- any number of gifts ----------------------------------------------------------------------------------------------
+-- any number of writes ---------------------------------------------------------------------------------------------
 
 given : (row : IntervalRow) (v : BoxContent) (s t : List ℤ) → BoxGamma (admitting_row 0 row v) s → MayWrite row s t → BoxGamma (admitting_row 0 row v) t
 given row v s t h gift =
@@ -127,7 +128,7 @@ fits_get row all k e fits = by_row row k (subst RowFits (sym e) fits)
     by_row (i ∷ is) zero fits = fits.0
     by_row (i ∷ is) (suc k) fits = by_row is k fits.1
 
--- a place behind the last one
+-- a place after the last one
 admitting_beyond : (is : List Interval) (x : ℕ) (i : Interval) → length is ≤ x → admitting x i is ≡ is
 admitting_beyond [] x i h = refl
 admitting_beyond (j ∷ is) zero i h = absurd (omega (arith, h))

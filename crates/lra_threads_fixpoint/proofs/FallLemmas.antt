@@ -134,7 +134,7 @@ first_table count globals n m table e a b =
       ap length is ∙ length-replicate count (replicate globals None),
     )
 
--- and behind a round
+-- and after a round
 pub next_is : (left : ℕ) (growth : Growth) (table written wrote next : IntervalTable) → next ≡ grown_table growth table wrote → growth ≡ growth_of left
     → wrote ≡ written → next ≡ grown_table (growth_of left) table written
 next_is left growth table written wrote next e a b = e ∙ ap₂ (λ (x : Growth) (w : IntervalTable). grown_table x table w) a b

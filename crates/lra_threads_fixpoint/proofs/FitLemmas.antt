@@ -1,4 +1,4 @@
--- Bounds stay in range, and what a box tells of a place is in range.
+-- Bounds stay in range, and what a box says of a place is in range.
 use Rattle.std.proofs.Common.{◌≡◌, ◌≤◌, ℕ, zero, suc, List, [], ◌∷◌, length, Option, None, Some, refl, ap, arith}
 use Rattle.std.specs.Prelude.{slice_index_or}
 use Rattle.lra_box.specs.Content.{BoxContent, WellFormedBox, BoundsFit, BoundsAreValid}

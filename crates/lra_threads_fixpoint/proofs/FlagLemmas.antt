@@ -1,4 +1,4 @@
--- Without a flag all rounds are as they are without flags; a first flag stands where an analysis strains.
+-- Without a flag all rounds are as they are without flags; a first flag stands where an analysis exceeds a limit.
 use Rattle.std.proofs.Common.{◌≡◌, ◌∙◌, ◌+◌, ◌-◌, ℕ, zero, suc, List, [], ◌∷◌, length, Option, None, Some, refl, ap, sym, subst, arith}
 use Rattle.std.proofs.lemmas.Option.{same_Some, slice_get_within}
 use Rattle.std.specs.Prelude.{slice_get}

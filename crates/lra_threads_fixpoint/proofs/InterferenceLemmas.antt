@@ -1,4 +1,4 @@
--- One by one, or at once: what is told of each global is the join of the others' intervals.
+-- One by one, or at once: what is reported about each global is the join of the others' intervals.
 use Rattle.std.proofs.Common.{◌≡◌, ◌∙◌, ◌+◌, ◌<◌, ℕ, zero, suc, ℤ, List, [], ◌∷◌, ◌++◌, take, drop, ap₂, length, replicate, Option, None, Some, refl, ap, sym, subst, arith}
 use Rattle.std.proofs.{Math.Path.fun_ext, lemmas.Int.ints, lemmas.Int.clamps, lemmas.List.length-replicate}
 use Rattle.lra_domain.specs.{Bounds.lesser_low, Bounds.greater, Interference.Interference}
@@ -106,7 +106,7 @@ joined_append : (row : IntervalRow) (front back : IntervalTable) → joined_rows
 joined_append row [] back = refl
 joined_append row (other ∷ rows) back = joined_append (grown_row Join row other) rows back
 
--- the threads before the k-th, and those behind it
+-- the threads before the k-th, and those after it
 pub told_parts : (globals k : ℕ) (table : IntervalTable) (nothing first all : IntervalRow) (front back : IntervalTable) → nothing ≡ replicate globals None
     → front ≡ take k table → back ≡ drop (k + 1) table → first ≡ joined_rows nothing front → all ≡ joined_rows first back
     → all ≡ interference_on globals k table
@@ -117,7 +117,7 @@ told_parts globals k table nothing first all front back a b c d e =
     ∙ joined_append (replicate globals None) front back
     ∙ ap₂ (λ (xs ys : IntervalTable). joined_rows (replicate globals None) (xs ++ ys)) b behind
 
--- what is told at once does as what is told one by one
+-- what is reported at once does as what is reported one by one
 pub one_by_one : (globals k : ℕ) (table : IntervalTable) (v : BoxContent) → admitting_row 0 (interference_on globals k table) v ≡ interfered globals k table v
 one_by_one globals k table v =
     let rows = others_than k table in

@@ -10,14 +10,14 @@ from_to low high = record { low = Some low; high = Some high }
 abbrev counted : IntervalTable
 counted = (Some (from_to (pos 1) (pos 5)) ∷ []) ∷ (None ∷ []) ∷ []
 
--- behind the first round the interval is what is written
+-- after the first round the interval is what is written
 counted_first : next_table 2 (empty_table 2 1) counted ≡ counted
 counted_first = refl
 
 counted_moves : ¬ TableWithin counted (empty_table 2 1)
 counted_moves h = h.0.0
 
--- then the reader is told it, and the counter nothing
+-- then the reader is reported it, and the counter nothing
 reader_is_told : interference_on 1 1 counted ≡ Some (from_to (pos 1) (pos 5)) ∷ []
 reader_is_told = refl
 

@@ -1,4 +1,4 @@
--- Note by note, what a row takes in is of each global the join of the bounds that its notes tell.
+-- Note by note, what a row takes in is of each global the join of the bounds that its notes report.
 use Rattle.std.proofs.Common.{◌≡◌, ◌≢◌, ◌∙◌, ◌+◌, ◌<◌, ℕ, zero, suc, Bool, true, false, nat_eq, List, [], ◌∷◌, length, Option, None, refl, ap, sym, subst, arith}
 use Rattle.std.proofs.{lemmas.Bool.Decides.nat_tests, lemmas.List.length-replicate}
 use Rattle.std.specs.Prelude.{if◌then◌else◌}

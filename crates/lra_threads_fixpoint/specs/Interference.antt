@@ -24,7 +24,7 @@ abbrev pub admitting_all : ℕ → List (Option Interval) → BoxContent → Box
 admitting_all x [] v = v
 admitting_all x (i ∷ is) v = admitting_all x is (admitting_option x i v)
 
--- the interval at a place of a row, none behind its end
+-- the interval at a place of a row, none after its end
 abbrev pub interval_at : ℕ → IntervalRow → Option Interval
 interval_at x [] = None
 interval_at zero (i ∷ is) = i
@@ -44,14 +44,14 @@ interfered_from x (suc more) rows v = interfered_from (suc x) more rows (admitti
 abbrev pub interfered : ℕ → ℕ → IntervalTable → BoxContent → BoxContent
 interfered globals k table v = interfered_from 0 globals (others_than k table) v
 
--- what is told at once ---------------------------------------------------------------------------------------------
+-- what is reported at once -----------------------------------------------------------------------------------------
 
 -- global by global, the join of these rows' intervals
 abbrev pub joined_rows : IntervalRow → IntervalTable → IntervalRow
 joined_rows row [] = row
 joined_rows row (other ∷ rows) = joined_rows (grown_row Join row other) rows
 
--- what the k-th thread is told: of each global the join of the other threads' intervals
+-- what the k-th thread is reported: of each global the join of the other threads' intervals
 abbrev pub interference_on : ℕ → ℕ → IntervalTable → IntervalRow
 interference_on globals k table = joined_rows (no_values globals) (others_than k table)
 
@@ -60,7 +60,8 @@ abbrev pub admitting_row : ℕ → IntervalRow → BoxContent → BoxContent
 admitting_row x [] v = v
 admitting_row x (i ∷ is) v = admitting_row (suc x) is (admitting_option x i v)
 
--- one change: a global gets a value within the interval that is told of it, which is the join of the other threads'
+-- one change: a global gets a value within the interval that is reported about it, which is the join of the other
+-- threads'
 pub record MayWrite (told : IntervalRow) (s t : List ℤ) : Type 0 where
   pub global : ℕ
   pub number : ℤ
@@ -72,7 +73,7 @@ pub record MayWrite (told : IntervalRow) (s t : List ℤ) : Type 0 where
 pub as_long : (told : IntervalRow) (s t : List ℤ) → MayWrite told s t → length t ≡ length s
 as_long told s t h = subst (λ (u : List ℤ). length u ≡ length s) (sym h.after) (length-set {A = ℤ} s h.global h.number)
 
--- what others may do of whom this is told
+-- what others may do of whom this is reported
 abbrev pub row_interference : IntervalRow → Interference BoxContent
 row_interference told = record {
   rely = MayWrite told;

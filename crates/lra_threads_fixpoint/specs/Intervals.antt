@@ -82,7 +82,7 @@ RowWithin row other = EachHas OptionWithin row other
 abbrev pub TableWithin : IntervalTable → IntervalTable → Type 0
 TableWithin table other = EachHas RowWithin table other
 
--- how intervals grow behind a round that isn't settled; so many rounds of joining are left
+-- how intervals grow after a round that isn't settled; so many rounds of joining are left
 abbrev pub growth_of : ℕ → Growth
 growth_of (suc left) = Join
 growth_of zero = Widen

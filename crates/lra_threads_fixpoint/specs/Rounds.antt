@@ -1,5 +1,5 @@
 -- Threads are analysed in rounds, each thread among what the others wrote so far, until nothing is written that wasn't
--- told. What an analysis of one thread is stands open here: a relation.
+-- reported. What an analysis of one thread is stands open here: a relation.
 use Rattle.std.specs.Prelude.{◌≡◌, ◌-◌, ℕ, suc, List, [], ◌∷◌, length, map, Option, None, Some, slice_get}
 use Rattle.lra_domain.specs.Interference.{Interference}
 use Rattle.lra_box.specs.Content.{BoxContent}
@@ -10,7 +10,7 @@ use Rattle.lra_threads_fixpoint.specs.Intervals.{IntervalTable, empty_table, Tab
 abbrev pub joining_rounds : ℕ
 joining_rounds = 2
 
--- What is found of a thread, R: its notes (variables, each with the value behind a gift to it), and its first flagged
+-- What is found of a thread, R: its notes (variables, each with the value after a write to it), and its first flagged
 -- point.
 pub record ResultReadings (R : Type 0) : Type 0 where
   pub notes : R → List (ℕ × BoxContent)

@@ -34,7 +34,7 @@ impl Model for Intervals {
     ghost invariant = { λ i. RowFits i.all.items };
 }
 
-/// The bounds of a place; a place that the value hasn't tells nothing.
+/// The bounds of a place; a place that the value hasn't says nothing.
 fn bound_of(value: &Boxes, x: usize) -> Option<Interval>
     ensures bound { result ≡ bound_at x value.now.bounds }
     ensures fits { OptionFits result }

@@ -1,4 +1,5 @@
-//! The rounds: each thread is analysed among what the others wrote so far, until nothing is written that wasn't told.
+//! The rounds: each thread is analysed among what the others wrote so far, until nothing is written that wasn't
+//! reported.
 
 ghost use Rattle.std.specs.Prelude.{◌≡◌, ◌<◌, ℕ, [], ◌∷◌, ◌++◌, None, length, IfOk};
 ghost use Rattle.lra_domain.specs.Interference.{Interference};
@@ -40,7 +41,7 @@ pub trait Threads {
     fn globals(&self) -> usize
         ensures { result ≡ shared self.now };
 
-    /// Analyses thread `k`, while others may do what it is told.
+    /// Analyses thread `k`, while others may do what it is reported.
     fn analyse(&self, alloc: Global, k: usize, told: &Intervals) -> Result<Self::Found, AllocError>
         requires ready { ready self.now }
         requires thread { k < threads self.now }
@@ -80,7 +81,7 @@ struct Round<F> {
     flag: Option<(usize, usize)>,
 }
 
-/// The first flag so far, behind the analysis of thread `k` with this flagged point.
+/// The first flag so far, after the analysis of thread `k` with this flagged point.
 fn note_flag(flag: Option<(usize, usize)>, k: usize, point: Option<usize>) -> Option<(usize, usize)>
     ensures { result ≡ flag_so_far flag (flag_of k point None) }
 {

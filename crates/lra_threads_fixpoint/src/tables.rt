@@ -36,7 +36,7 @@ fn join_rows(told: &mut Intervals, rows: &[Intervals])
     }
 }
 
-/// What thread `k` is told: of each global the join of the other threads' intervals.
+/// What thread `k` is reported: of each global the join of the other threads' intervals.
 pub fn find_interference(
     alloc: Global,
     globals: usize,

@@ -25,7 +25,7 @@ row_left r = 2 + 2 * (sum_by whole_size r.left.items + whole_size r.last.value)
 abbrev pub selection_left : of_select.Selection → ℕ
 selection_left s = 2 + 2 * arms_tree_sizes (map arm_sizes s.left.items)
 
--- at a place, behind the tree that is being opened there
+-- at a place, after the tree that is being opened there
 abbrev pub place_left : place.InstrumentFrame → ℕ
 place_left (Row r) = row_left r
 place_left (Last done) = 1

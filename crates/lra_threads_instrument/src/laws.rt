@@ -4,7 +4,7 @@ ghost use Rattle.lra_threads_instrument.specs.InstrumentKeeps.{InstrumentKeepsLi
 ghost use Rattle.lra_threads_instrument.specs.InstrumentKeeps.{InstrumentKeepsDims, InstrumentKeepsNumbers};
 ghost use Rattle.lra_threads_instrument.specs.InstrumentKeeps.{InstrumentKeepsPoints, InstrumentKeepsOps};
 
-/// As many variables live behind the tree.
+/// As many variables live after the tree.
 pub fn instrument_keeps_live()
     ensures { InstrumentKeepsLive }
 {}
@@ -24,7 +24,7 @@ pub fn instrument_keeps_numbers()
     ensures { InstrumentKeepsNumbers }
 {}
 
-/// It comes to each point with as many variables.
+/// It reaches each point with as many variables.
 pub fn instrument_keeps_points()
     ensures { InstrumentKeepsPoints }
 {}

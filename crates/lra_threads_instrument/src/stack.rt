@@ -4,7 +4,7 @@
 use lra_operations::{Arm, Exit, Node};
 use lra_program::{Cond, Expr};
 
-/// A tree of a row is being opened: those before it are opened, those behind it are left, the next of them last.
+/// A tree of a row is being opened: those before it are opened, those after it are left, the next of them last.
 #[derive(Drop)]
 pub struct Row {
     pub done: Vec<Node>,
@@ -26,11 +26,11 @@ pub struct Selection {
 #[derive(Drop)]
 pub enum InstrumentFrame {
     Row(Row),
-    /// The last of a row, behind these.
+    /// The last of a row, after these.
     Last(Vec<Node>),
     /// The first branch of a choice, before the other, which is left.
     First(usize, usize, Cond, Box<Node>),
-    /// The second branch of a choice, behind the first, which is opened.
+    /// The second branch of a choice, after the first, which is opened.
     Second(usize, usize, Cond, Box<Node>),
     /// The body of a loop.
     Body(usize, usize, Cond),

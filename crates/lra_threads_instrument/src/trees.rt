@@ -52,7 +52,7 @@ fn find_written(op: &Op) -> Option<usize>
     }
 }
 
-/// The operation, and behind it what it gives to one of the first variables.
+/// The operation, and after it what it gives to one of the first variables.
 fn record_write(alloc: Global, globals: usize, point: usize, op: Op) -> Result<Node, AllocError>
     ensures { IfOk result (λ g. node_view g ≡
         with_recording globals point (written_variable (op_view op))

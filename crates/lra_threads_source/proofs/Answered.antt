@@ -1,4 +1,4 @@
--- From what is read of a source of several threads to what is told of it.
+-- From what is read of a source of several threads to what is reported about it.
 use Rattle.std.proofs.Common.{◌≡◌, ◌∙◌, ◌≤◌, ℕ, ℤ, List, [], ◌∷◌, length, map, refl, sym, ap, ap₂, subst, arith}
 use Rattle.std.proofs.{lemmas.List.length-map, lemmas.Option.get_or_from_slice_get, lemmas.Option.same_Some, lemmas.Option.slice_get_within}
 use Rattle.std.specs.{List.AllZip, Prelude.Some, Prelude.slice_get}

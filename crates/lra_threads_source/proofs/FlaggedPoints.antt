@@ -75,7 +75,7 @@ module _ {R : Type 0} (finding : ResultReadings R) (globals count : ℕ) (IsFoun
 pub if_flag : (So : ℕ × ℕ → Type 0) (flag : Option (ℕ × ℕ)) (k q : ℕ) → IfFlag So flag → flag ≡ Some (k, q) → So (k, q)
 if_flag So flag k q so is = subst (IfFlag So) is so
 
--- what is told of accesses stands at points
+-- what is reported about accesses stands at points
 pub answers_low : (g : Node) (values : List BoxContent) (before : Option ℕ) (told : List (ℕ × List (Place × Bool))) (flag : Option ℕ)
     → JudgesAccesses box_abstraction (lossy_operations box_abstraction) g values before told flag → (v : ℕ × List (Place × Bool)) → Contains told v →
     v.0 < length values
@@ -144,7 +144,7 @@ module _ (o : Interference BoxContent) (plan : Plan) (P Q : Program) (g : Node) 
       (omega (arith, all)) (opened_below m (length P.globals) g no_values (graph_below Q g graph)) is.solved.derived in
       subst (IsBelow m) (sym is.solved.solves.is_flagged ∙ flagged) below
 
-  -- a verdict is on a point, and so is what is told of accesses
+  -- a verdict is on a point, and so is what is reported about accesses
   pub verdict_low : (q : ℕ) (b : Bool) → Contains (verdicts_of f) (q, b) → q < m
   verdict_low q b listed =
       let (u, found, so) = is.solved.solves.is_verdict q b listed in

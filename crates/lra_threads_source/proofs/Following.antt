@@ -1,4 +1,5 @@
--- What is listed of a thread alone can stand behind the points of others: its numbers are those of its points, and its paths begin at `main`.
+-- What is listed of a thread alone can come after the points of others: its numbers are those of its points, and its
+-- paths begin at `main`.
 use Rattle.std.proofs.Common.{◌≡◌, ◌≤◌, ◌<◌, ◌+◌, ◌^◌, ℕ, zero, suc, Bool, List, [], ◌∷◌, ◌++◌, length, map, refl, ap, arith}
 use Rattle.std.specs.{List.AllByRecursion, List.flat_map, Prelude.All, Prelude.Vec, declared.alloc.Global.Global}
 use Rattle.lra_base.specs.declared.refusals.Place.{Place}

@@ -1,4 +1,4 @@
--- What is told of threads one behind the other.
+-- What is reported about threads one after the other.
 use Rattle.std.proofs.Common.{◌≡◌, ◌∙◌, ◌≤◌, ◌<◌, ◌+◌, ℕ, zero, suc, List, [], ◌∷◌, ◌++◌, length, drop, get_or, inl, inr, refl, sym, ap, subst, append_assoc, append-nil, add-one, arith}
 use Rattle.std.proofs.lemmas.List.Elements.{Contains-append_cases, Contains-append_left, Contains-append_right}
 use Rattle.std.proofs.{lemmas.Bool.cases_lt, lemmas.List.at_drop_all, lemmas.List.at_drop_more, lemmas.Option.none-some, lemmas.Option.same_Some}
@@ -31,7 +31,7 @@ pub turns_done : {A B : Type 0} (tell : ℕ → A → List B) (k : ℕ) (xs : Li
 turns_done {A} {B} tell k xs start now past all =
     sym (append-nil now) ∙ ap (λ (bs : List B). now ++ bs) (sym (at_drop_all (one_by_one tell k) xs k past)) ∙ all
 
--- what is told of the k-th stands in what is told of all
+-- what is reported about the k-th stands in what is reported about all
 pub in_turn_has : {A B : Type 0} (tell : ℕ → A → List B) (j : ℕ) (xs : List A) (k : ℕ) (x : A) (b : B) → slice_get xs k ≡ Some x → Contains (tell (j + k) x) b
     → Contains (one_by_one tell j xs) b
 in_turn_has tell j [] k x b there among = absurd (none-some x there)
@@ -43,7 +43,7 @@ in_turn_has {A} {B} tell j (y ∷ ys) (suc k) x b there among =
     Contains-append_right (tell j y) (one_by_one tell (suc j) ys) b
     (in_turn_has tell (suc j) ys k x b there (subst (λ (n : ℕ). Contains (tell n x) b) (omega arith) among))
 
--- and each of that is told of one
+-- and each of that is reported about one
 pub in_turn_from : {A B : Type 0} (tell : ℕ → A → List B) (j : ℕ) (xs : List A) (b : B) → Contains (one_by_one tell j xs) b
     → (k : ℕ) × (x : A) × (slice_get xs k ≡ Some x) × Contains (tell (j + k) x) b
 in_turn_from tell j [] b among = absurd (contains_none b among)
@@ -89,7 +89,7 @@ in_turn_at {A} {B} tell size j (y ∷ ys) sizes (suc k) x there n low =
     (λ i z at. subst (λ (m : ℕ). length (tell m z) ≡ size m) (omega arith) (sizes (suc i) z at)) k x there n (subst (λ (m : ℕ). n < size m) next low)
     ∙ ap (λ (m : ℕ). slice_get (tell m x) n) (sym next)
 
--- behind more of them stands no less
+-- after more of them stands no less
 pub sizes_more : (size : ℕ → ℕ) (j k l : ℕ) → k < l → sizes_from size j k + size (j + k) ≤ sizes_from size j l
 sizes_more size j k zero low = absurd (omega (arith, low))
 sizes_more size j zero (suc l) low =
@@ -100,7 +100,7 @@ sizes_more size j (suc k) (suc l) low =
     let rest = sizes_more size (suc j) k l (omega (arith, low)) in
     omega (arith, next, rest)
 
--- so a place tells which
+-- so a place says which
 pub same_turn : (size : ℕ → ℕ) (k l n m : ℕ) → n < size k → m < size l → sizes_from size 0 k + n ≡ sizes_from size 0 l + m → (k ≡ l) × (n ≡ m)
 same_turn size k l n m one two same = elim (cases_lt k l) [
   | inl low ↦

@@ -23,7 +23,7 @@ same_sums f h (x ∷ xs) (y ∷ ys) long same (suc n) =
     let rest = same_sums f h xs ys (omega (arith, long)) (λ k a b left right. same (suc k) a b left right) n in
     omega (arith, one, two, first, rest)
 
--- with all of a thread's points behind those of the threads before it
+-- with all of a thread's points after those of the threads before it
 pub sum_before : (graphs : List InlinedProgram) (k : ℕ) (graph : InlinedProgram) → slice_get graphs k ≡ Some graph
     → sum_by points_in (take k graphs) + points_in graph ≤ sum_by points_in graphs
 sum_before graphs k graph there =

@@ -118,7 +118,7 @@ module _ (t : FileTree) (graphs : List InlinedProgram) (are : AreGraphsOf t grap
       are_shown = are_shown;
     }
 
-    -- a number and a path alone can stand behind those before
+    -- a number and a path alone can come after those before
     pub room : (before n : ℕ) → before ≡ sum_by points_in (take k graphs) → n ≡ points_in graph → before + n < 2 ^ 32
     room before n is many = let few = few_points t graphs are k graph there in omega (arith, is, many, few)
 
@@ -131,7 +131,7 @@ module _ (t : FileTree) (graphs : List InlinedProgram) (are : AreGraphsOf t grap
         ∙ ap (λ (ss : List Site). map (verdict_at (labels_of t) ss Assertion) found.assertions.now ++ (map (verdict_at (labels_of t) ss Fit) found.fitting.now ++
         flat_map (access_verdicts_at (labels_of t) ss) (map reported_view found.inside.now))) (same ∙ are.sites k graph there)
 
--- behind the points of the threads before
+-- after the points of the threads before
 pub turned : {A : Type 0} (t : FileTree) (graphs : List InlinedProgram) (are : AreGraphsOf t graphs) (k before thread : ℕ) (change : ℕ → ℕ → A → A) (xs ys old new : List A)
     → before ≡ sum_by points_in (take k graphs) → thread ≡ suc k → xs ≡ ys → new ≡ old ++ map (change before thread) xs
     → new ≡ old ++ map (change (points_before t k) (suc k)) ys

@@ -1,4 +1,4 @@
--- What is told of threads holds of all that they do beside each other.
+-- What is reported about threads holds of all that they do beside each other.
 use Rattle.std.proofs.Common.{◌≡◌, ◌∙◌, ◌≤◌, ◌<◌, ◌+◌, ℕ, zero, suc, ℤ, Bool, true, List, [], ◌∷◌, length, get_or, take, inl, inr, refl, sym, ap, subst, arith}
 use Rattle.std.proofs.lemmas.Option.{get_or_from_slice_get, same_Some, slice_get-map, slice_get_within}
 use Rattle.std.proofs.{lemmas.List.length-map, lemmas.List.Elements.Contains-append_cases, lemmas.List.Sums.sum_by-cons}
@@ -163,7 +163,7 @@ module _ (delay narrow : ℕ) (source : List ℕ) (r : ThreadsReport) (x : IsThr
         told_low (threads_interference (length P.globals) j x.end.table) (threads_plan delay narrow x.constants) P (thread_program t (thread_place t j)) g
         (tree_at j g at).1 found is q js
 
-    -- a number tells its thread and point
+    -- a number reports its thread and point
     own_number : (p k q : ℕ) (s : Site) → p < length (thread_sites t j) → IsPointOf t k q s → points_before t j + suc p ≡ number_in t k q → (j ≡ k) × (p ≡ q)
     own_number p k q s low is same =
         let within = slice_get_within x.end.found j found there in
@@ -202,7 +202,7 @@ module _ (delay narrow : ℕ) (source : List ℕ) (r : ThreadsReport) (x : IsThr
       (subst (λ (a : VerdictKind). BreaksThread a P fs k (point_of s) which) is_kind
       (subst (λ (n : ℕ). BreaksThread v.kind P fs k (point_of s) n) is_which breaks))
 
-  -- a verdict that is told of the j-th thread, by the same verdict alone
+  -- a verdict that is reported about the j-th thread, by the same verdict alone
   told_right : (j : ℕ) (u v : Verdict) (kind : VerdictKind) (p which : ℕ) (holds : Bool) (k q : ℕ) (s : Site)
       → verdict_in_thread (points_before t j) (suc j) u ≡ v → u.kind ≡ kind → u.number ≡ suc p → u.which ≡ which → u.holds ≡ holds
       → (points_before t j + suc p ≡ number_in t k q → IsTrue holds → BreaksThread kind P fs k (point_of s) which → ⊥) → IsRightAt k q s v

@@ -1,4 +1,5 @@
--- Without a flag what is told of threads is what is defined; a flag's number is that of a thread's point that strains.
+-- Without a flag what is reported about threads is what is defined; a flag's number is that of a thread's point that
+-- exceeds a limit.
 use Rattle.std.proofs.{Common.◌≡◌, Common.◌∙◌, Common.ℕ, Common.List, Common.refl, Common.sym, lemmas.Option.none-some, lemmas.Option.same_Some}
 use Rattle.std.specs.Prelude.{Option, None, Some, option_map}
 use Rattle.lra_resolution_spec.specs.Threads.{thread_program}
@@ -7,7 +8,7 @@ use Rattle.lra_threads_source.specs.{Listed.number_in, Listed.thread_place, List
 use Rattle.lra_linear_spec.proofs.ListPlaces.{there_within}
 use Rattle.lra_threads_source.proofs.{FlaggedPoints.flag_there, Sound.tree_at}
 
--- a number that is told is that of a flag
+-- a number that is reported is that of a flag
 told_flag : {A : Type 0} (f : A → ℕ) (o : Option A) (n : ℕ) → option_map f o ≡ Some n → (a : A) × (o ≡ Some a) × (f a ≡ n)
 told_flag f None n is = absurd (none-some n is)
 told_flag f (Some a) n is = (a, refl, same_Some (f a) n is)

@@ -1,5 +1,5 @@
 -- In the order in which they are to be read: what is written of threads, the program's data for it, what is listed of
--- them, what a source of several threads deserves, and what is known of it between.
+-- them, what a source of several threads must get, and what is known of it between.
 pub mod ThreadsText
 pub mod ThreadsView
 pub mod Listed

@@ -1,5 +1,5 @@
 -- What rounds find of threads, as one report lists it. Threads, and the points of each, are counted from 0 here; a
--- report's numbers are one more, and the points of a thread count on behind those of the threads before it.
+-- report's numbers are one more, and the points of a thread count on after those of the threads before it.
 use Rattle.std.specs.Prelude.{◌≡◌, ◌+◌, ℕ, suc, List, [], ◌∷◌, ◌++◌, length, map, take, drop, codes, Option, None, Some}
 use Rattle.std.specs.{Fmt.decimal, List.flat_map, List.sum_by, Prelude.option_map, Prelude.slice_get, Prelude.get_or}
 use Rattle.lra_box.specs.{Abstraction.box_abstraction, declared.interval.Interval.Interval}
@@ -17,7 +17,7 @@ use Rattle.lra_threads_analysis.specs.Found.{access_verdicts_of, thread_values, 
 use Rattle.lra_threads_analysis.specs.declared.found.ThreadResult.{ThreadResult}
 use Rattle.lra_threads_source.specs.ThreadsText.{ThreadsReport, Writes}
 
--- what is told of each of these, the one behind the other; the first of them is the k-th
+-- what is reported about each of these, the one after the other; the first of them is the k-th
 abbrev pub one_by_one : {A B : Type 0} → (ℕ → A → List B) → ℕ → List A → List B
 one_by_one tell k [] = []
 one_by_one tell k (x ∷ xs) = tell k x ++ one_by_one tell (suc k) xs
@@ -38,7 +38,7 @@ points_before t k = sum_by (λ place. length (sites_of (thread_program t place))
 abbrev pub number_in : FileTree → ℕ → ℕ → ℕ
 number_in t k q = points_before t k + suc q
 
--- what is told of one thread ---------------------------------------------------------------------------------------
+-- what is reported about one thread --------------------------------------------------------------------------------
 
 -- so what was found of the k-th thread is listed as that of its program alone: each point with the state that shows the
 -- value there
@@ -53,7 +53,7 @@ assertions_alone t k found = map (verdict_at (labels_of t) (thread_sites t k) As
 abbrev pub accesses_alone : FileTree → ℕ → ThreadResult → List Verdict
 accesses_alone t k found = flat_map (access_verdicts_at (labels_of t) (thread_sites t k)) (access_verdicts_of found)
 
--- the k-th thread gives the global of this name values of this interval; none where no gift to it was found
+-- the k-th thread gives the global of this name values of this interval; none where no write to it was found
 abbrev pub reported_write : ℕ → List ℕ → Option Interval → List Writes
 reported_write k name None = []
 reported_write k name (Some i) = record { thread = suc k; name = name; low = i.low; high = i.high } ∷ []
@@ -62,13 +62,13 @@ reported_write k name (Some i) = record { thread = suc k; name = name; low = i.l
 abbrev pub reported_writes : List (List ℕ) → ℕ → IntervalRow → List Writes
 reported_writes names k row = one_by_one (λ x name. reported_write k name (interval_at x row)) 0 names
 
--- one thread behind the other --------------------------------------------------------------------------------------
+-- one thread after the other ---------------------------------------------------------------------------------------
 
 -- a path of the thread of this number, from 1, begins with its name, and not with `main`
 abbrev pub thread_path : ℕ → List ℕ → List ℕ
 thread_path thread path = codes "t" ++ decimal thread ++ drop (length (codes "main")) path
 
--- numbers count on behind the points of the threads before
+-- numbers count on after the points of the threads before
 abbrev pub point_in_thread : ℕ → ℕ → PointReport → PointReport
 point_in_thread before thread p = record p { number = before + p.number; path = thread_path thread p.path }
 
@@ -83,7 +83,7 @@ reported_verdicts t alone k found = map (verdict_in_thread (points_before t k) (
 
 -- reports ----------------------------------------------------------------------------------------------------------
 
--- the points of all threads are listed, each thread's as those of its program alone and then behind those of the
+-- the points of all threads are listed, each thread's as those of its program alone and then after those of the
 -- threads before it
 pub record ShowsPoints (t : FileTree) (found : List ThreadResult) (points : List PointReport) : Type 0 where
   pub alone : List (List PointReport)

@@ -1,4 +1,4 @@
--- What is known of the threads of a source before and behind the rounds, as the report asks it.
+-- What is known of the threads of a source before and after the rounds, as the report asks it.
 use Rattle.std.specs.List.{AllZip, flat_map, sum_by}
 use Rattle.std.specs.Prelude.{◌≡◌, ◌≤◌, ◌<◌, ◌+◌, ◌++◌, ◌^◌, ℕ, List, length, map, codes, All, Some, slice_get}
 use Rattle.lra_box.specs.Abstraction.{box_abstraction}
@@ -80,7 +80,7 @@ judged_alone t k found =
 abbrev pub BeginsAtMain : List ℕ → Type 0
 BeginsAtMain path = (rest : List ℕ) × (path ≡ codes "main" ++ rest)
 
--- what has this number and path alone can stand behind so many points
+-- what has this number and path alone can come after so many points
 abbrev pub CanFollow : ℕ → ℕ → List ℕ → Type 0
 CanFollow before number path = (before + number < 2 ^ 32) × BeginsAtMain path
 

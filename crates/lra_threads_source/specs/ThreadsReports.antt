@@ -1,4 +1,4 @@
--- What a source of several threads deserves: what rounds of boxes find of its threads, shown as one report; and what
+-- What a source of several threads must get: what rounds of boxes find of its threads, shown as one report; and what
 -- that claims of the threads beside each other. Threads and points are counted from 0 here.
 use Rattle.std.specs.List.{Contains}
 use Rattle.std.specs.Prelude.{◌≡◌, ◌<◌, ◌+◌, ℕ, suc, ℤ, List, length, map, None, Some, slice_get, IsTrue}
@@ -43,7 +43,7 @@ shared_program t = thread_program t (thread_place t 0)
 
 -- reports ----------------------------------------------------------------------------------------------------------
 
--- so it is told of a source under these options: what the rounds end with, which holds of all that the threads do
+-- so it is reported of a source under these options: what the rounds end with, which holds of all that the threads do
 -- beside each other
 pub record IsThreadsReportOf (delay narrow : ℕ) (source : List ℕ) (r : ThreadsReport) : Type 0 where
   pub delay_told : r.delay ≡ delay
@@ -76,7 +76,7 @@ BreaksThread Access P fs k p n = OutOfBoundsThread P fs k p n
 abbrev pub LiesIn : Writes → ℤ → Type 0
 LiesIn w z = InInterval (record { low = w.low; high = w.high }) z
 
--- the value that the k-th thread gives the global x is told among those that it writes
+-- the value that the k-th thread gives the global x is reported among those that it writes
 pub record IsReportedWrite (t : FileTree) (r : ThreadsReport) (k x : ℕ) (z : ℤ) : Type 0 where
   pub name : List ℕ
   pub is_named : slice_get (globals_named t.parts) x ≡ Some name
@@ -87,7 +87,7 @@ pub record IsReportedWrite (t : FileTree) (r : ThreadsReport) (k x : ℕ) (z : �
   pub within : LiesIn writes z
 
 -- Whatever the threads do beside each other: the state at a point holds whenever the thread is there, be it that it
--- says that it never is; what is judged to hold isn't broken; and each value that a thread gives a global is told.
+-- says that it never is; what is judged to hold isn't broken; and each value that a thread gives a global is reported.
 pub record HoldsInInterleavings (t : FileTree) (r : ThreadsReport) : Type 0 where
   pub states : (k q : ℕ) (s : Site) (x : PointReport) (store : List ℤ) → IsPointOf t k q s →
       slice_get r.points (points_before t k + q) ≡ Some x →
@@ -106,8 +106,8 @@ pub record AreDefinedThreads (plan : Plan) (t : FileTree) (trees : List Node) (r
       (IsExactResultOf plan (shared_program t) trees) (length trees) end
   pub shows : ShowsThreads t end r
 
--- the number is that of a thread's point, of which an operation strains; all before it is exact: round by round, in a
--- round thread by thread, of a thread its iteration before its accesses
+-- the number is that of a thread's point, of which an operation exceeds a limit; all before it is exact: round by
+-- round, in a round thread by thread, of a thread its iteration before its accesses
 pub record StrainsAtNumber (plan : Plan) (t : FileTree) (trees : List Node) (number : ℕ) : Type 0 where
   pub thread : ℕ
   pub point : ℕ

@@ -1,5 +1,5 @@
 -- What is written of several threads: the points of all of them, numbered on from thread to thread, each with its state
--- as a report tells it; what is judged of their assertions and accesses; and for each thread and global variable that
+-- as a report shows it; what is judged of their assertions and accesses; and for each thread and global variable that
 -- have one the interval of the values that the thread gives it.
 use Rattle.std.specs.Prelude.{ℕ, ℤ, List, ◌++◌, codes, Option, None, Some}
 use Rattle.std.specs.{Fmt.decimal, Fmt.signed_decimal, List.flat_map}

@@ -90,7 +90,7 @@ fn flag_of(graphs: &[InlinedProgram], flag: Option<(usize, usize)>) -> Option<u3
     }
 }
 
-/// What stands in a path behind `main`.
+/// What stands in a path after `main`.
 fn behind_main(path: &str) -> &str
     requires { BeginsAtMain path.now }
     ensures { result.now ≡ drop (length (codes "main")) path.now }

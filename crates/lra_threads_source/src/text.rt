@@ -65,7 +65,7 @@ impl ThreadsReport {
     }
 }
 
-/// Appends a number behind these words.
+/// Appends a number after these words.
 fn push_number(text: &mut String, words: &str, number: u32) -> Result<(), AllocError>
     ensures { OnOk result (string_bytes text.new ≡ string_bytes text.old ++
         (words.now ++ decimal number)) }

@@ -87,7 +87,7 @@ fn report_threads(
 }
 
 /// What rounds over boxes, with this delay and so many narrowings, find of the threads of a source, or its one refusal;
-/// memory may be wanting. A source past the limit of 65,536 bytes is refused by its first bytes, so that no more than
+/// memory may run out. A source past the limit of 65,536 bytes is refused by its first bytes, so that no more than
 /// one byte past the limit need be given.
 pub fn threads_source(
     alloc: Global,

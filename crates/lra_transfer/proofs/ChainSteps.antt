@@ -76,7 +76,7 @@ module _ {V H : Type 0} (m : Abstraction V H) (base : ℕ) where
   left_dims true c cs from taken left one = one.off_dims
   left_dims false c cs from taken left one = one.on_dims
 
-  -- the operand that was divided last, and what is left to do behind it
+  -- the operand that was divided last, and what is left to do after it
   pub record IsDividedSoFar (wanted : Bool) (c : Cond) (cs : List Cond) (from : Kept V) (before : List (Kept V)) (taken left : Kept V) (ds : List Cond) : Type 0 where
     pub here : Cond
     pub start : Kept V
@@ -151,7 +151,7 @@ module _ {V H : Type 0} (m : Abstraction V H) (base : ℕ) where
 
   -- one side --------------------------------------------------------------------------------------------------------------
 
-  -- one more behind the others
+  -- one more after the others
   turn_more : (live : ℕ) (wanted : Bool) (c : Cond) (cs : List Cond) (d : Cond) (v : V) (e : Exactness) (x : V) (a : Exactness) (w : V) (b : Exactness)
       → Takes (lossy_operations m) (in_turn_of live base wanted c cs) v e x a → Takes (lossy_operations m) (guard live base wanted d) x a w b
       → Takes (lossy_operations m) (in_turn_of live base wanted c (cs ++ d ∷ [])) v e w b

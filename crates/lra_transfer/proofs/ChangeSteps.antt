@@ -68,7 +68,7 @@ second_made d n h few = (
   ),
 )
 
--- one behind the other
+-- one after the other
 pub turn_more : {V H : Type 0} (m : Abstraction V H) (step : Action) (steps all : List Action) (v x w : V) (c d : Exactness) → all ≡ step ∷ steps
     → Does m (make step) v c x
     → Does m (in_turn steps) x d w → Does m (in_turn all) v (worse c d) w

@@ -17,7 +17,7 @@ split_as live op (Linear d) other = refl
 split_as live op (Divided c d) other = refl
 split_as live op Unseen other = absurd (other refl)
 
--- behind nothing that is flagged
+-- after nothing that is flagged
 from_exact : {V H E : Type 0} (m : Abstraction V H) (R : handed.Result Exactness E) (v w : V) (p : Moves) →
     IfOk R (λ e. Takes (lossy_operations m) p v Exact w e)
     → IfOk R (λ e. Does m p v e w)

@@ -1,4 +1,4 @@
--- How many dimensions values have behind moves.
+-- How many dimensions values have after moves.
 use Rattle.std.proofs.Common.{◌≡◌, ℕ, ℤ, zero, suc, ◌+◌, ◌-◌, List, [], ◌∷◌, length, Option, Some, None, Bool, true, false, refl, ap, ◌∙◌, arith}
 use Rattle.std.specs.Prelude.{not}
 use Rattle.lra_base.specs.Operators.{Comparison, below, at_most, above, at_least, equal, differs}
@@ -19,7 +19,7 @@ use Rattle.lra_transfer.proofs.ChangeSteps.{cases_dims, set_dims}
 
 -- moves ----------------------------------------------------------------------------------------------------------------
 
--- the tests behind an `int` change none
+-- the tests after an `int` change none
 pub within_after : (t : NumberType) (live x : ℕ) (p : Moves) (n k : ℕ) → dims_moved p n ≡ k → dims_moved (within_type t live x p) n ≡ k
 within_after Long live x p n k e = e
 within_after Int live x p n k e = e

@@ -29,7 +29,7 @@ pub record AreJoinedTo {V H : Type 0} (m : Abstraction V H) (one two joined : Ke
       (joined.exactness ≡ worse (worse one.exactness two.exactness) e)
   pub same_dims : m.dims joined.value ≡ m.dims one.value
 
--- each of them joined with what those behind it give, the last with this one
+-- each of them joined with what those after it give, the last with this one
 abbrev pub AreJoinedBack : {V H : Type 0} → Abstraction V H → List (Kept V) → Kept V → Kept V → Type 0
 AreJoinedBack m [] last joined = joined ≡ last
 AreJoinedBack {V} m (one ∷ more) last joined = (behind : Kept V) × AreJoinedBack m more last behind ×
@@ -40,7 +40,7 @@ abbrev pub AllKeptHave : {V H : Type 0} → Abstraction V H → ℕ → List (Ke
 AllKeptHave m n [] = Unit {0}
 AllKeptHave m n (one ∷ more) = (m.dims one.value ≡ n) × AllKeptHave m n more
 
--- a chain of which one operand is to be so, and of which some are divided: what the next one and those behind it leave
+-- a chain of which one operand is to be so, and of which some are divided: what the next one and those after it leave
 -- of what is left, joined with what the divided ones left, is what the whole chain leaves
 pub record IsEitherSoFar {V H : Type 0} (m : Abstraction V H) (base : ℕ) (wanted : Bool) (c : Cond) (cs : List Cond)
     (from : Kept V) (lefts : List (Kept V)) (off : Kept V) (d : Cond) (ds : List Cond) : Type 0 where

@@ -13,7 +13,7 @@ use lra_linear_forms::LinExpr;
 use lra_linearize::{first_case, second_case};
 use std::alloc::{AllocError, Global};
 
-/// Makes the changes, one behind the other.
+/// Makes the changes, one after the other.
 fn change_in_turn<D: Domain>(changes: &[Change], value: &mut D) -> Result<Exactness, AllocError>
     requires { AllCanBeMade (actions_of changes.now) (D.abstraction.dims value.old) }
     ensures changes { IfOk result (λ a.

@@ -124,7 +124,7 @@ fn append_any<D: Domain>(
     Ok(held)
 }
 
-/// The target gets any value of its type: nothing is told of an element.
+/// The target gets any value of its type: nothing is reported about an element.
 fn give_any_value<D: Domain>(
     alloc: Global,
     target: Target,
@@ -146,7 +146,7 @@ fn give_any_value<D: Domain>(
     }
 }
 
-/// The target gets the expression's value, which is one of its type: nothing is told of an element.
+/// The target gets the expression's value, which is one of its type: nothing is reported about an element.
 fn give<D: Domain>(
     alloc: Global,
     base: usize,

@@ -82,7 +82,7 @@ fn divide_lefts<'a, D: Domain>(
     Ok(Apart { lefts, off, last })
 }
 
-/// The value becomes the lefts joined with the right: each with what those behind it give.
+/// The value becomes the lefts joined with the right: each with what those after it give.
 #[inline(never)]
 fn join_lefts<D: Domain>(
     lefts: Vec<Kept<D>>,
@@ -104,8 +104,8 @@ fn join_lefts<D: Domain>(
     Ok(joined.exactness)
 }
 
-/// What `condition`, wanted true or false, leaves of the value: `!` is pushed to the comparisons; `&&` is the one
-/// behind the other; `||` joins what its left side leaves with what the right one leaves where the left one is false.
+/// What `condition`, wanted true or false, leaves of the value: `!` is pushed to the comparisons; `&&` is the one after
+/// the other; `||` joins what its left side leaves with what the right one leaves where the left one is false.
 #[cycle(filter_condition)]
 pub fn filter_condition<D: Domain>(
     alloc: Global,
@@ -185,7 +185,7 @@ fn leave_any<D: Domain>(
     }
 }
 
-/// What all of the conditions leave, one behind the other.
+/// What all of the conditions leave, one after the other.
 #[cycle(filter_condition)]
 fn leave_in_turn<D: Domain>(
     around: Surroundings,

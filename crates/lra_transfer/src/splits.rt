@@ -46,7 +46,7 @@ pub fn join_kept<D: Domain>(one: Kept<D>, two: Kept<D>) -> Result<Kept<D>, Alloc
     })
 }
 
-/// Each of these joined with what those behind it give, the last with this one.
+/// Each of these joined with what those after it give, the last with this one.
 pub fn join_back<D: Domain>(before: Vec<Kept<D>>, last: Kept<D>) -> Result<Kept<D>, AllocError>
     requires { AllKeptHave D.abstraction (D.abstraction.dims last.value) before.items }
     ensures { IfOk result (λ r. AreJoinedBack D.abstraction before.items last r) }

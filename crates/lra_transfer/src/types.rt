@@ -13,7 +13,7 @@ use lra_linear_spec::ConKind;
 use lra_linearize::form_of_one;
 use std::alloc::{AllocError, Global};
 
-/// What is left where the variable at the place lies within 32 bits, behind what led to the value: `x + 2^31 >= 0`,
+/// What is left where the variable at the place lies within 32 bits, after what led to the value: `x + 2^31 >= 0`,
 /// then `2^31 - 1 - x >= 0`.
 fn hold_int<D: Domain>(
     alloc: Global,
@@ -43,7 +43,7 @@ fn hold_int<D: Domain>(
     Ok(worse(before, worse(one, two)))
 }
 
-/// What is left where the variable at the place has a number of this type, behind what led to the value. Of a `long`
+/// What is left where the variable at the place has a number of this type, after what led to the value. Of a `long`
 /// nothing is tested.
 pub fn hold_type<D: Domain>(
     alloc: Global,

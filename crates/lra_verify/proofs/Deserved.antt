@@ -1,4 +1,4 @@
--- What an input deserves, by the answer to its program and to the lines behind its source.
+-- What an input must get, by the answer to its program and to the lines after its source.
 use Rattle.std.proofs.Common.{◌≡◌, ◌≤◌, ◌<◌, inl, inr, ℕ, List, length, Option, Some, None, Result, Ok, Err, IfOk, refl, ap, sym, ◌∙◌, subst, arith}
 use Rattle.std.proofs.lemmas.List.{length-map}
 use Rattle.lra_program.specs.{Program.Program, ProgramViews.program_view, Sites.Site, Sites.sites_of}
@@ -19,7 +19,7 @@ use Rattle.lra_front_end.specs.{Stages.HasTree, Stages.HasInlinedTree, declared.
 use Rattle.lra_verify.specs.declared.head.Head as declared
 use Rattle.lra_verify.proofs.VerifySteps.{live_few}
 
--- what is told of the lines, where the paths are few
+-- what is reported about the lines, where the paths are few
 pub lines_answer : (P : Program) (g : Node) (rest : List ℕ) (result : Result (ℕ × ℕ) VerifyError) → AreFewPaths P g →
     IsJudgedAs (λ (r : ℕ × ℕ). r) (judged P g rest) result → IsAnswerTo P g rest result
 lines_answer P g rest (Ok r) few told = (few, told)

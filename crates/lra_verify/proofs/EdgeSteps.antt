@@ -1,4 +1,4 @@
--- Paths and assertions, one after the other, as the code tells of them.
+-- Paths and assertions, one after the other, as the code states them.
 use Rattle.std.proofs.Common.{◌≡◌, ◌≤◌, ◌<◌, ◌+◌, ◌-◌, ◌++◌, ◌∷◌, [], ℕ, suc, List, length, drop, Option, Some, None, Result, Ok, Err, Vec, refl, ap, sym, ◌∙◌, subst, arith, add-one, drop-cons}
 use Rattle.std.proofs.{Common.slice_index_or, Common.append_assoc, lemmas.List.drop_all}
 use Rattle.std.specs.{Borrow.Bor, Fmt.decimal, Global.Global, List.range_with_len, Prelude.slice_get, Prelude.codes, Prelude.IfSome}
@@ -34,7 +34,7 @@ numbers_next i n h = ap (range_with_len i) (let e : n - i ≡ suc (n - (i + 1)) 
 pub numbers_end : (i n : ℕ) → n ≤ i → range_with_len i (n - i) ≡ []
 numbers_end i n h = ap (range_with_len i) (let e : n - i ≡ 0 = omega (arith, h) in e)
 
--- ---- which path it is doesn't tell
+-- ---- it doesn't say which path it is
 module _ (live : ℕ) (rows : List LinearRow) (steps : List Action) where
   abbrev along : ℕ → Goal → PathPremises
   along p goal = record { live = live; rows = rows; path = path_by p goal steps }
@@ -105,7 +105,7 @@ module _ (w : AnnotatedProgram) (p q : ℕ) (from : Option (Bor (LinearSystem Co
       ap (λ (xs : List (List Action)). judged_in_turn (dead_by (live_by (sites_in w) p) (state_from (states_in w) p)) xs l)
       (led ∙ ap (λ (o : Option Source). actions_out_of o (violates q)) (sym got))
 
--- ---- a path, behind its own line
+-- ---- a path, after its own line
 abbrev pub edge_words : ℕ → ℕ → List ℕ
 edge_words p n = codes "edge " ++ (decimal p ++ (codes " " ++ decimal n))
 

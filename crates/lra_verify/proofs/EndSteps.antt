@@ -1,4 +1,4 @@
--- The lines behind those of the points, to the last, as the code tells of them.
+-- The lines after those of the points, to the last, as the code states them.
 use Rattle.std.proofs.Common.{◌≡◌, ◌≤◌, ◌<◌, ℕ, Bool, true, false, List, [], ◌∷◌, length, drop, Ok, refl, ap, ◌∙◌, arith, cond, length-drop}
 use Rattle.std.proofs.{lemmas.List.drop_all, lemmas.List.Splits.length-slice_split}
 use Rattle.std.specs.{List.slice_split, List.onto_first, Prelude.if◌then◌else◌, Prelude.codes}
@@ -8,7 +8,7 @@ use Rattle.lra_certificate_spec.specs.Judged.{Left, Judged, then_judged, takes, 
 use Rattle.lra_certificate_spec.specs.Lines.{is_feed, pieces_at, line_number_at, left_at}
 use Rattle.lra_certificate_lines.proofs.Told.{then_ok, then_err, fault_through}
 
--- ---- nothing stands behind the last line
+-- ---- nothing comes after the last line
 not_nothing : (first : Bool) (x : ℕ) (parts : List (List ℕ)) → 0 < length parts →
     is_nothing (cond first ([] ∷ parts) (onto_first x parts)) ≡ false
 not_nothing true x [] h = absurd (omega (arith, h))
@@ -41,7 +41,7 @@ pub end_fault : (l : Left) (e : VerifyError) → IsFault (takes (codes "end") l)
 end_fault l e = fault_through (takes (codes "end") l) (judged_end l) e
     (then_err (takes (codes "end") l) (λ m. if is_nothing m.pieces then Ok m else refuses m.number bad_line))
 
--- ---- all that stands behind the points
+-- ---- all that comes after the points
 module _ (w : AnnotatedProgram) (l : Left) where
   abbrev listed : Left → Judged (ℕ × Left)
   listed m = listed_by (violations_by w) 0 (sites_in w) m

@@ -1,4 +1,4 @@
--- Listed assertions, one after the other, as the code tells of them.
+-- Listed assertions, one after the other, as the code states them.
 use Rattle.std.proofs.Common.{◌≡◌, ◌+◌, ◌∷◌, [], ℕ, suc, Bool, true, false, List, Ok, Err, refl, ap, sym, ◌∙◌, subst, arith, add-one}
 use Rattle.std.specs.{Fmt.decimal, Prelude.if◌then◌else◌, Prelude.◌&&◌, Prelude.codes}
 use Rattle.std.proofs.lemmas.Bool.{and_right}

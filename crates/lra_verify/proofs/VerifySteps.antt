@@ -1,4 +1,4 @@
--- The lines of a program, told source by source, are those of the definition.
+-- The lines of a program, reported source by source, are those of the definition.
 use Rattle.std.proofs.Common.{◌≡◌, ◌≤◌, ◌<◌, ◌^◌, ℤ, ◌+◌, ◌++◌, ◌∷◌, [], ℕ, zero, suc, List, length, map, Bool, true, false, Option, Some, None, Ok, refl, ap, sym, ◌∙◌, subst, arith, ◌⊎◌, inl, inr}
 use Rattle.std.proofs.{Common.leb, lemmas.Bool.Decides.leb_tells, lemmas.List.length-map, lemmas.Option.slice_get-get_or, lemmas.Option.slice_get-map}
 use Rattle.std.specs.{List.flat_map, List.range_with_len, List.All, Prelude.if◌then◌else◌, Prelude.slice_get, Prelude.◌&&◌, Prelude.option_map, Prelude.get_or}
@@ -146,7 +146,7 @@ module _ (P : Program) (g : Node) (w : AnnotatedProgram) (ways : IsAnnotatedProg
           (λ m. ap one_more (h m))
       by false h = h l
 
-  -- all lines behind the points
+  -- all lines after the points
   pub rest_is : (l : Left) → rest_by w l ≡ then_judged (judged_paths P g (states_in w) (paths_of P g) l)
       (λ m. then_judged (judged_listed P g (states_in w) 0 (sites_of P) m) (λ x. counted (length (sites_of P)) x))
   rest_is l =
@@ -189,7 +189,7 @@ sources_few globals sites g sources n leads few = λ k d h goal.
     subst (λ (xs : List (List Action)). length xs ≤ greatest_paths)
     (sym (leads k goal low) ∙ ap (λ (o : Option Source). actions_out_of o goal) (slice_get-get_or sources k d h)) (few k low goal)
 
--- ---- all lines behind the source
+-- ---- all lines after the source
 module _ (P : Program) (g : Node) (w : AnnotatedProgram) (ways : IsAnnotatedProgram w) (sites : sites_in w ≡ sites_of P) (lead : LeadAs P g w.sources.now) where
   abbrev behind_points : List RowsAtPoint × Left → Judged (ℕ × ℕ)
   behind_points r = then_judged (judged_paths P g r.0 (paths_of P g) r.1)

@@ -33,7 +33,7 @@ abbrev pub path_of : Edge → List Action → Left → Judged Left
 path_of e steps l =
     edge_by (dims_of e.from) (target_rows e.from) (target_rows e.to) (path_by e.source (comes_to e.point) steps) l
 
--- that nothing goes along a path; which path it is doesn't tell
+-- that nothing goes along a path; it doesn't say which path it is
 abbrev pub dead_by : ℕ → RowsAtPoint → List Action → Left → Judged Left
 dead_by live None steps l = Ok l
 dead_by live (Some rows) steps l =
@@ -82,7 +82,7 @@ violation_by w q p l =
 abbrev pub violations_by : AnnotatedProgram → ℕ → Left → Judged Left
 violations_by w q l = judged_in_turn (violation_by w q) (range_with_len 0 (length w.sources.now)) l
 
--- so many assertions so far, and what is left: behind the assertion at a point, if there is one and it is listed
+-- so many assertions so far, and what is left: after the assertion at a point, if there is one and it is listed
 abbrev pub assertion_by : (ℕ → Left → Judged Left) → ℕ → Bool → ℕ × Left → Judged (ℕ × Left)
 assertion_by denials q asserts r = if asserts && is_next_line (assert_text q) (line_on r.1.pieces)
     then then_judged (denials q (after_line r.1)) (λ next. Ok (r.0 + 1, next)) else Ok r
@@ -97,7 +97,7 @@ listed_by denials q (site ∷ sites) l = if site.asserts && is_next_line (assert
 abbrev pub listed_view : List ℕ → listed.Listed → ℕ × Left
 listed_view bytes r = (r.proved, left_at bytes r.behind)
 
--- all that stands behind the points
+-- all that comes after the points
 abbrev pub rest_by : AnnotatedProgram → Left → Judged (ℕ × ℕ)
 rest_by w l = then_judged (sources_by w l) (λ m.
     then_judged (listed_by (violations_by w) 0 (sites_in w) m) (λ x. counted (length w.sites.now) x))

@@ -8,7 +8,7 @@ use Rattle.lra_certificate_spec.specs.{Judged.Left, Judged.RowsAtPoint, Lines.le
 use Rattle.lra_verify.specs.declared.points.PointRows.{PointRows}
 use Rattle.lra_verify.specs.{declared.points.Point.Point, declared.points.Points.Points}
 
--- the rows, and what is left behind them
+-- the rows, and what is left after them
 abbrev pub rows_view : List ℕ → PointRows → List LinearRow × Left
 rows_view bytes r = (constraints r.rows, left_at bytes r.behind)
 

@@ -1,4 +1,4 @@
--- What refusals of the code stand for, and what is told of an answer that may be one.
+-- What refusals of the code stand for, and what is reported about an answer that may be one.
 use Rattle.std.specs.Prelude.{Result, Ok, Err, ⊤}
 use Rattle.lra_certificate_lines.specs.declared.refusals.VerifyError.TheVariants.{Refused, Memory}
 use Rattle.lra_certificate_lines.specs.declared.refusals.VerifyRefusal.{VerifyRefusal}

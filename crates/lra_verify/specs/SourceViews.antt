@@ -25,7 +25,7 @@ abbrev pub LeadAs : Program → Node → List Source → Type 0
 LeadAs P g sources = (p : ℕ) (goal : Goal) → p < length sources →
     actions_out_of (slice_get sources p) goal ≡ actions_between P g p goal
 
--- what is answered of a program, and of the lines behind its source
+-- what is answered of a program, and of the lines after its source
 abbrev pub IsRefusalOf : Program → Node → List ℕ → VerifyRefusal → Type 0
 IsRefusalOf P g rest (of_refusal.Source r) = ⊥
 IsRefusalOf P g rest (of_refusal.Paths p) = HasTooManyPaths P g p

@@ -54,7 +54,7 @@ impl AnnotatedProgram<'_> {
         }
     }
 
-    /// Where the next line begins behind the paths from a source to a point.
+    /// Where the next line begins after the paths from a source to a point.
     fn take_way(
         &self,
         alloc: Global,
@@ -82,7 +82,7 @@ impl AnnotatedProgram<'_> {
         take_paths(alloc, bytes, at, &edge, paths.as_slice())
     }
 
-    /// Where the next line begins behind the paths from a source to all points, in order.
+    /// Where the next line begins after the paths from a source to all points, in order.
     fn take_source(
         &self,
         alloc: Global,
@@ -108,7 +108,7 @@ impl AnnotatedProgram<'_> {
         Ok(next)
     }
 
-    /// Where the next line begins behind the paths from all sources, in order.
+    /// Where the next line begins after the paths from all sources, in order.
     pub fn take_sources(&self, alloc: Global, bytes: &[u8], at: usize) -> Result<usize, VerifyError>
         requires ways { IsAnnotatedProgram self.now }
         requires short { length bytes.now < 2 ^ 31 }

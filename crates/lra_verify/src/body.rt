@@ -1,4 +1,4 @@
-//! The lines behind those of the points, to the last.
+//! The lines after those of the points, to the last.
 
 ghost use Rattle.std.specs.Prelude.{◌≤◌, ◌<◌, ◌^◌, length};
 ghost use Rattle.lra_verify.specs.EdgeViews.{IsAnnotatedProgram, rest_by};
@@ -9,7 +9,7 @@ use crate::annotated::AnnotatedProgram;
 use lra_certificate_lines::{LineFault, VerifyError, refuse, take_line};
 use std::alloc::Global;
 
-/// The line that begins here has to be `end`, with nothing behind it.
+/// The line that begins here has to be `end`, with nothing after it.
 fn take_end(bytes: &[u8], at: usize) -> Result<(), VerifyError>
     requires short { length bytes.now < 2 ^ 31 }
     requires place { at ≤ length bytes.now }

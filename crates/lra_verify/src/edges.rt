@@ -30,7 +30,7 @@ fn edge_text(alloc: Global, source: usize, number: usize) -> Result<String, Allo
     format!(in alloc; "edge {source} {number}")
 }
 
-/// Where the next line begins behind a path: its own line, and what is said of it, unless nothing comes to its source.
+/// Where the next line begins after a path: its own line, and what is said of it, unless nothing reaches its source.
 fn take_path(
     alloc: Global,
     bytes: &[u8],
@@ -57,7 +57,7 @@ fn take_path(
     }
 }
 
-/// Where the next line begins behind the paths, in order.
+/// Where the next line begins after the paths, in order.
 pub fn take_paths(
     alloc: Global,
     bytes: &[u8],
@@ -83,7 +83,7 @@ pub fn take_paths(
     Ok(next)
 }
 
-/// Where the next line begins behind a path along which nothing goes.
+/// Where the next line begins after a path along which nothing goes.
 fn take_dead(
     alloc: Global,
     bytes: &[u8],
@@ -103,7 +103,7 @@ fn take_dead(
     track.show_dead(alloc, bytes, at)
 }
 
-/// Where the next line begins behind the paths along which nothing goes, in order.
+/// Where the next line begins after the paths along which nothing goes, in order.
 pub fn take_all_dead(
     alloc: Global,
     bytes: &[u8],

@@ -7,14 +7,14 @@ ghost use Rattle.lra_verify.specs.HeadViews.{head_view};
 use lra_certificate_lines::{numbers_behind, place_of};
 use std::alloc::{AllocError, Global};
 
-/// The source of an input, and what stands behind it.
+/// The source of an input, and what comes after it.
 #[derive(Clone, Copy)]
 pub struct Head<'a> {
     pub source: &'a [u8],
     pub rest: &'a [u8],
 }
 
-/// So many bytes, and what stands behind them and a line feed.
+/// So many bytes, and what comes after them and a line feed.
 fn split_source(bytes: &[u8], count: usize) -> Option<Head<'_>>
     ensures head { option_map head_view result ≡ headed (Some (pos count ∷ [])) bytes.now }
     ensures within { IfSome result (λ h. (length h.source.now ≤ length bytes.now)

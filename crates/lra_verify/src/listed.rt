@@ -27,7 +27,7 @@ fn assert_text(alloc: Global, number: usize) -> Result<String, AllocError>
 }
 
 impl AnnotatedProgram<'_> {
-    /// Where the next line begins behind the paths from a source to where the assertion at the point is false.
+    /// Where the next line begins after the paths from a source to where the assertion at the point is false.
     fn take_denial(
         &self,
         alloc: Global,
@@ -53,7 +53,7 @@ impl AnnotatedProgram<'_> {
         }
     }
 
-    /// Where the next line begins behind the paths to where the assertion at the point is false.
+    /// Where the next line begins after the paths to where the assertion at the point is false.
     fn take_denials(
         &self,
         alloc: Global,

@@ -45,7 +45,7 @@ pub struct Points {
     pub behind: usize,
 }
 
-/// The row of this kind that the line spells, with so many numbers behind this text.
+/// The row of this kind that the line spells, with so many numbers after this text.
 fn row_behind(
     alloc: Global,
     line: &[u8],

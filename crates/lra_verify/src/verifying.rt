@@ -47,7 +47,7 @@ pub fn all_sources(alloc: Global, paths: &Paths<'_>) -> Result<Vec<Source>, Allo
     Ok(sources)
 }
 
-/// The numbers of points and of listed assertions, where all lines behind the source are as they have to be; no row is
+/// The numbers of points and of listed assertions, where all lines after the source are as they have to be; no row is
 /// said of the start.
 fn take_lines(
     alloc: Global,
@@ -75,7 +75,7 @@ fn take_lines(
     ways.take_rest(alloc, bytes, points.behind)
 }
 
-/// The numbers of points and of listed assertions of a program, where the lines behind its source are as they have to
+/// The numbers of points and of listed assertions of a program, where the lines after its source are as they have to
 /// be; or why its paths or these lines are refused.
 fn judge(
     alloc: Global,
@@ -109,7 +109,7 @@ fn judge(
 }
 
 /// How many points the program has whose certificate the input is, and how many assertions that lists; or why the input
-/// is no certificate that meets its program. Memory may be wanting.
+/// is no certificate that meets its program. Memory may run out.
 pub fn verify(alloc: Global, bytes: &[u8]) -> Result<(u32, u32), VerifyError>
     ensures verified { IfOk result (λ r. VerifiesTo bytes.now (verified r.0 r.1)) }
     ensures refused { IfRefused result (VerifiesTo bytes.now) }

@@ -68,7 +68,7 @@ fn bad(alloc: Global) -> Result<Vec<Change>, AllocError>
     Ok(vec![in alloc; late, much]?)
 }
 
-/// Whether it leaks too much, and the value that was found to tell it.
+/// Whether it leaks too much, and the value that was found to decide it.
 pub fn leaks<D: Backward>(alloc: Global) -> Result<(Answer, D), AllocError>
     ensures dims { IfOk result (λ r. D.abstraction.dims r.1 ≡ 3) }
     ensures safe { IfOk result (λ r. r.0 ≡ Answer.Safe → (s t : List ℤ) → IsGiven 3 beginning s →

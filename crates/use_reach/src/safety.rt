@@ -1,4 +1,4 @@
-//! Whether a run of steps reaches a bad store, told by an invariant.
+//! Whether a run of steps reaches a bad store, given by an invariant.
 
 ghost use Rattle.std.specs.Prelude.{◌≡◌, ◌≤◌, ◌^◌, ℤ, List, [], ◌∷◌, map, IfOk};
 ghost use Rattle.guzhtarel.specs.Domains.Changes.{AllReturn, actions_of, actions_of_steps};
@@ -30,7 +30,7 @@ fn given<D: Domain>(alloc: Global, n: usize, changes: &[Change]) -> Result<D, Al
 }
 
 /// Whether a run of the steps leads from a store that `first` gives to one that `bad` gives, and the value that was
-/// found to tell it; `delay` rounds join before others widen.
+/// found to decide it; `delay` rounds join before others widen.
 pub fn reach<D: Backward>(
     alloc: Global,
     n: usize,

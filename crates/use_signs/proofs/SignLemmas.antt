@@ -1,4 +1,4 @@
--- What the calls of signs owe, and their ranks.
+-- What the calls of signs must guarantee, and their ranks.
 use Rattle.std.proofs.Common.{◌≡◌, ◌≤◌, ◌^◌, ℕ, ℤ, Bool, List, length, ◌↔◌}
 use Rattle.std.specs.Prelude.{IsTrue}
 use Rattle.guzhtarel.specs.EntryDomains.{EntriesContent, lies_in, of_entries}

@@ -1,4 +1,4 @@
-//! What a call is but for its callee's body: where that stands, and what comes behind it.
+//! What a call is but for its callee's body: where that stands, and what comes after it.
 
 ghost use Rattle.std.specs.Prelude.{◌≡◌, ◌≢◌, ◌+◌, ◌≤◌, ◌∷◌, length, Some, slice_get, IfOk};
 ghost use Rattle.lra_base.specs.Limits.{greatest_live};
@@ -53,7 +53,7 @@ pub fn enter_call(
     Ok((path, inner))
 }
 
-/// A call whose callee's body is written out under this path, with so many variables live behind it: the point of its
+/// A call whose callee's body is written out under this path, with so many variables live after it: the point of its
 /// end comes next.
 pub fn end_call(
     around: &Around<'_>,

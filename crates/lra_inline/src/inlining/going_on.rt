@@ -1,4 +1,4 @@
-//! The next step at a place, behind what was written of the part under way there.
+//! The next step at a place, after what was written of the part under way there.
 
 ghost use Rattle.std.specs.Prelude.{◌<◌, ℕ, List, IfOk};
 ghost use Rattle.lra_program.specs.Program as resolved;
@@ -21,7 +21,7 @@ use lra_operations::{Path, Site};
 use std::alloc::Global;
 use std::mem;
 
-/// Behind one of some items: it stands behind those before it.
+/// After one of some items: it comes after those before it.
 fn go_on_items<'a>(
     alloc: Global,
     frame: Frame,
@@ -40,7 +40,7 @@ fn go_on_items<'a>(
     next_item(alloc, frame, parts, rest, item.live)
 }
 
-/// Behind one of the two parts of a choice or a loop: its other part is next, or it is written.
+/// After one of the two parts of a choice or a loop: its other part is next, or it is written.
 fn go_on_forked<'a>(
     alloc: Global,
     frame: Frame,
@@ -88,7 +88,7 @@ fn go_on_forked<'a>(
     }
 }
 
-/// Behind the items in it, a block's end.
+/// After the items in it, a block's end.
 fn end_block<'a>(
     alloc: Global,
     path: &Path,
@@ -113,7 +113,7 @@ fn end_block<'a>(
     )
 }
 
-/// Behind the body of a called function: the point of its end, under the path of that body; the caller's goes on.
+/// After the body of a called function: the point of its end, under the path of that body; the caller's goes on.
 fn end_callee<'a>(
     source: Source<'a>,
     path: &mut Path,

@@ -24,7 +24,7 @@ use lra_program::{BlockItem, Call};
 use std::alloc::Global;
 use std::mem;
 
-/// The items that are left, behind those that are written and behind which so many variables live; what is written of
+/// The items that are left, after those that are written and after which so many variables live; what is written of
 /// all of them is one tree.
 pub fn next_item<'a>(
     alloc: Global,

@@ -18,7 +18,7 @@ use lra_operations::{InlinedProgram, Node, Path, Site};
 use lra_program::{Program, Receiver};
 use std::alloc::Global;
 
-/// The program's tree; its points stand behind those that are there, or it passes a limit. A tree without points before
+/// The program's tree; its points come after those that are there, or it passes a limit. A tree without points before
 /// it is the program's own.
 fn write_program(
     alloc: Global,
@@ -77,7 +77,7 @@ pub fn build(alloc: Global, program: &Program) -> Result<InlinedProgram, InlineE
     Ok(InlinedProgram { tree, sites })
 }
 
-/// As [`build`], where the program's points come behind those of other programs: all of them count against the limit.
+/// As [`build`], where the program's points come after those of other programs: all of them count against the limit.
 /// The points are written out once more for the tree, whose own points begin at 0; twice along a program is still
 /// linear.
 pub fn build_thread(

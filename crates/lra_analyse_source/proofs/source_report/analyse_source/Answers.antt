@@ -1,5 +1,5 @@
 -- Goals of `analyse_source`: the report of a source over the domain and the number of parts that the options name,
--- or its one refusal; memory may be wanting.
+-- or its one refusal; memory may run out.
 use Rattle.std.proofs.lemmas.Result.{IfOk-weaker}
 use Rattle.lra_options.specs.declared.options.Domain.TheVariants.{Poly, Box, Oct}
 use Rattle.lra_box.specs.Abstraction.{box_abstraction}

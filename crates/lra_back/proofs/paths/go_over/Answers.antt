@@ -1,4 +1,4 @@
--- Goals of `go_over`: from the value behind a path to the one before it.
+-- Goals of `go_over`: from the value after a path to the one before it.
 use Rattle.std.proofs.Common.{◌≡◌, ◌<◌, ◌-◌, suc, length, take, arith, subst, sym}
 use Rattle.std.specs.Borrow.{Bor}
 use Rattle.lra_domain.specs.{Changes.action_of, Changes.dims_after_actions, declared.Exactness.Exactness, declared.changes.Change.Change}

@@ -1,4 +1,4 @@
--- Goals of `push_places`: puts the places of the bits of a word behind what is there.
+-- Goals of `push_places`: puts the places of the bits of a word after what is there.
 use Rattle.std.proofs.{Common.◌<◌, Common.◌+◌, Common.◌*◌, Common.◌^◌, Common.arith, Common.rules, lemmas.Nat.Bits.bit_at-trailing_zeros}
 use Rattle.std.specs.Int.{w64, trailing_zeros}
 use Rattle.lra_bits.proofs.Places.{all_left, one_fewer, zero_left, past_left, true_bit, still_within}

@@ -1,4 +1,4 @@
--- Goals of `push_values`: puts a value behind each row, in words that are there.
+-- Goals of `push_values`: puts a value after each row, in words that are there.
 use Rattle.std.proofs.Common.{◌<◌, ◌∙◌, ◌≡◌, ◌≢◌, ◌+◌, ◌%◌, ◌^◌, ◌++◌, ◌∷◌, [], Bool, List, ap, arith, get_or, length, refl, set, subst, sym}
 use Rattle.std.proofs.lemmas.List.{get_or_default}
 use Rattle.lra_bits.specs.TruthValues.{value_at}

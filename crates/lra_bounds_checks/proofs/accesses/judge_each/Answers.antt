@@ -1,4 +1,4 @@
--- Goals of `judge_each`: what is told of each access comes behind the others.
+-- Goals of `judge_each`: what is reported about each access comes after the others.
 use Rattle.std.proofs.Common.{◌≤◌, length, map, arith}
 use Rattle.lra_bounds_checks.specs.Listed.{access_view}
 use Rattle.lra_bounds_checks.proofs.BoundsSteps.{all_told, none_told, told_more}

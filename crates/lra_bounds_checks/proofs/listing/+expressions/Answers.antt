@@ -1,5 +1,5 @@
 -- Goals of the functions that call each other around `push_accesses`: a chain's accesses are its first operand's and then
--- those of the others; an element's come behind those of its index.
+-- those of the others; an element's come after those of its index.
 use Rattle.std.proofs.Common.{rules, ◌≡◌, ◌∙◌, ap, map}
 use Rattle.lra_program.specs.declared.program.Expr as declared
 use Rattle.lra_program.specs.{Accesses.expr_accesses, Program.Element, Program.element, ProgramViews.chained, ProgramViews.expr_view, ProgramViews.operation_view, declared.program.Expr.the_lemmas}

@@ -1,4 +1,4 @@
--- Goals of `push_aim`: an element that gets a value comes behind the accesses of its index.
+-- Goals of `push_aim`: an element that gets a value comes after the accesses of its index.
 use Rattle.std.proofs.Common.{refl, map}
 use Rattle.lra_program.specs.{Accesses.aim_accesses, Accesses.expr_accesses, ProgramViews.element_view, ProgramViews.expr_view}
 use Rattle.lra_bounds_checks.specs.Listed.{access_view}

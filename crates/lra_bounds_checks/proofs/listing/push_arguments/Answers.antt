@@ -1,4 +1,4 @@
--- Goals of `push_arguments`: the accesses of one argument behind those of the others.
+-- Goals of `push_arguments`: the accesses of one argument after those of the others.
 use Rattle.std.proofs.Common.{List, refl, map}
 use Rattle.lra_program.specs.{Accesses.arguments_accesses, Accesses.expr_accesses, ProgramViews.argument_view, ProgramViews.expr_view, declared.program.Argument.Argument}
 use Rattle.lra_bounds_checks.specs.Listed.{access_view}

@@ -1,4 +1,4 @@
--- Goals of `push_both`: the accesses of the right side come behind those of the left one.
+-- Goals of `push_both`: the accesses of the right side come after those of the left one.
 use Rattle.std.proofs.Common.{refl, map}
 use Rattle.lra_program.specs.{Accesses.expr_accesses, ProgramViews.expr_view}
 use Rattle.lra_bounds_checks.specs.Listed.{access_view}

@@ -4,7 +4,7 @@ use Rattle.std.specs.Int.{w64, w128}
 use Rattle.lra_box.proofs.EndLemmas.{ends_here, ends_none, ends_on}
 use Rattle.lra_box.proofs.ends.form_end.Goals as goal
 
--- as in `sum_end`, with one clause: what is told from here on is told from the start
+-- as in `sum_end`, with one clause: what is reported from here on is reported from the start
 pub loop-factor-preserved : goal.loop-factor-preserved
 loop-factor-preserved c =
     let f : c.loop-factor.factors.now ≡ c.in-Some-Some.factor.now ∷ c.in-Some-Some.factors_left.now = search rules in

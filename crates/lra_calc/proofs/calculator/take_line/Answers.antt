@@ -1,4 +1,4 @@
--- Goals of `take_line`: what stands behind the line of a number, which may be skipped.
+-- Goals of `take_line`: what comes after the line of a number, which may be skipped.
 use Rattle.std.proofs.Common.{◌∙◌, sym}
 use Rattle.lra_calc.proofs.SessionLemmas.{refused_steps}
 use Rattle.lra_calc.proofs.calculator.take_line.Goals as goal

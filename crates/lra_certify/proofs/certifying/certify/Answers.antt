@@ -1,4 +1,4 @@
--- Goals of `certify`: the lines behind the source of a certificate.
+-- Goals of `certify`: the lines after the source of a certificate.
 use Rattle.std.proofs.Common.{Err, map, ap, sym, string_bytes}
 use Rattle.lra_program.specs.{ProgramViews.program_view, Sites.sites_of}
 use Rattle.lra_operations.specs.TreeViews.{node_view, site_view}

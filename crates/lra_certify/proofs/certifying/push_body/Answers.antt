@@ -1,4 +1,4 @@
--- Goals of `push_body`: all lines behind the source.
+-- Goals of `push_body`: all lines after the source.
 use Rattle.std.proofs.Common.{string_bytes}
 use Rattle.lra_certify.specs.WrittenPaths.{IfStopped, BodyStops}
 use Rattle.lra_certify.proofs.{CertifiedSteps.body_added, CertifiedSteps.sources_stop, CertifiedSteps.listing_stops, PathSteps.exit_with}

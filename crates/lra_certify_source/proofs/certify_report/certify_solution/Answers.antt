@@ -1,4 +1,4 @@
--- Goals of `certify_solution`: the lines behind the source, by what the iteration found of its program.
+-- Goals of `certify_solution`: the lines after the source, by what the iteration found of its program.
 use Rattle.std.proofs.{Common.◌≡◌, Common.◌∙◌, Common.List, Common.length, Common.map, Common.ap, Common.subst, lemmas.List.length-map}
 use Rattle.lra_linear_spec.specs.Polyhedra.{Polyhedron, IsPolyhedron}
 use Rattle.std.specs.List.{AllByRecursion}

@@ -1,4 +1,4 @@
--- Whether one of the options from here on is given tells whether one is.
+-- Whether one of the options from here on is given says whether one is.
 use Rattle.std.proofs.Common.{◌≡◌, drop}
 use Rattle.std.specs.List.{list_any}
 use Rattle.clap.specs.Words.{found_of, rows_of}

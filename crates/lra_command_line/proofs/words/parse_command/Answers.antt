@@ -1,5 +1,5 @@
--- Goals of `parse_command`: `Usage` comes exactly where the command line doesn't take the words, `Memory` only for want
--- of memory.
+-- Goals of `parse_command`: `Usage` comes exactly where the command line doesn't take the words, `Memory` only when
+-- memory runs out.
 use Rattle.lra_command_line.proofs.ParsedWords.{unasked_asks_none}
 use Rattle.lra_command_line.proofs.words.parse_command.Goals as goal
 

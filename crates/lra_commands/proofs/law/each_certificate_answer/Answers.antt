@@ -1,4 +1,4 @@
--- Goals of `each_certificate_answer`: each input that is to be a certificate deserves one text and one status.
+-- Goals of `each_certificate_answer`: each input that is to be a certificate must get one text and one status.
 use Rattle.lra_commands.proofs.CertificateWays.{each_answer}
 use Rattle.lra_commands.proofs.law.each_certificate_answer.Goals as goal
 

@@ -1,4 +1,4 @@
--- Goals of `run`: each clause follows from the record that tells the whole.
+-- Goals of `run`: each clause follows from the record that states the whole.
 use Rattle.lra_commands.proofs.Ending.{written, part, nothing, all_hold, all_written, all_fit, all_accesses, all_same, sampled, verified, certified, backs, threads, ends, usage, reads, read_fault}
 use Rattle.lra_commands.proofs.Ending.{write_fault, complete, room}
 use Rattle.lra_commands.proofs.top_call.run.Goals as goal

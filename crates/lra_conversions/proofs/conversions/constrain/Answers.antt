@@ -1,4 +1,4 @@
--- Goals of `constrain`: the constraints of the generators, and the generators that were not taken in.
+-- Goals of `constrain`: the constraints of the generators, and the generators that were not added.
 use Rattle.std.proofs.Common.{◌≡◌, ◌∙◌, ap, refl, sym, subst, length, List, ℕ, ◌∷◌, []}
 use Rattle.std.specs.List.{Contains}
 use Rattle.lra_linear_spec.specs.{OperationStrain.unit_row, Vectors.negated, declared.GenKind.GenKind, declared.GenKind.TheVariants.Point}

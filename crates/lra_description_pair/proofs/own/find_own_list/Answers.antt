@@ -1,4 +1,4 @@
--- Goals of `find_own_list`: the canonical description of what the rows taken into the cone generate.
+-- Goals of `find_own_list`: the canonical description of what the rows added to the cone generate.
 use Rattle.std.proofs.lemmas.Result.{err_from_is_err_and}
 use Rattle.lra_description_pair.proofs.own.find_own_list.Goals as goal
 

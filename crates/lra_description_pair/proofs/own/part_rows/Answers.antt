@@ -1,4 +1,4 @@
--- Goals of `part_rows`: the parts of the rows taken in.
+-- Goals of `part_rows`: the parts of the rows added.
 use Rattle.std.proofs.Common.{◌≡◌, ◌<◌, ◌∙◌, arith, ap, sym, length, take}
 use Rattle.lra_linear_spec.specs.{Descriptions.rows_of, Kinds.is_equality}
 use Rattle.lra_description_pair.proofs.OwnRows.{rows_listed, parts_next, parts_all}

@@ -1,4 +1,4 @@
--- Goals of `read_row`: the row taken in at the place, and where it is tight.
+-- Goals of `read_row`: the row added at the place, and where it is tight.
 use Rattle.std.proofs.Common.{rules, ◌≡◌, ◌<◌, ◌∙◌, arith, ap, sym, length}
 use Rattle.lra_linear_spec.specs.{Descriptions.rows_of, Kinds.is_equality}
 use Rattle.lra_description_pair.proofs.OwnRows.{taken_length, told_row, row_told, rows_listed}

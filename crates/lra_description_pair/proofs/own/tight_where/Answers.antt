@@ -1,4 +1,4 @@
--- Goals of `tight_where`: at which rays, and lines behind them, the row at the place is tight.
+-- Goals of `tight_where`: at which rays, and lines after them, the row at the place is tight.
 use Rattle.std.proofs.Common.{arith}
 use Rattle.lra_description_pair.proofs.OwnRows.{filled_end}
 use Rattle.lra_description_pair.proofs.own.tight_where.Goals as goal

@@ -1,4 +1,4 @@
--- Goals of `first_rows`: the first constraints of the list, at most as many as are kept behind a loss.
+-- Goals of `first_rows`: the first constraints of the list, at most as many as are kept after a loss.
 use Rattle.std.proofs.Common.{◌≡◌, take, ap, ◌∙◌, arith}
 use Rattle.lra_systems.specs.LinearSystems.{constraints}
 use Rattle.lra_description_pair.specs.TakenPoints.{most_kept}

@@ -1,4 +1,4 @@
--- Goals of `of_generators`: the polyhedron of the generators that were taken into the cone, some of them points, of
+-- Goals of `of_generators`: the polyhedron of the generators that were added to the cone, some of them points, of
 -- which this is the own list.
 use Rattle.std.proofs.Common.{◌∙◌, ap, length, refl, sym}
 use Rattle.lra_bits.specs.Matrix.{Matrix}

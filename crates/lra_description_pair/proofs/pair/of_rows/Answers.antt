@@ -1,4 +1,4 @@
--- Goals of `of_rows`: the polyhedron of the rows that were taken into the cone, of which this is the own list.
+-- Goals of `of_rows`: the polyhedron of the rows that were added to the cone, of which this is the own list.
 use Rattle.std.proofs.Common.{rules, ◌≡◌, ◌≢◌, ◌∙◌, ap, length, refl, sym, []}
 use Rattle.lra_bits.specs.Matrix.{Matrix}
 use Rattle.lra_description_pair.specs.OwnLists.{columns_of}

@@ -1,4 +1,4 @@
--- Goals of `of_taken_generators`: the polyhedron of the generators that were taken into the cone, some of them
+-- Goals of `of_taken_generators`: the polyhedron of the generators that were added to the cone, some of them
 -- points; where a number passes in the canonical ones, or there are too many, that of constraints that hold at each
 -- of them.
 use Rattle.std.proofs.Common.{inl}

@@ -1,4 +1,4 @@
--- Goals of `push_own_loss`: tells that there is no own list, behind what was lost before.
+-- Goals of `push_own_loss`: says that there is no own list, after what was lost before.
 use Rattle.lra_description_pair.proofs.pair.push_own_loss.Goals as goal
 
 pub returns-clause-loss : goal.returns-clause-loss

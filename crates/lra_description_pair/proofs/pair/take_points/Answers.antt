@@ -1,4 +1,4 @@
--- Goals of `take_points`: the generators taken into a cone, and constraints that hold at each of them.
+-- Goals of `take_points`: the generators added to a cone, and constraints that hold at each of them.
 use Rattle.std.proofs.Common.{◌∙◌, ap}
 use Rattle.lra_systems.specs.LinearSystems.{constraints}
 use Rattle.lra_cone.specs.Cones.{whole_space}

@@ -1,5 +1,5 @@
--- Goals of `with_generators`: the polyhedron of the generators that were taken into a cone, and of further ones
--- that are taken in after them, some of all of them points.
+-- Goals of `with_generators`: the polyhedron of the generators that were added to a cone, and of further ones
+-- that are added after them, some of all of them points.
 use Rattle.std.proofs.{Common.◌≡◌, Common.◌≢◌, Common.◌∙◌, Common.arith, Common.length, Common.subst, Common.sym, Common.IfSome, Common.List, Common.ℕ, Common.[], lemmas.Grind.common_steps}
 use Rattle.std.specs.Vec.{vec_len}
 use Rattle.lra_linear_spec.specs.{Descriptions.LinearRow, Descriptions.Gen, Points.IsEmptySet, Polyhedra.IsPolyhedronOf}

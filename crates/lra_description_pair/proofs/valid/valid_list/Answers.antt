@@ -1,5 +1,5 @@
 -- Goals of `valid_list`: the constraints of the cone; after a loss those of them that are valid on all rows, which
--- were to be taken in.
+-- were to be added.
 use Rattle.std.proofs.Common.{ap, sym, ◌∙◌, suc}
 use Rattle.lra_cone.proofs.Stepped.{lines_have_width, rays_have_width}
 use Rattle.lra_systems.specs.LinearSystems.{constraints}

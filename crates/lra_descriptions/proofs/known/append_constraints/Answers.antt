@@ -1,4 +1,4 @@
--- Goals of `append_constraints`: marked rows behind what is there.
+-- Goals of `append_constraints`: marked rows after what is there.
 use Rattle.std.proofs.Common.{◌∙◌, ap}
 use Rattle.lra_bits.specs.Matrix.{Matrix}
 use Rattle.lra_canonical.specs.declared.order.Marked.{Marked}

@@ -1,4 +1,4 @@
--- Goals of `push_true_rows`: so many rows that are all true, behind what is there.
+-- Goals of `push_true_rows`: so many rows that are all true, after what is there.
 use Rattle.std.proofs.Common.{◌∙◌, ap, replicate, true, ℕ}
 use Rattle.lra_descriptions.proofs.KnownLists.{true_more}
 use Rattle.lra_descriptions.proofs.known.push_true_rows.Goals as goal

@@ -1,4 +1,4 @@
--- Goals of `push_flattened`: each row combined with the line, behind what is there.
+-- Goals of `push_flattened`: each row combined with the line, after what is there.
 use Rattle.std.proofs.{Common.arith, Common.◌<◌, Common.length, Common.rules, Common.FitsSigned, Common.subst, Common.get_or, Common.pos, Common.List, Common.ℤ, Common.[], lemmas.Int.to_z-of_z}
 use Rattle.std.specs.Int.{w128}
 use Rattle.lra_double_description.specs.Steps.{IsFlattened}

@@ -1,4 +1,4 @@
--- Goals of `push_pairs_of`: the adjacent pairs with the first ray at `up`, behind what is there.
+-- Goals of `push_pairs_of`: the adjacent pairs with the first ray at `up`, after what is there.
 use Rattle.std.proofs.{Common.◌≡◌, Common.[], Common.refl, Common.sym, Common.◌∙◌, Common.get_or, Common.length, Common.arith, lemmas.Grind.common_steps}
 use Rattle.std.specs.Vec.{vec_len}
 use Rattle.lra_double_description.proofs.pairs.push_pairs_of.Goals.{then-shares+then-are_adjacent+in_ok-tight+in_ok-push, else-shares, else-shares-via-then-shares+else-are_adjacent}

@@ -1,4 +1,4 @@
--- Goals of `mark_outside`: marks the rays whose product isn't as the kind asks; so many further places behind them are
+-- Goals of `mark_outside`: marks the rays whose product isn't as the kind asks; so many further places after them are
 -- not marked.
 use Rattle.std.proofs.{Common.rules, Common.arith, Common.FitsSigned, Common.get_or, Common.pos, lemmas.Int.to_z-of_z}
 use Rattle.std.specs.Int.{w128}

@@ -1,4 +1,4 @@
--- Goals of `push_lengthened`: each row of the matrix with one more value, behind what is there.
+-- Goals of `push_lengthened`: each row of the matrix with one more value, after what is there.
 use Rattle.std.proofs.Common.{arith}
 use Rattle.lra_double_description.proofs.Filling.{lengthened_step}
 use Rattle.lra_double_description.proofs.saturation.push_lengthened.Goals as goal

@@ -1,4 +1,4 @@
--- Goals of `behind_positivity`: the constraints, behind the positivity row.
+-- Goals of `behind_positivity`: the constraints, after the positivity row.
 use Rattle.std.proofs.Common.{◌∙◌, ap, length, suc, sym}
 use Rattle.lra_linear_spec.proofs.UnitRows.{unit_length}
 use Rattle.lra_duality.proofs.start.behind_positivity.Goals as goal

@@ -1,4 +1,4 @@
--- Goals of `go_on_narrowing`: behind a round of a loop that is narrowed.
+-- Goals of `go_on_narrowing`: after a round of a loop that is narrowed.
 use Rattle.std.proofs.Common.{◌^◌}
 use Rattle.lra_fixpoint.proofs.LoopFrames.{narrowing_narrowed}
 use Rattle.lra_fixpoint.proofs.loops.go_on_narrowing.Goals as goal

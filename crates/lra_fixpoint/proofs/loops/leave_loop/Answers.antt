@@ -1,4 +1,4 @@
--- Goals of `leave_loop`: the value at the head and what its round found, and behind it what that value leaves where
+-- Goals of `leave_loop`: the value at the head and what its round found, and after it what that value leaves where
 -- the condition is false.
 use Rattle.std.proofs.Common.{ap, ◌∙◌, false}
 use Rattle.lra_program.specs.ProgramViews.{cond_view}

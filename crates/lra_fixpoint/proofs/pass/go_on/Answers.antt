@@ -1,4 +1,4 @@
--- Goals of `go_on`: the next step at a place, behind what the tree under way there gave.
+-- Goals of `go_on`: the next step at a place, after what the tree under way there gave.
 use Rattle.std.proofs.{Common.◌≡◌, Common.◌+◌, Common.◌<◌, Common.◌^◌, Common.sym, Common.subst, Common.arith, lemmas.Result.IfOk-weaker}
 use Rattle.std.specs.Prelude.{IfOk}
 use Rattle.lra_operations.specs.TreeViews.{exit_view}

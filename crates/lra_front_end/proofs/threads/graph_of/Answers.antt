@@ -1,5 +1,5 @@
 -- Goals of `graph_of`: the tree of operations of one thread's program, or the refusal for the limit that it passes
--- behind the threads before it.
+-- after the threads before it.
 use Rattle.std.proofs.Common.{◌≡◌, List, length, Some, sym, ap, ◌∙◌}
 use Rattle.lra_syntax.specs.Labels.{Labelled}
 use Rattle.lra_program.specs.{ProgramViews.program_view, Sites.events_of}

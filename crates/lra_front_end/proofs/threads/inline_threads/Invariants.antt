@@ -1,4 +1,4 @@
--- The threads so far have their trees, and passed no limit; those that are left count behind their points.
+-- The threads so far have their trees, and passed no limit; those that are left count after their points.
 use Rattle.std.proofs.Common.{◌≡◌, length, drop, take}
 use Rattle.std.specs.List.{AllZip}
 use Rattle.lra_syntax.specs.{Labels.labels_of, Views.tree_view}

@@ -1,4 +1,4 @@
--- Goals of `read_threads`: all that is read of a source of several threads, or its one refusal; memory may be wanting.
+-- Goals of `read_threads`: all that is read of a source of several threads, or its one refusal; memory may run out.
 use Rattle.std.proofs.Common.{◌∙◌, ap, sym, subst}
 use Rattle.std.specs.List.{AllByRecursion, AllZip}
 use Rattle.lra_syntax.specs.Views.{tree_view}

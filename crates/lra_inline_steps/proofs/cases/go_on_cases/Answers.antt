@@ -1,4 +1,4 @@
--- Goals of `go_on_cases`: behind one of the statements of a `switch`.
+-- Goals of `go_on_cases`: after one of the statements of a `switch`.
 use Rattle.lra_inline_steps.proofs.OpenFrames.{cases_next}
 use Rattle.lra_inline_steps.proofs.cases.go_on_cases.Goals as goal
 

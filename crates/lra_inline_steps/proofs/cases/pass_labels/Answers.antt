@@ -1,4 +1,4 @@
--- Goals of `pass_labels`: the labels that come next, and the statement behind them.
+-- Goals of `pass_labels`: the labels that come next, and the statement after them.
 use Rattle.std.proofs.{Common.rules, Common.◌≡◌, Common.◌∷◌, Common.length, Common.ap, Common.arith, lemmas.List.nil_from_length}
 use Rattle.lra_inline_steps.proofs.CaseRows.{none_passed, no_case_left, one_label_more, statement_left}
 use Rattle.lra_inline_steps.proofs.cases.pass_labels.Goals as goal

@@ -1,4 +1,4 @@
--- The labels so far are written behind the arms, and what is left stands behind them.
+-- The labels so far are written after the arms, and what is left comes after them.
 use Rattle.std.proofs.Common.{map, length}
 use Rattle.lra_program.specs.ProgramViews.{case_view, cases_of}
 use Rattle.lra_inline_steps.specs.Stack.{PassesLabels}

@@ -1,4 +1,4 @@
--- Goals of `comment_length`: how many bytes a comment at the front has.
+-- Goals of `comment_length`: how many bytes a comment at the start has.
 use Rattle.std.proofs.Common.{arith}
 use Rattle.lra_lex.proofs.GapLemmas.{line_gap, block_gap, no_close}
 use Rattle.lra_lex.proofs.gaps.comment_length.Goals as goal

@@ -1,4 +1,4 @@
--- Goals of `gap_length`: how many bytes a gap at the front has.
+-- Goals of `gap_length`: how many bytes a gap at the start has.
 use Rattle.std.proofs.Common.{◌∙◌, ℕ, List, sym}
 use Rattle.std.specs.Prelude.{IfSome, Option, Some, None, Bool}
 use Rattle.lra_lex.specs.Prefixes.{BeginsGap}

@@ -1,4 +1,4 @@
--- Goals of `is_include`: whether `#include` stands at the front, with spaces or tabs behind the `#` or without.
+-- Goals of `is_include`: whether `#include` stands at the start, with spaces or tabs after the `#` or without.
 use Rattle.std.proofs.Common.{◌≡◌, ℕ, ◌∙◌, List, sym, take, drop}
 use Rattle.std.proofs.{lemmas.Bool.Decides.Decides-eqb, lemmas.List.Sums.prefix_len-le-length, lemmas.Slice.Eq.slice_eq-Decides}
 use Rattle.std.specs.List.{prefix_len}

@@ -1,4 +1,4 @@
--- Goals of `find`: what stands at the front.
+-- Goals of `find`: what stands at the start.
 use Rattle.lra_lex.proofs.ReadingLemmas.{found_token, refusal_at}
 use Rattle.lra_lex.proofs.lexer.find.Goals as goal
 

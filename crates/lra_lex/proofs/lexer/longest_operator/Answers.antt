@@ -1,4 +1,4 @@
--- Goals of `longest_operator`: the longest operator at the front.
+-- Goals of `longest_operator`: the longest operator at the start.
 use Rattle.lra_lex.proofs.TokenLemmas.{operator_other}
 use Rattle.lra_lex.proofs.lexer.longest_operator.Goals as goal
 

@@ -1,4 +1,4 @@
--- Goals of `read_number`: the length and kind of the literal at the front, if the word there is one.
+-- Goals of `read_number`: the length and kind of the literal at the start, if the word there is one.
 use Rattle.std.proofs.lemmas.List.Sums.{prefix_len-le-length}
 use Rattle.lra_syntax.specs.Lexeme.{is_word_byte}
 use Rattle.lra_lex.proofs.TokenLemmas.{number_token_is, bad_literal}

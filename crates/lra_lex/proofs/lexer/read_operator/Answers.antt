@@ -1,4 +1,4 @@
--- Goals of `read_operator`: the length and kind of the operator at the front.
+-- Goals of `read_operator`: the length and kind of the operator at the start.
 use Rattle.std.proofs.Common.{sym}
 use Rattle.lra_lex.proofs.{LexemeLemmas.operator_none, TokenLemmas.operator_token_is}
 use Rattle.lra_lex.proofs.lexer.read_operator.Goals as goal

@@ -1,4 +1,4 @@
--- Goals of `read_word`: the length and kind of the word at the front.
+-- Goals of `read_word`: the length and kind of the word at the start.
 use Rattle.std.proofs.{Common.ap, Common.◌∙◌, Common.ℕ, Common.take, lemmas.List.Sums.prefix_len-le-length}
 use Rattle.lra_syntax.specs.Lexeme.{is_word_byte}
 use Rattle.lra_lex.proofs.TokenLemmas.{word_at, word_token_is}

@@ -1,4 +1,4 @@
--- Goals of `tokens`: the tokens of the source, each the longest spelling at its place, and the end behind its last
+-- Goals of `tokens`: the tokens of the source, each the longest spelling at its place, and the end after its last
 -- byte; or its first fault.
 use Rattle.std.proofs.Common.{arith}
 use Rattle.lra_lex.proofs.ReadingLemmas.{read_on, read_within}

@@ -70,7 +70,7 @@ take_trees-trees-preserved t c =
     trees_taken c.args.trees.now c.trees.tree-index c.tree-item.result c.args.rows.now c.trees.rows c.take_tree.new.rows
     c.trees-test.true c.tree-item.is c.trees.invariant c.in_ok-take_tree.ensures
 
--- behind the loop: all trees, and the last
+-- after the loop: all trees, and the last
 pub take_trees-returns : goal.take_trees-returns
 take_trees-returns t c =
     row_ends c.take_tree-2.result c.args.trees.now (node_view c.args.last.now) c.trees.tree-index c.args.rows.now c.trees.rows c.take_tree-2.new.rows

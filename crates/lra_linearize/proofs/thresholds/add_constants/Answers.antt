@@ -1,4 +1,4 @@
--- Goals of `add_constants`: the rows of a variable at the constants come behind the others.
+-- Goals of `add_constants`: the rows of a variable at the constants come after the others.
 use Rattle.std.proofs.Common.{rules, ◌≡◌, ◌++◌, ◌∷◌, [], ◌∙◌, append_assoc}
 use Rattle.lra_linearize.proofs.ThresholdSteps.{constant_added}
 use Rattle.lra_linearize.proofs.thresholds.add_constants.Goals as goal

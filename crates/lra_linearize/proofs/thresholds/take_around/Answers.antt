@@ -1,4 +1,4 @@
--- Goals of `take_around`: the rows around a difference are taken in, two for each k.
+-- Goals of `take_around`: the rows around a difference are added, two for each k.
 use Rattle.std.proofs.Common.{◌∙◌, sym, pos, negsuc, [], ◌∷◌}
 use Rattle.lra_analysis_spec.specs.{GuardThresholds.row_of, Thresholds.row_against}
 use Rattle.lra_linearize.proofs.{ThresholdSteps.taken_both, TreeViews.last_taken}

@@ -1,4 +1,4 @@
--- Goals of `take_both`: two rows are taken in.
+-- Goals of `take_both`: two rows are added.
 use Rattle.std.proofs.Common.{◌∙◌, ap, suc, sym, [], ◌∷◌}
 use Rattle.std.specs.Prelude.{neg_ℤ}
 use Rattle.lra_analysis_spec.specs.{GuardThresholds.row_of, Thresholds.row_against}

@@ -1,4 +1,4 @@
--- Goals of `assign_list`: the generators, each with the form's value as coordinate x; or what is told of the
+-- Goals of `assign_list`: the generators, each with the form's value as coordinate x; or what is reported about the
 -- first with which a number passes.
 use Rattle.std.proofs.Common.{arith, refl, subst, suc, sym}
 use Rattle.lra_linear_spec.specs.{CheckedArithmetic.checked_product, SetOperations.assigned}

@@ -1,5 +1,5 @@
 -- Goals of `form_next`: takes in the constraint at the place with the form put in for the column; or, where a number
--- passes in it, what is told of that, unless something is told already.
+-- passes in it, what is reported about that, unless something is reported already.
 use Rattle.std.proofs.Common.{◌≡◌, ◌∙◌, ◌<◌, ap, get_or, length, refl, subst, sym, ℤ, List, Some, rules}
 use Rattle.std.specs.Prelude.{false, is_none}
 use Rattle.lra_linear_spec.specs.CheckedArithmetic.{checked_substitution}

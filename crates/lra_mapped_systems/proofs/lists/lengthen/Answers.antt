@@ -1,4 +1,4 @@
--- Goals of `lengthen`: the row with k zeros behind it.
+-- Goals of `lengthen`: the row with k zeros after it.
 use Rattle.std.proofs.{Common.◌≡◌, Common.◌++◌, Common.◌∷◌, Common.[], Common.arith, Common.pos, Common.subst, Common.sym, lemmas.List.Elements.All-push}
 use Rattle.std.specs.List.{All}
 use Rattle.lra_linear_spec.specs.Range.{InRange}

@@ -1,4 +1,4 @@
--- Goals of `with_new_lines`: the generators, then a line along each of the dimensions behind the first n.
+-- Goals of `with_new_lines`: the generators, then a line along each of the dimensions after the first n.
 use Rattle.std.proofs.Common.{◌∙◌, ◌+◌, ap, arith, length, refl, suc, sym, ℤ, List}
 use Rattle.lra_linear_spec.specs.{Vectors.entry, declared.GenKind.TheVariants.Line}
 use Rattle.lra_linear_spec.proofs.UnitRows.{unit_length, unit_other}

@@ -1,4 +1,4 @@
--- Goals of `matrix_tells`: the least and the greatest value of the form, as the matrix tells them.
+-- Goals of `matrix_tells`: the least and the greatest value of the form, as the matrix states them.
 use Rattle.std.proofs.Common.{rules, ◌≡◌, ◌∙◌, sym}
 use Rattle.lra_octagon.specs.FormValues.{one_below, two_below}
 use Rattle.lra_octagon.proofs.form_bounds.matrix_tells.Goals as goal

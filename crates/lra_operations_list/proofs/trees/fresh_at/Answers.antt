@@ -1,4 +1,4 @@
--- Goals of `fresh_at`: the type of the variable that is new behind what a tree does itself.
+-- Goals of `fresh_at`: the type of the variable that is new after what a tree does itself.
 use Rattle.std.proofs.Common.{◌∙◌}
 use Rattle.lra_operations_list.proofs.TreeSteps.{act_new, catch_new, check_new, choose_new, empty_new, iterate_new, leave_new, point_new, select_new, seq_new}
 use Rattle.lra_operations_list.proofs.trees.fresh_at.Goals as goal

@@ -1,4 +1,4 @@
--- Goals of `list_arms`: what the first of the arms does comes behind the others.
+-- Goals of `list_arms`: what the first of the arms does comes after the others.
 use Rattle.std.proofs.{Common.rules, Common.◌≡◌, Common.◌∷◌, Common.map, lemmas.List.nil_from_length}
 use Rattle.lra_operations.specs.Sizes.{arm_sizes, arms_tree_sizes}
 use Rattle.lra_operations_list.specs.{Due.all_due, Due.all_left, TreeOperations.op_at_point_view}

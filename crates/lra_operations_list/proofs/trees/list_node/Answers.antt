@@ -1,4 +1,4 @@
--- Goals of `list_node`: what a tree does itself comes behind the others, and the trees in it are due before the others.
+-- Goals of `list_node`: what a tree does itself comes after the others, and the trees in it are due before the others.
 use Rattle.std.proofs.Common.{map}
 use Rattle.lra_operations_list.specs.TreeOperations.{op_at_point_view}
 use Rattle.lra_operations_list.proofs.TreeSteps.{way_by}

@@ -1,4 +1,4 @@
--- Goals of `list_own`: what a tree does itself comes behind the others.
+-- Goals of `list_own`: what a tree does itself comes after the others.
 use Rattle.std.proofs.Common.{map}
 use Rattle.lra_operations_list.specs.TreeOperations.{op_at_point_view}
 use Rattle.lra_operations_list.proofs.TreeSteps.{asks_act, asks_check, asks_choose, asks_iterate, asks_select, listed_as, lists_none, empty_asks, point_asks, seq_asks, catch_asks, leave_asks}

@@ -1,4 +1,4 @@
--- Goals of `judge_arguments`: the answers on one argument behind those of the others.
+-- Goals of `judge_arguments`: the answers on one argument after those of the others.
 use Rattle.std.proofs.Common.{◌≤◌, length, arith}
 use Rattle.lra_overflow_checks.proofs.ExpressionSteps.{no_arguments, arguments_more, arguments_whole}
 use Rattle.lra_overflow_checks.proofs.expressions.judge_arguments.Goals as goal

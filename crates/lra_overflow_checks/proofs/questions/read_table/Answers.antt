@@ -1,4 +1,4 @@
--- Goals of `read_table`: what the table's verdicts tell, in the order of the points.
+-- Goals of `read_table`: what the table's verdicts report, in the order of the points.
 use Rattle.std.proofs.{Common.◌≡◌, Common.◌∙◌, Common.◌+◌, Common.◌++◌, Common.◌∷◌, Common.[], Common.length, Common.arith, lemmas.List.length-append}
 use Rattle.lra_overflow_checks.proofs.TableSteps.{answers_none, answers_some, flag_none, flag_some}
 use Rattle.lra_overflow_checks.proofs.questions.read_table.Goals.{in-Some-place+in_ok-push, in_default}

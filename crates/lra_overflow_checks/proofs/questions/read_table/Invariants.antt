@@ -3,7 +3,7 @@ use Rattle.lra_analysis_spec.specs.Judging.{first_flagged, answer_of}
 use Rattle.lra_overflow_checks.specs.Judged.{findings_from}
 use Rattle.lra_overflow_checks.proofs.questions.read_table.Given as goal
 
--- what the places so far tell
+-- what the places so far report
 abbrev pub invariant-places : goal.invariant-places
 invariant-places g l = record {
   count : l.point ≡ length l.yielded;

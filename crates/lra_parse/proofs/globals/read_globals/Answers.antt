@@ -1,4 +1,4 @@
--- Goals of `read_globals`: globals with their semicolon, behind the name of the first.
+-- Goals of `read_globals`: globals with their semicolon, after the name of the first.
 use Rattle.std.proofs.lemmas.Result.{err_from_is_err_and}
 use Rattle.lra_syntax.specs.declared.tokens.Mark.TheVariants as mark
 use Rattle.lra_syntax.specs.{Trees.globals, Views.globals_view}

@@ -1,4 +1,4 @@
--- Goals of `read_many`: globals with commas between them, behind the name of the first.
+-- Goals of `read_many`: globals with commas between them, after the name of the first.
 use Rattle.std.proofs.{Common.List, Common.[], Common.refl, Common.sym, Common.arith, Common.map, lemmas.Result.err_from_is_err_and}
 use Rattle.lra_syntax.specs.declared.tokens.Mark.TheVariants as mark
 use Rattle.lra_syntax.specs.{Trees.GlobalTree, Views.global_view}

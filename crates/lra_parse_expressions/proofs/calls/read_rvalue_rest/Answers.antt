@@ -1,4 +1,4 @@
--- Goals of `read_rvalue_rest`: a call, or an expression, behind the name that it begins with.
+-- Goals of `read_rvalue_rest`: a call, or an expression, after the name that it begins with.
 use Rattle.lra_syntax.specs.{Trees.unary, Trees.term, Trees.expression, Trees.result, Views.unary_view, Views.term_view}
 use Rattle.lra_parser_spec.specs.{Expressions.unary_at, Expressions.factors, Expressions.summands, Reading.map_read, Statements.call_rest}
 use Rattle.lra_parse_expressions.proofs.{Turning.exit_gives, Turning.err_same, Turning.seq_exit, Turning.seq_then, Turning.map_exit, Unfolded.call_is, Unfolded.no_call_is, Unfolded.no_call_exit}

@@ -1,4 +1,4 @@
--- Goals of `read_labels`: labels one behind the other, or none.
+-- Goals of `read_labels`: labels one after the other, or none.
 use Rattle.std.proofs.Common.{refl, arith}
 use Rattle.lra_parser_spec.specs.{Statements.label_parser, Statements.labels_at, Tests.begins_label}
 use Rattle.lra_parse_expressions.proofs.Turning.{exit_gives, list_start, list_turn, list_exit, list_end}

@@ -1,4 +1,4 @@
--- Goals of `push_labelled`: labels and the statement behind them, behind the other items.
+-- Goals of `push_labelled`: labels and the statement after them, after the other items.
 use Rattle.std.proofs.Common.{map}
 use Rattle.lra_syntax.specs.Views.{case_view}
 use Rattle.lra_parse_statements.proofs.Braces.{label_end}

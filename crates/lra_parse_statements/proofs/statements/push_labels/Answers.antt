@@ -1,4 +1,4 @@
--- Goals of `push_labels`: labels, behind the other items.
+-- Goals of `push_labels`: labels, after the other items.
 use Rattle.std.proofs.{Common.sym, Common.map, lemmas.List.append-nil}
 use Rattle.lra_syntax.specs.Views.{case_view}
 use Rattle.lra_parse_statements.proofs.Braces.{label_turn}

@@ -1,4 +1,4 @@
--- Goals of `pass_point`: the value is found behind what was found before it.
+-- Goals of `pass_point`: the value is found after what was found before it.
 use Rattle.std.proofs.Common.{[], ◌∷◌, ap, refl}
 use Rattle.lra_domain.specs.Interference.{no_interference}
 use Rattle.lra_analysis_spec.specs.Pass.{value}

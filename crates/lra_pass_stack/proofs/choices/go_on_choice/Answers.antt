@@ -1,4 +1,4 @@
--- Goals of `go_on_choice`: behind the first branch, the second is next.
+-- Goals of `go_on_choice`: after the first branch, the second is next.
 use Rattle.lra_pass_stack.proofs.OpenFrames.{branch_leads}
 use Rattle.lra_pass_stack.proofs.choices.go_on_choice.Goals as goal
 

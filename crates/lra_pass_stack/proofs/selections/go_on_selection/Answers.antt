@@ -1,4 +1,4 @@
--- Goals of `go_on_selection`: what the tree of an arm gave comes behind what was found before it, and runs on.
+-- Goals of `go_on_selection`: what the tree of an arm gave comes after what was found before it, and runs on.
 use Rattle.std.proofs.Common.{◌≤◌, map, sym, subst}
 use Rattle.lra_operations.specs.TreeViews.{arm_view, arms_of}
 use Rattle.lra_analysis_spec.specs.Plan.{Plan}

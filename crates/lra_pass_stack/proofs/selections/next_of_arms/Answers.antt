@@ -1,4 +1,4 @@
--- Goals of `next_of_arms`: the labels that come next are entered, then the tree behind them is next.
+-- Goals of `next_of_arms`: the labels that come next are entered, then the tree after them is next.
 use Rattle.std.proofs.{Common.rules, Common.◌≡◌, Common.◌∷◌, Common.arith, lemmas.List.nil_from_length, lemmas.Result.IfOk-weaker}
 use Rattle.lra_pass_results.specs.Outcome.{outcome_view}
 use Rattle.lra_pass_stack.specs.{Stack.ComesOutAt, Stack.IsMade, StepsLeft.most_rounds}

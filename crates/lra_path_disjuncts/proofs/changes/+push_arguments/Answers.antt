@@ -1,4 +1,4 @@
--- Goals of `push_arguments`: the first argument, and the others behind it.
+-- Goals of `push_arguments`: the first argument, and the others after it.
 use Rattle.std.proofs.Common.{rules, ◌≡◌, ◌∷◌}
 use Rattle.lra_path_disjuncts.proofs.{GuardSteps.both_has, TableSteps.within}
 use Rattle.lra_path_disjuncts.proofs.changes.+push_arguments.Goals as goal

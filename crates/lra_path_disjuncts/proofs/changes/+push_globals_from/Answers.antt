@@ -1,4 +1,4 @@
--- Goals of `push_globals_from`: the first global, and the others behind it.
+-- Goals of `push_globals_from`: the first global, and the others after it.
 use Rattle.std.proofs.Common.{rules, ◌≡◌, ◌∷◌}
 use Rattle.lra_path_disjuncts.proofs.{GuardSteps.both_has, TableSteps.within}
 use Rattle.lra_path_disjuncts.proofs.changes.+push_globals_from.Goals as goal

@@ -1,4 +1,4 @@
--- Goals of `push_if_starting`: one that begins at the start, behind the move.
+-- Goals of `push_if_starting`: one that begins at the start, after the move.
 use Rattle.lra_path_segments.specs.{TreeSegmentViews.move_view, TreeSegmentViews.seen, TreeSegmentViews.tree_segment_view, TreeSegments.prefixed, TreeSegments.starting}
 use Rattle.lra_path_segments.proofs.StretchLists.{if_not, if_so}
 use Rattle.lra_path_segments.proofs.segments.push_if_starting.Goals as goal

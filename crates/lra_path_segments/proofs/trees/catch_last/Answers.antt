@@ -1,4 +1,4 @@
--- The goal of `catch_last`: jumps come out behind the last.
+-- The goal of `catch_last`: jumps come out after the last.
 use Rattle.lra_operations.specs.TreeViews.{exit_view}
 use Rattle.lra_path_segments.specs.{Tasks.stack, TreeSegmentViews.seen, TreeSegments.caught}
 use Rattle.lra_path_segments.proofs.TaskSteps.{one_used}

@@ -1,4 +1,4 @@
--- The goal of `label_last`: the last stays, and its beginnings are behind the label.
+-- The goal of `label_last`: the last stays, and its beginnings are after the label.
 use Rattle.lra_path_segments.specs.{Tasks.stack, TreeSegmentViews.move_view, TreeSegmentViews.seen}
 use Rattle.lra_path_segments.proofs.TaskSteps.{one_labelled}
 use Rattle.lra_path_segments.proofs.trees.label_last.Goals as goal

@@ -1,4 +1,4 @@
--- Goals of `push_all_departing`: one stretch more.
+-- Goals of `push_all_departing`: one segment more.
 use Rattle.lra_path_disjuncts.proofs.GuardSteps.{still_in}
 use Rattle.lra_paths.proofs.DepartureSteps.{adds_next}
 use Rattle.lra_paths.proofs.paths.push_all_departing.Goals as goal

@@ -4,7 +4,7 @@ use Rattle.lra_path_segments.specs.TreeSegmentViews.{seen}
 use Rattle.lra_path_disjuncts.specs.Tables.{moves_at}
 use Rattle.lra_paths.proofs.paths.push_all_departing.Given as goal
 
--- those of the stretches so far have come
+-- those of the segments so far have come
 abbrev pub invariant-ways : goal.invariant-ways
 invariant-ways l = Adds l.fn.source l.source (all_departing (moves_at l.fn.source.entries.items l.departure.before) l.departure.live l.departure.point
     (seen (take l.stretch-index l.ways)))

@@ -1,4 +1,4 @@
--- Goals of `of_cone`: the polyhedron of the constraints that were taken into the cone behind the positivity row,
+-- Goals of `of_cone`: the polyhedron of the constraints that were added to the cone after the positivity row,
 -- and of further ones.
 use Rattle.lra_systems.specs.LinearSystems.{constraints}
 use Rattle.lra_poly.proofs.MetRows.{tried_of}

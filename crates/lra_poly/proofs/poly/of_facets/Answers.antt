@@ -1,5 +1,5 @@
--- Goals of `of_facets`: the polyhedron of the generators that were taken into the cone, and of further ones, where none of
--- these is left out.
+-- Goals of `of_facets`: the polyhedron of the generators that were added to the cone, and of further ones, where none
+-- of these is left out.
 use Rattle.lra_poly.proofs.poly.of_facets.Goals as goal
 
 pub returns-in-None-clause-none : goal.returns-in-None-clause-none

@@ -1,4 +1,4 @@
--- Goals of `simplify`: the constraints that tell the same points within the context.
+-- Goals of `simplify`: the constraints that describe the same points within the context.
 use Rattle.std.proofs.Common.{◌∙◌, ◌<◌, arith, ap, length, sym}
 use Rattle.lra_poly_queries.proofs.SimplifiedRows.{all_told, at_first, place_kept, place_left}
 use Rattle.lra_poly_queries.proofs.{TightenedRows.one_counted, context.simplify.Goals.in-Some+in_ok-push_copy, context.simplify.Goals.in_default}

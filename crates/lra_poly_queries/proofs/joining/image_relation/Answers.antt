@@ -1,4 +1,4 @@
--- Goals of `image_relation`: the points with any value that stands to the old point as told.
+-- Goals of `image_relation`: the points with any value that stands to the old point as stated.
 use Rattle.std.proofs.Common.{◌∙◌, ap, ℕ}
 use Rattle.lra_linear_spec.specs.{Descriptions.LinearRow, Kinds.is_equality}
 use Rattle.lra_poly_queries.specs.Related.{replaced}

@@ -1,4 +1,4 @@
--- Goals of `add_held`: puts the given constraints that hold in the range on both behind the others.
+-- Goals of `add_held`: puts the given constraints that hold in the range on both after the others.
 use Rattle.std.proofs.Common.{arith, ap, sym, ◌∙◌, ◌≡◌, ◌+◌, ◌++◌, length}
 use Rattle.std.specs.Prelude.{◌&&◌}
 use Rattle.lra_linear_spec.specs.{Kinds.is_equality, declared.ConKind.TheVariants.Ge}

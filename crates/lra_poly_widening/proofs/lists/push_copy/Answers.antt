@@ -1,4 +1,4 @@
--- Goals of `push_copy`: puts a copy of the row behind the others.
+-- Goals of `push_copy`: puts a copy of the row after the others.
 use Rattle.std.proofs.Common.{refl, ap, sym, ◌∙◌, length}
 use Rattle.lra_duality.proofs.JoinedLists.{row_added}
 use Rattle.lra_poly_widening.proofs.lists.push_copy.Goals as goal

@@ -8,7 +8,7 @@ use Rattle.lra_poly_widening.specs.Saturated.{same_values, vanishes}
 use Rattle.lra_poly_widening.proofs.AlikeLemmas.{agree_all, differ_at, unequal}
 use Rattle.lra_poly_widening.proofs.ranking.vanishes_where.Goals as goal
 
--- the value that is found there isn't the one that is told
+-- the value that is found there isn't the one that is reported
 apart_there : (f : List ℤ → Bool) (rows : List (List ℤ)) (i : ℕ) (r : List ℤ) (b found told : Bool) → i < length rows → r ≡ get_or rows i r → found ≡ f r → told ≡ b → found ≢ told →
     b ≢ f (get_or rows i [])
 apart_there f rows i r b found told m is e t other same =

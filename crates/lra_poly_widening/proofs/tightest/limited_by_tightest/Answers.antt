@@ -1,4 +1,5 @@
--- Goals of `limited_by_tightest`: the limited widening, for which the tightest of the given constraints alone are taken in.
+-- Goals of `limited_by_tightest`: the limited widening, for which the tightest of the given constraints alone are
+-- added.
 use Rattle.std.proofs.Common.{ap, ◌∙◌}
 use Rattle.lra_linear_spec.specs.Kinds.{is_equality}
 use Rattle.lra_systems.specs.LinearSystems.{constraints}

@@ -1,5 +1,5 @@
 -- Goals of `become_one`: the parts, not one, become one, which grows by next's; nothing where a join of parts or
--- its growth strains.
+-- its growth exceeds a limit.
 use Rattle.std.proofs.{Common.◌≡◌, Common.◌<◌, Common.[], Common.length, Common.sym, Common.◌∙◌, Common.arith, lemmas.Grind.common_steps}
 use Rattle.lra_powerset.specs.Laws.{fits_formed}
 use Rattle.lra_powerset.proofs.{AnswerLemmas.fits_dims, GrowthLemmas.head_of_some, GrowthLemmas.merges_some, GrowthLemmas.one_first, GrowthLemmas.one_more}

@@ -1,5 +1,5 @@
 -- Goals of `start_and_grow`: the parts become one, which grows by the other; nothing where a join of parts or its
--- growth strains.
+-- growth exceeds a limit.
 use Rattle.std.proofs.Common.{inl, inr, subst, sym, ◌∙◌}
 use Rattle.lra_domain.specs.declared.Exactness.TheVariants.{Exact}
 use Rattle.lra_powerset.specs.Laws.{fits_formed}

@@ -1,4 +1,4 @@
--- Goals of `start_anew`: the parts and next's, reduced and kept within the cap; with them a head starts anew.
+-- Goals of `start_anew`: the parts and next's, reduced and kept within the cap; with them a head starts again.
 use Rattle.std.proofs.Common.{refl}
 use Rattle.lra_powerset.proofs.SetLemmas.{anew_starts, both_fit, settled_few, settled_fit}
 use Rattle.lra_powerset.specs.Forms.{form_of}

@@ -1,4 +1,4 @@
--- Goals of `goes`: whether the part goes, with these before it and these behind it.
+-- Goals of `goes`: whether the part goes, with these before it and these after it.
 use Rattle.std.proofs.Common.{◌≡◌, inl, rules}
 use Rattle.lra_domain.specs.declared.Included.TheVariants.{Yes}
 use Rattle.lra_powerset.specs.{Lists.SomePart, Reduction.BelowStrains, Values.IsUndecided}

@@ -1,4 +1,4 @@
--- Goals of `first_back`: the place of the first of these calls whose callee comes to its caller.
+-- Goals of `first_back`: the place of the first of these calls whose callee reaches its caller.
 use Rattle.std.proofs.{Common.refl, Common.take, Common.drop, Common.suc, lemmas.Option.slice_get-get_or}
 use Rattle.lra_recursion.proofs.Elements.{split_at}
 use Rattle.lra_recursion.proofs.recursion.first_back.Goals as goal

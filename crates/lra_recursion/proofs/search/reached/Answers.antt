@@ -1,4 +1,4 @@
--- Goals of `reached`: for each place whether it is come to.
+-- Goals of `reached`: for each place whether it is reached.
 use Rattle.std.proofs.Common.{map, length, arith, rules, refl, sym, ap, ◌∙◌, Some, ◌≡◌, ◌<◌}
 use Rattle.std.proofs.{lemmas.List.length-map, lemmas.Option.slice_get_read}
 use Rattle.lra_recursion.proofs.{Elements.mapped_at, Visiting.begun_search, Visiting.open_within, Visiting.further_search, Visiting.ended_search}

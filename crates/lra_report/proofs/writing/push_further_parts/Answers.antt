@@ -1,4 +1,4 @@
--- Goals of `push_further_parts`: appends the lines of the parts behind the first.
+-- Goals of `push_further_parts`: appends the lines of the parts after the first.
 use Rattle.std.proofs.Common.{arith}
 use Rattle.lra_row_text.proofs.Lists.{drop_front}
 use Rattle.lra_report.proofs.Lists.{part_step, parts_end}

@@ -1,4 +1,5 @@
--- So far the states of the first values are there, one after another, as the values are, and as their texts tell them.
+-- So far the states of the first values are there, one after another, as the values are, and as their texts report
+-- them.
 use Rattle.std.proofs.Common.{◌≡◌, take}
 use Rattle.std.specs.{List.AllByRecursion, Prelude.flat_map}
 use Rattle.lra_report.specs.Spelled.{IsSpelledPart}

@@ -1,4 +1,4 @@
--- So far the states of the first values are there, as the values are, and as their texts tell them.
+-- So far the states of the first values are there, as the values are, and as their texts report them.
 use Rattle.std.proofs.Common.{◌≡◌, map, take}
 use Rattle.std.specs.List.{AllByRecursion}
 use Rattle.lra_report.specs.Spelled.{IsSpelledPart}

@@ -1,4 +1,5 @@
--- Goals of `resolve_threads`: without faults of names the source has two threads, or it is refused for want of them.
+-- Goals of `resolve_threads`: without faults of names the source has two threads, or it is refused when they are
+-- missing.
 use Rattle.std.proofs.Common.{◌≡◌, ◌<◌, ◌≤◌, List, ap, sym, ◌∙◌, subst}
 use Rattle.lra_syntax.specs.{Functions.functions_of, Views.tree_view, declared.trees.ExternalDeclaration.ExternalDeclaration}
 use Rattle.lra_resolution_spec.specs.Threads.{greatest_threads, thread_places_from, thread_faults}

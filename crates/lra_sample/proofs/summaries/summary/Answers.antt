@@ -1,4 +1,4 @@
--- Goals of `summary`: the lines that tell of a sample source of this seed and size and of its report.
+-- Goals of `summary`: the lines that say of a sample source of this seed and size and of its report.
 use Rattle.std.proofs.{Common.◌≡◌, Common.length, Common.refl, Common.arith, Common.◌∙◌, lemmas.Grind.common_steps}
 use Rattle.std.specs.Vec.{vec_len}
 use Rattle.lra_report.specs.View.{report_of}

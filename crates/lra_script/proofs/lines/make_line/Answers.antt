@@ -1,4 +1,4 @@
--- Goals of `make_line`: the name, and what is said behind it.
+-- Goals of `make_line`: the name, and what is said after it.
 use Rattle.std.proofs.Common.{Bor, List, ℕ, [], ap, ◌∙◌}
 use Rattle.lra_script.specs.LineForms as form
 use Rattle.lra_script.specs.Views.{texts}

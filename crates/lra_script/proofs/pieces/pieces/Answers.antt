@@ -1,4 +1,4 @@
--- Goals of `pieces`: what stands before, between and behind the separators.
+-- Goals of `pieces`: what stands before, between and after the separators.
 use Rattle.std.proofs.{Common.rules, lemmas.Iterator.Consumers.map_from_collect, lemmas.Iterator.Splits.YieldsList-from_slice_split}
 use borrow.Author.Tests.{tests}
 use Rattle.lra_script.proofs.pieces.pieces.Goals as goal

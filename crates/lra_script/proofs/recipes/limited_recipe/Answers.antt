@@ -1,4 +1,4 @@
--- Goals of `limited_recipe`: the names, and what is said behind them.
+-- Goals of `limited_recipe`: the names, and what is said after them.
 use Rattle.std.proofs.Common.{Bor, List, ℕ, [], ap, ◌∙◌}
 use Rattle.lra_script.specs.LineForms as form
 use Rattle.lra_script.specs.Views.{texts}

@@ -1,4 +1,4 @@
--- Goals of `parts`: the words before, between and behind the semicolons.
+-- Goals of `parts`: the words before, between and after the semicolons.
 use Rattle.std.proofs.{Common.rules, Common.bytes_eq, lemmas.Iterator.Consumers.map_from_collect, lemmas.Iterator.Splits.YieldsList-from_slice_split}
 use Rattle.std.specs.Prelude.{codes}
 use borrow.Author.Tests.{tests}

@@ -1,4 +1,4 @@
--- Goals of `bound_of`: the bounds that a box tells are in range.
+-- Goals of `bound_of`: the bounds that a box reports are in range.
 use Rattle.lra_threads_fixpoint.proofs.FitLemmas.{bound_fits}
 use Rattle.lra_threads_fixpoint.proofs.intervals.bound_of.Goals as goal
 

@@ -1,4 +1,4 @@
--- Goals of `find_interference`: the threads before, and those behind.
+-- Goals of `find_interference`: the threads before, and those after.
 use Rattle.lra_threads_fixpoint.proofs.InterferenceLemmas.{told_parts}
 use Rattle.lra_threads_fixpoint.proofs.tables.find_interference.Goals as goal
 

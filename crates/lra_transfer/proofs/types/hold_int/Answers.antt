@@ -1,4 +1,4 @@
--- Goals of `hold_int`: the tests behind what gives an `int` its value.
+-- Goals of `hold_int`: the tests after what gives an `int` its value.
 use Rattle.std.proofs.Common.{pos, negsuc, sym, ◌∙◌}
 use Rattle.lra_transfer.proofs.ChangeSteps.{one_wide, done_int}
 use Rattle.lra_transfer.proofs.types.hold_int.Goals as goal

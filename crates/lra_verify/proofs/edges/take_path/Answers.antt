@@ -1,4 +1,4 @@
--- Goals of `take_path`: a path, behind its own line.
+-- Goals of `take_path`: a path, after its own line.
 use Rattle.std.proofs.Common.{◌∙◌}
 use Rattle.lra_path_disjuncts.specs.TableDisjuncts.{all_done}
 use Rattle.lra_certificate_spec.specs.Lines.{left_at}

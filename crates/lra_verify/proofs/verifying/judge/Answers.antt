@@ -1,4 +1,4 @@
--- Goals of `judge`: the paths of a program, and the lines behind its source.
+-- Goals of `judge`: the paths of a program, and the lines after its source.
 use Rattle.std.proofs.Common.{List, Err, map, ap, sym, ◌∙◌}
 use Rattle.lra_program.specs.ProgramViews.{program_view}
 use Rattle.lra_operations.specs.{TreeViews.node_view, TreeViews.site_view, declared.tree.Site.Site}

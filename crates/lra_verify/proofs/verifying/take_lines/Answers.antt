@@ -1,4 +1,4 @@
--- Goals of `take_lines`: all lines behind the source.
+-- Goals of `take_lines`: all lines after the source.
 use Rattle.std.proofs.Common.{◌≡◌, List, Option, Ok, map, sym, subst}
 use Rattle.lra_linear_spec.specs.declared.ConKind.{ConKind}
 use Rattle.lra_systems.specs.LinearSystems.{LinearSystem}

@@ -1,4 +1,4 @@
--- Goals of `verify`: what an input deserves, by its program and the lines behind its source.
+-- Goals of `verify`: what an input must get, by its program and the lines after its source.
 use Rattle.std.proofs.Common.{arith, sym, subst}
 use Rattle.lra_base.specs.declared.refusals.Refusal.{Refusal}
 use Rattle.lra_certificate_spec.specs.Claims.{VerifiesTo, source_refused}

@@ -1,4 +1,4 @@
--- Goals of `BitRow::push`: puts a truth value behind the others.
+-- Goals of `BitRow::push`: puts a truth value after the others.
 use Rattle.std.proofs.Common.{◌∙◌, sym, ap, length}
 use Rattle.lra_bits.proofs.{Packing.length_unpacked, Widening.last_inside, Widening.pushed_true}
 use Rattle.lra_bits.proofs.bit_row.BitRow.push.Goals as goal

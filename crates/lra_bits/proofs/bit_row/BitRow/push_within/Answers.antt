@@ -1,4 +1,4 @@
--- Goals of `BitRow::push_within`: puts a truth value behind the others, in a word that is there.
+-- Goals of `BitRow::push_within`: puts a truth value after the others, in a word that is there.
 use Rattle.std.proofs.Common.{◌∙◌, ap, length, sym}
 use Rattle.lra_bits.proofs.{Packing.length_unpacked, Widening.last_inside, Widening.pushed_value}
 use Rattle.lra_bits.proofs.bit_row.BitRow.push_within.Goals as goal

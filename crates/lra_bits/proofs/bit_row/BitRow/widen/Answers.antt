@@ -1,4 +1,4 @@
--- Goals of `BitRow::widen`: one more value, false, behind the others.
+-- Goals of `BitRow::widen`: one more value, false, after the others.
 use Rattle.lra_bits.proofs.{Widening.widened_word, Widening.widened_within, bit_row.BitRow.widen.Goals.then-self-eq0+in_ok-push, bit_row.BitRow.widen.Goals.else-self-eq0}
 use Rattle.lra_bits.proofs.bit_row.BitRow.widen.Goals as goal
 

@@ -1,4 +1,4 @@
--- Goals of `SatMatrix::append`: puts the rows of another matrix behind its own.
+-- Goals of `SatMatrix::append`: puts the rows of another matrix after its own.
 use Rattle.std.proofs.Common.{◌≡◌, ◌∙◌, ◌++◌, List, Bool, ap, arith, cond, length, subst, sym}
 use Rattle.std.specs.{List.All, Prelude.IsOk}
 use Rattle.lra_bits.specs.Matrix.{Matrix}

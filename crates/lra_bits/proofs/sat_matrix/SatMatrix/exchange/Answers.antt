@@ -1,4 +1,4 @@
--- Goals of `SatMatrix::exchange`: further rows and a value behind each, and those that are marked taken out.
+-- Goals of `SatMatrix::exchange`: further rows and a value after each, and those that are marked removed.
 use Rattle.std.proofs.{Common.◌≡◌, Common.◌∙◌, Common.◌++◌, Common.ap, Common.arith, Common.length, Common.suc, Common.sym, Common.take, lemmas.Grind.common_steps}
 use Rattle.std.specs.Vec.{vec_len}
 use Rattle.lra_bits.specs.Matrix.{Matrix, lengthened_rows, unmarked}

@@ -1,4 +1,4 @@
--- Goals of `SatMatrix::lengthened`: the rows with a value behind each.
+-- Goals of `SatMatrix::lengthened`: the rows with a value after each.
 use Rattle.std.proofs.{Common.◌<◌, Common.◌≡◌, Common.◌∙◌, Common.[], Common.ap, Common.arith, Common.get_or, Common.length, lemmas.Grind.common_steps, lemmas.List.get_or_default}
 use Rattle.std.specs.Vec.{vec_len}
 use Rattle.lra_bits.specs.Matrix.{Matrix}

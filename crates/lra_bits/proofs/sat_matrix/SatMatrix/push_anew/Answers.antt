@@ -1,4 +1,4 @@
--- Goals of `SatMatrix::push_anew`: a further column, by rows that are made anew.
+-- Goals of `SatMatrix::push_anew`: a further column, by rows that are made again.
 use Rattle.std.proofs.Common.{◌+◌, ◌≡◌, ◌∙◌, List, Bool, ap, arith, length, subst, suc, sym, ℕ}
 use Rattle.std.specs.List.{All}
 use Rattle.lra_bits.specs.Matrix.{Matrix, lengthened_rows}

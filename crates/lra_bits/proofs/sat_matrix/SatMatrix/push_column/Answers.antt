@@ -1,4 +1,4 @@
--- Goals of `SatMatrix::push_column`: puts a value behind each row.
+-- Goals of `SatMatrix::push_column`: puts a value after each row.
 use Rattle.std.proofs.Common.{arith}
 use Rattle.lra_bits.proofs.sat_matrix.SatMatrix.push_column.Goals as goal
 

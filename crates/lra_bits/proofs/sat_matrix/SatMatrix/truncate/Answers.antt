@@ -1,4 +1,4 @@
--- Goals of `SatMatrix::truncate`: keeps so many rows at the front.
+-- Goals of `SatMatrix::truncate`: keeps so many rows at the start.
 use Rattle.std.proofs.{Common.List, Common.Bool, Common.length, Common.subst, Common.sym, Common.◌≡◌, lemmas.List.Elements.All-take}
 use Rattle.std.specs.List.{All}
 use Rattle.lra_bits.proofs.sat_matrix.SatMatrix.truncate.Goals as goal

@@ -154,7 +154,7 @@ returns-in-Ok-clause-ok c =
           (λ (y : List (List ℤ)). IsIntersection (suc s.dims) g.equal row (all_rows s.lines s.rays) (all_rows s.lines y)) (sym new) met;
     })
 
--- the row is taken out again
+-- the row is removed again
 pub invariant_of-self-in-Err : goal.invariant_of-self-in-Err
 invariant_of-self-in-Err c =
     let i = c.self.inside in

@@ -1,4 +1,4 @@
--- Goals of `Conversion::take_row`: takes a row in, or leaves it out where it strains the cone.
+-- Goals of `Conversion::take_row`: takes a row in, or leaves it out where it exceeds a limit of the cone.
 use Rattle.std.proofs.Common.{length, ◌∙◌, ap, sym, subst}
 use Rattle.lra_linear_spec.specs.{Descriptions.LinearRow, Kinds.is_equality}
 use Rattle.lra_systems.specs.LinearSystems.{constraints}

@@ -1,4 +1,4 @@
--- Goals of `end_callee`: the call behind its callee's body, on the caller's path.
+-- Goals of `end_callee`: the call after its callee's body, on the caller's path.
 use Rattle.std.proofs.Common.{◌∷◌, ap, sym, ◌∙◌}
 use Rattle.lra_program.specs.ProgramViews.{program_view}
 use Rattle.lra_operations.specs.TreeViews.{node_view}

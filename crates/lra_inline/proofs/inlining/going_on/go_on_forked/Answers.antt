@@ -1,4 +1,4 @@
--- Goals of `go_on_forked`: behind a part of a choice or a loop.
+-- Goals of `go_on_forked`: after a part of a choice or a loop.
 use Rattle.lra_program.specs.ProgramViews.{cond_view}
 use Rattle.lra_operations.specs.{Inlined.loop_node, Tree.point, Tree.seq, Tree.choose, TreeViews.node_view}
 use Rattle.lra_inline_steps.specs.declared.frame.Frame.{Frame}

@@ -1,4 +1,4 @@
--- Goals of `go_on_items`: behind one of some items.
+-- Goals of `go_on_items`: after one of some items.
 use Rattle.lra_inline_steps.proofs.OpenFrames.{row_next}
 use Rattle.lra_inline.proofs.inlining.going_on.go_on_items.Goals as goal
 

@@ -1,4 +1,4 @@
--- Goals of `build_thread`: the program's points behind others, and its own tree.
+-- Goals of `build_thread`: the program's points after others, and its own tree.
 use Rattle.std.proofs.{Common.◌≡◌, Common.◌++◌, Common.List, Common.map, Common.length, Common.Some, Common.None, Common.sym, Common.◌∙◌, Common.arith, lemmas.Option.none-some}
 use Rattle.lra_syntax.specs.Labels.{Labelled}
 use Rattle.lra_resolution_spec.specs.Refuse.{limit_fault}
@@ -33,7 +33,7 @@ returns-clause-within c =
     IfOk-weaker c.build.result (λ g. IsInlinedTree P (node_view g.tree)) (λ _. (ls : List Labelled) → limit_fault ls (length S) (events_of P) ≡ None)
     (λ g h. made_within P S (map site_view c.write_program.new.sites.items) c.in_ok-write_program.ensures.walked) c.build.ensures.graph
 
--- alone it passes no limit that it doesn't pass behind others
+-- alone it passes no limit that it doesn't pass after others
 pub returns-clause-limit : goal.returns-clause-limit
 returns-clause-limit c =
     let P = program_view c.args.program.now in

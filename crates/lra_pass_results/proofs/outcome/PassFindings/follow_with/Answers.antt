@@ -1,4 +1,4 @@
--- Goals of `follow_with`: behind nothing comes the outcome itself.
+-- Goals of `follow_with`: after nothing comes the outcome itself.
 use Rattle.std.proofs.Common.{refl, sym, ap}
 use Rattle.lra_analysis_spec.specs.Pass.{in_turn}
 use Rattle.lra_pass_results.specs.Outcome.{ended}

@@ -1,4 +1,4 @@
--- Goals of `Poly::extend`: the polyhedron of its generators and of these, which are taken in after them, by the lists at
+-- Goals of `Poly::extend`: the polyhedron of its generators and of these, which are added after them, by the lists at
 -- hand.
 use Rattle.std.proofs.Common.{ap, subst, sym}
 use Rattle.lra_linear_spec.specs.{Descriptions.AreGenerators, Polyhedra.IsPolyhedron, Polyhedra.Polyhedron}

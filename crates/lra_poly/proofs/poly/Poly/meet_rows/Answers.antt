@@ -1,4 +1,4 @@
--- Goals of `Poly::meet_rows`: the same, where these are taken in after those, by the lists at hand.
+-- Goals of `Poly::meet_rows`: the same, where these are added after those, by the lists at hand.
 use Rattle.std.proofs.Common.{◌∙◌, ap, sym}
 use Rattle.lra_linear_spec.specs.Polyhedra.{Polyhedron}
 use Rattle.lra_systems.specs.LinearSystems.{constraints, generators}

@@ -1,4 +1,4 @@
--- Goals of `PolyhedronHead::new`: the head with this value and these given rows.
+-- Goals of `PolyhedronHead::new`: the head with this value and these widening thresholds.
 use Rattle.lra_poly_domain.proofs.RepresentableLemmas.{head_is_formed}
 use Rattle.lra_poly_domain.proofs.head.PolyhedronHead.new.Goals as goal
 

@@ -1,4 +1,4 @@
--- Goals of `Labels::declare`: a list with the name of a newer variable behind those of this list, and its number.
+-- Goals of `Labels::declare`: a list with the name of a newer variable after those of this list, and its number.
 use Rattle.std.proofs.Common.{◌≡◌, ◌++◌, ◌∷◌, ◌<◌, [], length, subst, sym, arith, map}
 use Rattle.lra_resolution_spec.specs.LabelTable.{LabelLists, list_at, lists_of, label_in}
 use Rattle.lra_resolution_spec.proofs.NameLists.{declared_lists, declared_labels, declared_invariant, lists_length}

@@ -1,4 +1,4 @@
--- Goals of `Names::has_behind`: whether the name is one of those behind the oldest `count`.
+-- Goals of `Names::has_behind`: whether the name is one of those after the oldest `count`.
 use Rattle.std.proofs.Common.{◌∙◌, sym}
 use Rattle.lra_scopes.proofs.NameLaws.{among_later}
 use Rattle.lra_scopes.proofs.names.Names.has_behind.Goals as goal

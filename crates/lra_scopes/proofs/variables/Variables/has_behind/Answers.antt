@@ -1,4 +1,4 @@
--- Goals of `Variables::has_behind`: whether one behind the oldest `count` has the name.
+-- Goals of `Variables::has_behind`: whether one after the oldest `count` has the name.
 use Rattle.std.proofs.Common.{◌∙◌, ℕ, List, drop, bytes_eq, sym, ap}
 use Rattle.std.specs.List.{list_any}
 use Rattle.lra_resolution_spec.specs.Scope.{names_in}

@@ -1,4 +1,4 @@
--- Goals of `take_assertion`: behind the assertion at a point.
+-- Goals of `take_assertion`: after the assertion at a point.
 use Rattle.std.proofs.Common.{◌∙◌}
 use Rattle.lra_verify.proofs.ListedSteps.{assert_clean}
 use Rattle.lra_verify.proofs.annotated.AnnotatedProgram.take_assertion.Goals as goal
