@@ -221,6 +221,6 @@ impl BaseDomain for Boxes {
 
 impl ExactParts for Boxes {
     fn parts_are_exact(&self) {
-        let _fit = &self.bounds;
+        let _fit = &self.bounds; // fact: the box's invariant
     }
 }

@@ -167,7 +167,7 @@ pub fn make_with(polyhedron: Poly, outcome: Outcome) -> Made
     ensures flagged { result.is_flagged ≡ is_flagged outcome }
     ensures formed { IsRepresentable polyhedron }
 {
-    let _formed = polyhedron.rows();
+    let _formed = polyhedron.rows(); // fact: the polyhedron is representable
     Made {
         is_flagged: !outcome.is_exact(),
         polyhedron,

@@ -32,7 +32,7 @@ fn find_multipliers(
         IsLine grounds.now (claim_row claim.entry) (multipliers_view m)) }
     ensures failure { IfErr result (IsLineFailure grounds.now (claim_row claim.entry)) }
 {
-    let _premises = grounds.premises.rows();
+    let _premises = grounds.premises.rows(); // fact: the premises are in the range, each as wide as the list
     match grounds.claim(alloc, claim) {
         Ok(row) => multipliers(alloc, &grounds.premises, &row),
         Err(RowError::Excess(_)) => Err(MultipliersFailure::Strained),

@@ -39,7 +39,7 @@ pub fn push_path(
     ensures failure { IfErr result (IfStrained (StrainsOn rows.now.dims (all_done path.now)
         (Some (constraints rows.now)) (target_rows target.entry))) }
 {
-    let _rows = rows.rows();
+    let _rows = rows.rows(); // fact: the rows are in the range, each as wide as the list
     let track = PathCheck::of(alloc, rows, path)?;
     match &track.facts {
         None => Err(PathFailure::Strained),

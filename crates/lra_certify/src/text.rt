@@ -59,7 +59,7 @@ fn push_rows(text: &mut String, rows: &ConSys) -> Result<(), AllocError>
         rows_text (constraints rows.now)) }
     ensures fit { ArePointRows rows.now }
 {
-    let _rows = rows.rows();
+    let _rows = rows.rows(); // fact: the rows are in the range, each as wide as the list
     for place in 0..rows.len() {
         let (row, kind) = rows.at(place);
         push_row(text, row, kind)?;

@@ -100,7 +100,7 @@ impl Cone {
           rays = rays.items;
         } }
     {
-        let _kinds = taken.kinds();
+        let _kinds = taken.kinds(); // fact: as many kinds as rows
         Cone {
             taken,
             lines,

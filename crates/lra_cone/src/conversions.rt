@@ -35,7 +35,7 @@ impl Conversion {
     {
         match self.cone.add_row(row, kind) {
             Ok(()) => {
-                let _kinds = self.kept.kinds();
+                let _kinds = self.kept.kinds(); // fact: as many kinds as rows
                 self.kept.push_copy(row, kind)?;
                 Ok(())
             }

@@ -174,7 +174,7 @@ fn show_generators(
 {
     let (lines, rays) = (cone.lines(), cone.rays());
     let columns = matrix.transposed(alloc)?;
-    let _width = columns.width();
+    let _width = columns.width(); // fact: the rows of the matrix are equally long
     known_generators(alloc, n, lines, rays, columns)
 }
 
@@ -197,7 +197,7 @@ fn show_constraints(
 {
     let (lines, rays) = (cone.lines(), cone.rays());
     let columns = matrix.transposed(alloc)?;
-    let _width = columns.width();
+    let _width = columns.width(); // fact: the rows of the matrix are equally long
     let positivity = unit(alloc, n, 0)?;
     known_constraints(alloc, lines, rays, columns, &positivity, n)
 }
@@ -217,7 +217,7 @@ fn of_rows(
     requires matrix { own.saturation ≡ tight_matrix (columns_of cone.now) own.rays.items }
     ensures { IfOk result (IsPolyhedronOf n (Con (drop 1 cone.now.taken))) }
 {
-    let _lines = cone.lines();
+    let _lines = cone.lines(); // fact: lines and rays are those of the rows (`IsCone`)
     let positivity = unit(alloc, n, 0)?;
     let MarkedOwn {
         lines,
@@ -226,13 +226,14 @@ fn of_rows(
     } = own;
     let listed = known_constraints(alloc, &lines, &rays, saturation, &positivity, n)?;
     let shown = show_generators(alloc, n, cone, &listed.matrix)?;
+    // fact: in both lists as many kinds as rows
     let (_kinds, _column_kinds) = (listed.list.kinds(), shown.list.kinds());
     if shown.list.rows().is_empty() {
         let pair = empty(alloc, n)?;
         return Ok(pair);
     }
     let turned = shown.matrix.transposed(alloc)?;
-    let _width = turned.width();
+    let _width = turned.width(); // fact: the rows of the matrix are equally long
     let KnownConstraints {
         list: rows,
         matrix: _,
@@ -264,7 +265,7 @@ fn of_generators(
     requires matrix { own.saturation ≡ tight_matrix (columns_of cone.now) own.rays.items }
     ensures { IfOk result (IsPolyhedronOf n (Gen cone.now.taken)) }
 {
-    let _lines = cone.lines();
+    let _lines = cone.lines(); // fact: lines and rays are those of the rows (`IsCone`)
     let MarkedOwn {
         lines,
         rays,
@@ -272,6 +273,7 @@ fn of_generators(
     } = own;
     let listed = known_generators(alloc, n, &lines, &rays, saturation)?;
     let shown = show_constraints(alloc, n, cone, &listed.matrix)?;
+    // fact: in both lists as many kinds as rows
     let (_column_kinds, _kinds) = (listed.list.kinds(), shown.list.kinds());
     let KnownGenerators {
         list: by_generators,

@@ -141,7 +141,7 @@ fn facets(
     ensures saturation { IfOk result (λ r. r.1 ≡ by_rays (generators by_generators.now) r.0.items) }
 {
     let n = list.dims();
-    let (_rows, kinds) = (list.rows(), list.kinds());
+    let (_rows, kinds) = (list.rows(), list.kinds()); // fact: the rows are in the range, each as wide as the list
     let positivity = unit(alloc, n, 0)?;
     let directions = mark_saturated(alloc, &positivity, by_generators)?;
     let rays = inequalities_among(alloc, list)?;

@@ -14,7 +14,7 @@ pub fn join_rows(first: &ConSys, second: &ConSys) -> Result<ConSys, AllocError>
     ensures dims { IfOk result (λ all. all.dims ≡ first.now.dims) }
     ensures rows { IfOk result (λ all. constraints all ≡ constraints first.now ++ constraints second.now) }
 {
-    let _kinds = first.kinds();
+    let _kinds = first.kinds(); // fact: as many kinds as rows
     let mut all = first.copy()?;
     let (rows, kinds) = (second.rows(), second.kinds());
     for place in 0..rows.len() {
@@ -32,7 +32,7 @@ pub fn join_generators(first: &GenSys, second: &GenSys) -> Result<GenSys, AllocE
     ensures generators { IfOk result (λ all. generators all ≡ generators first.now ++ generators second.now) }
     ensures kinds { IfOk result (λ all. FitKinds all.rows all.kinds) }
 {
-    let _kinds = first.kinds();
+    let _kinds = first.kinds(); // fact: as many kinds as rows
     let mut all = first.copy()?;
     let (given, kinds) = (second.rows(), second.kinds());
     for place in 0..given.len() {

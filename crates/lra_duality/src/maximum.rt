@@ -111,7 +111,7 @@ fn first_wide(form: &LinExpr, is_opposite: bool, list: &GenSys) -> Option<usize>
         (FirstAt (StaysInRange (directed form.now is_opposite)) (PassesRange (directed form.now is_opposite))
         (generators list.now)) }
 {
-    let _kinds = list.kinds();
+    let _kinds = list.kinds(); // fact: as many kinds as rows
     let rows = list.rows();
     for (place, row) in rows.iter().enumerate() {
         match multiply_along(form, is_opposite, row) {
@@ -179,7 +179,7 @@ fn place_of_greatest(form: &LinExpr, is_opposite: bool, list: &GenSys) -> usize
         (product (directed form.now is_opposite) (slice_index_or list.now.rows result []))
         (entry (slice_index_or list.now.rows result []) 0) result }
 {
-    let _kinds = list.kinds();
+    let _kinds = list.kinds(); // fact: as many kinds as rows
     let rows = list.rows();
     let mut best = 0;
     for (place, row) in rows.iter().enumerate() {
@@ -229,7 +229,7 @@ pub fn maximum_of(form: &LinExpr, is_opposite: bool, list: &GenSys) -> Maximum
     ensures maximum { IsMaximum (directed form.now is_opposite) (generators list.now) result }
     ensures range { ValueInRange result }
 {
-    let _kinds = list.kinds();
+    let _kinds = list.kinds(); // fact: as many kinds as rows
     if list.rows().is_empty() {
         return Maximum::Empty;
     }

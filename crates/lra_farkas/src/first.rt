@@ -143,6 +143,7 @@ pub fn multipliers(
         IsAnswer (constraints premises.now) claim.now (multipliers_view m) yes) }
     ensures failure { IfErr result (IsMultipliersFailure (constraints premises.now) claim.now) }
 {
+    // fact: the premises are in the range, with as many kinds as rows
     let (_rows, _kinds) = (premises.rows(), premises.kinds());
     let first = find_first(alloc, premises, claim)?;
     match check(premises, claim, &first) {

@@ -21,7 +21,7 @@ pub fn with_line(alloc: Global, list: &GenSys, x: usize) -> Result<GenSys, Alloc
         generators list.now ++ line (unit_row list.now.dims (suc x)) ∷ []) }
     ensures kinds { IfOk result (λ all. FitKinds all.rows all.kinds) }
 {
-    let _kinds = list.kinds();
+    let _kinds = list.kinds(); // fact: as many kinds as rows
     if list.dims() >= TOO_MANY_DIMENSIONS {
         return Err(AllocError);
     }
@@ -108,7 +108,7 @@ fn push_directions(alloc: Global, first: GenSys, second: &GenSys) -> Result<GenS
     ensures kinds { IfOk result (λ all. FitKinds all.rows all.kinds) }
 {
     let mut all = first;
-    let _kinds = all.kinds();
+    let _kinds = all.kinds(); // fact: as many kinds as rows
     let (rows, kinds) = (second.rows(), second.kinds());
     for place in 0..rows.len() {
         let row = direction(alloc, &rows[place])?;
@@ -185,7 +185,7 @@ fn with_new_lines(alloc: Global, list: GenSys, n: usize, k: usize) -> Result<Gen
     ensures kinds { IfOk result (λ all. FitKinds all.rows all.kinds) }
 {
     let mut all = list;
-    let _kinds = all.kinds();
+    let _kinds = all.kinds(); // fact: as many kinds as rows
     for i in 0..k {
         all.push(unit(alloc, n + k, n + 1 + i)?, GenKind::Line)?;
     }

@@ -240,6 +240,6 @@ impl BaseDomain for Octagon {
 
 impl ExactParts for Octagon {
     fn parts_are_exact(&self) {
-        let _fit = &self.matrix;
+        let _fit = &self.matrix; // fact: the octagon's invariant
     }
 }

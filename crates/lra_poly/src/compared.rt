@@ -29,7 +29,7 @@ impl Hash for Poly {
     #[tactic(auto, using(crate::proofs::SameLemmas::rows_of_constraints))]
     fn hash<H: Hasher>(&self, state: &mut H) {
         let list = self.rows();
-        let _kinds = list.kinds();
+        let _kinds = list.kinds(); // fact: as many kinds as rows
         self.dims().hash(state);
         list.rows().hash(state);
     }

@@ -235,7 +235,7 @@ impl Poly {
         ensures canonical { IsPolyhedron self.now }
         ensures formed { IsRepresentable self.now }
     {
-        let (_rows, _others) = (self.rows.rows(), self.by_generators.rows());
+        let (_rows, _others) = (self.rows.rows(), self.by_generators.rows()); // fact: both lists are in the range
         &self.rows
     }
 
@@ -247,7 +247,7 @@ impl Poly {
         ensures canonical { IsPolyhedron self.now }
         ensures formed { IsRepresentable self.now }
     {
-        let (_rows, _others) = (self.rows.rows(), self.by_generators.rows());
+        let (_rows, _others) = (self.rows.rows(), self.by_generators.rows()); // fact: both lists are in the range
         &self.by_generators
     }
 
@@ -302,7 +302,7 @@ impl Poly {
         ensures tells { TellsMaximum self.now (form_row form.now) result }
         ensures range { ValueInRange result }
     {
-        let _kinds = self.by_generators.kinds();
+        let _kinds = self.by_generators.kinds(); // fact: as many kinds as generators
         maximum_of(form, false, &self.by_generators)
     }
 
@@ -313,7 +313,7 @@ impl Poly {
         ensures tells { TellsMaximum self.now (negated (form_row form.now)) result }
         ensures range { ValueInRange result }
     {
-        let _kinds = self.by_generators.kinds();
+        let _kinds = self.by_generators.kinds(); // fact: as many kinds as generators
         maximum_of(form, true, &self.by_generators)
     }
 
@@ -550,7 +550,7 @@ impl Poly {
             (self.new ≡ self.old) × IfOk result (λ o. o ≡ Exact) }
         ensures unchanged { OnErr result (self.new ≡ self.old) }
     {
-        let (_rows, _others) = (self.rows(), other.rows());
+        let (_rows, _others) = (self.rows(), other.rows()); // fact: both polyhedra are representable
         if other.lies_in(self) {
             return Ok(Outcome::Exact);
         }

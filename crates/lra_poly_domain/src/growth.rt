@@ -81,7 +81,7 @@ fn grow_by_join(p: &Poly, next: &Poly, given: &ConSys) -> Result<Growth, AllocEr
         g.exactness) }
     ensures dims { IfOk result (λ g. g.thresholds.dims ≡ p.now.dims) }
 {
-    let (_rows, _others) = (p.rows(), next.rows());
+    let (_rows, _others) = (p.rows(), next.rows()); // fact: both polyhedra are representable
     let (value, exactness) = join_values(p, next)?;
     let left = given.copy()?;
     Ok(Growth {
@@ -107,6 +107,7 @@ fn grow_by_widening(
         g.exactness) }
     ensures dims { IfOk result (λ g. g.thresholds.dims ≡ p.now.dims) }
 {
+    // fact: both polyhedra are representable, the thresholds in the range
     let (_rows, _others, _given) = (p.rows(), next.rows(), given.rows());
     let (join, exactness) = join_values(p, next)?;
     if exactness == Exactness::Flagged {

@@ -77,6 +77,7 @@ impl PolyhedronHead {
         ensures fits { IfOk result (λ h. RankFits (head_rank h)) }
         ensures formed { IfOk result WellFormedHead }
     {
+        // fact: the value is representable, the thresholds are in the range
         let (_formed, _rows) = (value.rows(), given.rows());
         let rank = rank_of(&value, &given)?;
         Ok(PolyhedronHead {
@@ -108,6 +109,7 @@ impl PolyhedronHead {
         ensures rank { result ≡ head_rank self.now }
         ensures fits { RankFits result }
     {
+        // fact: the value is representable, the thresholds are in the range
         let (_formed, _rows) = (self.value.rows(), self.thresholds.rows());
         self.rank
     }
@@ -127,7 +129,7 @@ impl PolyhedronHead {
         ensures lower { IfOk result (λ r. mode ≢ Join → RankBelow (head_rank r.0) (head_rank self.now)) }
         ensures fits { IfOk result (λ r. RankFits (head_rank r.0)) }
     {
-        let (_rows, _others) = (self.value.rows(), next.rows());
+        let (_rows, _others) = (self.value.rows(), next.rows()); // fact: both polyhedra are representable
         let growth = grow_value(alloc, &self.value, next, &self.thresholds, mode)?;
         let exactness = growth.exactness;
         let new = PolyhedronHead::new(growth.value, growth.thresholds)?;
@@ -143,6 +145,7 @@ impl PolyhedronHead {
         ensures lower { IfOk result (λ h. RankBelow (head_rank h) (head_rank self.now)) }
         ensures fits { IfOk result (λ h. RankFits (head_rank h)) }
     {
+        // fact: both polyhedra are representable, the thresholds in the range
         let (_rows, _others, _given) = (self.value.rows(), next.rows(), self.thresholds.rows());
         let all = give_up(alloc, &self.value, &self.thresholds)?;
         let new = PolyhedronHead::new(all.value, all.thresholds)?;

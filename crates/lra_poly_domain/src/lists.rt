@@ -33,7 +33,7 @@ fn row_passes(row: &Row, list: &GenSys) -> bool
     requires { length row.now ≡ suc list.now.dims }
     ensures { result ≡ row_passes (generators list.now) row.now }
 {
-    let _kinds = list.kinds();
+    let _kinds = list.kinds(); // fact: as many kinds as rows
     passes_with_some(row, list.rows())
 }
 
@@ -55,6 +55,6 @@ pub fn some_passes(given: &ConSys, list: &GenSys) -> bool
     requires { list.now.dims ≡ given.now.dims }
     ensures { result ≡ some_passes (generators list.now) (constraints given.now) }
 {
-    let _kinds = given.kinds();
+    let _kinds = given.kinds(); // fact: as many kinds as rows
     some_row_passes(given.rows(), list)
 }

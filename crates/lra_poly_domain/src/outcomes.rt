@@ -26,7 +26,7 @@ pub fn included(p: &Poly, q: &Poly) -> Included
     requires { q.now.dims ≡ p.now.dims }
     ensures { PolyhedronAnswers p.now q.now result }
 {
-    let _canonical = p.rows();
+    let _canonical = p.rows(); // fact: p's lists are canonical
     match p.included(q) {
         Inclusion::Yes => Included::Yes,
         Inclusion::No(_) => Included::No,

@@ -94,13 +94,13 @@ impl Domain for Polyhedron {
 
     fn universe(alloc: Global, n: usize, _cap: u32) -> Result<Self, AllocError> {
         let poly = Poly::universe(alloc, n)?;
-        let _formed = poly.rows();
+        let _formed = poly.rows(); // fact: the polyhedron is representable
         Ok(Polyhedron { poly })
     }
 
     fn empty(alloc: Global, n: usize, _cap: u32) -> Result<Self, AllocError> {
         let poly = Poly::empty(alloc, n)?;
-        let _formed = poly.rows();
+        let _formed = poly.rows(); // fact: the polyhedron is representable
         Ok(Polyhedron { poly })
     }
 
@@ -119,7 +119,7 @@ impl Domain for Polyhedron {
 
     /// Yes exactly where there is no rational point.
     fn is_empty(&self) -> bool {
-        let _canonical = self.poly.rows();
+        let _canonical = self.poly.rows(); // fact: both lists are canonical
         self.poly.is_empty()
     }
 
@@ -141,45 +141,45 @@ impl Domain for Polyhedron {
 
     fn assign(&mut self, x: usize, e: &LinExpr) -> Result<Exactness, AllocError> {
         let outcome = image(&mut self.poly, x, e)?;
-        let _formed = self.poly.rows();
+        let _formed = self.poly.rows(); // fact: the polyhedron is representable
         Ok(exactness_of(&outcome))
     }
 
     fn forget(&mut self, x: usize) -> Result<Exactness, AllocError> {
         let outcome = forget(&mut self.poly, x)?;
-        let _formed = self.poly.rows();
+        let _formed = self.poly.rows(); // fact: the polyhedron is representable
         Ok(exactness_of(&outcome))
     }
 
     fn test(&mut self, t: &Test) -> Result<Exactness, AllocError> {
         let outcome = self.poly.add_test(t)?;
-        let _formed = self.poly.rows();
+        let _formed = self.poly.rows(); // fact: the polyhedron is representable
         Ok(exactness_of(&outcome))
     }
 
     /// The hull: the least closed polyhedron with the points of both.
     fn join(&mut self, other: &Self) -> Result<Exactness, AllocError> {
-        let (_rows, _others) = (self.poly.rows(), other.poly.rows());
+        let (_rows, _others) = (self.poly.rows(), other.poly.rows()); // fact: both polyhedra are representable
         let outcome = self.poly.hull(&other.poly)?;
-        let _formed = self.poly.rows();
+        let _formed = self.poly.rows(); // fact: the polyhedron is representable
         Ok(exactness_of(&outcome))
     }
 
     fn embed(&mut self, k: usize) -> Result<Exactness, AllocError> {
         let outcome = embed(&mut self.poly, k)?;
-        let _formed = self.poly.rows();
+        let _formed = self.poly.rows(); // fact: the polyhedron is representable
         Ok(exactness_of(&outcome))
     }
 
     fn remove_last(&mut self, k: usize) -> Result<Exactness, AllocError> {
         let outcome = remove_last(&mut self.poly, k)?;
-        let _formed = self.poly.rows();
+        let _formed = self.poly.rows(); // fact: the polyhedron is representable
         Ok(exactness_of(&outcome))
     }
 
     fn parts(&self, alloc: Global) -> Result<Vec<ConSys>, AllocError> {
         let rows = self.poly.rows();
-        let _kinds = rows.kinds();
+        let _kinds = rows.kinds(); // fact: as many kinds as rows
         let mut parts = Vec::new(alloc);
         if self.poly.is_empty() {
             return Ok(parts);
@@ -231,7 +231,7 @@ impl Domain for Polyhedron {
     }
 
     fn value(_alloc: Global, head: &PolyhedronHead) -> Result<(Self, Exactness), AllocError> {
-        let _formed = head.value().rows();
+        let _formed = head.value().rows(); // fact: the polyhedron is representable
         let poly = head.value().copy()?;
         Ok((Polyhedron { poly }, Exactness::Exact))
     }
@@ -259,20 +259,20 @@ impl Backward for Polyhedron {
 
     fn before_assign(&mut self, x: usize, e: &LinExpr) -> Result<Exactness, AllocError> {
         let outcome = preimage(&mut self.poly, x, e)?;
-        let _formed = self.poly.rows();
+        let _formed = self.poly.rows(); // fact: the polyhedron is representable
         Ok(exactness_of(&outcome))
     }
 
     /// The test itself: what passed it was there before.
     fn before_test(&mut self, t: &Test) -> Result<Exactness, AllocError> {
         let told = self.poly.add_test(t)?;
-        let _formed = self.poly.rows();
+        let _formed = self.poly.rows(); // fact: the polyhedron is representable
         Ok(exactness_of(&told))
     }
 
     fn meet(&mut self, other: &Self) -> Result<Exactness, AllocError> {
         let outcome = self.poly.meet(&other.poly)?;
-        let _formed = self.poly.rows();
+        let _formed = self.poly.rows(); // fact: the polyhedron is representable
         Ok(exactness_of(&outcome))
     }
 }

@@ -36,7 +36,7 @@ fn widen_standard(
     requires within { IsWithin p.now.dims (Con p.now.rows) (Con q.now.rows) }
     ensures { IfOk result (λ r. IsWidening Widen p.now q.now (constraints given.now) r.0 r.1) }
 {
-    let (_rows, _given) = (p.rows(), given.rows());
+    let (_rows, _given) = (p.rows(), given.rows()); // fact: p is representable, the thresholds are in the range
     match standard(alloc, p, q) {
         Ok((made, outcome)) => {
             let exactness = exactness_of(&outcome);
@@ -59,7 +59,7 @@ fn widen_limited(
     requires within { IsWithin p.now.dims (Con p.now.rows) (Con q.now.rows) }
     ensures { IfOk result (λ r. IsWidening Limited p.now q.now (constraints given.now) r.0 r.1) }
 {
-    let _rows = p.rows();
+    let _rows = p.rows(); // fact: p is representable
     match limited(alloc, p, q, given) {
         Ok((made, outcome)) => {
             let exactness = exactness_of(&outcome);
@@ -82,7 +82,7 @@ fn widen_by_tightest(
     requires within { IsWithin p.now.dims (Con p.now.rows) (Con q.now.rows) }
     ensures { IfOk result (λ r. IsWidening Tightest p.now q.now (constraints given.now) r.0 r.1) }
 {
-    let _rows = p.rows();
+    let _rows = p.rows(); // fact: p is representable
     match limited_by_tightest(alloc, p, q, given) {
         Ok((made, outcome)) => {
             let exactness = exactness_of(&outcome);

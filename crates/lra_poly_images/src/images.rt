@@ -45,7 +45,7 @@ fn extend_along(p: &Poly, x: usize) -> Result<Option<Poly>, AllocError>
     ensures { IfOk result (λ made. IfSome made
         (IsPolyhedronOf p.now.dims (Forget p.now.dims (suc x) (Con p.now.rows)))) }
 {
-    let _canonical = p.rows();
+    let _canonical = p.rows(); // fact: p's lists are canonical
     let along = line_along(p.allocator(), p.dims(), x)?;
     let made = p.extend(&along)?;
     Ok(made)
@@ -166,7 +166,7 @@ fn find_image(p: &Poly, x: usize, form: &LinExpr, row: &Row) -> Result<Option<Po
         (IsPolyhedronOf p.now.dims (Image p.now.dims (suc x) (form_row form.now) (Con p.now.rows)))) }
     ensures none { IfOk result (λ image. IfNone image (StaysFor (suc x) (form_row form.now) p.now)) }
 {
-    let _dims = p.dims();
+    let _dims = p.dims(); // fact: the number of dimensions is a usize
     match move_forward(p, x + 1, row)? {
         Some(made) => Ok(Some(made)),
         None => {

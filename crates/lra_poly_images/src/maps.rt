@@ -85,7 +85,7 @@ fn elapse(p: &mut Poly, other: &Poly) -> Result<Outcome, AllocError>
         (p.old.generators ++ as_directions other.now.generators) p.new o) o) }
     ensures unchanged { OnErr result (p.new ≡ p.old) }
 {
-    let _canonical = p.rows();
+    let _canonical = p.rows(); // fact: p's lists are canonical
     let along = directions_of(p.allocator(), other.generators())?;
     match p.extend(&along)? {
         Some(made) => {
@@ -113,8 +113,8 @@ pub fn time_elapse(p: &mut Poly, other: &Poly) -> Result<Outcome, AllocError>
         IfOk result (λ outcome. outcome ≡ Outcome.Exact) }
     ensures unchanged { OnErr result (p.new ≡ p.old) }
 {
-    let _canonical = p.rows();
-    let _other_canonical = other.rows();
+    let _canonical = p.rows(); // fact: p's lists are canonical
+    let _other_canonical = other.rows(); // fact: the other's lists are canonical
     if p.is_empty() {
         return Ok(Outcome::Exact);
     }

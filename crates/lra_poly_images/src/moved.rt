@@ -84,7 +84,7 @@ pub fn move_back(p: &Poly, column: usize, form: &Row) -> Result<Option<Poly>, Al
         (IsPolyhedronOf p.now.dims (Preimage column form.now (Con p.now.rows)))) }
     ensures none { IfOk result (λ preimage. IfNone preimage (StaysBackFor column form.now p.now)) }
 {
-    let _canonical = p.rows();
+    let _canonical = p.rows(); // fact: p's lists are canonical
     if p.is_empty() {
         return Ok(None);
     }

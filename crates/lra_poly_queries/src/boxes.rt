@@ -77,7 +77,7 @@ fn extent_of(p: &Poly, dim: usize) -> Result<Extent, AllocError>
     requires some { ¬ IsEmptySet p.now.dims (Con p.now.rows) }
     ensures { IfOk result (IsExtent p.now dim) }
 {
-    let _formed = p.generators();
+    let _formed = p.generators(); // fact: p is representable
     let form = coordinate(p.allocator(), p.dims(), dim)?;
     let least = least_end(p, &form);
     let greatest = greatest_end(p, &form);

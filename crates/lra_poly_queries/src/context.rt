@@ -35,7 +35,7 @@ fn join_from(front: &ConSys, list: &ConSys, start: usize) -> Result<ConSys, Allo
         constraints all ≡ constraints front.now ++ drop start (constraints list.now)) }
 {
     let mut all = front.copy()?;
-    let _kinds = all.kinds();
+    let _kinds = all.kinds(); // fact: as many kinds as rows
     for place in start..list.len() {
         let (row, kind) = list.at(place);
         all.push_copy(row, kind)?;
@@ -99,7 +99,7 @@ fn try_at(
         drop place (constraints list.now) ≡ g ∷ later →
         TellsRedundant context.now.dims context.now.rows (constraints kept.now ++ later) g told) }
 {
-    let _end = list.len();
+    let _end = list.len(); // fact: as many kinds as rows
     let (row, kind) = list.at(place);
     let others = join_from(kept, list, place + 1)?;
     let told = try_given(context, &others, row, kind)?;

@@ -46,7 +46,7 @@ fn push_moved(
     ensures count { IfOk result (λ all. length all.kinds ≡ length all.rows) }
 {
     let mut all = own;
-    let _kinds = all.kinds();
+    let _kinds = all.kinds(); // fact: as many kinds as rows
     let (rows, kinds) = (list.rows(), list.kinds());
     for place in 0..rows.len() {
         let row = choose(alloc, &rows[place], dims)?;

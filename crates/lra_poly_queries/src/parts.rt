@@ -36,7 +36,7 @@ pub fn polyhedra_of<D: Domain>(alloc: Global, value: &D) -> Result<(Vec<Poly>, O
         (λ r. IfExact ((s : List ℤ) → length s ≡ D.abstraction.dims value.now →
         SomeHas r.0.items s → SomePartHolds (D.abstraction.parts value.now) s) r.1) }
 {
-    let _formed = value.is_empty();
+    let _formed = value.is_empty(); // fact: the value is well-formed
     let parts = value.parts(alloc)?;
     let (made, outcome) = polyhedra(alloc, parts.as_slice())?;
     Ok((made, outcome))

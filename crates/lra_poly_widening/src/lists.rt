@@ -51,7 +51,7 @@ fn push_copy(list: &mut ConSys, row: &Row, kind: ConKind) -> Result<(), AllocErr
     ensures rows { OnOk result (constraints list.new ≡
         constraints list.old ++ record { row = row.now; equal = is_equality kind } ∷ []) }
 {
-    let _kinds = list.kinds();
+    let _kinds = list.kinds(); // fact: as many kinds as rows
     let copied = row.copy()?;
     list.push(copied, kind)?;
     Ok(())

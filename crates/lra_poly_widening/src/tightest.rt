@@ -45,7 +45,7 @@ fn has_lower(rows: &[Row], row: &Row) -> bool
 fn is_loose(list: &ConSys, row: &Row, kind: ConKind) -> bool
     ensures { result ≡ is_loose (constraints list.now) (record { row = row.now; equal = is_equality kind }) }
 {
-    let _kinds = list.kinds();
+    let _kinds = list.kinds(); // fact: as many kinds as rows
     match kind {
         ConKind::Eq => false,
         ConKind::Ge => has_lower(list.rows(), row),
@@ -85,6 +85,7 @@ pub fn limited_by_tightest(
     ensures refused { IfErr result (IsRefusal p.now q.now) }
     ensures inside { IfOk result (λ _. (place : ℕ) → ¬ (IsOutside p.now q.now place)) }
 {
+    // fact: p and q are representable, the thresholds in the range
     let (_rows, _others, _given) = (p.rows(), q.rows(), given.rows());
     let held = held_on_both(alloc, p, q, given)?;
     let few = tightest(alloc, &held)?;

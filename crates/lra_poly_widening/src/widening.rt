@@ -32,6 +32,7 @@ fn widen_within(
         (λ r. IsLimitedWidening p.now q.now (constraints given.now) r.0 r.1) }
     ensures staying { IfOk result (λ r. IsOfStaying p.now q.now (constraints given.now) r.0) }
 {
+    // fact: p and q are representable, the thresholds in the range
     let (_rows, _others, _given) = (p.rows(), q.rows(), given.rows());
     let mut list = tight_rows(alloc, p, q)?;
     add_held(&mut list, p, q, given)?;
@@ -61,7 +62,7 @@ pub fn widen_limited_by(
     ensures staying { IfOk result (λ r. StaysOrIsGivenUp p.now q.now (constraints given.now) r.0 r.1) }
     ensures canonical { IsPolyhedron p.now }
 {
-    let (_rows, _others) = (p.rows(), q.rows());
+    let (_rows, _others) = (p.rows(), q.rows()); // fact: p and q are representable
     match p.included(q) {
         Inclusion::No(place) => Err(WidenError::NotIncluded(place)),
         Inclusion::Wide(generator, row) => {
@@ -120,7 +121,7 @@ pub fn limited(
     ensures known { IfOk result (λ r. LiesOrIsGivenUp p.now q.now r.0 r.1) }
     ensures staying { IfOk result (λ r. StaysOrIsGivenUp p.now q.now (constraints given.now) r.0 r.1) }
 {
-    let _rows = given.rows();
+    let _rows = given.rows(); // fact: the thresholds are in the range
     let (made, outcome) = widen_limited_by(alloc, p, q, given)?;
     Ok((made, outcome))
 }

@@ -187,7 +187,7 @@ impl<D: BaseDomain> PowerSet<D> {
         ensures cap { result ≡ self.now.cap }
         ensures some { 1 ≤ result }
     {
-        let _parts = &self.parts;
+        let _parts = &self.parts; // fact: the set's invariant: the cap is at least 1
         self.cap
     }
 
@@ -350,9 +350,9 @@ impl<D: BaseDomain> Domain for PowerSet<D> {
     /// its parts in order, and that part grows by the join of next's parts in order. Where that can't be reported, it
     /// is given up.
     fn grow(head: &mut PowerSetHead<D>, next: &Self, mode: Mode) -> Result<Grown, AllocError> {
-        let (_before, _next) = (head.dims(), next.items());
+        let (_before, _next) = (head.dims(), next.items()); // fact: the head fits, and so does each part of next
         let grown = head.grow(next, mode)?;
-        let _dims = head.dims();
+        let _dims = head.dims(); // fact: the head fits (`HeadFits`)
         Ok(grown)
     }
 

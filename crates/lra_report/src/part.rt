@@ -48,7 +48,7 @@ impl Part {
         ensures generators { result.generators ≡ optional_generators generators }
         ensures in_range { IsPartInRange result }
     {
-        let _listed = rows.rows();
+        let _listed = rows.rows(); // fact: the rows are in the range
         Part { rows, generators }
     }
 

@@ -30,7 +30,7 @@ fn polyhedron_state(
     ensures spelled { IfOk result (λ s. AllByRecursion IsSpelledPart s.items) }
     ensures canonical { IfOk result (λ s. IsCanonicalState options.Poly rows.now.dims s.items) }
 {
-    let (_rows, _generators) = (rows.rows(), generators.rows());
+    let (_rows, _generators) = (rows.rows(), generators.rows()); // fact: both lists are in the range
     if generators.kinds().is_empty() {
         return Ok(Vec::new(alloc));
     }

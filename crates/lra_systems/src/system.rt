@@ -100,7 +100,7 @@ impl<K: Copy> System<K> {
     {
         self.rows.reserve(1)?;
         self.kinds.reserve(1)?;
-        let _entries = row.entries();
+        let _entries = row.entries(); // fact: the row's entries are in the range
         let _ = self.rows.push(row);
         let _ = self.kinds.push(kind);
         Ok(())

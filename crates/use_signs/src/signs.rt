@@ -132,13 +132,13 @@ impl Domain for Signs {
     }
 
     fn start(alloc: Global, first: &Self, _given: &ConSys) -> Result<Signs, AllocError> {
-        let _fits = first.number();
+        let _fits = first.number(); // fact: the rank fits
         let head = first.copy(alloc)?;
         Ok(head)
     }
 
     fn grow(head: &mut Signs, next: &Self, _mode: Mode) -> Result<Grown, AllocError> {
-        let _fits = head.number();
+        let _fits = head.number(); // fact: the rank fits
         if next.lies_in(head) {
             return Ok(Grown::Stable);
         }
@@ -184,7 +184,7 @@ impl Signs {
     {
         self.nothing = self.nothing && other.nothing;
         keep_both(self.known.as_mut_slice(), other.known.as_slice());
-        let _fits = self.number();
+        let _fits = self.number(); // fact: the rank fits
     }
 
     // How much is known.
