@@ -47,7 +47,7 @@ module _ {V H : Type 0} (m : Abstraction V H) (ops : Operations V H) where
   EachJudged v base (x ∷ rest) js e = (b : Bool) × (later : List (Place × Bool)) × (c d : Exactness) ×
       AccessJudged v base x b c × EachJudged v base rest later d × (js ≡ (x.place, b) ∷ later) × (e ≡ worse c d)
 
-  -- those of both sides of a comparison, and of what is compared with 0
+  -- the verdicts on the accesses of both sides of a comparison
   abbrev pub BothInside : ℕ → Expr → Expr → V → List (Place × Bool) → Exactness → Type 0
   BothInside base a b v js e = EachJudged v base (expr_accesses a ++ expr_accesses b) js e
 
@@ -57,7 +57,7 @@ module _ {V H : Type 0} (m : Abstraction V H) (ops : Operations V H) where
   abbrev pub CondInside : ℕ → Cond → V → List (Place × Bool) → Exactness → Type 0
   CondInside base c v js e = CondAnswers ops BothInside OneInside base c v js e
 
-  -- those of an operation
+  -- the verdicts on the accesses of an operation
   abbrev pub OpInside : Op → V → List (Place × Bool) → Exactness → Type 0
   OpInside (append t) v js e = EachJudged v 0 [] js e
   OpInside (fill a) v js e = EachJudged v 0 [] js e

@@ -57,7 +57,7 @@ module _ {V H : Type 0} (m : Abstraction V H) where
         (form_of (m.dims v) base b)) × (bs ≡ (xs ++ ys) ++ c ∷ [])
     ExprJudged (element a at e) bs = ExprJudged e bs
 
-    -- and on the conversion of its value, where there is one
+    -- the answers on an expression and on the conversion of its value, if it is converted
     abbrev pub ConversionJudged : Bool → Expr → List Bool → Type 0
     ConversionJudged false e bs = bs ≡ []
     ConversionJudged true e bs =

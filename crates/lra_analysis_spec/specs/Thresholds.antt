@@ -114,8 +114,8 @@ with_threshold_row so row = if has_small_numbers row && not (is_among so row) th
 abbrev pub rows_once : List (List ℤ) → List (List ℤ)
 rows_once rows = fold with_threshold_row [] rows
 
--- those of conditions once each, then those of constants that aren't among these: different constants give different
--- rows, so no row is there twice
+-- the threshold rows: those of conditions once each, then those of constants that aren't among them; no row is there
+-- twice, since different constants give different rows
 abbrev pub all_threshold_rows : List (List ℤ) → List (List ℤ) → List (List ℤ)
 all_threshold_rows own more = own ++ filter (λ row. not (is_among own row)) more
 

@@ -24,7 +24,7 @@ impl Drop for Division {
 }
 
 impl Division {
-    /// The same division again.
+    /// A copy of the division.
     pub fn copy(&self, alloc: Global) -> Result<Self, AllocError>
         ensures { IfOk result (λ d. d ≡ self.now) }
     {

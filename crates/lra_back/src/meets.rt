@@ -66,7 +66,7 @@ pub fn meet_all<D: Backward>(
     Ok(BackwardValues { values, flag })
 }
 
-/// So many points, of which none is settled.
+/// For so many points, that none of them is settled.
 fn none_settled(alloc: Global, count: usize) -> Result<Vec<bool>, AllocError>
     ensures count { IfOk result (λ v. length v.items ≡ count) }
     ensures none { IfOk result (λ v. (p : ℕ) → slice_get v.items p ≢ Some true) }

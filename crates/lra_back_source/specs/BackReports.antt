@@ -52,7 +52,7 @@ pub record IsBackwardFinding (constants : List ℤ) (P : Program) (g : Node) (p 
       values last
   pub proved : (holds ≡ true) ↔ NothingLeftAtStart polyhedron_abstraction P.globals (sites_of P) g values
 
--- and so it is reported of a source
+-- the report is one of going back over this source from its assertion at the point p
 pub record IsBackReportOf (source : List ℕ) (p : ℕ) (r : BackReport) : Type 0 where
   pub program : IsProgram source
   pub constants : List ℤ
@@ -106,7 +106,7 @@ pub record StrainsInAccess (constants : List ℤ) (P : Program) (g : Node) (q : 
   pub judged : JudgesAccesses polyhedron_abstraction (iteration.straining_operations polyhedron_abstraction) g forward
       None inside (Some q)
 
--- and so does an operation with which these are gone back over
+-- an operation with which these values are gone back over exceeds a limit
 pub record StrainsBack (constants : List ℤ) (P : Program) (g : Node) (p q : ℕ) : Type 0 where
   pub forward : List Polyhedron
   pub written : IsWrittenForward constants P g forward
@@ -145,8 +145,8 @@ BacksHaveSamePoints = (source : List ℕ) (p : ℕ) (r : BackReport) → IsBackR
 
 -- refusals ---------------------------------------------------------------------------------------------------------
 
--- its own refusal; no assertion at the point; or, where there is one, too many paths from the source of this number, be
--- they on the way to it or not
+-- the source's own refusal; no assertion at the point; or, where there is one, too many paths from the source of this
+-- number, be they on the way to it or not
 abbrev pub IsBackRefusalOf : List ℕ → ℕ → BackRefusal → Type 0
 IsBackRefusalOf source p (Source r) = Refuse Spells source r.cause r.place
 IsBackRefusalOf source p NoAssertion = (x : IsProgram source) × (IsAssertion (sites_of (program_of x)) p → ⊥)

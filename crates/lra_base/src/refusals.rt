@@ -50,7 +50,7 @@ impl Cause {
     ghost use Rattle.std.specs.Prelude.{◌≡◌};
     ghost use Rattle.lra_base.specs.Causes.{cause_number, cause_name};
 
-    /// Its number, from 1.
+    /// The number of the cause, from 1.
     pub fn number(self) -> u32
         ensures { result ≡ cause_number self }
     {
@@ -75,7 +75,7 @@ impl Cause {
         }
     }
 
-    /// Its name.
+    /// The name of the cause.
     pub fn name(self) -> &'static str
         ensures { result.now ≡ cause_name self }
     {

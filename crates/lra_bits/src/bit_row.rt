@@ -27,7 +27,7 @@ impl Model for BitRow {
 }
 
 impl BitRow {
-    /// So many truth values, all false.
+    /// A row of `width` truth values, all false.
     pub fn new(alloc: Global, width: usize) -> Result<BitRow, AllocError>
         ensures { IfOk result (λ row. row ≡ replicate width false) }
     {
@@ -35,7 +35,7 @@ impl BitRow {
         Ok(BitRow { width, words })
     }
 
-    /// So many truth values, all true.
+    /// A row of `width` truth values, all true.
     pub fn all_true(alloc: Global, width: usize) -> Result<BitRow, AllocError>
         ensures { IfOk result (λ row. row ≡ replicate width true) }
     {
@@ -46,7 +46,7 @@ impl BitRow {
         Ok(row)
     }
 
-    /// The same list again.
+    /// A copy of the row.
     pub fn copy(&self) -> Result<BitRow, AllocError>
         ensures { IfOk result (λ row. row ≡ self.now) }
     {

@@ -38,7 +38,7 @@ impl SatMatrix {
         }
     }
 
-    /// The same matrix again.
+    /// A copy of the matrix.
     pub fn copy(&self) -> Result<SatMatrix, AllocError>
         ensures { IfOk result (λ m. m ≡ self.now) }
     {

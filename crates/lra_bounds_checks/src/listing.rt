@@ -22,7 +22,7 @@ pub struct Access<'a> {
     pub index: &'a Expr,
 }
 
-/// The accesses of an expression come after the others.
+/// Appends the accesses of an expression.
 #[cycle(expressions)]
 pub fn push_accesses<'a>(e: &'a Expr, all: &mut Vec<Access<'a>>) -> Result<(), AllocError>
     ensures { OnOk result (map access_view all.new.items ≡
@@ -47,7 +47,7 @@ pub fn push_accesses<'a>(e: &'a Expr, all: &mut Vec<Access<'a>>) -> Result<(), A
     }
 }
 
-/// Those of a chain's operands after the first.
+/// Appends the accesses of a chain's operands after the first.
 #[cycle(expressions)]
 fn push_operands<'a>(
     operations: &'a [Operation],
@@ -62,7 +62,7 @@ fn push_operands<'a>(
     Ok(())
 }
 
-/// Those of an element that gets a value, itself the last.
+/// Appends the accesses of an element that gets a value; its own comes last.
 fn push_aim<'a>(element: &'a Element, all: &mut Vec<Access<'a>>) -> Result<(), AllocError>
     ensures { OnOk result (map access_view all.new.items ≡
         map access_view all.old.items ++ aim_accesses (element_view element.now)) }
@@ -76,7 +76,7 @@ fn push_aim<'a>(element: &'a Element, all: &mut Vec<Access<'a>>) -> Result<(), A
     Ok(())
 }
 
-/// Those of arguments.
+/// Appends the accesses of arguments.
 fn push_arguments<'a>(
     arguments: &'a [Argument],
     all: &mut Vec<Access<'a>>,
@@ -90,7 +90,7 @@ fn push_arguments<'a>(
     Ok(())
 }
 
-/// Those of both sides of a comparison.
+/// Appends the accesses of both sides of a comparison.
 fn push_both<'a>(
     left: &'a Expr,
     right: &'a Expr,
@@ -103,7 +103,7 @@ fn push_both<'a>(
     push_accesses(right, all)
 }
 
-/// Those of a condition.
+/// Appends the accesses of a condition.
 #[cycle(conditions)]
 fn push_condition<'a>(condition: &'a Cond, all: &mut Vec<Access<'a>>) -> Result<(), AllocError>
     ensures { OnOk result (map access_view all.new.items ≡
@@ -124,7 +124,7 @@ fn push_condition<'a>(condition: &'a Cond, all: &mut Vec<Access<'a>>) -> Result<
     }
 }
 
-/// Those of the conditions of a chain.
+/// Appends the accesses of a chain's conditions.
 #[cycle(conditions)]
 fn push_sides<'a>(conditions: &'a [Cond], all: &mut Vec<Access<'a>>) -> Result<(), AllocError>
     ensures { OnOk result (map access_view all.new.items ≡
@@ -136,7 +136,7 @@ fn push_sides<'a>(conditions: &'a [Cond], all: &mut Vec<Access<'a>>) -> Result<(
     Ok(())
 }
 
-/// Those of a least change.
+/// Appends the accesses of an operation.
 fn push_change<'a>(op: &'a Op, all: &mut Vec<Access<'a>>) -> Result<(), AllocError>
     ensures { OnOk result (map access_view all.new.items ≡
         map access_view all.old.items ++ op_accesses (op_view op.now)) }

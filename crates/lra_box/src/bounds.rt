@@ -29,7 +29,7 @@ pub fn universe(alloc: Global, n: usize) -> Result<Bounds, AllocError>
     Ok(Some(vec![in alloc; Interval::FULL; n]?))
 }
 
-/// The same bounds again.
+/// A copy of the bounds.
 pub fn copy_bounds(alloc: Global, bounds: &Bounds) -> Result<Bounds, AllocError>
     ensures { IfOk result (λ b. bounds_view b ≡ bounds_view bounds.now) }
 {
@@ -89,7 +89,7 @@ pub fn wide_row(alloc: Global, e: &LinExpr) -> Result<Vec<i128>, AllocError>
     Ok(row)
 }
 
-/// The same times -1.
+/// The form's coefficients times -1, as wider numbers.
 pub fn opposite_row(alloc: Global, e: &LinExpr) -> Result<Vec<i128>, AllocError>
     ensures row { IfOk result (λ row. row.items ≡ map neg_ℤ e.now.coefficients) }
     ensures range { IfOk result (λ row. All InRange row.items) }

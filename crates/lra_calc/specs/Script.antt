@@ -298,7 +298,7 @@ output (Some s) = s.printed ++ flag_text s.flagged
 pub data Refusal : Type 0 where
   -- it has more bytes than a script may have; the first that is too many is at this place
   TooLong : Place → Refusal
-  -- its first refused line
+  -- the script's first refused line
   AtLine : Refused → Refusal
 
 abbrev pub ended : End → Result (List ℕ) Refusal

@@ -128,7 +128,7 @@ fn run(alloc: Global, bytes: &[u8]) -> Result<Vec<u8>, CalcError>
 }
 
 /// What a script writes, or why it is refused: a script of more than 65,536 bytes, and one with a line that is refused.
-/// Its lines are carried out in order, and the first that is refused is answered.
+/// The lines are carried out in order, and the first that is refused is answered.
 #[tactic(auto, using(crate::proofs::SessionLemmas::membership_tells))]
 pub fn script(alloc: Global, bytes: &[u8]) -> Result<Vec<u8>, CalcError>
     ensures answer { Answers result (spec.AnswersTo bytes.now) }

@@ -47,7 +47,7 @@ pub record IsPathCheck (live : ℕ) (rows : List LinearRow) (steps : List Action
   pub count : t.count ≡ length rows + tests_in steps
   pub facts : MatchOption t.facts ((e : Excess) × (executed_path live steps ≡ Err e)) (ArePathFactsOf live rows steps)
 
--- its lines have a factor for each of its premises
+-- the lines of the grounds have a factor for each of their premises
 pub record AreCounted (count : ℕ) (g : PathFacts) : Type 0 where
   pub are : ArePathFacts g
   pub many : length g.premises.rows ≡ count

@@ -21,7 +21,7 @@ pub enum LineFault {
 }
 
 impl LineFault {
-    /// Its name, as it is printed.
+    /// The fault's name, as it is printed.
     pub fn name(self) -> &'static str
         ensures { result.now ≡ fault_name (fault_view self) }
     {
@@ -37,7 +37,7 @@ impl LineFault {
 /// Why an input is refused.
 #[derive(Clone, Copy, Debug, PartialEq, Eq)]
 pub enum VerifyRefusal {
-    /// Its source is refused.
+    /// The source in the certificate is refused.
     Source(Refusal),
     /// Too many paths lead from the source of this number to one point, or to where one assertion is false.
     Paths(u32),

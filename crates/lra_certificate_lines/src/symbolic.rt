@@ -64,7 +64,7 @@ fn put(forms: &mut Vec<Row>, place: usize, row: Row)
     }
 }
 
-/// So many variables go from the end, or all.
+/// Removes so many variables from the end, or all.
 fn cut_last(forms: &mut Vec<Row>, count: usize)
     ensures { forms.new.items ≡ take (length forms.old.items - count) forms.old.items }
 {
@@ -72,7 +72,7 @@ fn cut_last(forms: &mut Vec<Row>, count: usize)
     forms.truncate(left);
 }
 
-/// So many variables come last, each of a symbol of its own, from this column on.
+/// Appends so many variables, each with a symbol of its own, from this column on.
 fn push_symbols(
     alloc: Global,
     width: usize,
@@ -175,7 +175,7 @@ impl SymbolicExecution {
         Ok(())
     }
 
-    /// So many variables come last, each of a symbol of its own.
+    /// Appends so many variables, each with a symbol of its own.
     fn embed(&mut self, alloc: Global, count: usize) -> Result<(), AllocError>
         requires small { self.old.tests.dims < 2 ^ 61 }
         requires wide { HasWidth (suc self.old.tests.dims) self.old }

@@ -9,7 +9,7 @@ use Rattle.lra_certificate_spec.specs.{CertificateText.row_text, Certificates.Is
 abbrev pub rows_text : List LinearRow → List ℕ
 rows_text rows = flat_map (λ g. text_line (row_text g)) rows
 
--- its rows have its dimensions, and numbers of the range
+-- the rows of the list have its dimensions, and numbers of the range
 abbrev pub ArePointRows : LinearSystem ConKind → Type 0
 ArePointRows rows = AllByRecursion (IsPointRow rows.dims) (constraints rows)
 

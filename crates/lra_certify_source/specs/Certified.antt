@@ -70,7 +70,8 @@ pub record IsStrainedAt (source : List ℕ) (r : Report) (at : StrainedAt) : Typ
   pub handed : IsHanded source r states proved
   pub stops : StopsAt (program_of handed.program) handed.program.operations states proved at
 
--- its own refusal; too many paths from the source of this number; or a limit exceeded with a report that it must get
+-- the source's own refusal; too many paths from the source of this number; or a limit exceeded with a report that it
+-- must get
 abbrev pub IsCertifyRefusalOf : List ℕ → CertifyRefusal → Type 0
 IsCertifyRefusalOf source (Source r) = Refuse Spells source r.cause r.place
 IsCertifyRefusalOf source (Paths p) = (x : IsProgram source) × HasTooManyPaths (program_of x) x.operations p

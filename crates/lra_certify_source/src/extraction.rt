@@ -24,7 +24,7 @@ fn state_of(value: &Polyhedron) -> Result<Option<ConSys>, AllocError>
     }
 }
 
-/// Those of all values, in order.
+/// The rows of each value, in order; none for a value without a point.
 pub(crate) fn states_of(
     alloc: Global,
     values: &[Polyhedron],

@@ -18,11 +18,11 @@ use Rattle.lra_command_line.specs.declared.command_line.Subcommand.TheVariants a
 abbrev pub valued : Text → ValueParser → Rule
 valued name parser = record (new_rule name) { long = Some name; value_names = 1; parser = Some parser }
 
--- the same with a default
+-- `--name VALUE` with this parser and this default
 abbrev pub defaulted : Text → ValueParser → Text → Rule
 defaulted name parser default = record (valued name parser) { defaults = default ∷ [] }
 
--- the same without one, to be given
+-- `--name VALUE` with this parser, which has to be given
 abbrev pub required : Text → ValueParser → Rule
 required name parser = record (valued name parser) { required = true }
 

@@ -184,7 +184,7 @@ Asks words chosen = (parser : ValueParser) × TakesDomains parser
     × (fault_of (command_line parser) words ≡ [])
     × (command_of (subcommand_of (command_line parser) words) ≡ Some chosen)
 
--- the same, over this file
+-- the words ask for this command over this file
 abbrev pub AsksOver : List Text → Command → Option Text → Type 0
 AsksOver words chosen file = (parser : ValueParser) × TakesDomains parser
     × (fault_of (command_line parser) words ≡ [])

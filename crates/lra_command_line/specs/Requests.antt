@@ -55,7 +55,7 @@ IsUnasked words (unasked.Shown e) = IsFaulted words true
 IsUnasked words (unasked.Refused e) = IsFaulted words false
 IsUnasked words unasked.Conflict = IsConflict words
 
--- the same without the text
+-- why the words ask for no command, without the text that says it
 abbrev pub refusal : Unasked → Refusal
 refusal unasked.Memory = Memory
 refusal other = Usage

@@ -83,7 +83,7 @@ pub(crate) enum Subcommand {
     Plain(PlainCommand),
 }
 
-/// These subcommands, in the order in which help has them.
+/// The subcommands, in the order of the help text.
 const SUBCOMMANDS: [Subcommand; 7] = [
     Subcommand::Analyse,
     Subcommand::Sample,
@@ -95,7 +95,7 @@ const SUBCOMMANDS: [Subcommand; 7] = [
 ];
 
 impl Subcommand {
-    /// Its name among the words.
+    /// The subcommand's name on the command line.
     fn name(self) -> &'static str
         ensures { result.now ≡ subcommand_name self }
     {

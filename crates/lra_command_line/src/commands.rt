@@ -24,7 +24,7 @@ pub enum PlainCommand {
     Certify,
 }
 
-/// These commands, in the order in which the command line has them.
+/// The commands without options, in the order in which the command line has them.
 pub const PLAIN_COMMANDS: [PlainCommand; 3] = [
     PlainCommand::Calc,
     PlainCommand::Verify,
@@ -32,7 +32,7 @@ pub const PLAIN_COMMANDS: [PlainCommand; 3] = [
 ];
 
 impl PlainCommand {
-    /// Its name among the words.
+    /// The command's name on the command line.
     pub fn name(self) -> &'static str
         ensures { result.now ≡ plain_name self }
     {

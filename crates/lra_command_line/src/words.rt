@@ -53,7 +53,7 @@ pub(crate) enum Unasked {
 }
 
 impl Unasked {
-    /// The same without the text.
+    /// Why the words ask for nothing, without the text that says it.
     fn refusal(&self) -> Refusal
         ensures { result ≡ refusal self.now }
     {
@@ -112,7 +112,7 @@ fn begin_options(matches: &ArgMatches) -> Option<Options>
     })
 }
 
-/// These options with the numbers that are read.
+/// The options with the numbers that the words give.
 fn read_numbers(matches: &ArgMatches, options: Options) -> Option<Options>
     ensures { result ≡
         fold (with_number (rows_of (found_of matches.now))) (Some options) number_options }
@@ -125,7 +125,7 @@ fn read_numbers(matches: &ArgMatches, options: Options) -> Option<Options>
     Some(read)
 }
 
-/// These options with the flags that are read.
+/// The options with the flags that the words give.
 fn read_flags(matches: &ArgMatches, options: Options) -> Option<Options>
     ensures { result ≡
         fold (with_flag (rows_of (found_of matches.now))) (Some options) flag_options }
@@ -194,7 +194,7 @@ fn gives_any(matches: &ArgMatches) -> bool
     is_given(matches, "domain") || gives_number(matches) || gives_flag(matches)
 }
 
-/// These options with a flag that is read, if it stands beside `--best`.
+/// The options with this flag as the words give it, if the flag may be given beside `--best`.
 fn read_beside(matches: &ArgMatches, option: FlagOption, options: Options) -> Option<Options>
     ensures { result ≡ with_beside (rows_of (found_of matches.now)) (Some options) option }
 {
@@ -218,7 +218,7 @@ fn read_settled(matches: &ArgMatches) -> Option<Options>
     Some(read)
 }
 
-/// The same, if none of those for which it stands is given beside it.
+/// The options of `--best`, if none of the options that it stands for is given beside it.
 fn read_best(matches: &ArgMatches) -> Option<Options>
     ensures { result ≡ best_of (rows_of (found_of matches.now)) }
 {

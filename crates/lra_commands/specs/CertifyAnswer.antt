@@ -42,7 +42,7 @@ abbrev pub AnswersCertify : List ℕ → List ℕ → Status → Type 0
 AnswersCertify bytes text status =
     (IsCertifyRefusal bytes text × (status ≡ Refused)) ⊎ IsCertifyAnswer bytes text status
 
--- its program has too many paths
+-- the program of the source has too many paths
 abbrev pub HasManyPaths : List ℕ → Type 0
 HasManyPaths bytes = (x : IsProgram bytes) × (p : ℕ) × HasTooManyPaths (program_of x) x.operations p
 

@@ -46,7 +46,7 @@ statuses_of (Plain Calc) = script_statuses
 statuses_of (Plain Verify) = certificate_statuses
 statuses_of (Plain Certify) = source_statuses
 
--- those of an answer to these bytes
+-- the statuses of an answer to these bytes
 abbrev pub AllowedInputStatuses : Command → List ℕ → List Status → Type 0
 AllowedInputStatuses (Analyse options format) bytes among = AllowedSourceStatuses reported bytes among
 AllowedInputStatuses (Sample seed size) bytes among = ⊥

@@ -16,7 +16,7 @@ origin flips x i = cond (flips && i / 2 == x) (opposite i) i
 abbrev pub shifted : Bool → ℕ → ℤ → Entries → Entries
 shifted flips x c m i j = m (origin flips x i) (origin flips x j) ⊞ Some (added_to x c j -ℤ added_to x c i)
 
--- the same, where a number that passes the range counts as infinite
+-- the shifted entries, where a number that passes the range counts as infinite
 abbrev pub shifted_within : Bool → ℕ → ℤ → Entries → Entries
 shifted_within flips x c m i j = within_range (shifted flips x c m i j)
 

@@ -194,7 +194,7 @@ impl Dbm {
         self.dims = dims;
     }
 
-    /// The same matrix again.
+    /// A copy of the matrix.
     pub fn copy(&self, alloc: Global) -> Result<Dbm, AllocError>
         ensures { IfOk result (λ m. m ≡ self.now) }
     {

@@ -42,7 +42,7 @@ abbrev pub IsMadeOfPoints : ℕ → ConeContent → List LinearRow → Polyhedro
 IsMadeOfPoints n cone list p losses = ((losses ≡ []) × IsPolyhedronOf n (Gen cone.taken) p) ⊎
     (OwnListStrains cone [] losses × IsOfFirst n list p)
 
--- the same, where each of them was added; else that of constraints that hold at each
+-- the polyhedron of the generators if each of them was added; else that of constraints that hold at each
 pub record IsOfPoints (n : ℕ) (given : List LinearRow) (p : Polyhedron) (losses : List Loss) : Type 0 where
   pub cone : ConeContent
   pub list : LinearSystem ConKind

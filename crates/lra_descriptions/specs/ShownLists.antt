@@ -69,7 +69,7 @@ abbrev pub without : List ℤ → List (List ℤ) → List (List ℤ)
 without row [] = []
 without row (r ∷ rows) = cond (is_eq (row_cmp r row)) (without row rows) (r ∷ without row rows)
 
--- Those of the rays that are above 0 in column 0, then the others, each in order, then the lines.
+-- The list of generators: the rays above 0 in column 0 (points), then the other rays, each in order, then the lines.
 pub record ListsGenerators (lines rays : List (List ℤ)) (list : LinearSystem GenKind) : Type 0 where
   pub points : List (List ℤ)
   pub directions : List (List ℤ)
@@ -107,7 +107,7 @@ abbrev pub IsValid : Bool → List ℤ → List LinearRow → Type 0
 IsValid equal r list =
     (g : LinearRow) → Contains list g → HoldsWith equal (product r g.row) × HoldsWith g.equal (product r g.row)
 
--- and with each product in the range
+-- the row is valid on each of the list, with each product in the range
 abbrev pub IsSeenValid : Bool → List ℤ → List LinearRow → Type 0
 IsSeenValid equal r list = (g : LinearRow) → Contains list g
     → IsOk (checked_product r g.row) × HoldsWith equal (product r g.row) × HoldsWith g.equal (product r g.row)

@@ -56,7 +56,7 @@ fn is_valid(row: &Row, kind: ConKind, list: &ConSys) -> bool
     true
 }
 
-/// Those of the rows that are seen to be valid on each of the list: with each product in the range.
+/// The rows that are seen to be valid on each constraint or generator of the list: with each product in the range.
 pub fn valid_rows(
     alloc: Global,
     rows: &[Row],

@@ -48,7 +48,7 @@ pub record Abstraction (V H : Type 0) : Type 1 where
   -- the list is a store of the head
   pub head_gamma : H → List ℤ → Type 0
   pub head_dims : H → ℕ
-  -- its values may have so many parts
+  -- the head's values may have so many parts
   pub head_capped : H → ℕ → Type 0
   pub rank : H → Rank
   pub head_leq : H → H → Type 0

@@ -16,9 +16,9 @@ pub enum Change {
     Forget(usize),
     /// Only stores that pass need stay.
     Test(Test),
-    /// So many dimensions of any value come last.
+    /// Appends so many dimensions, of any value.
     Embed(usize),
-    /// So many last dimensions go.
+    /// Removes so many dimensions, the last ones.
     RemoveLast(usize),
 }
 

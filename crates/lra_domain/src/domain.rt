@@ -99,7 +99,7 @@ pub trait Domain: Sized + Drop {
         ensures defined { IfOk result (λ v. abstraction.bottom n cap v) }
         ensures dims { IfOk result (λ v. abstraction.dims v ≡ n) };
 
-    /// The same value again.
+    /// A copy of the value.
     fn copy(&self, alloc: Global) -> Result<Self, AllocError>
         ensures { IfOk result (λ v. v ≡ self.now) };
 

@@ -37,7 +37,7 @@ pub enum Strained {
 }
 
 impl Strained {
-    /// The same without places.
+    /// The cause, without the places of rows.
     pub fn cause(self) -> Cause
         ensures { result ≡ cause_of self }
     {

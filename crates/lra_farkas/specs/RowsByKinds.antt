@@ -19,7 +19,7 @@ HasNoFirst n rows NotImplied = IsEmptySet n (Con rows)
 HasNoFirst n rows Strained = (loss : Loss) × FromRowsStrains n rows loss
 HasNoFirst n rows Memory = Unit {0}
 
--- the same of rows that are converted in another order, where a strain is that order's
+-- why rows that are converted in another order have no point; a strain is one of that order
 abbrev pub HasNoPoint : ℕ → List LinearRow → MultipliersFailure → Type 0
 HasNoPoint n rows NotImplied = IsEmptySet n (Con rows)
 HasNoPoint n rows Strained = Unit {0}

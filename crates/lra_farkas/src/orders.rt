@@ -72,7 +72,7 @@ fn unkey_rows(alloc: Global, dims: usize, keyed: &[Keyed]) -> Result<ConSys, All
     Ok(rows)
 }
 
-/// The same rows in another order.
+/// The rows of the list in this order.
 pub fn reorder(alloc: Global, rows: &ConSys, order: Order) -> Result<ConSys, AllocError>
     requires small { rows.now.dims < too_many_dimensions }
     ensures dims { IfOk result (λ s. s.dims ≡ rows.now.dims) }

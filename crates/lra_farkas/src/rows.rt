@@ -75,7 +75,7 @@ fn push_balances(
     Ok(())
 }
 
-/// That the multiplier in this column is not below 0 comes last.
+/// Appends the row that says that the multiplier in this column is at least 0.
 fn push_sign(alloc: Global, column: usize, rows: &mut ConSys) -> Result<(), AllocError>
     requires small { rows.old.dims < too_many_dimensions }
     requires column { column < suc rows.old.dims }
@@ -90,7 +90,7 @@ fn push_sign(alloc: Global, column: usize, rows: &mut ConSys) -> Result<(), Allo
     Ok(())
 }
 
-/// That the multipliers of the inequalities are not below 0 comes last.
+/// Appends a row for each inequality: its multiplier is at least 0.
 fn push_signs(alloc: Global, kinds: &[ConKind], rows: &mut ConSys) -> Result<(), AllocError>
     requires dims { rows.old.dims ≡ suc (length kinds.now) }
     requires small { rows.old.dims < too_many_dimensions }

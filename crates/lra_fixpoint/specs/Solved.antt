@@ -18,8 +18,8 @@ pub record IsSolved {V H : Type 0} (m : Abstraction V H) (plan : Plan) (P : Prog
   pub written : flagged ≡ None → ExactIteration m plan P tree result
   pub strained : (q : ℕ) → flagged ≡ Some q → StrainsAtPoint m plan P tree q
 
--- the same among others, and what variables got: a note has the number of the point, the variable's place and the value
--- that the derivation has after that
+-- a derivation with drops among others, and what variables got: a note has the number of the point, the variable's
+-- place and the value that the derivation has after that
 pub record IsSolvedUnder {V H : Type 0} (o : Interference V) (m : Abstraction V H) (plan : Plan) (P : Program)
     (tree : Node)
     (values : List V) (notes : List (ℕ × ℕ × V)) (verdicts : List (ℕ × Bool)) (flagged : Option ℕ) : Type 0 where

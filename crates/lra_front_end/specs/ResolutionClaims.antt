@@ -21,7 +21,7 @@ abbrev pub ReadAreWellFormed : Language → Type 0
 ReadAreWellFormed L = (source : List ℕ) (tokens : List Token) (t : FileTree) → Lex source tokens → IsTree L tokens t →
     name_faults t ≡ [] → IsWellFormed (resolve t)
 
--- and each array that it names is there
+-- each array that the program of a source without faults of names uses is there
 abbrev pub FaultlessHaveArrays : Type 0
 FaultlessHaveArrays = (t : FileTree) → name_faults t ≡ [] → HasArrays (resolve t)
 

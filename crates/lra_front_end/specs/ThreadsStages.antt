@@ -16,7 +16,7 @@ pub record IsInlinedOf (P : Program) (g : InlinedProgram) : Type 0 where
   pub agrees : Agrees P (node_view g.tree)
   pub points : map site_view g.sites.items ≡ sites_of P
 
--- that of the thread whose function stands at this place
+-- the tree of operations of the thread whose function stands at this place
 abbrev pub IsThreadInlined : FileTree → ℕ → InlinedProgram → Type 0
 IsThreadInlined t place g = IsInlinedOf (thread_program t place) g
 

@@ -28,7 +28,7 @@ pub fn program_of(alloc: Global, tree: &TranslationUnit) -> Result<Resolution, S
     Ok(resolution)
 }
 
-/// That no function reaches itself by calls, or the refusal of the first call by which one does.
+/// Checks that no function reaches itself by calls; else gives the refusal of the first call by which one does.
 #[tactic(auto, using(crate::proofs::StageSteps::first_refused))]
 pub fn check_calls(
     alloc: Global,

@@ -21,7 +21,7 @@ MovesPoint (test kind e) x y = (y ≡ x) × Holds (test_row kind e) x
 MovesPoint (embed k) x y = take (length x) y ≡ x
 MovesPoint (remove_last k) x y = SamePoint y (take (suc (dimension x - k)) x)
 
--- and that is a point of so many dimensions as there are after the action
+-- the action leads from the first row to the second, a point of as many dimensions as there are after the action
 abbrev pub LeadsPoint : Action → List ℤ → List ℤ → Type 0
 LeadsPoint step x y = IsPoint (dims_after step (dimension x)) y × MovesPoint step x y
 

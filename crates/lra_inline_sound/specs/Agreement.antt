@@ -12,14 +12,14 @@ WellFormedAreDistinct = (P : Program) → IsWellFormed P → AreDistinct (sites_
 abbrev pub WellFormedAgree : Type 0
 WellFormedAgree = (P : Program) (g : Node) → IsWellFormed P → IsInlinedTree P g → Agrees P g
 
--- and has its traces
+-- each tree of a well-formed program has the traces of its runs
 abbrev pub WellFormedHaveTraces : Type 0
 WellFormedHaveTraces = (P : Program) (g : Node) → IsWellFormed P → IsInlinedTree P g → TracesAgree NoChange P g
 
--- and asks well
+-- each tree of a well-formed program asks where an operation can stop a run by a number
 abbrev pub WellFormedAgreeOnOverflows : Type 0
 WellFormedAgreeOnOverflows = (P : Program) (g : Node) → IsWellFormed P → IsInlinedTree P g → AgreesOnOverflows P g
 
--- and says where an access is outside its array
+-- each tree of a well-formed program says where an access is outside its array
 abbrev pub WellFormedAgreeOnAccesses : Type 0
 WellFormedAgreeOnAccesses = (P : Program) (g : Node) → IsWellFormed P → IsInlinedTree P g → AgreesOnAccesses P g

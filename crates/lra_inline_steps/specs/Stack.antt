@@ -258,7 +258,7 @@ PassesLabels before after cases left =
     (labels : List CaseLabel) × (cases_of (map case_view cases) ≡ labelled_all labels left)
     × (map arm_view after ≡ map arm_view before ++ map entry_part labels)
 
--- the same, by what stands around in code and the points before and after it
+-- where a step leads, by what stands around in code and the points before and after it
 abbrev pub InlineStepLeadsFrom : Around → Points → Points → Work → next.Next → Type 0
 InlineStepLeadsFrom at before after w n =
     InlineStepLeads (program_around at) (inline_task w at.path.now at.frame (points_in before)) n at.path.now

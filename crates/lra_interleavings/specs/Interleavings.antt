@@ -74,7 +74,7 @@ ended w k = record w { threads = slice_set w.threads k None }
 
 -- steps ------------------------------------------------------------------------------------------------------------
 
--- So many steps of the program, it alone, lead from one configuration, with this point on top, to another; the point is
+-- Steps of the program alone, n of them, lead from one configuration, with this point on top, to another; the point is
 -- met, and no further one.
 abbrev pub LeadsOn : Program → ℕ → Point → Config → Config → Type 0
 LeadsOn P n p c d = IsOn c p × TracedSteps NoChange P n c [] d (visit p c.state ∷ [])
@@ -152,17 +152,17 @@ module _ (P : Program) (fs : List Function) where
     pub runs : RunsThere w k f t
     pub on : IsOn (sees w t) p
 
-  -- and sees this store
+  -- after some list of steps the k-th thread has the point on top, and sees this store
   abbrev pub AtThread : ℕ → Point → List ℤ → Type 0
   AtThread k p store = (w : Threads) × (f : Function) × (t : Thread) × StandsAt k p w f t ×
       ((seen_by w t).store ≡ store)
 
-  -- and the assertion there is false
+  -- after some list of steps the k-th thread has the point on top, and the assertion there is false
   abbrev pub FailsThread : ℕ → Point → Type 0
   FailsThread k p = (w : Threads) × (f : Function) × (t : Thread) × StandsAt k p w f t ×
       IsFailing t.items t.here (seen_by w t)
 
-  -- and evaluates the point's n-th access, counted from 0, outside that access's array
+  -- after some list of steps the k-th thread evaluates the point's n-th access, counted from 0, outside its array
   abbrev pub OutOfBoundsThread : ℕ → Point → ℕ → Type 0
   OutOfBoundsThread k p n = (w : Threads) × (f : Function) × (t : Thread) × StandsAt k p w f t ×
       IsOutOfBounds (thread_program P f) n t.items t.here (seen_by w t)

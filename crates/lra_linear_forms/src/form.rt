@@ -42,7 +42,7 @@ impl LinExpr {
         })
     }
 
-    /// The same form again.
+    /// A copy of the form.
     pub fn copy(&self, alloc: Global) -> Result<Self, AllocError>
         ensures { IfOk result (λ e. e ≡ self.now) }
     {

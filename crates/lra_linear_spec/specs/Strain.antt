@@ -35,7 +35,7 @@ abbrev pub is_tight_at : List (List ℤ) → List ℤ → Bool
 is_tight_at [] r = true
 is_tight_at (t ∷ rays) r = cond (int_eq (product r t) (pos 0)) (is_tight_at rays r) false
 
--- those of the rows that are tight at each of the rays, in their order
+-- the rows that are tight at each of the rays, in their order
 abbrev pub tight_rows : List (List ℤ) → List (List ℤ) → List (List ℤ)
 tight_rows rays [] = []
 tight_rows rays (r ∷ rows) = cond (is_tight_at rays r) (r ∷ tight_rows rays rows) (tight_rows rays rows)

@@ -14,7 +14,7 @@ use lra_linear_forms::{LinExpr, Test};
 use lra_linear_spec::ConKind;
 use std::alloc::{AllocError, Global};
 
-/// That the form is at least 0.
+/// The test that the form is at least 0.
 fn test_sign(alloc: Global, form: &LinExpr) -> Result<Change, AllocError>
     ensures { IfOk result (λ change. action_of change ≡ action.test Ge form.now) }
 {
@@ -23,7 +23,7 @@ fn test_sign(alloc: Global, form: &LinExpr) -> Result<Change, AllocError>
     Ok(Change::Test(Test { expr, kind }))
 }
 
-/// That so much and the remainder, times this, are at least 0.
+/// The test that the constant and the factor times the remainder sum to at least 0.
 fn test_remainder(
     alloc: Global,
     live: usize,
@@ -39,7 +39,7 @@ fn test_remainder(
     Ok(Change::Test(Test { expr, kind }))
 }
 
-/// That `A - k*t - r` is 0, as it is in both cases.
+/// The test that `A - k*t - r` is 0, as it is in both cases.
 fn test_left_over(alloc: Global, division: &Division) -> Result<Change, AllocError>
     requires { pos 1 ≤ℤ division.now.divisor }
     ensures { IfOk result (λ change. action_of change ≡ action.test Eq (left_over division.now)) }

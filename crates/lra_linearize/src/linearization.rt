@@ -176,7 +176,7 @@ fn see_share(alloc: Global, live: usize, base: usize, e: &Expr) -> Result<Linear
     }
 }
 
-/// The same of a chain.
+/// The division that a chain is, by its last operator; nothing as for `see_share`.
 #[cycle(share)]
 fn see_last_share(
     alloc: Global,

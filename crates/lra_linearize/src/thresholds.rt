@@ -214,7 +214,7 @@ fn take_condition(
     }
 }
 
-/// Those of a chain of conditions: `&&` and `||` make no difference.
+/// The rows around the comparisons of a chain of conditions are added, for `&&` as for `||`.
 #[cycle(condition)]
 fn take_chain(
     alloc: Global,
@@ -272,7 +272,7 @@ fn take_tree(alloc: Global, node: &Node, rows: &mut ConSys) -> Result<(), AllocE
     }
 }
 
-/// Those of a `switch`: its labels have none.
+/// The rows around the conditions in a `switch`'s arms are added; its labels have none.
 #[cycle(tree)]
 fn take_arms(alloc: Global, arms: &[Arm], rows: &mut ConSys) -> Result<(), AllocError>
     requires { rows.old.dims < 2 ^ 62 }
@@ -285,7 +285,7 @@ fn take_arms(alloc: Global, arms: &[Arm], rows: &mut ConSys) -> Result<(), Alloc
     Ok(())
 }
 
-/// Those of one arm, before those of the arms after it.
+/// The rows around the conditions of one arm are added.
 #[cycle(tree)]
 fn take_arm(alloc: Global, arm: &Arm, rows: &mut ConSys) -> Result<(), AllocError>
     requires { rows.old.dims < 2 ^ 62 }
@@ -301,7 +301,7 @@ fn take_arm(alloc: Global, arm: &Arm, rows: &mut ConSys) -> Result<(), AllocErro
     }
 }
 
-/// Those of trees one after the other, and of the last.
+/// The rows around the conditions of trees are added, one tree after the other, then those of the last.
 #[cycle(tree)]
 fn take_trees(
     alloc: Global,
@@ -319,7 +319,8 @@ fn take_trees(
     take_tree(alloc, last, rows)
 }
 
-/// Those of what a loop does in a round: its step comes after its body in the tree, and before it in the text.
+/// The rows around the conditions of a loop's round are added, in text order: the step stands before the body in the
+/// text, and after it in the tree.
 #[cycle(tree)]
 fn take_round(alloc: Global, body: &Node, rows: &mut ConSys) -> Result<(), AllocError>
     requires { rows.old.dims < 2 ^ 62 }

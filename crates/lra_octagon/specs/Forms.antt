@@ -41,7 +41,7 @@ opposite_shape (One m i) = One m (opposite i)
 opposite_shape (Two m i j) = Two m (opposite i) (opposite j)
 opposite_shape Other = Other
 
--- its signed variables are below this number, and its magnitude is that of a number of the range other than 0
+-- the shape's signed variables are below this number, and its magnitude is that of a number of the range other than 0
 abbrev pub ShapeFits : ℕ → FormShape → Type 0
 ShapeFits b Constant = Unit {0}
 ShapeFits b (One m i) = (i < b) × (0 < m) × (m < 2 ^ 127)

@@ -168,7 +168,7 @@ OctagonTransfersTo (remove_last k) a b =
 abbrev pub ClosingPasses : ℕ → Cells → Type 0
 ClosingPasses n cells = (closing n cells).progress.flagged ≡ true
 
--- the same of the matrix with each variable in its interval
+-- a number of the numbered steps of closing the matrix with each variable in its interval passes the range
 abbrev pub BoundedPasses : ℕ → List Interval → Cells → Type 0
 BoundedPasses n is old = (cells : Cells) × Bounds n is old cells × ClosingPasses n cells
 

@@ -26,7 +26,7 @@ pub fn universe(alloc: Global, n: usize) -> Result<Dbm, AllocError>
     Ok(matrix)
 }
 
-/// The same bounds again.
+/// A copy of the bounds.
 pub fn copy_bounds(alloc: Global, bounds: &Bounds) -> Result<Bounds, AllocError>
     ensures { IfOk result (λ b. b ≡ bounds.now) }
 {

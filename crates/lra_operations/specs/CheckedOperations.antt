@@ -44,7 +44,7 @@ fresh_after fresh (catch q k a) = None
 fresh_after fresh (leave n k) = None
 fresh_after fresh (select q base e arms) = None
 
--- those of which it is asked
+-- the operations of a tree that pass this test, each with its point
 module _ (asks : Op → Bool) where
   abbrev pub op_where : ℕ → Option NumberType → Op → List OpAtPoint
   op_where q fresh op = if asks op then record { point = q; fresh = fresh; op = op } ∷ [] else []
@@ -72,7 +72,7 @@ module _ (asks : Op → Bool) where
     ops_where_in_arms fresh (entry l arms) = ops_where_in_arms fresh arms
     ops_where_in_arms fresh (arm a arms) = ops_where fresh a ++ ops_where_in_arms (fresh_after fresh a) arms
 
--- those that compute something
+-- the operations that compute something
 abbrev pub computing_op : ℕ → Option NumberType → Op → List OpAtPoint
 computing_op q fresh op = op_where op_computes q fresh op
 
@@ -82,7 +82,7 @@ computing_ops fresh g = ops_where op_computes fresh g
 abbrev pub computing_ops_in_arms : Option NumberType → Arms → List OpAtPoint
 computing_ops_in_arms fresh arms = ops_where_in_arms op_computes fresh arms
 
--- those that access arrays
+-- the operations that access arrays
 abbrev pub accessing_ops : Option NumberType → Node → List OpAtPoint
 accessing_ops fresh g = ops_where op_accesses_any fresh g
 

@@ -31,9 +31,9 @@ mutual
     check : ℕ → ℕ → Cond → Node
     -- the one, then the other
     seq : Node → Node → Node
-    -- the one where the condition is true, the other where it is false
+    -- the tree for a true condition, then the tree for a false one
     choose : ℕ → ℕ → Cond → Node → Node → Node
-    -- its point stands before the test, at each round
+    -- a loop: its point stands before the test, at each round
     iterate : ℕ → ℕ → Cond → Node → Node
     -- jumps of this kind come out after it
     catch : ℕ → Exit → Node → Node
@@ -137,7 +137,7 @@ abbrev mutual
       ((m : State) × Completes a s normal m × ArmsReachPoint l true arms m p t)
 
 abbrev mutual
-  -- and the assertion at the point is false there
+  -- a run of the tree from the state reaches the point, and the assertion there is false
   pub FailsAt : Node → State → ℕ → Type 0
   FailsAt empty s p = ⊥
   FailsAt (probe here what) s p = ⊥

@@ -272,7 +272,7 @@ pub fn enclose_call(
     enclose_callee(alloc, place, gives, parameters.len(), body)
 }
 
-/// The same where the result is for the element, which the receiver is.
+/// A call of a function with parameters of these types and this body, whose result an array's element gets.
 pub fn enclose_call_for(
     alloc: Global,
     place: CallPlace,

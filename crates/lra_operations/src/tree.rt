@@ -71,9 +71,9 @@ pub enum Node {
     Check(usize, usize, Cond),
     /// The trees one after the other, and then the last.
     Seq(Vec<Node>, Box<Node>),
-    /// The one where the condition is true, the other where it is false.
+    /// The tree for a true condition, then the tree for a false one.
     Choose(usize, usize, Cond, Box<Node>, Box<Node>),
-    /// Its point stands before the test, at each round.
+    /// A loop: its point stands before the test, at each round.
     Iterate(usize, usize, Cond, Box<Node>),
     /// Jumps of this kind come out after it.
     Catch(usize, Exit, Box<Node>),

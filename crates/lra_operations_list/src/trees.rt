@@ -90,7 +90,7 @@ fn push_arms<'a>(left: &mut Vec<Due<'a>>, arms: &'a [Arm]) -> Result<(), AllocEr
     Ok(())
 }
 
-/// Those of a `switch`, after which no variable is new.
+/// The trees in a `switch`'s arms are due before the others; after them no variable is new.
 fn push_selection<'a>(left: &mut Vec<Due<'a>>, arms: &'a [Arm]) -> Result<(), AllocError>
     ensures is { OnOk result (all_due left.new.items ≡
         apart_before (trees_of (arms_of (map arm_view arms.now))) (all_due left.old.items)) }

@@ -100,7 +100,7 @@ default_options = record {
   fits = false;
 }
 
--- those for which the word `best` stands
+-- the options for which the word `best` stands
 abbrev pub best_options : Options
 best_options = record {
   domain = Poly;

@@ -21,7 +21,7 @@ pub enum Domain {
 pub const DOMAINS: [Domain; 3] = [Domain::Poly, Domain::Box, Domain::Oct];
 
 impl Domain {
-    /// Its name, as words and reports have it.
+    /// The name on the command line and in reports.
     pub fn name(self) -> &'static str
         ensures { result.now ≡ domain_name self }
     {
@@ -94,7 +94,7 @@ pub enum NumberOption {
     Narrow,
 }
 
-/// These options, in the order of a report's first line.
+/// The options with a number, in the order of a report's first line.
 pub const NUMBER_OPTIONS: [NumberOption; 3] = [
     NumberOption::Parts,
     NumberOption::Delay,
@@ -102,7 +102,7 @@ pub const NUMBER_OPTIONS: [NumberOption; 3] = [
 ];
 
 impl NumberOption {
-    /// Its name, as words and reports have it.
+    /// The name on the command line and in reports.
     pub fn name(self) -> &'static str
         ensures { result.now ≡ (number_row self).name }
     {
@@ -135,7 +135,7 @@ impl NumberOption {
         }
     }
 
-    /// Its value where words give none, as a text.
+    /// The default, as a text.
     pub fn default_text(self) -> &'static str
         ensures { (number_row self).default ≡ Some result.now }
     {
@@ -146,7 +146,7 @@ impl NumberOption {
         }
     }
 
-    /// Its value among these.
+    /// The value that these options give it.
     pub fn value(self, options: Options) -> u32
         ensures { result ≡ number_value self options }
     {
@@ -157,7 +157,7 @@ impl NumberOption {
         }
     }
 
-    /// These options with this value of it.
+    /// The options with this option set to the value.
     pub fn set(self, value: u32, options: Options) -> Options
         ensures { result ≡ set_number self value options }
     {
@@ -207,7 +207,7 @@ pub enum FlagOption {
     Fits,
 }
 
-/// These options, in the order of a report's first line, where they come after the numbers.
+/// The options that are flags, in the order of a report's first line, after the numbers.
 pub const FLAG_OPTIONS: [FlagOption; 3] = [
     FlagOption::Limited,
     FlagOption::Thresholds,
@@ -215,7 +215,7 @@ pub const FLAG_OPTIONS: [FlagOption; 3] = [
 ];
 
 impl FlagOption {
-    /// Its name, as words and reports have it.
+    /// The name on the command line and in reports.
     pub fn name(self) -> &'static str
         ensures { result.now ≡ (flag_row self).name }
     {
@@ -248,7 +248,7 @@ impl FlagOption {
         }
     }
 
-    /// Its value among these.
+    /// The value that these options give it.
     pub fn value(self, options: Options) -> bool
         ensures { result ≡ flag_value self options }
     {
@@ -259,7 +259,7 @@ impl FlagOption {
         }
     }
 
-    /// These options with this value of it.
+    /// The options with this option set to the value.
     pub fn set(self, value: bool, options: Options) -> Options
         ensures { result ≡ set_flag self value options }
     {
@@ -310,7 +310,7 @@ pub const BEST_OPTIONS: Options = Options {
     fits: false,
 };
 
-/// These options; each number is the one that its text writes.
+/// The default options; each number is the one that `default_text` writes.
 pub fn default_options() -> Options
     ensures { result ≡ rows.default_options }
 {

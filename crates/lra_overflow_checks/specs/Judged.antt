@@ -45,7 +45,7 @@ module _ {V H : Type 0} (m : Abstraction V H) where
     pub number_type : c.number_type ≡ type_of e
     pub form : c.form ≡ form_of (m.dims v) base e
 
-  -- those on an operation, and whether what was made for them is exact
+  -- the answers on an operation came after the others; whether what was made for them is exact
   abbrev pub IsOpJudged : Op → V → List Bool → Exactness → List Bool → Type 0
   IsOpJudged op v old e new = HasAnswers (λ bs. OpJudged m (lossy_operations m) op v bs e) old new
 
@@ -66,7 +66,7 @@ module _ {V H : Type 0} (ops : Operations V H) {A : Type 0} where
 abbrev pub AreBelow : ℕ → List OpAtPoint → Type 0
 AreBelow n asked = (a : OpAtPoint) → Contains asked a → a.point < n
 
--- those of which it is asked
+-- the operations that pass this test
 abbrev pub asked_by : (Op → Bool) → List OpAtPoint → List OpAtPoint
 asked_by asks xs = filter (λ a. asks a.op) xs
 

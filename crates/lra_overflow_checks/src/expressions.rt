@@ -128,7 +128,7 @@ pub fn judge_expression<D: Domain>(
     }
 }
 
-/// Those on a chain of which the first operand is computed.
+/// Judges a chain whose first operand is computed: appends for each operation whether it fits.
 #[cycle(judge)]
 fn judge_chain<D: Domain>(
     alloc: Global,
@@ -154,7 +154,7 @@ fn judge_chain<D: Domain>(
     Ok(so_far)
 }
 
-/// Those on a value that is given to a receiver, and on its conversion.
+/// Judges a value that a receiver gets, and its conversion: appends whether each operation fits.
 pub fn judge_given<D: Domain>(
     alloc: Global,
     base: usize,
@@ -176,7 +176,7 @@ pub fn judge_given<D: Domain>(
     Ok(())
 }
 
-/// Those on arguments: nothing is pushed before all are computed.
+/// Judges arguments: appends whether each operation fits. No argument becomes a variable before all are computed.
 pub fn judge_arguments<D: Domain>(
     alloc: Global,
     base: usize,
@@ -196,7 +196,7 @@ pub fn judge_arguments<D: Domain>(
     Ok(())
 }
 
-/// Those on an element's index, then those on the value that the element gets.
+/// Judges an element's index, then the value that the element gets: appends whether each operation fits.
 pub fn judge_element<D: Domain>(
     alloc: Global,
     base: usize,
@@ -216,7 +216,7 @@ pub fn judge_element<D: Domain>(
     judge_given(alloc, base, value, receiver, e, answers)
 }
 
-/// Those on an element's index, then those on the arguments of a call whose result the element gets.
+/// Judges an element's index, then the arguments of a call whose result the element gets.
 pub fn judge_arguments_for<D: Domain>(
     alloc: Global,
     base: usize,

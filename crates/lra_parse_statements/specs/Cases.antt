@@ -19,7 +19,7 @@ parts_of c = label_parts c.0 (stated c.1 ∷ [])
 abbrev pub first_part : Parse (List CasePart)
 first_part T = cond (begins_label (first T)) (map_read (λ b. labelled b ∷ []) label_parser T) (done_with [] T)
 
--- the same, and whether there is one
+-- the first label, if there is one, and whether there is one
 abbrev pub told_part : Parse (List CasePart × Bool)
 told_part T = map_read (λ parts. (parts, begins_label (first T))) first_part T
 

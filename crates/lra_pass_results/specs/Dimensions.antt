@@ -26,8 +26,8 @@ abbrev mutual
   ArmsJumpWith (entry l arms) n k m = ArmsJumpWith arms n k m
   ArmsJumpWith (arm a arms) n k m = JumpsWith a n k m ⊎ ArmsJumpWith arms n k m
 
--- its operations have their variables, what joins has equally many, and nowhere live more than may live where moves
--- are made
+-- the tree's operations have their variables, what joins has equally many, and nowhere live more than may live where
+-- moves are made
 abbrev mutual
   pub TreeFits : Node → ℕ → Type 0
   TreeFits empty n = ⊤

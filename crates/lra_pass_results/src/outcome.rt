@@ -91,7 +91,7 @@ pub struct HeadRound<D> {
 }
 
 impl<D: Domain> PassEntry<D> {
-    /// The same entry again.
+    /// A copy of the entry.
     fn copy(&self, alloc: Global) -> Result<PassEntry<D>, AllocError>
         ensures { IfOk result (λ e. e ≡ self.now) }
     {
@@ -245,7 +245,7 @@ impl<D: Drop> PassFindings<D> {
 }
 
 impl<D: Domain> PassFindings<D> {
-    /// The same again.
+    /// A copy of what a pass found.
     fn copy(&self, alloc: Global) -> Result<PassFindings<D>, AllocError>
         ensures { IfOk result (λ r. (v : D) (f : Option ℕ) → ended r v f ≡ ended self.now v f) }
     {
@@ -263,7 +263,7 @@ impl<D: Domain> PassFindings<D> {
 }
 
 impl<D: Domain> PassOutcome<D> {
-    /// The same again, with what is flagged so far.
+    /// A copy of the outcome, with what is flagged so far.
     pub fn copy(&self, alloc: Global, flag: Option<usize>) -> Result<PassOutcome<D>, AllocError>
         ensures { IfOk result (λ r. outcome_view r ≡ ended self.now.found self.now.normal flag) }
     {

@@ -54,7 +54,7 @@ fn leave_label<D: Domain>(
     }
 }
 
-/// The same of an arm: all of the value where it is no label.
+/// What an arm leaves of the value for later labels: all of it if the arm is no label.
 fn leave_arm<D: Domain>(
     alloc: Global,
     seen: &Linearized,

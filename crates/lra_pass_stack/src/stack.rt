@@ -187,7 +187,7 @@ impl<'a, D: Drop, H: Drop> Drop for PassStack<'a, D, H> {
 }
 
 impl<'a, D: Drop, H: Drop> PassStack<'a, D, H> {
-    /// None is open.
+    /// A stack without an open frame.
     pub fn none(alloc: Global) -> PassStack<'a, D, H>
         ensures { result.open.items ≡ [] }
     {
@@ -196,7 +196,7 @@ impl<'a, D: Drop, H: Drop> PassStack<'a, D, H> {
         }
     }
 
-    /// This one opens in the innermost.
+    /// Opens the frame inside the innermost one.
     pub fn push(&mut self, place: PassFrame<'a, D, H>) -> Result<(), AllocError>
         ensures { OnOk result (self.new.open.items ≡ self.old.open.items ++ place.entry ∷ []) }
     {

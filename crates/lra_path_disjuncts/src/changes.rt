@@ -199,7 +199,7 @@ fn push_new(
     push_within(frame, place, number_type, appended, entries)
 }
 
-/// So many variables live after a new one; where forms over them have no room, nothing can be made.
+/// The number of live variables after a new one. An error if forms over so many don't fit in memory.
 fn one_more(live: usize) -> Result<usize, AllocError>
     ensures is { IfOk result (λ n. n ≡ suc live) }
     ensures few { OnOk result (live < 2 ^ 62 - 3) }

@@ -52,14 +52,14 @@ impl Drop for MovesEntry {
 /// No more paths than these may lead from one source to one goal.
 pub const GREATEST_PATHS: usize = 1024;
 
-/// So many sides, each with each of so many others.
+/// The product of two counts of sides, capped.
 fn multiply_capped(one: usize, other: usize) -> usize
     ensures { result ≡ capped (one * other) }
 {
     one.saturating_mul(other).min(GREATEST_PATHS + 1)
 }
 
-/// So many sides, and then so many others.
+/// The sum of two counts of sides, capped.
 pub fn add_capped(one: usize, other: usize) -> usize
     ensures { result ≡ capped (one + other) }
 {

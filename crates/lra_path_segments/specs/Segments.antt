@@ -224,7 +224,7 @@ RunsStep (does op) s t = run_op op s ≡ Some t
 RunsStep (goes base e labels l) s t = (z : ℤ) × (value_of e (environment_at base s) s.draws ≡ Some (z, t.draws)) ×
     (t ≡ record s { draws = t.draws }) × (l ≡ goal_of z labels)
 
--- and all of it
+-- all steps, one after the other, lead from the first state to the second
 abbrev pub RunsOps : List SegmentStep → State → State → Type 0
 RunsOps [] s t = t ≡ s
 RunsOps (step ∷ steps) s t = (m : State) × RunsStep step s m × RunsOps steps m t

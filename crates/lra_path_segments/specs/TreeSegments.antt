@@ -93,7 +93,7 @@ back_to q (reaches goal) = reaches goal
 abbrev pub turned : ℕ → SegmentStep → TreeSegment → TreeSegment
 turned q step s = tree_segment (Some (source_or q s.source)) (prefixed step s).ops (back_to q s.end)
 
--- those of the body: into it, through it, out of it at its end, all others
+-- the segments of a loop's body in order: into it, through it, out of it at its end, all others
 abbrev pub body_order : List TreeSegment → List TreeSegment
 body_order ss = segments_not_of_kind (leaving normal) (segments_of_kind starting ss)
     ++ segments_of_kind (leaving normal) (segments_of_kind starting ss) ++
@@ -129,7 +129,7 @@ past_all go false = tree_segment None (go Default ∷ []) (exits normal) ∷ []
 abbrev pub labelled : SegmentStep → List TreeSegment → List TreeSegment → List TreeSegment
 labelled step row later = map (prefixed step) (segments_of_kind starting row) ++ later
 
--- those from the labels, and of those of the trees that don't begin at their start
+-- the segments from a `switch`'s labels, and those of its trees that don't begin at their start
 abbrev pub selected : List TreeSegment → List TreeSegment → List TreeSegment
 selected row from_labels = from_labels ++ segments_not_of_kind starting row
 

@@ -68,7 +68,7 @@ enum Kind {
     Leaving(Completion),
 }
 
-/// Those of a kind, and the others, each in their order.
+/// Segments by kind: those of one kind, and the others, each in their order.
 #[derive(Drop)]
 struct Parted<'g> {
     those: Vec<TreeSegment<'g>>,
@@ -462,7 +462,7 @@ fn push_turned<'g>(
     Ok(())
 }
 
-/// Those that end the tree after the others, or before them.
+/// The segments, with those that leave the tree at its end put last.
 fn ending_last<'g>(
     alloc: Global,
     stretches: Vec<TreeSegment<'g>>,
@@ -495,7 +495,7 @@ fn ending_first<'g>(
     Ok(all)
 }
 
-/// Those of a loop's body: into it, through it, out of it at its end, all others.
+/// The segments of a loop's body in order: into it, through it, out of it at its end, all others.
 fn order_body<'g>(
     alloc: Global,
     body: Vec<TreeSegment<'g>>,

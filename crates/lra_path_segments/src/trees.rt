@@ -29,7 +29,7 @@ use std::alloc::{AllocError, Global};
 pub enum Task<'g> {
     /// The ways of the tree come after.
     Tree(&'g Node),
-    /// These trees stand before that of the last ways.
+    /// The trees of a row, which stand before the tree of the last segments.
     Row(&'g [Node]),
     /// The tree of the last ways stands before that of those before them.
     Sequence,
@@ -61,7 +61,7 @@ fn take_last<'g>(alloc: Global, done: &mut Vec<Vec<TreeSegment<'g>>>) -> Vec<Tre
     }
 }
 
-/// These ways come last.
+/// Puts segments on top of those that are there.
 fn put_last<'g>(
     done: &mut Vec<Vec<TreeSegment<'g>>>,
     last: Vec<TreeSegment<'g>>,

@@ -20,7 +20,7 @@ IsFirstSegment g (stopped (by_jump j)) ops = Contains (through g (jump j)) ops
 IsFirstSegment g (stopped (to_point q)) ops = Contains (enter g) (record { ops = ops; goal = comes_to q })
 IsFirstSegment g (stopped (to_failure q)) ops = Contains (enter g) (record { ops = ops; goal = violates q })
 
--- those of a way from the point in it so far, past no further point
+-- the operations are those of a way from the point in the tree so far, past no further point
 abbrev pub IsNextSegment : ℕ → Node → RunExtent → List SegmentStep → Type 0
 IsNextSegment p g to_end ops = Contains (exit_suffixes g normal) (record { source = p; ops = ops })
 IsNextSegment p g (stopped (by_jump j)) ops = Contains (exit_suffixes g (jump j)) (record { source = p; ops = ops })
@@ -70,7 +70,7 @@ pub record PathsCover (P : Program) (g : Node) : Type 0 where
 abbrev pub AllPathsCover : Type 0
 AllPathsCover = (P : Program) (g : Node) → IsWellFormed P → IsInlinedTree P g → PathsCover P g
 
--- its point is one of the program's
+-- the goal's point is one of the program's
 abbrev pub IsGoalOf : Program → Goal → Type 0
 IsGoalOf P (comes_to q) = (s : Site) × (slice_get (sites_of P) q ≡ Some s)
 IsGoalOf P (violates q) = (s : Site) × (slice_get (sites_of P) q ≡ Some s)

@@ -11,7 +11,7 @@ pub record AreTriedPoints (n : ℕ) (given : List LinearRow) (made : Polyhedron)
   pub told : o ≡ first_loss losses
   pub of : IsOfPoints n given made losses
 
--- its lists make no cone, or after that these generators exceed a limit
+-- the polyhedron can't be extended: its lists make no cone, or after them these generators exceed a limit
 abbrev pub CannotExtend : Polyhedron → List LinearRow → Type 0
 CannotExtend p more = (¬ (MayTurn p.dims p.rows p.generators)) ⊎ StrainsWhenTried p.dims p.generators more
 

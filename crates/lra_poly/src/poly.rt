@@ -204,7 +204,7 @@ impl Poly {
         })
     }
 
-    /// The same polyhedron again.
+    /// A copy of the polyhedron.
     pub fn copy(&self) -> Result<Poly, AllocError>
         ensures { IfOk result (λ p. p ≡ self.now) }
     {

@@ -59,7 +59,7 @@ pub record IsWidening (mode : Mode) (p q : Polyhedron) (given : List LinearRow) 
 abbrev pub product_passes : List ℤ → List ℤ → Bool
 product_passes r g = not (fits (checked_product r g))
 
--- that of the row with one of the generators does
+-- the product of the row with one of the generators passes
 abbrev pub row_passes : List LinearRow → List ℤ → Bool
 row_passes generators r = list_any (λ g. product_passes r g.row) generators
 

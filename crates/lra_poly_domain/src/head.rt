@@ -103,7 +103,7 @@ impl PolyhedronHead {
         &self.thresholds
     }
 
-    /// Its rank.
+    /// The head's rank.
     pub fn rank(&self) -> Rank
         ensures formed { WellFormedHead self.now }
         ensures rank { result ≡ head_rank self.now }

@@ -39,21 +39,21 @@ impl Model for Polyhedron {
 }
 
 impl Polyhedron {
-    /// The same polyhedron, as one of the domain.
+    /// A value of the domain: this polyhedron.
     pub fn of(poly: Poly) -> Polyhedron
         ensures { result ≡ poly }
     {
         Polyhedron { poly }
     }
 
-    /// The same polyhedron, with all that is asked of polyhedra by themselves.
+    /// The polyhedron of the value, with all operations of polyhedra.
     pub fn as_poly(&self) -> &Poly
         ensures { result.now ≡ self.now }
     {
         &self.poly
     }
 
-    /// The polyhedron itself, by value.
+    /// The polyhedron of the value, moved out.
     pub fn into_poly(self) -> Poly
         ensures { result ≡ self }
     {

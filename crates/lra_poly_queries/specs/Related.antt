@@ -9,7 +9,8 @@ use Rattle.lra_poly_queries.specs.{Joined.counted, Moved.MapDimsStrains, Moved.M
 abbrev pub Extended : ℕ → LinearRow → PointSet → PointSet
 Extended n g P = Meet (Embed n P) (Holds g)
 
--- the same with that coordinate in place of the one along k: the constraint's last column is the new value's
+-- the places of the coordinates with the further one in place of the one along k: the constraint's last column is the
+-- new value's
 abbrev pub replaced : ℕ → ℕ → List ℕ
 replaced n k = slice_set (counted n 0) k n
 

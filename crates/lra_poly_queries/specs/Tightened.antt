@@ -3,7 +3,8 @@ use Rattle.std.specs.Prelude.{◌≡◌, ◌↔◌, ◌⊎◌, ℕ, ℤ, pos, Li
 use Rattle.lra_linear_spec.specs.Descriptions.{LinearRow, Holds}
 use Rattle.lra_linear_spec.specs.{LowestTerms.IsPrimitive, Points.IsWithin, Vectors.entry}
 
--- the same stores, and no further points; only 1 divides each coefficient, or all are 0
+-- the second row has the stores of the first, and no further points; only 1 divides each of its coefficients, or all
+-- are 0
 pub record IsTightened (n : ℕ) (g t : LinearRow) : Type 0 where
   pub stores : (s : List ℤ) → length s ≡ n → (Holds g (pos 1 ∷ s) ↔ Holds t (pos 1 ∷ s))
   pub within : IsWithin n (Holds t) (Holds g)

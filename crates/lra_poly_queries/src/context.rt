@@ -106,9 +106,9 @@ fn try_at(
     Ok(told)
 }
 
-/// Those of the polyhedron's constraints, in their order, that describe its points within the context. From the first
-/// on, each that the context, those kept before it and those after it give is left out. Where it is flagged, one that
-/// they give may be among them.
+/// Simplifies a polyhedron's constraints: keeps, in their order, those that describe its points within the context.
+/// From the first on, each that the context, those kept before it and those after it imply is left out. If the outcome
+/// is flagged, a constraint that they imply may be among those kept.
 pub fn simplify(p: &Poly, context: &Poly) -> Result<(ConSys, Outcome), AllocError>
     requires { context.now.dims ≡ p.now.dims }
     ensures dims { IfOk result (λ r. r.0.dims ≡ p.now.dims) }

@@ -18,13 +18,13 @@ use lra_systems::GenSys;
 /// How a constraint stands to a polyhedron. Without a point all four are true.
 #[derive(Clone, Copy, Debug, PartialEq, Eq)]
 pub struct Relation {
-    /// It holds at each point.
+    /// The constraint holds at each point.
     pub holds_on_all: bool,
-    /// It holds at no point.
+    /// The constraint holds at no point.
     pub holds_nowhere: bool,
-    /// Its form is 0 at each point.
+    /// The constraint's form is 0 at each point.
     pub saturated_on_all: bool,
-    /// Its form is 0 at no point.
+    /// The constraint's form is 0 at no point.
     pub saturated_nowhere: bool,
 }
 

@@ -20,7 +20,7 @@ is_tighter s r = not r.equal && is_lower s.row r.row
 abbrev pub is_loose : List LinearRow → LinearRow → Bool
 is_loose rows r = list_any (λ s. is_tighter s r) rows
 
--- those than which none of the others is tighter, in their order
+-- the rows than which none of the others is tighter, in their order
 abbrev pub tightest : List LinearRow → List LinearRow
 tightest rows = filter (λ r. not (is_loose rows r)) rows
 

@@ -10,8 +10,8 @@ form_of (Many ps) = many ps.items
 form_of (One h) = one h
 form_of (Whole p) = whole p
 
--- its parts are held with its dimensions, and are no more than its cap, and not one; the head of a single part is held
--- with its dimensions
+-- the form of a head: parts held with its dimensions, no more than its cap, and not one; or the head of a single part,
+-- held with its dimensions
 abbrev pub HeadFormFits : {V H : Type 0} → Abstraction V H → ℕ → ℕ → HeadForm V H → Type 0
 HeadFormFits m n cap (many ps) = EachPart (PartFits m n) ps × (length ps ≤ cap) × (length ps ≢ 1)
 HeadFormFits m n cap (one h) = (m.head_dims h ≡ n) × RankFits (m.rank h) × m.head_well_formed h

@@ -18,9 +18,9 @@ pub enum BorrowedChange<'a> {
     Forget(usize),
     /// Only stores that pass need stay.
     Test(&'a Test),
-    /// So many dimensions come last.
+    /// Appends so many dimensions, of any value.
     Embed(usize),
-    /// So many last dimensions go.
+    /// Removes so many dimensions, the last ones.
     RemoveLast(usize),
 }
 

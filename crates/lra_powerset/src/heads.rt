@@ -54,7 +54,7 @@ impl<D: BaseDomain> Model for PowerSetHead<D> {
 }
 
 impl<D: BaseDomain> PowerSetHead<D> {
-    /// Its rank.
+    /// The head's rank.
     pub fn rank(&self) -> Rank
         ensures fits { HeadFits D.abstraction self.now }
         ensures rank { result ≡ (set_abstraction D.abstraction).rank self.now }

@@ -130,7 +130,7 @@ abbrev pub OutOfBoundsHasAccess : Type 0
 OutOfBoundsHasAccess = (op : Op) (s : State) (n : ℕ) → OpOutOfBounds op s n → (x : Element) ×
     (slice_get (op_accesses op) n ≡ Some x) × IsOutside (environment_at (base_of op) s) x
 
--- and the run ends there
+-- where an access of the operation is outside its array, the run ends there
 abbrev pub OutOfBoundsEndsRun : Type 0
 OutOfBoundsEndsRun = (op : Op) (s : State) (n : ℕ) → OpOutOfBounds op s n → Ends op s
 

@@ -76,7 +76,7 @@ mutual
     absent : Stmt
     -- `;`
     nothing : ℕ → Stmt
-    -- its items, and the label of its `}`
+    -- a block: its items, and the label of its `}`
     block : BlockItems → ℕ → Stmt
     assign : ℕ → Variable → Rvalue → Stmt
     -- an element gets a value
@@ -109,7 +109,7 @@ mutual
     array : ℕ → Array → BlockItems → BlockItems
     statement : Stmt → BlockItems → BlockItems
 
--- its labels alone
+-- the labels of a `switch`'s cases alone
 abbrev pub labels_of : Cases → List CaseLabel
 labels_of no_cases = []
 labels_of (labelled l cs) = l ∷ labels_of cs

@@ -103,7 +103,7 @@ abbrev pub items_of : List ItemPart → program.BlockItems
 items_of [] = program.no_more
 items_of (f ∷ fs) = f (items_of fs)
 
--- and one of a `switch` is what it puts before those after it
+-- an item of a `switch` is what it puts before the items after it
 abbrev pub CasePart : Type 0
 CasePart = program.Cases → program.Cases
 

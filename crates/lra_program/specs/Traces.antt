@@ -41,7 +41,8 @@ module _ (may : State → State → Type 0) where
   Arrives P draws p a =
       (n : ℕ) × (c : Config) × TracedSteps P n (start P draws) [] c a.events × IsOn c p × (c.state ≡ a.state)
 
-  -- and the point is that of an assertion, which is passed, and false in the state that the trace ends with
+  -- a run with these draws reaches the point on this trace; it is that of an assertion, which is passed, and false in
+  -- the state that the trace ends with
   abbrev pub ViolatesAssertion : Program → List ℤ → Point → Trace Point → Type 0
   ViolatesAssertion P draws p a =
       (n : ℕ) × (c : Config) × (xs : List (TraceEvent Point)) × TracedSteps P n (start P draws) [] c xs × IsOn c p ×

@@ -177,7 +177,7 @@ pub enum Stmt {
     If(usize, Cond, Box<Stmt>, Box<Stmt>),
     /// The body, and the step after each round.
     Loop(usize, Cond, Box<Stmt>, Box<Stmt>),
-    /// Its variables live at the label too.
+    /// A `for` loop; the variables that `init` declares live at its label too.
     For {
         label: usize,
         init: BlockItems,
@@ -314,7 +314,7 @@ impl Drop for Function {
 #[derive(Clone, Copy, PartialEq, Eq, Debug)]
 pub struct GlobalVariable {
     pub number_type: NumberType,
-    /// Its first value.
+    /// The value with which the program starts.
     pub value: i64,
 }
 

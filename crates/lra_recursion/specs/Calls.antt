@@ -30,7 +30,7 @@ calls_among F (c ∷ cs) = option_to_list (call_of F (function_place F c.0) c.1)
 abbrev pub first_place : List FunctionTree → List ℕ → Option ℕ
 first_place F name = option_map (λ (f : FunctionTree). function_place F name) (function_named F name)
 
--- and that of the name of each of these functions
+-- for each of these functions the place of the first function of its name
 abbrev pub first_places : List FunctionTree → List FunctionTree → List ℕ
 first_places F [] = []
 first_places F (f ∷ fs) = option_to_list (first_place F f.name.word) ++ first_places F fs

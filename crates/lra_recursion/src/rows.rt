@@ -6,7 +6,7 @@ ghost use Rattle.lra_recursion.specs.{Calls.callees_of, declared.calls.Call.Call
 use crate::calls::Call;
 use std::alloc::{AllocError, Global};
 
-/// So many rows without a place.
+/// Empty rows, `count` of them.
 fn empty_rows(alloc: Global, count: usize) -> Result<Vec<Vec<usize>>, AllocError>
     ensures count { IfOk result (λ v. length v.items ≡ count) }
     ensures empty { IfOk result (λ v. (j : ℕ) → get_or (map (λ row. row.items) v.items) j [] ≡ []) }

@@ -101,14 +101,14 @@ accesses_at g q = flat_map (λ (a : OpAtPoint). cond (nat_eq a.point q) (op_acce
 abbrev pub accesses_any_at : Node → ℕ → Bool
 accesses_any_at g q = nat_lt 0 (length (accesses_at g q))
 
--- those at a point with its number, from the n-th on, each printed at its array's name
+-- the accesses at the point of this number, from the n-th on, each printed at its array's name
 abbrev pub access_subjects : ℕ → Site → ℕ → List Element → List Subject
 access_subjects number site n [] = []
 access_subjects number site n (x ∷ xs) =
     record { kind = Access; number = number; site = site; which = n; place = x.place } ∷
     access_subjects number site (suc n) xs
 
--- those at all points, of which the first has this number from 0
+-- the accesses at all points, of which the first has this number, from 0
 abbrev pub accesses_from : (ℕ → List Element) → ℕ → List Site → List Subject
 accesses_from at q [] = []
 accesses_from at q (s ∷ ss) = access_subjects (suc q) s 0 (at q) ++ accesses_from at (suc q) ss

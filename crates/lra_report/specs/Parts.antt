@@ -8,7 +8,7 @@ use Rattle.lra_row_text.specs.{Part.ReportGenerator, Part.Part, Rows.ReportRow}
 use Rattle.lra_linear_spec.specs.declared.GenKind.TheVariants.{Point, Ray, Line}
 use Rattle.lra_linear_spec.specs.{Descriptions.HoldsWith, Kinds.is_equality, Vectors.product, declared.GenKind.GenKind}
 
--- its coordinates are the numerators over the divisor; a store is such a point with the divisor 1
+-- a point whose coordinates are the numerators over the divisor; a store is such a point with the divisor 1
 pub record RationalPoint : Type 0 where
   pub divisor : ℕ
   pub numerators : List ℤ

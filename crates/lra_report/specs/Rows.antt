@@ -19,6 +19,6 @@ pub record IsRowInRange (r : ReportRow) : Type 0 where
   pub constant_in : InRange r.constant
   pub coefficients_in : AllByRecursion InRange r.coefficients
 
--- those of all rows of a part
+-- the numbers of all rows of a part are in the range of those that are computed with
 abbrev pub IsPartInRange : Part → Type 0
 IsPartInRange p = AllByRecursion IsRowInRange p.rows

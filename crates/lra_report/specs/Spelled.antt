@@ -68,7 +68,7 @@ abbrev pub OneText : Report → Report → Type 0
 OneText r s = (t : FileTree) → HasWords t → Lists t r → Lists t s → r.options ≡ s.options → IsReadable r →
     IsReadable s → report_text r ≡ report_text s → r ≡ s
 
--- the same of the tree of an accepted source, whose variables are named by words
+-- one text, one report, of the tree of an accepted source, whose variables are named by words
 abbrev pub OneAcceptedText : Report → Report → Type 0
 OneAcceptedText r s = (source : List ℕ) (t : FileTree) → Accepts Spells source t → Lists t r → Lists t s →
     r.options ≡ s.options → IsReadable r → IsReadable s → report_text r ≡ report_text s → r ≡ s

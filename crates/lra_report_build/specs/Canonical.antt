@@ -1,4 +1,4 @@
--- That a state over polyhedra is shown by canonical lists.
+-- What it means that a state over polyhedra is shown by canonical lists.
 use Rattle.std.specs.{List.AllByRecursion, Prelude.◌≡◌, Prelude.ℕ, Prelude.List, Prelude.map, Prelude.⊤}
 use Rattle.lra_options.specs.declared.options.Domain.{Domain}
 use Rattle.lra_options.specs.declared.options.Domain.TheVariants.{Poly, Box, Oct}
@@ -23,7 +23,7 @@ IsCanonicalFor Oct n part = ⊤
 abbrev pub IsCanonicalState : Domain → ℕ → Invariant → Type 0
 IsCanonicalState domain n state = AllByRecursion (IsCanonicalFor domain n) state
 
--- and so are the states of all these values
+-- the states of all these values are shown by canonical parts
 abbrev pub AreCanonicallyShown : {V : Type 0} → Domain → (V → ℕ) → (V → Invariant) → List V → Type 0
 AreCanonicallyShown {V} domain dims shown values =
     AllByRecursion (λ (v : V). IsCanonicalState domain (dims v) (shown v)) values

@@ -23,7 +23,7 @@ pub record ShowsPolyhedron (p : Polyhedron) (state : Invariant) : Type 0 where
   pub tell : AllByRecursion (ShowsPart Poly p.dims) state
   -- each store in it holds there
   pub holds : (s : List ℤ) → length s ≡ p.dims → Con p.rows (pos 1 ∷ s) → InvariantHolds state s
-  -- and no other list of that many numbers does
+  -- no other list of that many numbers holds there
   pub only : (s : List ℤ) → length s ≡ p.dims → InvariantHolds state s → Con p.rows (pos 1 ∷ s)
 
 -- what two lists show

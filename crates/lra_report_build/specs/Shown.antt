@@ -18,7 +18,7 @@ pub record IsShown {V H : Type 0} (m : Abstraction V H) (domain : Domain) (v : V
   pub tell : AllByRecursion (ShowsPart domain (m.dims v)) state
   -- each store of the value holds there
   pub holds : (s : List ℤ) → m.gamma v s → InvariantHolds state s
-  -- and no other list of that many numbers does
+  -- no other list of that many numbers holds there
   pub only : (s : List ℤ) → length s ≡ m.dims v → InvariantHolds state s → m.gamma v s
 
 -- so are these values

@@ -44,7 +44,7 @@ outcome_members v = member (codes "point") (natural v.number) (
     member (codes "verdict") (string (outcome_text v.kind v.holds))
     no_members)
 
--- its place, where it has one of its own
+-- a verdict as an object, with its place if it has one of its own
 abbrev pub verdict_data : Verdict → Data
 verdict_data v = object (if (row_of v.kind).own_place then
     member (codes "place") (string (place_text v.place)) (outcome_members v) else outcome_members v)

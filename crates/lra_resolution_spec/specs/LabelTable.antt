@@ -38,6 +38,6 @@ pub record LabelLists : Type 0 where
   pub lists : List (List (List ℕ))
   pub labels : List Labelled
 
--- the same label with other names
+-- the label with other names
 abbrev pub with_live : Labelled → List (List ℕ) → Labelled
 with_live l names = record { place = l.place; called = l.called; live = names; live_in_call = names }

@@ -31,7 +31,7 @@ pub struct Label {
     pub called: Option<Identifier>,
     /// The number of the list of the names that live there.
     pub live: usize,
-    /// And of those that live while its call runs.
+    /// The number of the list of the names that live while the call of this label runs.
     pub live_in_call: usize,
 }
 

@@ -12,7 +12,7 @@ abbrev pub has_seen : CaseList → CaseLabel → Bool
 has_seen c (Case v) = contains int_cmp c.values v
 has_seen c Default = c.has_default
 
--- those so far are these
+-- the labels so far are these
 abbrev pub HasSeen : CaseList → List CaseLabel → Type 0
 HasSeen c labels = (l : CaseLabel) → has_seen c l ≡ list_any (is_same_case l) labels
 

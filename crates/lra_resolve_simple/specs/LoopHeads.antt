@@ -63,7 +63,7 @@ rounds_view (rounds.While at c) = while_head at.now (cond_view c.now)
 rounds_view (rounds.For at i c e) = for_head at.now (init_view i.now) (option_map cond_view c.now)
     (option_map assign_view e.now)
 
--- and a choice
+-- the tree that stands for a choice of the code
 abbrev pub choice_of : Asked → Stmt → Option Stmt → StmtTree
 choice_of a branch other = choice_tree a.place.now (cond_view a.cond.now) (stmt_view branch)
     (option_map stmt_view other)

@@ -27,7 +27,7 @@ abbrev pub NamesFirst : {A : Type 0} → List Excess → Result A Excess → Typ
 NamesFirst operations (Ok x) = All Fits operations
 NamesFirst operations (Err e) = IsFirstPassing operations e
 
--- the same of a call that may also run out of memory, which says nothing of the operations
+-- a call's excess is the first among its operations; running out of memory says nothing of the operations
 abbrev pub IsFirstNamed : List Excess → RowError → Type 0
 IsFirstNamed operations (of_row.Excess e) = IsFirstPassing operations e
 IsFirstNamed operations of_row.Memory = Unit {0}

@@ -78,7 +78,7 @@ impl Row {
         Ok(row)
     }
 
-    /// The same row again.
+    /// A copy of the row.
     pub fn copy(&self) -> Result<Row, AllocError>
         ensures { IfOk result (λ row. row ≡ self.now) }
     {

@@ -15,9 +15,9 @@ use std::marker::Model;
 /// What a call needs to know of a function.
 #[derive(Clone, Copy)]
 pub struct Signature {
-    /// Its place in the list of functions.
+    /// The function's place in the list of functions.
     pub place: usize,
-    /// How many parameters it has.
+    /// How many parameters the function has.
     pub parameters: usize,
     /// Whether it has a result; `void` has none.
     pub has_result: bool,

@@ -33,7 +33,7 @@ greatest_constant = 2 ^ 31
 abbrev pub is_small : ℤ → Bool
 is_small z = nat_le (unsigned_abs z) greatest_constant
 
--- those so far with one more, unless they are full, or it is among them, or it is too large
+-- the constants so far with one more, unless they are full, or it is among them, or it is too large
 abbrev pub with_constant : List ℤ → ℤ → List ℤ
 with_constant so z =
     if nat_lt (length so) most_constants && (is_small z && not (list_any (λ y. int_eq y z) so))

@@ -26,7 +26,7 @@ IsTree L tokens t = (pieces : Pieces) × L t pieces × (plain pieces ≡ tokens)
 abbrev pub CanBegin : Language → List Token → Type 0
 CanBegin L tokens = (t : FileTree) × (x : Pieces) × (y : Pieces) × L t (x ++ y) × (plain x ≡ tokens)
 
--- and none of them opens a level that is too deep
+-- some text of the language begins with these tokens, none of which opens a level that is too deep
 abbrev pub CanBeginLow : Language → List Token → Type 0
 CanBeginLow L tokens = (t : FileTree) × (x : Pieces) × (y : Pieces) × L t (x ++ y) × (plain x ≡ tokens) × IsLow x
 

@@ -18,7 +18,7 @@ pub record Labelled : Type 0 where
   pub called : Option Identifier
   -- the function's scalars that live at the point, oldest first
   pub live : List (List ℕ)
-  -- and those that live while its call runs
+  -- the function's scalars that live while the label's call runs
   pub live_in_call : List (List ℕ)
 
 abbrev pub plain_label : Place → List (List ℕ) → Labelled

@@ -36,7 +36,7 @@ empty z = z ≡ []
 abbrev pub opens : Mark → ℕ → Texts
 opens m o z = (at : Place) × (z ≡ (record { kind = MarkOf m; place = at }, o) ∷ [])
 
--- and which opens none
+-- a token of which no part of the tree knows the place, and which opens no level
 abbrev pub mark : Mark → Texts
 mark m z = opens m 0 z
 

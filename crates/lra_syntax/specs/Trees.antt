@@ -98,7 +98,7 @@ pub data InitTree : Type 0 where
 -- statements (6.8), with the place of the first token where no part has it
 mutual
   pub data StmtTree : Type 0 where
-    -- its items, and the place of its `}`
+    -- a block: its items, and the place of its `}`
     block : ItemsTree → Place → StmtTree
     nothing : Place → StmtTree
     assign : AssignTree → StmtTree

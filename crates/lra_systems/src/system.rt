@@ -145,7 +145,7 @@ impl<K: Copy> System<K> {
         self.kinds.as_slice()
     }
 
-    /// The same list again.
+    /// A copy of the list.
     pub fn copy(&self) -> Result<Self, AllocError>
         ensures { IfOk result (λ s. s ≡ self.now) }
     {

@@ -155,7 +155,7 @@ static INPUTS: [(&[u8], usize, usize, bool); 5] = [
     (b"abcdefgh", 4, 5, false),
 ];
 
-/// The same of inputs of so many bytes `x`.
+/// The length of an input of bytes `x`, the limit, how many bytes are read, and whether that is all.
 static LENGTHS: [(usize, usize, usize, bool); 3] = [
     (5000, 4999, 5000, false),
     (5000, 5000, 5000, true),
@@ -184,7 +184,7 @@ fn reads_whole(
     Ok(ends_so(&end, bytes, count, fits))
 }
 
-/// The same of an input of so many bytes `x`.
+/// Whether so many bytes of an input of `length` bytes `x` are read under the limit, and that is all or not.
 fn reads_long(
     alloc: Global,
     length: usize,

@@ -200,7 +200,7 @@ static FITS: [(&str, Command); 4] = [
     ),
 ];
 
-/// The same, with several options or none.
+/// Words with several options or none, and the command that they ask for.
 static SEVERAL: [(&str, Command); 15] = [
     (
         "lra analyse --delay 3 --domain box --limited",

@@ -30,7 +30,7 @@ use std::alloc::{AllocError, Global};
 const SOURCE: &str =
     "long g;\nlong f(long x) { return x; }\nint main(void) { long x = f(2); assert(x == 2); }\n";
 
-/// Its report where the two variables `x` are equal at the second point, and no run reaches another.
+/// The report of `SOURCE` if the two variables `x` are equal at the second point, and no run reaches another point.
 const REPORT: &str =
     "analysis box parts 1 delay 1 narrow 1 limited no\nflagged at point 2\npoint 1 main 3:23\n  \
     unreachable\npoint 2 main/f@3:27 2:18\n  row x~1 - x = 0\npoint 3 main/f@3:27 2:28\n  unreachable\n\
@@ -74,7 +74,7 @@ fn states_at(alloc: Global, sites: &[Site]) -> Result<Vec<Vec<Part>>, AllocError
     Ok(states)
 }
 
-/// That each assertion is proved.
+/// For each assertion the verdict that it is proved.
 fn verdicts_on(alloc: Global, sites: &[Site]) -> Result<Vec<(usize, bool)>, AllocError>
     ensures { IfOk result (λ v. AreVerdicts (map site_view sites.now) v.items) }
 {

@@ -99,7 +99,7 @@ fn verdict_of_one_variable(alloc: Global) -> Result<Verdict, AllocError> {
     })
 }
 
-/// Its report over boxes.
+/// The report over boxes of a program with one variable.
 fn report_of_one_variable(alloc: Global) -> Result<Report, AllocError> {
     let mut report = Report {
         options: Options {

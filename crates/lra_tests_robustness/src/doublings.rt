@@ -9,10 +9,10 @@ use std::alloc::{AllocError, Global};
 /// The greatest power of two that has 127 bits.
 const WITHIN: Pieces = ("int main(void){ long x=1;", " x=x+x;", 126, " }");
 
-/// One doubling more.
+/// One doubling more than `WITHIN` has.
 const PAST: Pieces = ("int main(void){ long x=1;", " x=x+x;", 127, " }");
 
-/// The same doublings in a loop.
+/// The doublings of `PAST` in a loop.
 const LOOP_PAST: Pieces = (
     "int main(void){ long x=1; while(input()){",
     " x=x+x;",

@@ -13,7 +13,7 @@ pub const SOUND: (u64, u64) = (0, 0);
 /// A source whose assertion boxes prove.
 pub const PROVED: &str = "int main(void){ long x; x = 3; assert(x >= 3); }";
 
-/// Its report over boxes.
+/// The report of `PROVED` over boxes.
 pub const PROVED_REPORT: &str = "analysis box parts 1 delay 1 narrow 1 limited no\n\
     flagged 0\npoint 1 main 1:22\n  row true\n\
     point 2 main 1:25\n  row true\npoint 3 main 1:32\n\
@@ -58,7 +58,7 @@ pub fn ended_within(
     with_text(alloc, status, &sink)
 }
 
-/// The same with a sink that has room for 200,000 bytes.
+/// How a run ends, as by `ended_within`, with a sink that has room for 200,000 bytes.
 pub fn ended(
     alloc: Global,
     words: &str,

@@ -51,7 +51,7 @@ const MAIN: &str =
 const FLAGGED: &str = "void t1(void){;} void t2(void){ long x=9223372036854775807; \
     x=9223372036854775807*x; x=9223372036854775807*x; }";
 
-/// The same, where the first thread gives the number: the second round flags it, which the first doesn't.
+/// A number past 127 bits that the first thread gives to the second: the second round flags it, the first doesn't.
 const LATER: &str = "long g, h; void t1(void){ g=9223372036854775807; } void t2(void){ \
     h=9223372036854775807*g; h=9223372036854775807*h; }";
 

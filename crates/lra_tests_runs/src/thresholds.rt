@@ -19,7 +19,7 @@ const BOUNDED: &str = "int main(void){ long i=0; while(input()) if(i<5) i=i+1; a
 const SUMMED: &str =
     "int main(void){ long i=0; while(input()) if(i<30+30) i=i+1; assert(i<=30+30); }";
 
-/// The same, of a global in a function.
+/// A bound that no literal has, of a global that a function counts up.
 const CALLED: &str =
     "long n=0; void step(void){ if(n<30+30) n=n+1; } int main(void){ while(input()) step(); assert(n<=30+30); }";
 

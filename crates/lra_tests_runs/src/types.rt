@@ -19,7 +19,7 @@ pub const WIDENED: &str =
     "int main(void){ int x=0; while(input()){ if(input()) { if(x<5) x=x+1; } else { if(x>0) x=x-1; } } \
     assert(x>=0); }";
 
-/// The same where it is reported in the body.
+/// The program of `WIDENED` with the upper bound assumed in the body.
 pub const TOLD: &str =
     "int main(void){ int x=0; while(input()){ assume(x<=2147483647); if(input()) { if(x<5) x=x+1; } else { if(x>0) \
     x=x-1; } } assert(x>=0); }";

@@ -53,7 +53,7 @@ fn bound_of(value: &Boxes, x: usize) -> Option<Interval>
 }
 
 impl Intervals {
-    /// None for each of so many globals.
+    /// No interval for each of so many globals.
     pub fn none(alloc: Global, globals: usize) -> Result<Intervals, AllocError>
         ensures { IfOk result (λ i. i ≡ no_values globals) }
     {
@@ -62,7 +62,7 @@ impl Intervals {
         })
     }
 
-    /// Those of the other come in, each at its global.
+    /// Joins or widens each global's interval with the other's.
     pub fn grow(&mut self, growth: Growth, other: &Intervals)
         ensures { self.new ≡ grown_row growth self.old other.now }
     {

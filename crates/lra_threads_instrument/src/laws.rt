@@ -4,32 +4,32 @@ ghost use Rattle.lra_threads_instrument.specs.InstrumentKeeps.{InstrumentKeepsLi
 ghost use Rattle.lra_threads_instrument.specs.InstrumentKeeps.{InstrumentKeepsDims, InstrumentKeepsNumbers};
 ghost use Rattle.lra_threads_instrument.specs.InstrumentKeeps.{InstrumentKeepsPoints, InstrumentKeepsOps};
 
-/// As many variables live after the tree.
+/// As many variables live after the instrumented tree as after the plain one.
 pub fn instrument_keeps_live()
     ensures { InstrumentKeepsLive }
 {}
 
-/// It is left by the same jumps, each with as many variables.
+/// The instrumented tree is left by the plain one's jumps, each with as many live variables.
 pub fn instrument_keeps_jumps()
     ensures { InstrumentKeepsJumps }
 {}
 
-/// Its operations can be made where the plain tree's can.
+/// The operations of the instrumented tree can be carried out if the plain tree's can.
 pub fn instrument_keeps_dims()
     ensures { InstrumentKeepsDims }
 {}
 
-/// Its points and assertions have the same numbers, each once.
+/// The instrumented tree has the plain one's points and assertions, with the same numbers, each once.
 pub fn instrument_keeps_numbers()
     ensures { InstrumentKeepsNumbers }
 {}
 
-/// It reaches each point with as many variables.
+/// The instrumented tree reaches each point with as many live variables as the plain one.
 pub fn instrument_keeps_points()
     ensures { InstrumentKeepsPoints }
 {}
 
-/// The same is asked in it, in the same order.
+/// The instrumented tree has the plain one's operations, in the same order.
 pub fn instrument_keeps_ops()
     ensures { InstrumentKeepsOps }
 {}

@@ -42,11 +42,11 @@ pub enum InstrumentFrame {
 /// What comes next.
 #[derive(Drop)]
 pub enum Next {
-    /// This tree is to be opened.
+    /// A tree that is to be instrumented.
     Opens(Node),
-    /// This one is opened.
+    /// A tree that is instrumented.
     Gives(Node),
-    /// The arms that are left are to be opened.
+    /// The arms that are left are to be instrumented.
     Selects(Selection),
 }
 

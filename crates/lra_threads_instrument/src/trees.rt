@@ -335,7 +335,7 @@ pub fn instrument_tree(alloc: Global, globals: usize, tree: Node) -> Result<Node
     }
 }
 
-/// The same of a program's tree, with the same points.
+/// The program with its tree instrumented by `instrument_tree`; its points stay the same.
 pub fn instrument_program(
     alloc: Global,
     globals: usize,

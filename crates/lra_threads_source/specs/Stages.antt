@@ -23,12 +23,12 @@ use Rattle.lra_threads_source.specs.Listed.{thread_sites}
 abbrev pub points_in : InlinedProgram → ℕ
 points_in graph = length graph.sites.items
 
--- the same graph with what others do written into its tree
+-- the second graph is the first with what others do written into its tree
 abbrev pub IsInstrumented : ℕ → InlinedProgram → InlinedProgram → Type 0
 IsInstrumented globals graph other =
     (node_view other.tree ≡ instrumented globals (node_view graph.tree)) × (other.sites ≡ graph.sites)
 
--- the same of what is read, with each graph opened
+-- what is read of a source of several threads, before and after each graph is instrumented
 pub record AreThreadsInstrumented (front other : AcceptedThreads) : Type 0 where
   pub rest : front ≡ record other { graphs = front.graphs }
   pub graphs : AllZip (IsInstrumented (length other.resolution.program.globals.items)) front.graphs.items
@@ -68,7 +68,7 @@ pub record IsJudgedIn (graph : InlinedProgram) (found : Findings) : Type 0 where
   pub fitting : All (λ v. v.0 < points_in graph) found.fitting.now
   pub inside : All (λ v. v.0 < points_in graph) found.inside.now
 
--- and these they are
+-- the verdicts on a thread, as it is listed alone
 abbrev pub judged_alone : FileTree → ℕ → Findings → List Verdict
 judged_alone t k found =
     map (verdict_at (labels_of t) (thread_sites t k) Assertion) found.assertions.now ++

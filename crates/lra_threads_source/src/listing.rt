@@ -63,7 +63,7 @@ fn count_points(graphs: &[InlinedProgram]) -> u32
     count
 }
 
-/// That of thread `k`, from 0.
+/// The offset of thread `k`, counted from 0: the thread's number, and how many points the threads before it have.
 fn turn_of(graphs: &[InlinedProgram], k: usize) -> ThreadOffset
     requires few { sum_by points_in graphs.now ≤ greatest_points }
     requires there { k < length graphs.now }
@@ -340,7 +340,7 @@ fn push_write(
     }
 }
 
-/// That of a global in a row; none where the row hasn't the global.
+/// The interval of a global in a row; none if the row hasn't the global.
 fn interval_of(row: &Intervals, global: usize) -> Option<Interval>
     ensures { result ≡ interval_at global row.now }
 {

@@ -11,7 +11,7 @@ use Rattle.lra_analysis_spec.specs.{LiveLimit.most_live, Moves.AreMade, Operatio
 abbrev pub Does : {V H : Type 0} → Abstraction V H → Moves → V → Exactness → V → Type 0
 Does m moves v e w = AreMade (lossy_operations m) moves v e w
 
--- and so does a least change
+-- an operation leads from the first value to the second, with this exactness
 abbrev pub OpTransfersTo : {V H : Type 0} → Abstraction V H → Op → V → Exactness → V → Type 0
 OpTransfersTo m op v e w = OpTransfer (lossy_operations m) op v e w
 

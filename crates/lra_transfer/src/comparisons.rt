@@ -150,7 +150,7 @@ fn leave_seen<D: Domain>(
     }
 }
 
-/// The same; all of the value where nothing is seen of the difference.
+/// What a comparison leaves of the value: all of it if the difference of its sides isn't linear.
 fn leave_difference<D: Domain>(
     alloc: Global,
     op: Comparison,

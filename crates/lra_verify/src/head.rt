@@ -14,7 +14,7 @@ pub struct Head<'a> {
     pub rest: &'a [u8],
 }
 
-/// So many bytes, and what comes after them and a line feed.
+/// Splits off the source, of so many bytes, and the line feed after it.
 fn split_source(bytes: &[u8], count: usize) -> Option<Head<'_>>
     ensures head { option_map head_view result ≡ headed (Some (pos count ∷ [])) bytes.now }
     ensures within { IfSome result (λ h. (length h.source.now ≤ length bytes.now)

@@ -77,7 +77,7 @@ fn push_sign(alloc: Global, list: &mut ConSys, column: usize, known: bool) -> Re
     Ok(())
 }
 
-/// The same of all columns from one on.
+/// Appends, for each column from this one on, the row that its number is at least 0, if that is known.
 pub fn push_signs(
     alloc: Global,
     list: &mut ConSys,
