@@ -10,7 +10,8 @@ use std::alloc::AllocError;
 
 /// A domain that also goes back: from what is so after an assignment or a test to what was so before it.
 ///
-/// Give one record, `retracing`: the defined results as relations on contents, and when each call may exceed a limit.
+/// Give one record, `backward_abstraction`: the defined results as relations on contents, and when each call may exceed
+/// a limit.
 /// Each call keeps every store from which its change may lead into the value, and `meet` each store of both. Each
 /// result covers the defined one; an `Exact` one is the defined one, a `Flagged` one comes only where the call exceeds
 /// a limit on its operands. The other changes go back by `Domain` itself: a forgotten dimension is forgotten, embedded

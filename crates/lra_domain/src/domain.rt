@@ -21,18 +21,18 @@ use std::alloc::{AllocError, Global};
 /// equal, `Stable` leaves the head's, and a call that answers an error leaves its value's. Leave allocators and spare
 /// room out of the view.
 ///
-/// **Meaning.** Give one record, `meaning`: which contents values and heads hold (`formed`, `head_well_formed`), which
-/// stores a value or head `has`, how many dimensions, the `parts` (lists of rows), the defined result of each call as a
-/// relation on contents, when each call may exceed a limit, which content another `covers`, and the `rank` of a head.
-/// Every call gives a formed value or head, and `is_empty` and `rank` say it of the one at hand: what the type's
-/// invariant says belongs there.
+/// **Meaning.** Give one record, `abstraction`: which contents values and heads have (`well_formed`,
+/// `head_well_formed`), which stores a value or head stands for (`gamma`, `head_gamma`), how many dimensions, the
+/// `parts` (lists of rows), the defined result of each call as a relation on contents, when each call may exceed a
+/// limit, which content lies below another (`leq`), and the `rank` of a head. Every call gives a well-formed value or
+/// head, and `is_empty` and `rank` say so of the one at hand: what the type's invariant says belongs there.
 ///
-/// **Laws.** Give one record, `laws`, that this meaning keeps; what it says of stores and of bounds it says of formed
-/// contents, what relates dimensions, caps, parts and answers of all. A store has as many numbers as there are
-/// dimensions; what `universal` allows has `n` dimensions and all their stores, what `void` allows has `n` and no
-/// store, and a value without parts has no store; what is covered, or lies in a head, has no store beyond those of what
-/// covers it, or of the head; what is `bounded` is one thing, within which a form's value at each store lies; the value
-/// of a head that is given up is universal.
+/// **Laws.** Give one record, `laws`, that this meaning keeps. What it says of stores and of bounds it says of
+/// well-formed contents; what relates dimensions, caps, parts and answers it says of all. A store has as many numbers as
+/// there are dimensions. What `top` allows has `n` dimensions and all their stores, what `bottom` allows has `n` and no
+/// store, and a value without parts has no store. What lies below another content, or in a head, has no store beyond
+/// those of that content, or of the head. What is `bounded` is one thing, within which a form's value at each store
+/// lies. The value of a head that is given up is one that `top` allows.
 ///
 /// **Points.** `universe` has all lists of `n` numbers, `empty` none. Say by `keeps` that a change's result has all
 /// points to which it leads: `assign` those with `x` replaced by the form's value there, `forget` those with `x`
@@ -64,7 +64,7 @@ use std::alloc::{AllocError, Global};
 /// or of what is odd, has its bounds as rows, and stores fewer. `is_empty` says yes exactly where there is no part.
 ///
 /// **Caps.** A value may have several caps, numbers of parts that it never passes; `capped` names them, `head_capped`
-/// those of a head. What `universal` and `void` allow with a cap of at least 1 has that cap. Each call keeps the caps:
+/// those of a head. What `top` and `bottom` allow with a cap of at least 1 has that cap. Each call keeps the caps:
 /// of two operands those that both have. A domain of one part at most takes all numbers from 1 on, and its `most_parts`
 /// is 1.
 ///
@@ -115,7 +115,7 @@ pub trait Domain: Sized + Drop {
         ensures universe { (n : ℕ) (v : Self) → abstraction.top n result v →
             CapsWithin (abstraction.capped self.now) (abstraction.capped v) };
 
-    /// Whether the value has no part, and so no store; a value that is held is formed.
+    /// Whether the value has no part, and so no store; a value that is held is well-formed.
     fn is_empty(&self) -> bool
         ensures formed { abstraction.well_formed self.now }
         ensures parts { IsTrue result ↔ (abstraction.parts self.now ≡ []) }
@@ -164,7 +164,7 @@ pub trait Domain: Sized + Drop {
         ensures capped { CapsWithin (abstraction.capped self.old) (abstraction.capped self.new) }
         ensures err { OnErr result (self.new ≡ self.old) };
 
-    /// The stores of the other come in.
+    /// The join: the value gets the stores of the other.
     fn join(&mut self, other: &Self) -> Result<Exactness, AllocError>
         requires { abstraction.dims self.old ≡ abstraction.dims other.now }
         ensures joins { IfOk result (λ a. Joins abstraction self.old other.now a self.new) }
@@ -174,7 +174,7 @@ pub trait Domain: Sized + Drop {
             (abstraction.capped self.new) }
         ensures err { OnErr result (self.new ≡ self.old) };
 
-    /// `k` new dimensions of any value come last.
+    /// Appends `k` new dimensions, of any value.
     fn embed(&mut self, k: usize) -> Result<Exactness, AllocError>
         requires { abstraction.dims self.old + k ≤ 2 ^ 30 }
         ensures meets { IfOk result (λ a. TransfersTo abstraction (embed k) self.old a self.new) }
@@ -182,7 +182,7 @@ pub trait Domain: Sized + Drop {
         ensures capped { CapsWithin (abstraction.capped self.old) (abstraction.capped self.new) }
         ensures err { OnErr result (self.new ≡ self.old) };
 
-    /// The last `k` dimensions go.
+    /// Removes the last `k` dimensions.
     fn remove_last(&mut self, k: usize) -> Result<Exactness, AllocError>
         requires { k ≤ abstraction.dims self.old }
         ensures meets { IfOk result
@@ -251,7 +251,7 @@ pub trait Domain: Sized + Drop {
         Ok(value)
     }
 
-    /// The head that starts with the value; `given` are the rows that limit its growth.
+    /// The head that starts with the value; `given` are the thresholds of its widening.
     fn start(alloc: Global, first: &Self, given: &ConSys) -> Result<Self::Head, AllocError>
         requires { given.now.dims ≡ abstraction.dims first.now }
         ensures starts { IfOk result (λ h. Starts abstraction first.now given.now h) }
@@ -280,7 +280,7 @@ pub trait Domain: Sized + Drop {
         ensures dims { IfOk result (λ r. abstraction.dims r.0 ≡ abstraction.head_dims head.now) }
         ensures capped { IfOk result (λ r. CapsWithin (abstraction.head_capped head.now) (abstraction.capped r.0)) };
 
-    /// The rank of the head; a head that is held is formed.
+    /// The rank of the head; a head that is held is well-formed.
     fn rank(head: &Self::Head) -> Rank
         ensures formed { abstraction.head_well_formed head.now }
         ensures rank { result ≡ abstraction.rank head.now };

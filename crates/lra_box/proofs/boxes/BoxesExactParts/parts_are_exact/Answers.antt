@@ -1,4 +1,4 @@
--- Goals of `BoxesTold::parts_are_exact`: what its rows report is all of a box.
+-- Goals of `BoxesExactParts::parts_are_exact`: what its rows report is all of a box.
 use Rattle.lra_box.specs.Content.{bounds_view}
 use Rattle.lra_box.proofs.PartLemmas.{parts_mean}
 use Rattle.lra_box.proofs.boxes.BoxesExactParts.parts_are_exact.Goals as goal

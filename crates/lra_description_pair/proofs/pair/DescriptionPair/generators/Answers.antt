@@ -1,4 +1,4 @@
--- Goals of `Pair::generators`: the points, rays and lines, in canonical order.
+-- Goals of `DescriptionPair::generators`: the points, rays and lines, in canonical order.
 use Rattle.lra_description_pair.proofs.pair.DescriptionPair.generators.Goals as goal
 
 pub returns-clause-limit : goal.returns-clause-limit

@@ -1,4 +1,4 @@
--- Goals of `Pair::rows`: the constraints, in canonical order.
+-- Goals of `DescriptionPair::rows`: the constraints, in canonical order.
 use Rattle.lra_description_pair.proofs.pair.DescriptionPair.rows.Goals as goal
 
 pub returns-clause-limit : goal.returns-clause-limit

@@ -1,4 +1,4 @@
--- Goals of `OctagonTold::parts_are_exact`: what its rows report is all of an octagon.
+-- Goals of `OctagonExactParts::parts_are_exact`: what its rows report is all of an octagon.
 use Rattle.lra_octagon.specs.Content.{matrix_view}
 use Rattle.lra_octagon.proofs.MeanLemmas.{parts_mean}
 use Rattle.lra_octagon.proofs.octagon.OctagonExactParts.parts_are_exact.Goals as goal

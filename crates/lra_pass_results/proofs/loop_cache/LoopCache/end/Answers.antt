@@ -1,4 +1,4 @@
--- Goals of `Memory::end`: the loop of this point is left.
+-- Goals of `LoopCache::end`: the loop of this point is left.
 use Rattle.std.proofs.Common.{sym, subst, arith}
 use Rattle.std.specs.List.{All}
 use Rattle.lra_analysis_spec.specs.Pass.{PassResult}

@@ -1,4 +1,4 @@
--- Goals of `Memory::keep`: this pass takes the place of the same loop's last one.
+-- Goals of `LoopCache::keep`: this pass takes the place of the same loop's last one.
 use Rattle.std.proofs.{Common.◌<◌, Common.sym, Common.subst, lemmas.List.Elements.All-set, lemmas.List.Elements.All-push}
 use Rattle.std.specs.List.{All}
 use Rattle.lra_pass_results.specs.LoopCache.{IsRecalled}

@@ -1,4 +1,4 @@
--- Goals of `PolyhedronHead::grown`: what it becomes by next, which isn't in its value.
+-- Goals of `PolyhedronHead::grow_value`: what it becomes by next, which isn't in its value.
 use Rattle.lra_systems.specs.LinearSystems.{constraints}
 use Rattle.lra_poly_domain.specs.Growth.{head}
 use Rattle.lra_poly_domain.proofs.GrowthLemmas.{grew, grew_lower}

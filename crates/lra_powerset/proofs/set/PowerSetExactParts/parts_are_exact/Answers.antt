@@ -1,4 +1,4 @@
--- Goals of `PowerSetTold::parts_are_exact`: what the rows of its parts report is all of a set.
+-- Goals of `PowerSetExactParts::parts_are_exact`: what the rows of its parts report is all of a set.
 use Rattle.std.proofs.Common.{◌≡◌, refl, ◌∙◌}
 use Rattle.lra_powerset.proofs.{AnswerLemmas.alike, SetLemmas.set_tell}
 use Rattle.lra_powerset.proofs.set.PowerSetExactParts.parts_are_exact.Goals as goal

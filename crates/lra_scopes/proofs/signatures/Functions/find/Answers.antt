@@ -1,4 +1,4 @@
--- Goals of `Functions::named`: the first function of this name.
+-- Goals of `Functions::find`: the first function of this name.
 use Rattle.std.proofs.Common.{List, ap, ◌∙◌}
 use Rattle.std.specs.Prelude.{option_map}
 use Rattle.indexmap.specs.IndexMap.{get_by_text}
