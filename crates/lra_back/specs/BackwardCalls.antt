@@ -160,7 +160,7 @@ pub record AreSources (globals : List GlobalVariable) (sites : List Site) (g : N
     pub count : length sources ≡ length sites
     pub are : (p : ℕ) (s : Source) → slice_get sources p ≡ Some s → IsSourceOf globals sites g p s
 
--- what going back from the point asks of a tree of these ways
+-- what going back from the point asks of a tree of these segments
 pub record BackNeeds {V H : Type 0} (m : Abstraction V H) (globals : List GlobalVariable) (sites : List Site)
     (ways : List TreeSegment) (forward : List V) (p : ℕ) (tree : Node) : Type 0 where
   pub is_tree : AreSegmentsOf ways tree

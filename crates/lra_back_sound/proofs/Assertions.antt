@@ -1,4 +1,4 @@
--- In the tree of a program one way leads from each asserting point to where its condition is false, right after the
+-- In the tree of a program one segment leads from each asserting point to where its condition is false, right after the
 -- point.
 use Rattle.std.proofs.Common.{◌≡◌, ℕ, suc, ◌<◌, ◌≤◌, List, [], ◌∷◌, ◌++◌, map, filter, Option, Some, None, Bool, true, false, cond, inl, inr, refl, sym, ap, ◌∙◌, subst, arith, append-nil}
 use Rattle.std.proofs.lemmas.List.Elements.{All-nil, All-cons, All-head, All-tail, All-append, All-map, All-weaker, All-contains_itself, filter-append}
@@ -100,7 +100,7 @@ module _ (T : List Site) (p : ℕ) where
     behind = λ h. let l = x.ordered in neither xs ys zs e (x.behind h) (y.behind (omega (arith, h, l)));
   }
 
-  -- ways that lead elsewhere, from any point
+  -- segments that lead elsewhere, from any point
   passing : (b : Bool) (goal : Goal) → same_goal goal (violates p) ≡ false → (b && same_goal goal (violates p)) ≡ false
   passing b goal h = ap (λ d. b && d) h ∙ and-false b
 

@@ -1,4 +1,4 @@
--- The tree of a program begins with a point: the one way from its start leads there, and none leads past it.
+-- The tree of a program begins with a point: the one segment from its start leads there, and none leads past it.
 use Rattle.std.proofs.Common.{◌≡◌, ℕ, ◌≤◌, List, [], ◌∷◌, ◌++◌, map, filter, flat_map, length, Some, Bool, true, false, cond, ◌⊎◌, inl, inr, refl, sym, ap, ◌∙◌, subst, arith, append-nil}
 use Rattle.std.proofs.{lemmas.Bool.eqb-true, lemmas.Bool.eq-eqb, lemmas.Option.same_Some}
 use Rattle.std.specs.Prelude.{◌≢◌, nat_eq, slice_get}

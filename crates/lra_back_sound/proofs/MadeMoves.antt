@@ -1,5 +1,5 @@
--- Moves of which each side can be made of a value with so many dimensions, and leaves so many: those of what is done on
--- a way, where it fits.
+-- Moves of which each disjunct can be made of a value with so many dimensions, and leaves so many: those of what is done on
+-- a segment, where it fits.
 use Rattle.std.proofs.Common.{◌≡◌, ℕ, ℤ, pos, negsuc, zero, suc, ◌+◌, ◌-◌, ◌≤◌, ◌<◌, List, [], ◌∷◌, ◌++◌, length, Option, Some, None, Bool, true, false, refl, sym, ◌∙◌, subst, arith}
 use Rattle.std.proofs.{lemmas.List.length-replicate, lemmas.List.Elements.All-append}
 use Rattle.std.specs.{List.All, Prelude.⊤, Prelude.not, Prelude.replicate, Prelude.slice_set}
@@ -211,7 +211,7 @@ op_leads (push_for base x given) n few fits = push_leads base given n fits
 op_leads (truncate_to k) n few fits = drop_leads (n - k) n (omega arith)
 op_leads (step.test base c wanted) n few fits = guard_leads n few base wanted c
 
--- what is done on a way ------------------------------------------------------------------------------------------------
+-- what is done on a segment -------------------------------------------------------------------------------------------
 
 -- it can be done where n variables live
 abbrev pub StepFits : ℕ → SegmentStep → Type 0

@@ -1,5 +1,5 @@
--- Ways of trees whose operations fit: what is done on each can be done where as many variables live as at its source,
--- and leaves as many as live at its goal.
+-- Segments of trees whose operations fit: what is done on each can be done where as many variables live as at its
+-- source, and leaves as many as live at its goal.
 use Rattle.std.proofs.Common.{◌≡◌, ◌≢◌, ℕ, ◌≤◌, List, [], ◌∷◌, ◌++◌, map, Some, Bool, true, false, inl, inr, refl, sym, ◌∙◌, subst}
 use Rattle.std.proofs.lemmas.List.Elements.{All-nil, All-append, All-weaker}
 use Rattle.std.specs.{List.All, List.list_any, Prelude.slice_get}
@@ -69,7 +69,7 @@ module _ (T : List Site) where
   abbrev pub LeftFits : Node → ℕ → Completion → Suffix → Type 0
   LeftFits g n h x = (m : ℕ) × LeavesWith g n h m × OutFits m x
 
-  -- the ways of a tree at whose beginning n live
+  -- the segments of a tree at whose beginning n live
   pub record WaysFit (g : Node) (n : ℕ) : Type 0 where
     pub passes : (h : Completion) → All (PassFits g n h) (through g h)
     pub enters : All (WayFits n) (enter g)

@@ -17,7 +17,7 @@ pub fn paths_fit()
     ensures { TreesHavePathsThatFit }
 {}
 
-/// Each point that asserts has one way to where its condition is false, right after it.
+/// Each point that asserts has one segment to where its condition is false, right after it.
 pub fn assertions_have_violations()
     ensures { AssertionsHaveViolations }
 {}

@@ -1,4 +1,5 @@
--- The ways of a program are ready to be gone through: its points as its graph has them, and the sources that are found.
+-- The segments of a program are ready to be gone through: its points as its graph has them, and the sources that are
+-- found.
 use Rattle.std.proofs.Common.{◌≡◌, ◌<◌, ◌≤◌, ◌^◌, ◌∙◌, ℕ, suc, [], List, length, map, refl, ap, sym, subst}
 use Rattle.std.proofs.lemmas.List.{length-map}
 use Rattle.std.specs.{List.All, Prelude.slice_get}
@@ -21,7 +22,7 @@ ways_are w items is none no_dims count dims sources short live =
     (subst (λ (l : List declared.Site). length l < 2 ^ 31) (sym is) short)
     (subst (λ (l : List declared.Site). All (λ s. s.live < 2 ^ 31) l) (sym is) live)
 
--- what is asked of ways that are written
+-- what is asked of segments that are written
 pub record AreReady (P : Program) (g : Node) (w : AnnotatedProgram) : Type 0 where
   pub ways : IsAnnotatedProgram w
   pub sites : sites_in w ≡ sites_of P

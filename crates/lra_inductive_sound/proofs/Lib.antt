@@ -2,7 +2,7 @@
 mod Members
 -- Moves and changes keep points.
 mod Changes
--- Ways one after the other.
+-- Segments one after the other.
 mod WaysOn
 -- The parts of a tree one after the other.
 mod Parts

@@ -1,4 +1,4 @@
--- Ways through two parts of a tree, one after the other; and what is found in a part is found in the whole.
+-- Segments through two parts of a tree, one after the other; and what is found in a part is found in the whole.
 use Rattle.std.proofs.{Common.◌≡◌, Common.ℕ, Common.List, Common.◌++◌, Common.Option, Common.subst, lemmas.List.Elements.Contains-append_left, lemmas.List.Elements.Contains-append_right}
 use Rattle.std.specs.List.{Contains}
 use Rattle.lra_domain.specs.Abstraction.{Abstraction}

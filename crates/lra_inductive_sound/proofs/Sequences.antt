@@ -9,7 +9,7 @@ use Rattle.lra_path_segments.specs.Segments.{SegmentStep, GoalSegment, Segment, 
 use Rattle.lra_inductive_sound.specs.{Inductive.KeptBy, Inductive.KeptFrom, Inductive.IsExitValue, Inductive.IsGoalValue, Inductive.IsInductiveThrough, Points.PointsOf}
 use Rattle.lra_inductive_sound.proofs.Parts.{left_part, right_part, among_more, met_more, from_more, from_met, pass_then, enter_then, leave_then, go_then}
 
--- the ways through both, and out of them
+-- the segments through both, and out of them
 abbrev pub through_both : (Completion → List (List SegmentStep)) → (Completion → List (List SegmentStep)) → Completion → List (List SegmentStep)
 through_both one two normal = each_then (one normal) (two normal)
 through_both one two (jump k) = one (jump k) ++ each_then (one normal) (two (jump k))
@@ -19,7 +19,7 @@ outs_both one behind two normal = then_outs (one normal) (behind normal) ++ two 
 outs_both one behind two (jump k) = one (jump k) ++ then_outs (one normal) (behind (jump k)) ++ two (jump k)
 
 module _ (V H X : Type 0) (m : Abstraction V H) (o : PointsOf V H X) where
-  -- a part with these ways is closed
+  -- a part with these segments is closed
   pub record Closes (T : Completion → List (List SegmentStep)) (E : List GoalSegment) (O : Completion → List Suffix) (I : List Segment) (v : V)
       (r : PassResult V) : Type 0 where
     pub passes : (h : Completion) (ops : List SegmentStep) → Contains (T h) ops → KeptBy m o v ops (IsExitValue r h)

@@ -1,4 +1,4 @@
--- Values that keep what is done on a way, one way after another.
+-- Values that keep what is done on a segment, one segment after another.
 use Rattle.std.proofs.Common.{◌≡◌, ℕ, List, [], ◌∷◌, ◌++◌, Bool, refl, sym, ap, ◌∙◌, subst, append_assoc, append-nil}
 use Rattle.std.specs.List.{Contains}
 use Rattle.lra_linear_spec.proofs.Membership.{contains_head}

@@ -49,8 +49,8 @@ ValuesAreInductive {V} m o = (set : Plan) (P : Program) (g : Node) (r : PassResu
 
 -- trees: a pass --------------------------------------------------------------------------------------------------
 
--- the second value has a dimension for each variable that lives after the way, and all points to which the way leads
--- from those of the first
+-- the second value has a dimension for each variable that lives after the segment, and all points to which the segment
+-- leads from those of the first
 pub record Keeps {V H X : Type 0} (m : Abstraction V H) (o : PointsOf V H X) (v : V) (ops : List SegmentStep) (w : V)
     : Type 0 where
   pub dims : m.dims w ≡ live_after_steps (m.dims v) ops

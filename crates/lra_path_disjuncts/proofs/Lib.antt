@@ -3,7 +3,7 @@ pub mod SideSteps
 pub mod OpLengths
 pub mod StepLaws
 pub mod WrittenSteps
--- Sides, from tables of moves.
+-- Disjuncts, from tables of moves.
 pub mod TableSteps
 pub mod SideLists
 pub mod GuardSteps

@@ -1,4 +1,4 @@
--- Sides of moves by their numbers, and what is still to be written of them.
+-- Disjuncts of moves by their numbers, and what is still to be written of them.
 use Rattle.std.proofs.Common.{◌≡◌, ◌≤◌, ◌<◌, ℕ, zero, suc, ◌+◌, ◌*◌, ◌-◌, ◌/◌, ◌%◌, Bool, true, false, List, [], ◌∷◌, ◌++◌, length, map, take, refl, sym, ap, ◌∙◌, subst, Option, Some, None, arith}
 use Rattle.std.proofs.Common.{append_assoc, append-nil, length-append, inl, inr}
 use Rattle.std.proofs.Math.Nat.{mod-eq_of_lt, mod-eq-sub-mod, mod-lt, div-lt_iff_lt-mul, div-eq_of_lt, div-eq-sub-div, mul-zero, mul-suc, mul_comm, one-le-mul, le-mul_of_pos_right}
@@ -12,7 +12,7 @@ use Rattle.lra_path_disjuncts.specs.Tables.{capped, count_of, moves_at, disjunct
 use Rattle.lra_path_disjuncts.specs.{Disjuncts.disjuncts, declared.tables.MovesEntry.MovesEntry, declared.tables.PendingDisjunct.PendingDisjunct}
 use Rattle.lra_path_disjuncts.proofs.TableSteps.{get_left, capped_few, capped_some, length_each}
 
--- moves have sides -------------------------------------------------------------------------------------------------------
+-- moves have disjuncts ------------------------------------------------------------------------------------------------
 
 pub sides_some : (p : Moves) → 1 ≤ count_of p
 sides_some stay = omega arith
@@ -139,7 +139,7 @@ module _ (es : List MovesEntry) where
   pending_last [] done w none e = sym (append-nil done) ∙ e
   pending_last (d ∷ ds) done w none e = absurd (omega (arith, none))
 
--- sides by their numbers -------------------------------------------------------------------------------------------------
+-- disjuncts by their numbers ------------------------------------------------------------------------------------------
 
 get_right : {A : Type 0} (xs ys : List A) (i : ℕ) → length xs ≤ i → slice_get (xs ++ ys) i ≡ slice_get ys (i - length xs)
 get_right [] ys i less = ap (slice_get ys) (let same : i ≡ i - 0 = omega arith in same)
@@ -188,7 +188,7 @@ get_each {A = A} xs (z ∷ ys) n x y less one two = elim (cases_lt n (length xs)
           absurd (omega (arith, there, no))
     ]
 
--- each side, where there are no more than may be
+-- each disjunct, where there are no more than may be
 pub side_found : (p : Moves) (n : ℕ) → count_of p ≤ 1024 → n < count_of p → slice_get (disjuncts p) n ≡ Some (disjunct_at p n)
 side_found stay zero few less = refl
 side_found stay (suc n) few less = absurd (omega (arith, less))

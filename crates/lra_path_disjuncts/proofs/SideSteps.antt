@@ -1,4 +1,5 @@
--- Sides are what an iteration over lists of paths makes, and the cases of moves; moves lead where one of their sides leads.
+-- Disjuncts are what an iteration over lists of paths makes, and the cases of moves; moves lead where one of their
+-- disjuncts leads.
 use Rattle.std.proofs.Common.{◌≡◌, ℤ, List, [], ◌∷◌, ◌++◌, map, inl, inr, refl, sym, ap, ◌∙◌, subst, append-nil, append_assoc}
 use Rattle.std.proofs.lemmas.List.Sorted.{IsPermutation-refl, IsPermutation-append, IsPermutation-append_left, IsPermutation-append_right, IsPermutation-append_comm, IsPermutation-cons}
 use Rattle.std.proofs.lemmas.List.Sorted.{IsPermutation-trans, IsPermutation-map}
@@ -10,7 +11,7 @@ use Rattle.lra_path_segments.specs.Segments.{each_then}
 use Rattle.lra_path_disjuncts.specs.Disjuncts.{disjuncts, on_paths, DisjunctsAreMade}
 use Rattle.lra_path_segments.proofs.{FlatSteps.flat_none, Lists.each_then_nil, Lists.each_then_append, Lists.each_then_assoc}
 
--- an iteration over lists of paths makes the sides ---------------------------------------------------------------------------
+-- an iteration over lists of paths makes the disjuncts ----------------------------------------------------------------
 
 module _ (p : Moves) (paths : List (List Action)) where
   abbrev Behind : Exactness → List (List Action) → Type 0
@@ -59,7 +60,7 @@ sides_made p paths e more = (
       (behind_made p paths)),
 )
 
--- the sides are the cases in another order --------------------------------------------------------------------------------
+-- the disjuncts are the cases in another order ------------------------------------------------------------------------
 
 module _ {A B : Type 0} where
   flat_permuted : (f g : A → List B) → ((x : A) → IsPermutation (f x) (g x)) → (xs : List A) → IsPermutation (flat_map f xs) (flat_map g xs)
@@ -105,7 +106,7 @@ disjuncts_are_cases (first_then a b) =
     sooner
 disjuncts_are_cases (join_of a b) = IsPermutation-append (cases a) (disjuncts a) (cases b) (disjuncts b) (disjuncts_are_cases a) (disjuncts_are_cases b)
 
--- moves lead where one of their sides leads ---------------------------------------------------------------------------------
+-- moves lead where one of their disjuncts leads -----------------------------------------------------------------------
 
 -- one list and then the other lead through a store between them
 leads_through : (one two : List Action) (s t : List ℤ) → LeadsAll (one ++ two) s t ↔ ((u : List ℤ) × LeadsAll one s u × LeadsAll two u t)

@@ -1,4 +1,4 @@
--- The sides of a way's moves, and one change more.
+-- The disjuncts of a segment's moves, and one change more.
 use Rattle.std.proofs.Common.{◌≡◌, ℕ, List, [], ◌∷◌, ◌++◌, ◌<◌, ◌≤◌, ◌+◌, length, map, take, get_or, refl, sym, ap, ◌∙◌, subst}
 use Rattle.std.proofs.lemmas.List.{map_more, take_all}
 use Rattle.lra_domain.specs.{Actions.Action, Moves.Moves, Moves.stay, Moves.first_then}
@@ -38,7 +38,7 @@ behind_more live (o ∷ ops) step = behind_more (dims_after_step o live) ops ste
 pub seen_so : (live base : ℕ) (e : Expr) (s : Linearized) → s ≡ linearized live base e → LinearizedFits s live
 seen_so live base e s is = subst (λ r. LinearizedFits r live) (sym is) (seen_fits live base e)
 
--- one more of what is done on a way
+-- one more of what is done on a segment
 module _ (live : ℕ) (xs : List Move) (i : ℕ) (x : Move) (less : i < length xs) (is : x ≡ get_or xs i x) where
   taken : map move_view (take (i + 1) xs) ≡ map move_view (take i xs) ++ move_view x ∷ []
   taken = map_more move_view xs i x less ∙ ap (λ (d : Move). map move_view (take i xs) ++ move_view d ∷ []) (sym is)

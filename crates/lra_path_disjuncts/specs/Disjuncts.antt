@@ -8,14 +8,14 @@ use Rattle.lra_analysis_spec.specs.{Moves.AreMade, Operations.Operations}
 use Rattle.lra_path_segments.specs.Segments.{SegmentStep, each_then, RunsOps}
 use Rattle.lra_path_disjuncts.specs.StepMoves.{step_moves, dims_after_step}
 
--- of one after the other the sides of the later are the outer ones; a join's stand one after the other
+-- of one after the other the disjuncts of the later are the outer ones; a join's stand one after the other
 abbrev pub disjuncts : Moves → List (List Action)
 disjuncts stay = [] ∷ []
 disjuncts (make step) = (step ∷ []) ∷ []
 disjuncts (first_then a b) = each_then (disjuncts a) (disjuncts b)
 disjuncts (join_of a b) = disjuncts a ++ disjuncts b
 
--- the operations of a way, where so many variables live at its beginning
+-- the operations of a segment, where so many variables live at its beginning
 abbrev pub written : ℕ → List SegmentStep → List (List Action)
 written live [] = [] ∷ []
 written live (step ∷ ops) = each_then (disjuncts (step_moves live step)) (written (dims_after_step step live) ops)
@@ -39,16 +39,16 @@ on_paths = record {
   valued = λ h e paths. ⊥;
 }
 
--- what an iteration makes of a list of paths by these moves: the sides, each after each of the paths
+-- what an iteration makes of a list of paths by these moves: the disjuncts, each after each of the paths
 abbrev pub DisjunctsAreMade : Type 0
 DisjunctsAreMade = (p : Moves) (paths : List (List Action)) (e : Exactness) (more : List (List Action)) →
     AreMade on_paths p paths e more ↔ ((more ≡ each_then paths (disjuncts p)) × (e ≡ Exact))
 
--- the sides are the cases of the moves, in another order: there those of the earlier are the outer ones
+-- the disjuncts are the cases of the moves, in another order: there those of the earlier are the outer ones
 abbrev pub DisjunctsAreCases : Type 0
 DisjunctsAreCases = (p : Moves) → IsPermutation (cases p) (disjuncts p)
 
--- moves may lead where one of their sides leads
+-- moves may lead where one of their disjuncts leads
 abbrev pub DisjunctsLead : Type 0
 DisjunctsLead = (p : Moves) (s t : List ℤ) → MayLead p s t ↔ SomeLeads (disjuncts p) s t
 

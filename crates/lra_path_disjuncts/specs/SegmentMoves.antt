@@ -1,4 +1,4 @@
--- The moves of a way: its changes of the program, one after the other.
+-- The moves of a segment: its changes of the program, one after the other.
 use Rattle.std.specs.Prelude.{ℕ, List, [], ◌∷◌}
 use Rattle.lra_domain.specs.Moves.{Moves, stay, first_then}
 use Rattle.lra_path_segments.specs.Segments.{SegmentStep}

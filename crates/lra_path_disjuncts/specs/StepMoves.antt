@@ -1,5 +1,5 @@
--- The moves of what is done on a way: those of a least change; where a value goes to a label, it is that label's value,
--- and where it goes to none, it is none of the labels'.
+-- The moves of what is done on a segment: those of a least change; where a value goes to a label, it is that label's
+-- value, and where it goes to none, it is none of the labels'.
 use Rattle.std.specs.Prelude.{ℕ, List, [], ◌∷◌, true, false}
 use Rattle.lra_base.specs.declared.case_labels.CaseLabel.{CaseLabel}
 use Rattle.lra_base.specs.declared.case_labels.CaseLabel.TheVariants.{Case, Default}
@@ -8,7 +8,8 @@ use Rattle.lra_analysis_spec.specs.{Linearization.linearized, Live.live_after_op
 use Rattle.lra_analysis_spec.specs.{MovesOf.number_moves, declared.linearization.Linearized.Linearized}
 use Rattle.lra_path_segments.specs.Segments.{SegmentStep, does, goes}
 
--- what is seen has none of the labels' values: `!=` for one after the other, so the last one's sides are the outer ones
+-- what is seen has none of the labels' values: `!=` for one after the other, so the last one's disjuncts are the outer
+-- ones
 abbrev pub unmatched_moves : ℕ → Linearized → List CaseLabel → Moves
 unmatched_moves live s [] = stay
 unmatched_moves live s (Case z ∷ labels) = first_then (number_moves live false s z) (unmatched_moves live s labels)

@@ -1,4 +1,4 @@
--- What is still to be written of the sides of moves in a table.
+-- What is still to be written of the disjuncts of moves in a table.
 use Rattle.std.specs.Prelude.{ℕ, ◌+◌, ◌-◌, nat_lt, if◌then◌else◌, List, [], ◌∷◌, ◌++◌, map, Vec}
 use Rattle.std.specs.{Borrow.Bor, Global.Global, List.sum_by}
 use Rattle.lra_domain.specs.Moves.{Moves, stay, make, first_then, join_of}

@@ -1,5 +1,5 @@
 -- Moves in a table, each after those of which it is made, so that what stands in several of them stands there once;
--- and how many sides each has, counted no further than is asked.
+-- and how many disjuncts each has, counted no further than is asked.
 use Rattle.std.specs.Prelude.{◌≡◌, ◌<◌, ℕ, suc, ◌-◌, ◌/◌, ◌%◌, min, nat_lt, if◌then◌else◌, List, [], ◌∷◌, ◌++◌, length}
 use Rattle.std.specs.Prelude.{Option, Some, None, slice_get}
 use Rattle.lra_domain.specs.Moves.{Moves, stay, make, first_then, join_of}
@@ -64,9 +64,9 @@ Has es i p = slice_get (all_moves es) i ≡ Some p
 abbrev pub Grows : List MovesEntry → List MovesEntry → Type 0
 Grows es fs = (i : ℕ) (p : Moves) → Has es i p → Has fs i p
 
--- sides -------------------------------------------------------------------------------------------------------------
+-- disjuncts ---------------------------------------------------------------------------------------------------------
 
--- The side of this number, where there are no more than may be: of moves one after the other those of the later are
+-- The disjunct of this number, where there are no more than may be: of moves one after the other those of the later are
 -- the outer ones.
 abbrev pub disjunct_at : Moves → ℕ → List Action
 disjunct_at stay n = []

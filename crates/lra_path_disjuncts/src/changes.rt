@@ -1,4 +1,4 @@
-//! The moves of the program's least changes in a table, those of ways, and those of the globals' first values.
+//! The moves of the program's least changes in a table, those of segments, and those of the globals' first values.
 
 ghost use Rattle.std.specs.Prelude.{◌≡◌, ◌<◌, ◌^◌, ◌-◌, ◌+◌, pos, suc, length, map, replicate, slice_set, Some, IfOk};
 ghost use Rattle.std.specs.Prelude.{OnOk};
@@ -471,9 +471,9 @@ fn push_op(
     }
 }
 
-// ways --------------------------------------------------------------------------------------------
+// segments ----------------------------------------------------------------------------------------
 
-/// The moves of what is done on a way.
+/// The moves of what is done on a segment.
 fn push_move(
     alloc: Global,
     live: usize,
@@ -536,7 +536,7 @@ fn live_behind_move(live: usize, step: Move) -> Result<usize, AllocError>
     }
 }
 
-/// The moves of a way, one after the other, over so many variables.
+/// The moves of a segment, one after the other, over so many variables.
 pub fn push_segment(
     alloc: Global,
     live: usize,

@@ -1,5 +1,5 @@
 //! Moves in a table, each after those of which it is made, so that what stands in several of them stands there once;
-//! and their sides, which are counted before they are written out.
+//! and their disjuncts, which are counted before they are written out.
 
 ghost use Rattle.std.specs.Prelude.{[], ◌∷◌, ◌≡◌, ◌<◌, ◌≤◌, ◌+◌, ◌*◌, ◌++◌, length, IfOk, OnOk};
 ghost use Rattle.lra_domain.specs.{Changes.action_of, Moves.stay, Moves.make, Moves.first_then, Moves.join_of};
@@ -32,7 +32,7 @@ impl Drop for MovesNode {
     }
 }
 
-/// Moves, and how many sides they have, counted no further than to one more than the greatest number of paths.
+/// Moves, and how many disjuncts they have, counted no further than to one more than the greatest number of paths.
 pub struct MovesEntry {
     pub disjuncts: usize,
     pub moves: MovesNode,
@@ -52,21 +52,21 @@ impl Drop for MovesEntry {
 /// No more paths than these may lead from one source to one goal.
 pub const GREATEST_PATHS: usize = 1024;
 
-/// The product of two counts of sides, capped.
+/// The product of two counts of disjuncts, capped.
 fn multiply_capped(one: usize, other: usize) -> usize
     ensures { result ≡ capped (one * other) }
 {
     one.saturating_mul(other).min(GREATEST_PATHS + 1)
 }
 
-/// The sum of two counts of sides, capped.
+/// The sum of two counts of disjuncts, capped.
 pub fn add_capped(one: usize, other: usize) -> usize
     ensures { result ≡ capped (one + other) }
 {
     one.saturating_add(other).min(GREATEST_PATHS + 1)
 }
 
-/// How many sides the moves at the place have.
+/// How many disjuncts the moves at the place have.
 pub fn disjuncts_at(entries: &[MovesEntry], place: usize) -> usize
     requires { IsTable entries.now }
     ensures { result ≡ capped (count_of (moves_at entries.now place)) }
@@ -167,16 +167,16 @@ pub fn push_join(
     )
 }
 
-// sides -------------------------------------------------------------------------------------------
+// disjuncts ---------------------------------------------------------------------------------------
 
-/// A side that is still to be written: this one of the moves at the place.
+/// A disjunct that is still to be written: this one of the moves at the place.
 #[derive(Clone, Copy)]
 pub struct PendingDisjunct {
     pub place: usize,
     pub number: usize,
 }
 
-/// What is done first of a side comes after what is written; the rest of it is due.
+/// What is done first of a disjunct comes after what is written; the rest of it is due.
 fn write_next<'t>(
     entries: &'t [MovesEntry],
     due: PendingDisjunct,
@@ -241,7 +241,7 @@ fn push_two(
     Ok(())
 }
 
-/// The one side of a join is due, of which there are so many, or the other.
+/// The one disjunct of a join is due, of which there are so many, or the other.
 fn push_one_of(
     count: usize,
     one: usize,
@@ -263,7 +263,7 @@ fn push_one_of(
     Ok(())
 }
 
-/// The changes of one side of the moves at the place.
+/// The changes of one disjunct of the moves at the place.
 pub fn write_disjunct<'t>(
     alloc: Global,
     entries: &'t [MovesEntry],
@@ -283,7 +283,7 @@ pub fn write_disjunct<'t>(
     Ok(side)
 }
 
-/// All sides of the moves at the place, in order, after others.
+/// All disjuncts of the moves at the place, in order, after others.
 pub fn write_disjuncts<'t>(
     alloc: Global,
     entries: &'t [MovesEntry],

@@ -1,4 +1,4 @@
--- Which of a `switch`'s labels a value goes to, and the ways of arms, which are those of a row of trees.
+-- Which of a `switch`'s labels a value goes to, and the segments of arms, which are those of a row of trees.
 use Rattle.std.proofs.{Common.◌≡◌, Common.ℤ, Common.List, Common.◌++◌, Common.Bool, Common.true, Common.false, Common.refl, Common.sym, Common.ap, Common.◌∙◌, lemmas.Bool.Decides.Decides-int_eq}
 use Rattle.std.specs.{List.list_any, Prelude.cond, Prelude.if◌then◌else◌}
 use Rattle.std.proofs.lemmas.Bool.{or_parts}

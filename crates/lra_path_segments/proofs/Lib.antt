@@ -1,6 +1,6 @@
 pub mod Lists
 pub mod LabelLaws
--- Ways of trees in one list, from the leaves up.
+-- Segments of trees in one list, from the leaves up.
 pub mod FlatSteps
 pub mod StretchSteps
 pub mod StretchLists

@@ -1,4 +1,4 @@
--- The segments of a tree are its ways, each kind in its order.
+-- The tree segments of a tree are its segments, each kind in its order.
 use Rattle.std.proofs.Common.{◌≡◌, ℕ, List, [], ◌∷◌, ◌++◌, map, filter, flat_map, Bool, true, false, not, cond, Option, Some, None, refl, sym, ap, ◌∙◌, append-nil, append_assoc}
 use Rattle.std.specs.List.{list_any}
 use Rattle.lra_base.specs.{CaseLabels.is_same_case, declared.case_labels.CaseLabel.CaseLabel, declared.case_labels.CaseLabel.TheVariants.Default}
@@ -142,7 +142,7 @@ stay_met p ops (exits normal) = sym (no_segment p ops normal)
 stay_met p ops (exits (jump k)) = refl
 stay_met p ops (reaches goal) = refl
 
--- what begins in the second tree is no way from the start
+-- what begins in the second tree is no segment from the start
 later_none : {B : Type 0} (a : Bool) (xs : List B) → cond (not a) (cond a xs []) [] ≡ []
 later_none true xs = refl
 later_none false xs = refl
@@ -307,7 +307,7 @@ choice_ways q base c g h xs ys a b =
 
 -- loops ------------------------------------------------------------------------------------------------------------------
 
--- which part of the body's ways each is
+-- which part of the body's segments each is
 module _ (q base : ℕ) (c : Cond) where
   abbrev on : SegmentStep
   on = does (test base c true)

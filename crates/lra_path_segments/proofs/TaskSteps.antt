@@ -1,5 +1,5 @@
--- A tree that is gone along by a list of what is due: its ways come last of those that are there, and each step leaves
--- fewer steps.
+-- A tree that is gone along by a list of what is due: its segments come last of those that are there, and each step
+-- leaves fewer steps.
 use Rattle.std.proofs.Common.{rules, Box, Vec, Global, ◌≡◌, ◌∙◌, Bool, true, false, ℕ, ◌+◌, ◌<◌, List, [], ◌∷◌, ◌++◌, length, map, refl, sym, ap, subst, arith, append-nil}
 use Rattle.std.proofs.{lemmas.List.map-append, lemmas.List.nil_from_length, lemmas.List.Sums.sum_by_push}
 use Rattle.std.specs.Prelude as outcome
@@ -26,7 +26,7 @@ use Rattle.lra_path_segments.specs.declared.segments.TreeSegment as declared_str
 abbrev V : Type 0
 V = Vec declared_stretch.TreeSegment Global
 
--- the ways that are there --------------------------------------------------------------------------------------------------
+-- the segments that are there -----------------------------------------------------------------------------------------
 
 stack_more : (s : List (List TreeSegment)) (vs : List V) (v : V) → stack_on s (vs ++ v ∷ []) ≡ seen v.items ∷ stack_on s vs
 stack_more s [] v = refl
@@ -335,7 +335,7 @@ one_labelled r step s t u v w row later all a b c d is one h =
     subst (λ z. OnOk r (w ≡ z)) (ap (λ z. row ∷ z) (one ∙ ap (λ z. z ∷ u) (is ∙ ap (λ z. labelled step row z) second))
     ∙ ap (λ z. z ∷ labelled step z (top (below s)) ∷ u) a ∙ ap (λ z. top s ∷ labelled step (top s) (top (below s)) ∷ z) rest) h
 
--- ways that come last --------------------------------------------------------------------------------------------------------------
+-- segments that come last ---------------------------------------------------------------------------------------------
 
 -- a list of one, of two
 pub first_put : (xs ys : List declared_stretch.TreeSegment) (x : TreeSegment) → xs ≡ [] → seen ys ≡ seen xs ++ x ∷ [] → seen ys ≡ x ∷ []
@@ -385,6 +385,6 @@ pub run_last : (ds : List Task) (vs : List V) (xs : List declared_stretch.TreeSe
     top (stack vs) → seen xs ≡ w
 run_last ds vs xs w none i h = h ∙ ap top (sym (ap (λ u. run u (stack vs)) (nil_from_length ds none)) ∙ i)
 
--- the tree's segments are its ways
+-- the tree segments of a tree are its segments
 pub ways_made : (xs : List declared_stretch.TreeSegment) (g : Node) → seen xs ≡ tree_segments g → AreSegmentsOf (seen xs) g
 ways_made xs g is = subst (λ ss. AreSegmentsOf ss g) (sym is) (are_ways g)

@@ -1,5 +1,5 @@
--- Ways of a tree of operations: what is done from one point to the next, or to where the assertion at a point is false.
--- A loop isn't passed without its point, so there are finitely many of them.
+-- Segments of a tree of operations: what is done from one point to the next, or to where the assertion at a point is
+-- false. A loop isn't passed without its point, so there are finitely many of them.
 use Rattle.std.specs.List.{flat_map, list_any}
 use Rattle.std.specs.Prelude.{◌≡◌, ℕ, ℤ, List, [], ◌∷◌, ◌++◌, map, Bool, true, false, if◌then◌else◌, Some}
 use Rattle.lra_base.specs.CaseLabels.{is_same_case, goal_of}
@@ -10,14 +10,14 @@ use Rattle.lra_operations.specs.Tree.{Exit, broken, continued, returned, Complet
 use Rattle.lra_operations.specs.Tree.{point, act, check, seq, choose, iterate, catch, leave, select, Arms, no_arms}
 use Rattle.lra_operations.specs.Tree.{entry, arm, entries_of}
 
--- what is done on a way
+-- what is done on a segment
 pub data SegmentStep : Type 0 where
   -- a least change
   does : Op → SegmentStep
   -- a value is computed once, and of these labels this is the one to which it goes
   goes : ℕ → Expr → List CaseLabel → CaseLabel → SegmentStep
 
--- where a way leads: to a point, or to where the assertion at a point is false
+-- where a segment leads: to a point, or to where the assertion at a point is false
 pub data Goal : Type 0 where
   comes_to : ℕ → Goal
   violates : ℕ → Goal
@@ -46,7 +46,7 @@ same_exit j k = false
 abbrev pub each_then : {A : Type 0} → List (List A) → List (List A) → List (List A)
 each_then xs ys = flat_map (λ y. map (λ x. x ++ y) xs) ys
 
--- the operations, and then the way
+-- the operations, and then the segment
 abbrev pub then_way : GoalSegment → List SegmentStep → GoalSegment
 then_way way x = record way { ops = x ++ way.ops }
 

@@ -1,4 +1,4 @@
--- What is still to be done while the ways of a tree are made, from its leaves up.
+-- What is still to be done while the segments of a tree are made, from its leaves up.
 use Rattle.std.specs.Prelude.{ℕ, ◌+◌, List, [], ◌∷◌, map, Vec}
 use Rattle.std.specs.{Global.Global, List.sum_by}
 use Rattle.lra_base.specs.declared.case_labels.CaseLabel.{CaseLabel}
@@ -16,7 +16,7 @@ use Rattle.lra_path_segments.specs.declared.trees.Task.TheVariants.{LabelledArms
 use Rattle.lra_path_segments.specs.{Segments.SegmentStep, declared.trees.Task.Task}
 use Rattle.lra_path_segments.specs.declared.segments.TreeSegment as declared_stretch
 
--- the ways that are there: the last list of them is the first here
+-- the segments that are there: the last list of them is the first here
 abbrev pub stack_on : List (List TreeSegment) → List (Vec declared_stretch.TreeSegment Global) → List (List TreeSegment)
 stack_on s [] = s
 stack_on s (v ∷ vs) = stack_on (seen v.items ∷ s) vs
@@ -32,12 +32,12 @@ abbrev pub below : List (List TreeSegment) → List (List TreeSegment)
 below [] = []
 below (x ∷ xs) = xs
 
--- trees before that of the last ways
+-- trees before that of the last segments
 abbrev pub row_on : List Node → List (List TreeSegment) → List (List TreeSegment)
 row_on [] s = s
 row_on (g ∷ gs) s = sequenced (tree_segments g) (top (row_on gs s)) ∷ below (row_on gs s)
 
--- the trees of arms before that of the last ways, and ways from the arms' labels before those from later ones
+-- the trees of arms before that of the last segments, and segments from the arms' labels before those from later ones
 abbrev pub joined_last : List TreeSegment → List (List TreeSegment) → List (List TreeSegment)
 joined_last x s = sequenced x (top s) ∷ below s
 
@@ -49,7 +49,7 @@ arms_on go no_arms s = s
 arms_on go (entry l arms) s = labelled_last (go l) (arms_on go arms s)
 arms_on go (arm a arms) s = joined_last (tree_segments a) (arms_on go arms s)
 
--- what is made of the ways that are there
+-- what is made of the segments that are there
 abbrev pub effect : Task → List (List TreeSegment) → List (List TreeSegment)
 effect (Tree n) s = tree_segments (node_view n.now) ∷ s
 effect (Row gs) s = row_on (map node_view gs.now) s

@@ -1,5 +1,5 @@
--- All ways of a tree in one list, as they are made from its leaves up: from its start, or from a point in it, to where
--- it is left or a goal is met.
+-- All segments of a tree in one list, as they are made from its leaves up: from its start, or from a point in it, to
+-- where it is left or a goal is met.
 use Rattle.std.specs.Prelude.{◌≡◌, ℕ, List, [], ◌∷◌, ◌++◌, map, Bool, true, false, not, if◌then◌else◌, Option, None}
 use Rattle.std.specs.{List.flat_map, List.filter, List.list_any, Prelude.Some}
 use Rattle.lra_base.specs.CaseLabels.{is_same_case}
@@ -161,7 +161,7 @@ abbrev mutual
   from_labels go past (entry l arms) = labelled (go l) (arms_segments arms) (from_labels go past arms)
   from_labels go past (arm a arms) = from_labels go past arms
 
--- ways -------------------------------------------------------------------------------------------------------------
+-- segments ---------------------------------------------------------------------------------------------------------
 
 -- what each end, and each source, gives
 abbrev pub goal_segments_at : List SegmentStep → End → List GoalSegment
@@ -177,7 +177,7 @@ segments_at None ops e = []
 segments_at (Some p) ops (exits k) = []
 segments_at (Some p) ops (reaches goal) = record { source = p; to_goal = record { ops = ops; goal = goal } } ∷ []
 
--- a segment as one of each kind of ways
+-- a tree segment as one of each kind of segments
 abbrev pub passed : Completion → TreeSegment → List (List SegmentStep)
 passed h s = if starts s.source then (if exits_as h s.end then s.ops ∷ [] else []) else []
 
@@ -190,7 +190,7 @@ gone h s = if exits_as h s.end then suffixes_at s.source s.ops else []
 abbrev pub met : TreeSegment → List Segment
 met s = segments_at s.source s.ops s.end
 
--- the segments are the tree's ways, each kind in its order
+-- the tree segments are the tree's segments, each kind in its order
 pub record AreSegmentsOf (ss : List TreeSegment) (g : Node) : Type 0 where
   pub passes : (h : Completion) → flat_map (passed h) ss ≡ through g h
   pub enters : flat_map entered ss ≡ enter g

@@ -2,7 +2,8 @@
 
 ghost use Rattle.lra_path_segments.specs.TreeSegments.{TreeSegmentsAreExact};
 
-/// The segments of a tree, which are made in one list from its leaves up, are its ways, each kind in its order.
+/// The tree segments, which are made in one list from the leaves up, are the segments of the tree, each kind in its
+/// order.
 pub fn tree_segments_are_exact()
     ensures { TreeSegmentsAreExact }
 {}

@@ -1,4 +1,4 @@
-//! Ways of a tree of operations, from its start or from a point in it to the next point or to where an assertion is
+//! Segments of a tree of operations, from its start or from a point in it to the next point or to where an assertion is
 //! false: all of them in one list, made from the tree's leaves up.
 #![tactic(auto)]
 

@@ -1,5 +1,5 @@
-//! All ways of a tree in one list: from its start, or from a point in it, to where it is left or a goal is met. What
-//! trees make of the lists of the trees in them.
+//! All segments of a tree in one list: from its start, or from a point in it, to where it is left or a goal is met.
+//! What trees make of the lists of the trees in them.
 
 ghost use Rattle.std.specs.Prelude.{◌≡◌, [], ◌∷◌, ◌++◌, cond, map, option_to_list, IfOk, OnOk};
 ghost use Rattle.lra_program.specs.ProgramViews.{cond_view};
@@ -23,8 +23,8 @@ pub struct Selection<'g> {
     pub arms: &'g [Arm],
 }
 
-/// What is done on a way: a least change, nothing where the condition has this value, or a value is computed that goes
-/// to this label.
+/// What is done on a segment: a least change, nothing where the condition has this value, or a value is computed that
+/// goes to this label.
 #[derive(Clone, Copy)]
 pub enum Move<'g> {
     Change(&'g Op),
@@ -32,7 +32,7 @@ pub enum Move<'g> {
     Select(Selection<'g>, CaseLabel),
 }
 
-/// Where a way leads: to a point, or to where the assertion at a point is false.
+/// Where a segment leads: to a point, or to where the assertion at a point is false.
 #[derive(Clone, Copy, PartialEq, Eq, Debug)]
 pub enum Goal {
     ComesTo(usize),
@@ -53,7 +53,7 @@ pub enum End {
     Reaches(Goal),
 }
 
-/// A way, or a part of one: from the tree's start where there is no source, else from this point in it.
+/// A segment, or a part of one: from the tree's start where there is no source, else from this point in it.
 #[derive(Drop)]
 pub struct TreeSegment<'g> {
     pub source: Option<usize>,
@@ -225,7 +225,7 @@ fn join_parts<'g>(
     Ok(all)
 }
 
-/// The ways of one tree and then another.
+/// The segments of one tree and then another.
 pub fn sequence<'g>(
     alloc: Global,
     first: Vec<TreeSegment<'g>>,
@@ -276,7 +276,7 @@ fn push_prefixed<'g>(
     Ok(())
 }
 
-/// The ways of a choice.
+/// The segments of a choice.
 pub fn choose<'g>(
     alloc: Global,
     base: usize,
@@ -369,7 +369,7 @@ pub fn enter_row<'g>(
     Ok(all)
 }
 
-/// The ways of a `switch`: those from its labels, and those that begin in its trees.
+/// The segments of a `switch`: those from its labels, and those that begin in its trees.
 pub fn select<'g>(
     alloc: Global,
     row: Vec<TreeSegment<'g>>,
@@ -512,7 +512,7 @@ fn order_body<'g>(
     Ok(all)
 }
 
-/// The ways of a loop.
+/// The segments of a loop.
 pub fn go_round<'g>(
     alloc: Global,
     point: usize,
@@ -566,7 +566,7 @@ fn push_ended<'g>(
     Ok(())
 }
 
-/// The ways of a tree after which jumps of this kind come out.
+/// The segments of a tree after which jumps of this kind come out.
 pub fn catch_jumps<'g>(
     alloc: Global,
     exit: Exit,

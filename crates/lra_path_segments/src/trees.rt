@@ -1,5 +1,5 @@
-//! The ways of a tree, from its leaves up. The tree is gone along by a list of what is due, and not by calls, so it may
-//! be as deep as memory allows.
+//! The segments of a tree, from its leaves up. The tree is gone along by a list of what is due, and not by calls, so it
+//! may be as deep as memory allows.
 
 ghost use Rattle.std.specs.List.{list_any};
 ghost use Rattle.std.specs.Prelude.{◌≡◌, ◌<◌, ◌+◌, ◌||◌, [], ◌∷◌, IfOk, OnOk, List, None, map, option_to_list};
@@ -24,33 +24,33 @@ use lra_operations::{Arm, Exit, Node, any_default};
 use lra_program::Cond;
 use std::alloc::{AllocError, Global};
 
-/// What is still to be done with the ways that are there, of which the last are the newest.
+/// What is still to be done with the segments that are there, of which the last are the newest.
 #[derive(Clone, Copy)]
 pub enum Task<'g> {
-    /// The ways of the tree come after.
+    /// The segments of the tree come after.
     Tree(&'g Node),
     /// The trees of a row, which stand before the tree of the last segments.
     Row(&'g [Node]),
-    /// The tree of the last ways stands before that of those before them.
+    /// The tree of the last segments stands before that of those before them.
     Sequence,
-    /// The last ways are those where the condition is true, those before them where it is false.
+    /// The last segments are those where the condition is true, those before them where it is false.
     Choice(usize, &'g Cond),
-    /// The last ways are those of the body of a loop with this point.
+    /// The last segments are those of the body of a loop with this point.
     Round(usize, usize, &'g Cond),
-    /// Jumps of this kind come out after the tree of the last ways.
+    /// Jumps of this kind come out after the tree of the last segments.
     Catch(Exit),
-    /// The trees of these arms stand before that of the last ways, and ways from their labels before those from later
-    /// labels, which are there below.
+    /// The trees of these arms stand before that of the last segments, and segments from their labels before those from
+    /// later labels, which are there below.
     LabelledArms(Selection<'g>, &'g [Arm]),
-    /// This move leads to where the last ways begin, before the ways from later labels.
+    /// This move leads to where the last segments begin, before the segments from later labels.
     Label(Move<'g>),
-    /// The last ways are those of the trees of a `switch`, those before them the ways from its labels.
+    /// The last segments are those of the trees of a `switch`, those before them the segments from its labels.
     Select,
 }
 
-// the ways that are there -------------------------------------------------------------------------
+// the segments that are there ---------------------------------------------------------------------
 
-/// The last ways.
+/// The last segments.
 fn take_last<'g>(alloc: Global, done: &mut Vec<Vec<TreeSegment<'g>>>) -> Vec<TreeSegment<'g>>
     ensures top { seen result.items ≡ top (stack done.old.items) }
     ensures below { stack done.new.items ≡ below (stack done.old.items) }
@@ -72,7 +72,7 @@ fn put_last<'g>(
     Ok(())
 }
 
-/// A tree with one way of at most one move.
+/// A tree with one segment of at most one move.
 fn put_short<'g>(
     alloc: Global,
     only: Option<Move<'g>>,
@@ -200,7 +200,7 @@ fn catch_last<'g>(
     put_last(done, whole)
 }
 
-/// The last ways stay, and their beginnings are after the label.
+/// The last segments stay, and their beginnings are after the label.
 fn label_last<'g>(
     alloc: Global,
     first: Move<'g>,
@@ -289,7 +289,7 @@ fn open_choice<'g>(
     push_task(left, Task::Tree(on_false))
 }
 
-/// The way past all labels comes last, if there is one.
+/// The segment past all labels comes last, if there is one.
 fn put_past<'g>(
     alloc: Global,
     selection: Selection<'g>,
@@ -363,7 +363,7 @@ fn open_selection<'g>(
     push_task(left, Task::LabelledArms(selection, selection.arms))
 }
 
-/// The ways of a tree with no tree in it come last.
+/// The segments of a tree with no tree in it come last.
 fn put_leaf<'g>(
     alloc: Global,
     node: &'g Node,
@@ -389,7 +389,7 @@ fn put_leaf<'g>(
     }
 }
 
-/// The trees in a tree are due, or its ways come last.
+/// The trees in a tree are due, or its segments come last.
 fn open_node<'g>(
     alloc: Global,
     node: &'g Node,
@@ -447,7 +447,7 @@ fn do_next<'g>(
     }
 }
 
-/// The ways of a tree.
+/// The segments of a tree.
 pub fn segments_of<'g>(alloc: Global, node: &'g Node) -> Result<Vec<TreeSegment<'g>>, AllocError>
     ensures are { IfOk result (λ v. seen v.items ≡ tree_segments (node_view node.now)) }
     ensures ways { IfOk result (λ v. AreSegmentsOf (seen v.items) (node_view node.now)) }

@@ -1,4 +1,4 @@
--- What a run of a tree has done since the last point that it met goes along a way.
+-- What a run of a tree has done since the last point that it met goes along a segment.
 use Rattle.std.proofs.Common.{◌≡◌, ◌≢◌, ℕ, zero, suc, ℤ, List, [], ◌∷◌, ◌++◌, map, Some, None, Bool, true, false, inl, inr, refl, sym, ap, ◌∙◌, subst}
 use Rattle.std.proofs.{lemmas.List.Elements.Contains-append_left, lemmas.List.Elements.Contains-append_right, lemmas.Option.same_Some, lemmas.Option.none-some}
 use Rattle.std.specs.{List.Contains, List.list_any, Prelude.cond, Prelude.◌||◌, Prelude.if◌then◌else◌}
@@ -122,7 +122,7 @@ module _ (q base : ℕ) (c : Cond) (g : Node) where
   abbrev loop : Node
   loop = iterate q base c g
 
-  -- the four parts of the ways in a loop
+  -- the four parts of the segments in a loop
   in_body : (p : ℕ) (z : Stop) (x : List SegmentStep) → IsNextSegment p g (stopped z) x → IsNextSegment p loop (stopped z) x
   in_body p (by_jump k) x i = Contains-append_right _ _ _ i
   in_body p (to_point r) x i = Contains-append_right _ _ _ i
@@ -232,7 +232,7 @@ module _ (go : CaseLabel → SegmentStep) (l : CaseLabel) (arms : Arms) where
       subst (λ n. IsLabelled go (entry l arms) u (go n ∷ x)) (sym (alike_are k l is)) (label_here u x i)
   label_by k false u x is there each i = label_later u (go k ∷ x) (each there i)
 
--- where the label is there, each way after it is one from it
+-- where the label is there, each segment after it is one from it
 label_first : (go : CaseLabel → SegmentStep) (l : CaseLabel) (arms : Arms) (u : RunExtent) (x : List SegmentStep) →
     list_any (is_same_case l) (entries_of arms) ≡ true
     → IsFirstSegment (row_behind l arms) u x → IsLabelled go arms u (go l ∷ x)
@@ -305,7 +305,7 @@ module _ {A : Type 0} (name : ℕ → A) where
   abbrev G : Node → Trace A → RunExtent → Trace A → Type 0
   G = RunsUpTo name NoChange
 
-  -- where only the ways and what was met before are other ones
+  -- where only the segments and what was met before are other ones
   lifted : (g h : Node) (a : Trace A) (u v : RunExtent) (b : Trace A) → ((x : List SegmentStep) → IsFirstSegment g u x → IsFirstSegment h v x) →
       ((p : ℕ) (x : List SegmentStep) → IsNextSegment p g u x → IsNextSegment p h v x)
       → ((x : List SegmentStep) (s t : State) → LeadsSo u x s t → LeadsSo v x s t) →
@@ -315,7 +315,7 @@ module _ {A : Type 0} (name : ℕ → A) where
   lifted g h a u v b first next leads at (along_next p m before x e k i l) = along_next p m before x e (at p (record { state = m; events = before }) k)
       (next p x i) (leads x m b.state l)
 
-  -- past a point, and then along a way of the tree h
+  -- past a point, and then along a segment of the tree h
   past : (q : ℕ) (g h : Node) (a w : Trace A) (u v : RunExtent) (b : Trace A) (step : SegmentStep) → w.events ≡ visit (name q) a.state ∷ a.events
       → RunsStep step a.state w.state → ((x : List SegmentStep) → IsFirstSegment g u x → IsNextSegment q h v (step ∷ x))
       → ((p : ℕ) (x : List SegmentStep) → IsNextSegment p g u x → IsNextSegment p h v x)

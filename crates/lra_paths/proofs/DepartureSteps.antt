@@ -1,5 +1,5 @@
--- Ways from one source: what comes into the table leaves the paths of those before, and all of them together are those
--- that lead from the source.
+-- Segments from one source: what comes into the table leaves the paths of those before, and all of them together are
+-- those that lead from the source.
 use Rattle.std.proofs.Common.{◌≡◌, ◌≤◌, ◌<◌, ℕ, zero, suc, ◌+◌, List, [], ◌∷◌, ◌++◌, length, map, take, Option, Some, None, Bool, true, false, inl, inr, refl, sym, ap, ◌∙◌, subst, arith, append-nil}
 use Rattle.std.proofs.{Common.append_assoc, Common.get_or, Common.◌&&◌, lemmas.Bool.cases_lt, lemmas.Grind.flat_map-append, lemmas.List.map-append, lemmas.List.take_more}
 use Rattle.std.specs.{List.flat_map, List.filter, Prelude.slice_get, Prelude.cond, Prelude.nat_eq}
@@ -73,7 +73,7 @@ module _ (before : Moves) (live : ℕ) (goal : Goal) (writes : List SegmentStep 
       ∙ sym (flat_flat (λ segment. cond (nat_eq segment.source q && same_goal segment.to_goal.goal goal) (writes segment.to_goal.ops) []) met ss)
       ∙ sym (flat_filter (λ segment. nat_eq segment.source q && same_goal segment.to_goal.goal goal) (λ segment. writes segment.to_goal.ops) (flat_map met ss))
 
--- all ways from a source are those that lead from it
+-- all segments from a source are those that lead from it
 pub all_lead : (globals : List GlobalVariable) (sites : List Site) (p : ℕ) (ss : List TreeSegment) (g : Node) → AreSegmentsOf ss g → (goal : Goal)
     → all_departing (first_from globals p) (live_from globals sites p) (point_from p) ss goal ≡ actions_between_in globals sites g p goal
 all_lead globals sites zero ss g are goal =
@@ -113,7 +113,7 @@ adds_none s paths is none = record {
   more = λ goal. sym (ap (λ u. to_goal s.entries.items s.segments.items goal ++ u) (none goal) ∙ append-nil (to_goal s.entries.items s.segments.items goal));
 }
 
--- one way more
+-- one segment more
 pub adds_one : (s t : Source) (fs : List MovesEntry) (goal : declared.Goal) (before way place live : ℕ) (ops : List SegmentStep) → IsSource s
     → before < length s.entries.items → Grows s.entries.items fs → Has fs way (segment_moves live ops) → IsTable t.entries.items → Grows fs t.entries.items
     → Has t.entries.items place (first_then (moves_at fs before) (moves_at fs way)) →

@@ -1,6 +1,6 @@
 -- Worked examples.
 mod WayExamples
--- Runs of trees go along ways.
+-- Runs of trees go along segments.
 pub mod Came
 -- Pieces of runs go along paths.
 pub mod FollowedRuns

@@ -1,5 +1,5 @@
--- In the tree of a program each condition that is asserted stands right after its point: so only ways from that point
--- lead to where it is false.
+-- In the tree of a program each condition that is asserted stands right after its point: so only segments from that
+-- point lead to where it is false.
 use Rattle.std.proofs.Common.{◌≡◌, ◌≢◌, ℕ, zero, suc, ◌+◌, ◌<◌, ◌≤◌, List, [], ◌∷◌, ◌++◌, map, filter, flat_map, length, Option, Bool, true, false, cond, inl, inr, refl, sym, ap, ◌∙◌, subst, arith}
 use Rattle.std.proofs.lemmas.List.Elements.{All-nil, All-cons, All-head, All-tail, All-append, All-map, All-weaker}
 use Rattle.std.proofs.{Common.append-nil, lemmas.Bool.cases_lt, lemmas.Bool.eqb-true}
@@ -77,7 +77,7 @@ EndsAtPoint way = IsPoint way.goal
 abbrev EndsAtOwn : Segment → Type 0
 EndsAtOwn segment = IsOwn segment.source segment.to_goal.goal
 
--- the ways of a tree from its start, and from its points
+-- the segments of a tree from its start, and from its points
 pub record AreOwn (g : Node) : Type 0 where
   pub first : All EndsAtPoint (enter g)
   pub next : All EndsAtOwn (inside g)

@@ -1,4 +1,4 @@
--- Paths to one goal, way by way.
+-- Paths to one goal, segment by segment.
 use Rattle.std.proofs.Common.{◌≡◌, ◌≤◌, ◌<◌, ℕ, suc, ◌+◌, List, [], ◌∷◌, ◌++◌, length, take, sym, ap, ◌∙◌, arith, append-nil, get_or, length-append, Bool, true, false, cond, subst, refl, inl, inr}
 use Rattle.std.proofs.{Common.◌⊎◌, Math.Seq.take-suc, lemmas.Bool.cases_lt, lemmas.Bool.eqb-true, lemmas.Grind.flat_map-append, lemmas.List.take_all, lemmas.List.Folds.length-flat_map-take}
 use Rattle.lra_domain.specs.Actions.{Action}

@@ -1,4 +1,4 @@
--- Ways of small trees, and what they are written out as. Which slip an example would catch stands beside it.
+-- Segments of small trees, and what they are written out as. Which slip an example would catch stands beside it.
 use Rattle.std.proofs.Common.{◌≡◌, ℤ, pos, negsuc, List, [], ◌∷◌, true, false, refl}
 use Rattle.lra_linear_spec.specs.declared.ConKind.TheVariants.{Ge, Eq}
 use Rattle.lra_base.specs.declared.case_labels.CaseLabel.TheVariants.{Case, Default}
@@ -33,7 +33,7 @@ two_first = refl
 two_next : inside two_points ≡ record { source = 0; to_goal = record { ops = does drop_all ∷ []; goal = comes_to 1 } } ∷ []
 two_next = refl
 
--- a loop: into its body, back to its point, and out of it; catches a way past the loop's point
+-- a loop: into its body, back to its point, and out of it; catches a segment past the loop's point
 abbrev a_loop : Node
 a_loop = iterate 0 0 is_so (seq (point 1) (act 1 drop_all))
 
@@ -89,21 +89,21 @@ a_switch = seq (point 1) (catch 1 broken (select 1 0 x
 abbrev to_label : CaseLabel → SegmentStep
 to_label l = goes 0 x its_labels l
 
--- catches a way from a label past the statement after it, one for all labels of it, and a fall through that is lost
+-- catches a segment from a label past the statement after it, one for all labels of it, and a fall through that is lost
 switch_next : inside a_switch ≡ record { source = 1; to_goal = record { ops = to_label (Case (pos 1)) ∷ []; goal = comes_to 2 } }
     ∷ record { source = 1; to_goal = record { ops = to_label (Case (pos 2)) ∷ []; goal = comes_to 2 } }
     ∷ record { source = 1; to_goal = record { ops = to_label Default ∷ []; goal = comes_to 3 } }
     ∷ record { source = 2; to_goal = record { ops = does drop_all ∷ []; goal = comes_to 3 } } ∷ []
 switch_next = refl
 
--- past all labels there is a way only where none of them is `default`
+-- past all labels there is a segment only where none of them is `default`
 past_default : through (select 1 0 x (entry Default (arm (point 3) no_arms))) normal ≡ []
 past_default = refl
 
 past_labels : through (select 1 0 x (entry (Case (pos 1)) (arm (point 2) no_arms))) normal ≡ (goes 0 x (Case (pos 1) ∷ []) Default ∷ []) ∷ []
 past_labels = refl
 
--- after the last label nothing stands: its way goes past the whole, before that of no label
+-- after the last label nothing stands: its segment goes past the whole, before that of no label
 last_label : through (select 1 0 x (entry (Case (pos 1)) no_arms)) normal
     ≡ (goes 0 x (Case (pos 1) ∷ []) (Case (pos 1)) ∷ []) ∷ (goes 0 x (Case (pos 1) ∷ []) Default ∷ []) ∷ []
 last_label = refl

@@ -13,14 +13,14 @@ use Rattle.lra_paths.specs.Paths.{live_at, actions_between}
 
 -- trees ------------------------------------------------------------------------------------------------------------
 
--- the operations are those of a way from the tree's start so far, past no point
+-- the operations are those of a segment from the tree's start so far, past no point
 abbrev pub IsFirstSegment : Node → RunExtent → List SegmentStep → Type 0
 IsFirstSegment g to_end ops = Contains (through g normal) ops
 IsFirstSegment g (stopped (by_jump j)) ops = Contains (through g (jump j)) ops
 IsFirstSegment g (stopped (to_point q)) ops = Contains (enter g) (record { ops = ops; goal = comes_to q })
 IsFirstSegment g (stopped (to_failure q)) ops = Contains (enter g) (record { ops = ops; goal = violates q })
 
--- the operations are those of a way from the point in the tree so far, past no further point
+-- the operations are those of a segment from the point in the tree so far, past no further point
 abbrev pub IsNextSegment : ℕ → Node → RunExtent → List SegmentStep → Type 0
 IsNextSegment p g to_end ops = Contains (exit_suffixes g normal) (record { source = p; ops = ops })
 IsNextSegment p g (stopped (by_jump j)) ops = Contains (exit_suffixes g (jump j)) (record { source = p; ops = ops })
@@ -36,7 +36,7 @@ LeadsSo (stopped (by_jump j)) ops s t = RunsOps ops s t
 LeadsSo (stopped (to_point q)) ops s t = RunsOps ops s t
 LeadsSo (stopped (to_failure q)) ops s t = (u : State) × RunsOps ops s u × (u.store ≡ t.store)
 
--- the run has met no point, and has gone along a way from the tree's start; or along one from the point that it met
+-- the run has met no point, and has gone along a segment from the tree's start; or along one from the point that it met
 -- last, to which the tree comes on what was met before
 pub data HasGone {A : Type 0} (name : ℕ → A) (g : Node) (a : Trace A) (u : RunExtent) (b : Trace A) : Type 0 where
   along_first : (ops : List SegmentStep) → b.events ≡ a.events → IsFirstSegment g u ops →

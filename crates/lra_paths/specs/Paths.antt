@@ -1,5 +1,5 @@
 -- Paths of a program: from its start or from a point to the next one, or to where an assertion is false, with all that
--- is done on the way. The start has the number 0, the points those from 1 on.
+-- is done between. The start has the number 0, the points those from 1 on.
 use Rattle.std.specs.Prelude.{◌≤◌, ◌<◌, ℕ, zero, suc, List, map, length, Bool, false, ◌&&◌, nat_eq, Option, Some, None}
 use Rattle.std.specs.{List.flat_map, List.filter, List.range_with_len, Prelude.slice_get}
 use Rattle.lra_domain.specs.Actions.{Action}
@@ -25,22 +25,22 @@ live_of (Some s) = s.live
 abbrev pub live_at : Program → ℕ → ℕ
 live_at P q = live_of (slice_get (sites_of P) q)
 
--- from the start: the globals get their first values, and then what is done on the way
+-- from the start: the globals get their first values, and then what is done between
 abbrev pub started : List GlobalVariable → List SegmentStep → List (List Action)
 started globals ops = each_then (disjuncts (first_values 0 globals)) (written (length globals) ops)
 
 abbrev pub from_start : Program → List SegmentStep → List (List Action)
 from_start P ops = started P.globals ops
 
--- the ways from the source to the goal
+-- the segments from the source to the goal
 abbrev pub first_segments : Node → Goal → List GoalSegment
 first_segments g goal = filter (λ way. same_goal way.goal goal) (enter g)
 
 abbrev pub next_segments : Node → ℕ → Goal → List Segment
 next_segments g p goal = filter (λ segment. nat_eq segment.source p && same_goal segment.to_goal.goal goal) (inside g)
 
--- from the source to the goal, in the order of the ways, and of the sides of each: in a program with these globals and
--- these points
+-- from the source to the goal, in the order of the segments, and of the disjuncts of each: in a program with these globals
+-- and these points
 abbrev pub actions_between_in : List GlobalVariable → List Site → Node → ℕ → Goal → List (List Action)
 actions_between_in globals sites g zero goal = flat_map (λ way. started globals way.ops) (first_segments g goal)
 actions_between_in globals sites g (suc p) goal =

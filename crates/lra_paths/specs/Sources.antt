@@ -1,4 +1,4 @@
--- The ways from one source, with a table of their moves, and the paths that are written out of it.
+-- The segments from one source, with a table of their moves, and the paths that are written out of it.
 use Rattle.std.specs.Prelude.{◌≡◌, ◌<◌, ◌≤◌, ℕ, zero, suc, List, [], ◌∷◌, ◌++◌, Bool, true, false, cond, nat_eq, length}
 use Rattle.std.specs.{List.flat_map, Prelude.Option, Prelude.Some, Prelude.None, Prelude.slice_get}
 use Rattle.lra_domain.specs.{Actions.Action, Moves.Moves, Moves.stay, Moves.first_then}
@@ -12,11 +12,11 @@ use Rattle.lra_path_disjuncts.specs.{SegmentMoves.segment_moves, declared.tables
 use Rattle.lra_paths.specs.{Paths.live_of, Paths.same_goal, declared.paths.Departure.Departure}
 use Rattle.lra_paths.specs.{declared.sources.Source.Source, declared.sources.SourceSegment.SourceSegment}
 
--- the paths of a way, where it has this goal
+-- the paths of a segment, where it has this goal
 abbrev pub to_goal_by : List MovesEntry → Goal → SourceSegment → List (List Action)
 to_goal_by es goal way = cond (same_goal (goal_view way.goal) goal) (disjuncts (moves_at es way.place)) []
 
--- in the order of the ways
+-- in the order of the segments
 abbrev pub to_goal : List MovesEntry → List SourceSegment → Goal → List (List Action)
 to_goal es ways goal = flat_map (to_goal_by es goal) ways
 
@@ -27,7 +27,7 @@ AreFewTo es ways = (goal : Goal) → length (to_goal es ways goal) ≤ greatest_
 abbrev pub AreManyTo : List MovesEntry → List SourceSegment → Type 0
 AreManyTo es ways = (goal : Goal) × (greatest_paths < length (to_goal es ways goal))
 
--- to the goals of these ways
+-- to the goals of these segments
 abbrev pub AreFewFor : List MovesEntry → List SourceSegment → List SourceSegment → Type 0
 AreFewFor es ways [] = Unit {0}
 AreFewFor es ways (w ∷ ws) = (length (to_goal es ways (goal_view w.goal)) ≤ greatest_paths) × AreFewFor es ways ws
@@ -75,7 +75,7 @@ pub record IsDeparture (globals : List GlobalVariable) (sites : List Site) (p : 
 
 -- tables -----------------------------------------------------------------------------------------------------------
 
--- the moves of each way stand in the table
+-- the moves of each segment stand in the table
 abbrev pub ArePlaced : List MovesEntry → List SourceSegment → Type 0
 ArePlaced es [] = Unit {0}
 ArePlaced es (w ∷ ws) = (w.place < length es) × ArePlaced es ws

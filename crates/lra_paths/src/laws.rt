@@ -3,7 +3,7 @@
 ghost use Rattle.lra_paths.specs.Covers.{AllPathsCover, SegmentsCover, InductiveHolds};
 ghost use Rattle.lra_paths.specs.{FewPaths.FewExcludeMany, Violations.ViolationsAreOwn};
 
-/// What a run of a tree has done since the last point that it met goes along a way of the tree.
+/// What a run of a tree has done since the last point that it met goes along a segment of the tree.
 pub fn segments_cover()
     ensures { SegmentsCover }
 {}

@@ -1,5 +1,5 @@
 //! Paths of a program: from its start or from a point to the next one, or to where an assertion is false, with all that
-//! is done on the way.
+//! is done between.
 //!
 //! `specs/` is to be read in the order of `specs/Lib.antt`, after those of `lra_path_segments` and
 //! `lra_path_disjuncts`: paths, and what these must guarantee to runs. A checker of rows at points asks of each path

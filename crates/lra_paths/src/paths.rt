@@ -21,7 +21,7 @@ use lra_path_segments::{End, Goal, Move, TreeSegment, segments_of};
 use lra_program::GlobalVariable;
 use std::alloc::{AllocError, Global};
 
-/// The globals and the points of a program, and all its ways.
+/// The globals and the points of a program, and all its segments.
 #[derive(Drop)]
 pub struct Paths<'g> {
     pub globals: &'g [GlobalVariable],
@@ -46,8 +46,8 @@ impl From<AllocError> for PathsFailure {
     }
 }
 
-/// Where ways begin: at a point, or at the start where there is none; how many variables live there, and the place of
-/// what is done before.
+/// Where segments begin: at a point, or at the start where there is none; how many variables live there, and the place
+/// of what is done before.
 #[derive(Clone, Copy)]
 struct Departure {
     point: Option<usize>,
@@ -67,9 +67,9 @@ fn is_same_point(one: Option<usize>, other: Option<usize>) -> bool
     }
 }
 
-// ways --------------------------------------------------------------------------------------------
+// segments ----------------------------------------------------------------------------------------
 
-/// A way to the goal by these moves comes after the others.
+/// A segment to the goal by these moves comes after the others.
 fn push_source_way(
     alloc: Global,
     departure: Departure,
@@ -89,7 +89,7 @@ fn push_source_way(
     Ok(())
 }
 
-/// Where a goal is met, the way comes after the others.
+/// Where a goal is met, the segment comes after the others.
 fn push_meeting(
     alloc: Global,
     departure: Departure,
@@ -114,7 +114,7 @@ fn push_meeting(
     }
 }
 
-/// Where the segment is from there, its way comes after the others.
+/// Where the tree segment is from there, its segment comes after the others.
 fn push_departing(
     alloc: Global,
     departure: Departure,
@@ -134,7 +134,7 @@ fn push_departing(
     }
 }
 
-/// All ways from there come after the others, in their order.
+/// All segments from there come after the others, in their order.
 fn push_all_departing(
     alloc: Global,
     departure: Departure,
@@ -192,7 +192,7 @@ impl Paths<'_> {
         }
     }
 
-    /// The ways from the source of this number: 0 is the start, and the points have the numbers from 1 on.
+    /// The segments from the source of this number: 0 is the start, and the points have the numbers from 1 on.
     pub fn from(&self, alloc: Global, source: usize) -> Result<Source, AllocError>
         ensures table { IfOk result (λ s. IsTable s.entries.items) }
         ensures leads { IfOk result
@@ -211,7 +211,7 @@ impl Paths<'_> {
     }
 }
 
-/// All ways of the program, of which no more than 1,024 paths may lead from one source to one goal.
+/// All segments of the program, of which no more than 1,024 paths may lead from one source to one goal.
 pub fn find_paths<'g>(
     alloc: Global,
     globals: &'g [GlobalVariable],

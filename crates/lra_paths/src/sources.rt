@@ -11,14 +11,14 @@ use lra_path_disjuncts::{GREATEST_PATHS, MovesEntry, add_capped, disjuncts_at, w
 use lra_path_segments::Goal;
 use std::alloc::{AllocError, Global};
 
-/// A way from the source: its goal, and where its moves stand in the source's table.
+/// A segment from the source: its goal, and where its moves stand in the source's table.
 #[derive(Clone, Copy)]
 pub struct SourceSegment {
     pub goal: Goal,
     pub place: usize,
 }
 
-/// All ways from one source, with a table of their moves.
+/// All segments from one source, with a table of their moves.
 #[derive(Drop)]
 pub struct Source {
     pub entries: Vec<MovesEntry>,
@@ -40,7 +40,7 @@ fn is_same_goal(one: Goal, other: Goal) -> bool
     }
 }
 
-/// The paths of a way that is to be written come after the others.
+/// The paths of a segment that is to be written come after the others.
 fn write_if<'s>(
     alloc: Global,
     entries: &'s [MovesEntry],
@@ -60,7 +60,7 @@ fn write_if<'s>(
     }
 }
 
-/// How many paths a way has that is to be counted, else none.
+/// How many paths a segment has that is to be counted, else none.
 fn count_if(entries: &[MovesEntry], place: usize, is: bool) -> usize
     requires { IsTable entries.now }
     ensures { result ≡ capped (length (cond is (disjuncts (moves_at entries.now place)) [])) }

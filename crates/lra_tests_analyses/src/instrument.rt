@@ -1,4 +1,4 @@
-//! A small tree, opened.
+//! A small tree, instrumented.
 
 use lra_base::NumberType;
 use lra_operations::forms::put_in_turn;

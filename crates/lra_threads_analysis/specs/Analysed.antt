@@ -1,4 +1,4 @@
--- What the code finds of a thread by its graph, whose tree is opened already.
+-- What the code finds of a thread by its graph, whose tree is instrumented already.
 use Rattle.std.specs.Prelude.{◌≡◌, ℕ, List, length, map, Some, slice_get}
 use Rattle.lra_domain.specs.Interference.{Interference}
 use Rattle.lra_box.specs.{Abstraction.box_abstraction, Content.BoxContent}

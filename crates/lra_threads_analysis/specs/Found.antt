@@ -37,7 +37,7 @@ pub record AreReady (plan : Plan) (globals : List GlobalVariable) (graphs : List
   pub good : AreGoodGlobals globals
   pub each : (k : ℕ) (graph : InlinedProgram) → slice_get graphs k ≡ Some graph → IsReady (length globals) graph
 
--- each graph's tree is one of these, the threads' own trees, opened
+-- each graph's tree is one of these, the threads' own trees, instrumented
 abbrev pub AreInstrumented : ℕ → List Node → List InlinedProgram → Type 0
 AreInstrumented globals trees graphs =
     map (λ (x : InlinedProgram). node_view x.tree) graphs ≡ map (instrumented globals) trees
@@ -76,7 +76,8 @@ thread_finding = record { notes = writes_in; flag = flag_of_thread }
 abbrev pub HoldsOf : Interference BoxContent → Program → Node → ThreadResult → Type 0
 HoldsOf o P g f = HoldsUnder o box_abstraction P g (thread_values f) (notes_of f) (verdicts_of f)
 
--- The iteration over the opened tree, and what is judged of the accesses of this tree by the values that it leaves.
+-- The iteration over the instrumented tree, and what is judged of the accesses of this tree by the values that it
+-- leaves.
 pub record IsThreadResult (o : Interference BoxContent) (plan : Plan) (P : Program) (g : Node) (f : ThreadResult) : Type
     0 where
   pub solved : IsSolvedUnder o box_abstraction plan P (instrumented (length P.globals) g) (thread_values f) (notes_of f)

@@ -42,7 +42,7 @@ module _ (P : Program) (fs : List Function) (end : ThreadsFixpoint ThreadResult)
     -- each number that a thread gives a global is in the thread's interval for it
     pub gives : (k x : ℕ) (z : ℤ) → ThreadWritesValue P fs k x z → HasWritten end.table k x z
 
--- the graph is the opened one of a tree of the program with this function in the place of `main`
+-- the graph is the instrumented one of a tree of the program with this function in the place of `main`
 pub record IsThread (P : Program) (f : Function) (graph : InlinedProgram) : Type 0 where
   pub well : IsWellFormed (thread_program P f)
   pub tree : Node

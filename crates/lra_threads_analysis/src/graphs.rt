@@ -15,8 +15,8 @@ use lra_program::GlobalVariable;
 use lra_threads_fixpoint::{FixpointRound, Intervals, Threads, find_fixpoint};
 use std::alloc::{AllocError, Global};
 
-/// The graphs of threads over the same globals, and how they are iterated over. Their trees have been opened: in them
-/// others act, and what globals get is noted.
+/// The graphs of threads over the same globals, and how they are iterated over. Their trees have been instrumented: in
+/// them others act, and what globals get is noted.
 #[derive(Clone, Copy)]
 pub struct InlinedThreads<'a> {
     pub plan: &'a Plan,

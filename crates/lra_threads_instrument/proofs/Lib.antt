@@ -1,6 +1,6 @@
 pub mod Sums
 pub mod PartViews
--- A tree that is opened along a list of open places.
+-- A tree that is instrumented along a list of open places.
 pub mod OpenFrames
 -- Worked examples.
 mod InstrumentedExamples

@@ -1,4 +1,4 @@
--- A tree that is opened along a list of open places: each step leaves what the whole becomes, and fewer steps.
+-- A tree that is instrumented along a list of open places: each step leaves what the whole becomes, and fewer steps.
 use Rattle.std.proofs.Common.{◌≡◌, ◌∙◌, ℕ, ◌+◌, ◌*◌, ◌<◌, ◌≤◌, List, [], ◌∷◌, ◌++◌, length, map, reverse, Box, Vec, Global, ap, refl, sym, arith}
 use Rattle.std.proofs.{lemmas.List.nil_from_length, lemmas.List.reverse-append, lemmas.List.reverse-reverse, lemmas.List.Sums.sum_by_push}
 use Rattle.std.specs.Prelude as outcome
@@ -69,7 +69,7 @@ stands n ps g k x is few = record { same = ap (all_around n ps) is; falls = omeg
 
 -- trees -----------------------------------------------------------------------------------------------------------------------
 
--- this one is opened
+-- this one is instrumented
 pub leaf_leads : (n : ℕ) (ps : List place.InstrumentFrame) (p : Parts) (g h : Node) → whole_of p ≡ g → node_view h ≡ instrumented n (parts_view p)
     → InstrumentStepLeads n ps (instrumented n (node_view g)) (tree_left g) ps (Gives h)
 leaf_leads n ps p g h is made =
@@ -129,7 +129,7 @@ pub row_ends_fewer : (done left : Vec Node Global) (last : Box Node Global) (g :
     → 1 + place_left (Last done) + tree_left g ≤ 1 + row_left (record { done = done; left = left; last = last })
 row_ends_fewer done left last g is = omega (arith, ap whole_size is)
 
--- a row of which nothing is opened
+-- a row of which nothing is instrumented
 pub row_begins : (n : ℕ) (done trees left : Vec Node Global) (last : Box Node Global) → done.items ≡ [] → left.items ≡ reverse trees.items
     → row_whole n (record { done = done; left = left; last = last }) ≡ instrumented n (row (map node_view trees.items) (node_view last.value))
 row_begins n done trees left last none is =
@@ -140,7 +140,7 @@ pub row_begins_fewer : (done trees left : Vec Node Global) (last : Box Node Glob
     → 1 + row_left (record { done = done; left = left; last = last }) ≤ 3 + 2 * (sum_by whole_size trees.items + whole_size last.value)
 row_begins_fewer done trees left last is = omega (arith, ap (sum_by whole_size) is ∙ wholes_reversed trees.items)
 
--- one more of a row is opened
+-- one more of a row is instrumented
 pub row_filled : (n : ℕ) (r s : of_row.Row) (g : Node) → s.done.items ≡ r.done.items ++ g ∷ [] → s.left ≡ r.left → s.last ≡ r.last
     → row_whole n s ≡ around n (Row r) (node_view g)
 row_filled n r s g done left last =
@@ -206,13 +206,13 @@ module _ (q base : ℕ) (e : Expr) where
     ap (λ (x : Arm). (arm_sizes x).0) (sym here) ∙ ap (λ (p : ℕ × ℕ). p.0) (arm_size_of g),
   )
 
-  -- all of them are opened
+  -- all of them are instrumented
   pub arms_end : (n : ℕ) (done left : Vec Arm Global) → length left.items ≡ 0 → standing n (Gives (at.Select q base e done)) ≡ selection_whole n (Of done left)
   arms_end n done left none = view_of (parts.Select q base e done) ∙
       ap (λ (xs : List Arm). graph.select q base (expr_view e) (arms_before (map arm_view done.items) (arms_of_left n xs)))
       (sym (nil_from_length left.items none))
 
-  -- none of them is opened
+  -- none of them is instrumented
   pub arms_begin : (n : ℕ) (done arms left : Vec Arm Global) → done.items ≡ [] → left.items ≡ reverse arms.items
       → selection_whole n (Of done left) ≡ graph.select q base (expr_view e) (instrumented_arms n (arms_of (map arm_view arms.items)))
   arms_begin n done arms left none is =
@@ -223,7 +223,7 @@ module _ (q base : ℕ) (e : Expr) where
       → selection_left (Of done left) ≡ 2 + 2 * arms_tree_sizes (map arm_sizes arms.items)
   arms_begin_left done arms left is = ap (λ k. 2 + 2 * k) (ap (λ xs. arms_tree_sizes (map arm_sizes xs)) is ∙ arms_reversed arms.items)
 
--- one more of the arms is opened
+-- one more of the arms is instrumented
 pub arm_filled : (n : ℕ) (s t : of_select.Selection) (g : Node) → t.point ≡ s.point → t.base ≡ s.base → t.value ≡ s.value → t.left ≡ s.left
     → t.done.items ≡ s.done.items ++ armed.Tree g ∷ [] → selection_whole n t ≡ around n (arm_place s) (node_view g)
 arm_filled n s t g at_point at_base of_value left done =
@@ -250,7 +250,7 @@ place_stands n ps p at_place g x is made few =
     stands n ps (around n at_place (node_view g)) (1 + place_left at_place) x (made ∙ ap (λ (y : place.InstrumentFrame). around n y (node_view g)) (sym is))
     (omega (arith, few, ap place_left is))
 
--- nothing is open: the whole is opened
+-- nothing is open: the whole is instrumented
 pub nothing_open : (n : ℕ) (ps : List place.InstrumentFrame) (x : next.Next) (g : Node) → x ≡ Gives g → length ps ≡ 0
     → node_view g ≡ all_around n ps (standing n x)
 nothing_open n ps x g is none =

@@ -1,4 +1,4 @@
--- What a tree becomes that is being opened, by the places that are open in it.
+-- What a tree becomes that is being instrumented, by the places that are open in it.
 use Rattle.std.specs.Prelude.{ℕ, List, [], ◌∷◌, map, reverse}
 use Rattle.lra_program.specs.ProgramViews.{cond_view, expr_view}
 use Rattle.lra_operations.specs.TreeViews.{arm_view, arms_before, arms_of, exit_view, node_view, row}
@@ -21,7 +21,7 @@ row_of_left n left last = instrumented n (row (map node_view (reverse left)) (no
 abbrev pub arms_of_left : ℕ → List Arm → graph.Arms
 arms_of_left n left = instrumented_arms n (arms_of (map arm_view (reverse left)))
 
--- a row, and a `switch`, of which something is opened and the rest is left
+-- a row, and a `switch`, of which something is instrumented and the rest is left
 abbrev pub row_whole : ℕ → of_row.Row → graph.Node
 row_whole n r = row (map node_view r.done.items) (row_of_left n r.left.items r.last.value)
 
@@ -31,7 +31,7 @@ select_around s arms = graph.select s.point s.base (expr_view s.value) (arms_bef
 abbrev pub selection_whole : ℕ → of_select.Selection → graph.Node
 selection_whole n s = select_around s (arms_of_left n s.left.items)
 
--- with this tree, which is opened, in the place
+-- with this tree, which is instrumented, in the place
 abbrev pub around : ℕ → place.InstrumentFrame → graph.Node → graph.Node
 around n (Row r) g = row (map node_view r.done.items) (graph.seq g (row_of_left n r.left.items r.last.value))
 around n (Last done) g = row (map node_view done.items) g

@@ -1,4 +1,4 @@
--- How many steps the opening of a tree may still take: so it ends.
+-- How many steps the instrumenting of a tree may still take: so it ends.
 use Rattle.std.specs.List.{sum_by}
 use Rattle.std.specs.Prelude.{◌≡◌, ◌<◌, ◌+◌, ◌*◌, ℕ, List, map}
 use Rattle.lra_operations.specs.Sizes.{arm_sizes, arms_tree_sizes, whole_size}
@@ -15,7 +15,7 @@ use Rattle.lra_threads_instrument.specs.declared.stack.Step.TheVariants.{Ended, 
 use Rattle.lra_threads_instrument.specs.declared.stack.InstrumentFrame as place
 use Rattle.lra_threads_instrument.specs.declared.stack.Step as step
 
--- of a tree that is to be opened
+-- of a tree that is to be instrumented
 abbrev pub tree_left : Node → ℕ
 tree_left g = 2 * whole_size g
 
@@ -25,7 +25,7 @@ row_left r = 2 + 2 * (sum_by whole_size r.left.items + whole_size r.last.value)
 abbrev pub selection_left : of_select.Selection → ℕ
 selection_left s = 2 + 2 * arms_tree_sizes (map arm_sizes s.left.items)
 
--- at a place, after the tree that is being opened there
+-- at a place, after the tree that is being instrumented there
 abbrev pub place_left : place.InstrumentFrame → ℕ
 place_left (Row r) = row_left r
 place_left (Last done) = 1

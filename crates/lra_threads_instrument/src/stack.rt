@@ -1,10 +1,11 @@
-//! Where a tree is being opened: the open places, and what comes next. The tree is gone along by a list of these, and
-//! not by calls, so it may be as deep as memory allows.
+//! Where a tree is being instrumented: the open places, and what comes next. The tree is gone along by a list of these,
+//! and not by calls, so it may be as deep as memory allows.
 
 use lra_operations::{Arm, Exit, Node};
 use lra_program::{Cond, Expr};
 
-/// A tree of a row is being opened: those before it are opened, those after it are left, the next of them last.
+/// A tree of a row is being instrumented: those before it are instrumented, those after it are left, the next of them
+/// last.
 #[derive(Drop)]
 pub struct Row {
     pub done: Vec<Node>,
@@ -12,7 +13,7 @@ pub struct Row {
     pub last: Box<Node>,
 }
 
-/// The arms of a `switch` are gone through: these are opened, those are left, the next of them last.
+/// The arms of a `switch` are gone through: these are instrumented, those are left, the next of them last.
 #[derive(Drop)]
 pub struct Selection {
     pub point: usize,
@@ -22,7 +23,7 @@ pub struct Selection {
     pub left: Vec<Arm>,
 }
 
-/// What is around a tree that is being opened.
+/// What is around a tree that is being instrumented.
 #[derive(Drop)]
 pub enum InstrumentFrame {
     Row(Row),
@@ -30,7 +31,7 @@ pub enum InstrumentFrame {
     Last(Vec<Node>),
     /// The first branch of a choice, before the other, which is left.
     First(usize, usize, Cond, Box<Node>),
-    /// The second branch of a choice, after the first, which is opened.
+    /// The second branch of a choice, after the first, which is instrumented.
     Second(usize, usize, Cond, Box<Node>),
     /// The body of a loop.
     Body(usize, usize, Cond),
@@ -50,7 +51,7 @@ pub enum Next {
     Selects(Selection),
 }
 
-/// What a step leads to: the whole tree is opened, or this comes next.
+/// What a step leads to: the whole tree is instrumented, or this comes next.
 #[derive(Drop)]
 pub enum Step {
     Ended(Node),

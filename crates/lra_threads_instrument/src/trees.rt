@@ -78,7 +78,7 @@ fn enter(alloc: Global, point: usize, tree: Node) -> Result<Node, AllocError>
     put_in_turn(alloc, Node::Probe(point, Probe::InterferencePoint), tree)
 }
 
-/// A loop whose body is opened: others act before it, and at the body's end.
+/// A loop whose body is instrumented: others act before it, and at the body's end.
 fn enter_loop(
     alloc: Global,
     point: usize,
@@ -181,7 +181,7 @@ fn open_row(
     go_on_row(places, row)
 }
 
-/// The arms of a `switch`, none of which is opened.
+/// The arms of a `switch`, none of which is instrumented.
 fn select(alloc: Global, point: usize, base: usize, value: Expr, mut arms: Vec<Arm>) -> Selection
     ensures whole { (n : ℕ) → selection_whole n result ≡
         graph.select point base (expr_view value)
@@ -247,7 +247,7 @@ fn open_parts(
     }
 }
 
-/// The tree, which is opened, comes into this place.
+/// The tree, which is instrumented, comes into this place.
 fn fill(
     alloc: Global,
     places: &mut Vec<InstrumentFrame>,

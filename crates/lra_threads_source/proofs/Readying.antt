@@ -1,4 +1,4 @@
--- What is read of a source of several threads may be analysed, once its graphs are opened.
+-- What is read of a source of several threads may be analysed, once its graphs are instrumented.
 use Rattle.std.proofs.Common.{◌≡◌, ◌∙◌, ◌≤◌, ◌<◌, ◌+◌, ℕ, zero, suc, Bool, true, false, List, [], ◌∷◌, ◌++◌, length, map, take, get_or, refl, sym, ap, subst, arith}
 use Rattle.std.proofs.lemmas.Option.{get_or_from_slice_get, none-some, same_Some, slice_get-get_or}
 use Rattle.std.proofs.{Math.Seq.take-length, lemmas.List.length-map, lemmas.List.Sums.sum_by-cons}
@@ -95,7 +95,7 @@ module _ (P : Program) (g : InlinedProgram) (is : IsInlinedOf P g) (n : ℕ) (gl
       (asked_one op_accesses_any (length (sites_of P)) own None (graph_below P own is.is_graph) a
       (subst (λ (l : List OpAtPoint). Contains l a) (asks_opened op_accesses_any None n own) h)).0
 
-  -- an opened graph of it can be iterated over
+  -- an instrumented graph of it can be iterated over
   pub ready : (h : InlinedProgram) → IsInstrumented n g h → IsReady n h
   ready h o =
       let T = points_of_graph h in
@@ -137,7 +137,7 @@ zip_sums f h (x ∷ xs) (y ∷ ys) same =
     let rest = zip_sums f h xs ys same.1 in
     omega (arith, one, two, first, rest)
 
--- read and opened
+-- read and instrumented
 module _ (t : FileTree) (clean : thread_faults t ≡ []) (within : limit_fault (labels_of t) 0 (thread_events t) ≡ None) (graphs others : List InlinedProgram)
     (read : AllZip (IsThreadInlined t) (thread_places t) graphs) (n : ℕ) (globals : n ≡ length (shared_program t).globals)
     (are : AllZip (IsInstrumented n) graphs others) where

@@ -1,4 +1,4 @@
--- Programs, with the ways from their sources, as the code judges them.
+-- Programs, with the segments from their sources, as the code judges them.
 use Rattle.std.specs.List.{All}
 use Rattle.std.specs.Prelude.{◌≡◌, ◌<◌, ℕ, suc, List, length, slice_get, Result, Ok, Err, ⊤}
 use Rattle.lra_program.specs.Program.{Program}

@@ -19,7 +19,7 @@ use lra_systems::ConSys;
 use std::alloc::Global;
 
 /// The points of a program with the rows that are said of them, none where nothing comes there; no row of its start;
-/// and the ways from each source.
+/// and the segments from each source.
 #[derive(Clone, Copy)]
 pub struct AnnotatedProgram<'a> {
     pub sites: &'a [Site],

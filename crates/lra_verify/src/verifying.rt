@@ -29,7 +29,7 @@ use std::alloc::{AllocError, Global};
 /// The most bytes of an input that is to be a certificate.
 pub const GREATEST_CERTIFICATE: usize = 1 << 24;
 
-/// The ways from all sources, the start first.
+/// The segments from all sources, the start first.
 pub fn all_sources(alloc: Global, paths: &Paths<'_>) -> Result<Vec<Source>, AllocError>
     requires { length paths.now.sites.now < 2 ^ 31 }
     ensures count { IfOk result (λ v. length v.items ≡ suc (length paths.now.sites.now)) }

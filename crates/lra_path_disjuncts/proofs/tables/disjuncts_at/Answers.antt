@@ -1,4 +1,4 @@
--- Goals of `disjuncts_at`: an entry reports it, and no moves have one side.
+-- Goals of `disjuncts_at`: an entry reports it, and no moves have one disjunct.
 use Rattle.std.proofs.{Common.length, Common.refl, lemmas.Option.slice_get_read}
 use Rattle.lra_path_disjuncts.proofs.TableSteps.{counted, none_there}
 use Rattle.lra_path_disjuncts.proofs.tables.disjuncts_at.Goals as goal

@@ -1,4 +1,4 @@
--- The goal of `push_first_then`: how many sides there are.
+-- The goal of `push_first_then`: how many disjuncts there are.
 use Rattle.lra_path_disjuncts.specs.Tables.{moves_at}
 use Rattle.lra_path_disjuncts.proofs.TableSteps.{times_counted}
 use Rattle.lra_path_disjuncts.proofs.tables.push_first_then.Goals as goal

@@ -1,4 +1,4 @@
--- The goal of `push_join`: how many sides there are.
+-- The goal of `push_join`: how many disjuncts there are.
 use Rattle.lra_path_disjuncts.specs.Tables.{moves_at}
 use Rattle.lra_path_disjuncts.proofs.TableSteps.{plus_counted}
 use Rattle.lra_path_disjuncts.proofs.tables.push_join.Goals as goal

@@ -1,4 +1,4 @@
--- The goal of `write_disjuncts`: one side more.
+-- The goal of `write_disjuncts`: one disjunct more.
 use Rattle.std.proofs.{Common.◌∙◌, Common.[], Common.◌∷◌, Common.ap, lemmas.List.map-append}
 use Rattle.lra_path_disjuncts.specs.{TableDisjuncts.all_done, TableDisjuncts.lists_done, Tables.moves_at}
 use Rattle.lra_path_disjuncts.proofs.SideLists.{side_written}

@@ -1,4 +1,4 @@
--- The goal of `put_last`: these ways come last.
+-- The goal of `put_last`: these segments come last.
 use Rattle.lra_path_segments.proofs.TaskSteps.{stack_push}
 use Rattle.lra_path_segments.proofs.trees.put_last.Goals as goal
 

@@ -1,4 +1,4 @@
--- The goal of `put_short`: a tree with one way.
+-- The goal of `put_short`: a tree with one segment.
 use Rattle.lra_path_segments.specs.{Tasks.stack, TreeSegmentViews.seen}
 use Rattle.lra_path_segments.proofs.TaskSteps.{first_put, put_as}
 use Rattle.lra_path_segments.proofs.trees.put_short.Goals as goal

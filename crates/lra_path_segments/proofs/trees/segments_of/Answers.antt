@@ -1,4 +1,4 @@
--- Goals of `segments_of`: the ways of a tree, along a list of what is due.
+-- Goals of `segments_of`: the segments of a tree, along a list of what is due.
 use Rattle.std.proofs.Common.{◌∙◌, refl, sym}
 use Rattle.lra_operations.specs.TreeViews.{node_view}
 use Rattle.lra_path_segments.specs.{Tasks.stack, TreeSegments.tree_segments}

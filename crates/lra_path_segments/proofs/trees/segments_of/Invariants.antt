@@ -3,7 +3,7 @@ use Rattle.lra_operations.specs.TreeViews.{node_view}
 use Rattle.lra_path_segments.specs.{Tasks.all_left, Tasks.run, Tasks.stack, TreeSegments.tree_segments}
 use Rattle.lra_path_segments.proofs.trees.segments_of.Given as goal
 
--- what is due makes the tree's ways of those that are there
+-- what is due makes the tree's segments of those that are there
 abbrev pub invariant-trees : goal.invariant-trees
 invariant-trees l = run l.left.items (stack l.done.items) ≡ tree_segments (node_view l.node) ∷ []
 

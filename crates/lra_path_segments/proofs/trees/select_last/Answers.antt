@@ -1,4 +1,4 @@
--- The goal of `select_last`: the last two are the trees of a `switch` and the ways from its labels.
+-- The goal of `select_last`: the last two are the trees of a `switch` and the segments from its labels.
 use Rattle.lra_path_segments.specs.{Tasks.stack, TreeSegmentViews.seen, TreeSegments.selected}
 use Rattle.lra_path_segments.proofs.TaskSteps.{two_used}
 use Rattle.lra_path_segments.proofs.trees.select_last.Goals as goal

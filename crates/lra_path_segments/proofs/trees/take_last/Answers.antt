@@ -1,4 +1,4 @@
--- Goals of `take_last`: the last ways, or none.
+-- Goals of `take_last`: the last segments, or none.
 use Rattle.std.proofs.Common.{◌∙◌, sym}
 use Rattle.lra_path_segments.proofs.TaskSteps.{top_of, below_of, top_of_none, below_of_none}
 use Rattle.lra_path_segments.proofs.trees.take_last.Goals as goal

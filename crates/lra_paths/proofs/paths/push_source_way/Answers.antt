@@ -1,4 +1,4 @@
--- Goals of `push_source_way`: what is done before stands where it was, and the way's moves come after all others.
+-- Goals of `push_source_way`: what is done before stands where it was, and the segment's moves come after all others.
 use Rattle.std.proofs.Common.{map}
 use Rattle.lra_path_segments.specs.TreeSegmentViews.{move_view}
 use Rattle.lra_path_disjuncts.specs.SegmentMoves.{segment_moves}

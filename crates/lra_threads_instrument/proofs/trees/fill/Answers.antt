@@ -1,4 +1,4 @@
--- Goals of `fill`: an opened tree comes into the innermost place.
+-- Goals of `fill`: an instrumented tree comes into the innermost place.
 use Rattle.std.proofs.Common.{refl, arith}
 use Rattle.lra_threads_instrument.specs.declared.stack.Selection.{Selection}
 use Rattle.lra_threads_instrument.specs.{declared.stack.InstrumentFrame.TheVariants.Row, declared.stack.InstrumentFrame.TheVariants.Arm, declared.stack.Next.TheVariants.Selects}

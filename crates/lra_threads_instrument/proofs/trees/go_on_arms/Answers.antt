@@ -1,4 +1,4 @@
--- Goals of `go_on_arms`: the next arm of those that are left is a label or a tree, or all are opened.
+-- Goals of `go_on_arms`: the next arm of those that are left is a label or a tree, or all are instrumented.
 use Rattle.std.proofs.Common.{◌∙◌, ap, sym, arith}
 use Rattle.lra_operations.specs.Parts.{whole_arm_of}
 use Rattle.lra_threads_instrument.specs.declared.stack.Next.TheVariants.{Gives}

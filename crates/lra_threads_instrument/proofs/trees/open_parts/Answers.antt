@@ -1,4 +1,4 @@
--- Goals of `open_parts`: a tree with none in it is opened; of any other a place opens.
+-- Goals of `open_parts`: a tree with none in it is instrumented; of any other a place opens.
 use Rattle.std.proofs.Common.{◌∙◌, ap, sym, arith, refl}
 use Rattle.lra_operations.specs.{Parts.whole_of, Sizes.whole_size, TreeViews.node_view, declared.tree.Node.Node}
 use Rattle.lra_operations.specs.declared.tree.Node.TheVariants as at

@@ -1,4 +1,4 @@
--- Goals of `open_graphs`: one graph more is opened.
+-- Goals of `open_graphs`: one graph more is instrumented.
 use Rattle.std.proofs.{Common.◌++◌, Common.◌∷◌, Common.[], Common.List, Common.sym, Common.subst, lemmas.List.Elements.AllZip-push}
 use Rattle.std.specs.List.{AllZip}
 use Rattle.lra_operations.specs.declared.tree.InlinedProgram.{InlinedProgram}

@@ -1,4 +1,4 @@
--- So far the graphs that were taken are opened.
+-- So far the graphs that were taken are instrumented.
 use Rattle.std.specs.List.{AllZip}
 use Rattle.lra_threads_source.specs.Stages.{IsInstrumented}
 use Rattle.lra_threads_source.proofs.threads_report.open_graphs.Given as goal

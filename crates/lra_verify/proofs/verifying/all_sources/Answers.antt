@@ -1,4 +1,4 @@
--- Goals of `all_sources`: the ways from all sources, the start first.
+-- Goals of `all_sources`: the segments from all sources, the start first.
 use Rattle.std.proofs.Common.{◌≡◌, ◌++◌, ◌∷◌, [], List, length, map, slice_get, ap, sym, ◌∙◌, subst, arith, length-append}
 use Rattle.std.proofs.lemmas.List.Elements.{All-append, All-cons, All-nil}
 use Rattle.std.specs.List.{All}

@@ -1,4 +1,4 @@
--- Goals of `from`: all ways from the source have come.
+-- Goals of `from`: all segments from the source have come.
 use Rattle.std.proofs.Common.{map}
 use Rattle.lra_operations.specs.TreeViews.{site_view}
 use Rattle.lra_paths.specs.Sources.{first_from}

@@ -1,4 +1,4 @@
--- Goals of `has_too_many`: few to the goals of all ways are few to each goal.
+-- Goals of `has_too_many`: few to the goals of all segments are few to each goal.
 use Rattle.std.proofs.Common.{arith}
 use Rattle.lra_path_segments.specs.declared.segments.Goal.TheVariants.{ComesTo}
 use Rattle.lra_paths.proofs.SourceSteps.{few_at_end, few_next, under}

@@ -1,4 +1,4 @@
--- The goal of `paths_to`: a way to the goal has no more paths than all have.
+-- The goal of `paths_to`: a segment to the goal has no more paths than all have.
 use Rattle.std.proofs.Common.{◌≤◌, length, subst, sym}
 use Rattle.lra_path_disjuncts.specs.Disjuncts.{greatest_paths}
 use Rattle.lra_paths.specs.Sources.{to_goal}

@@ -4,6 +4,6 @@ use Rattle.lra_path_segments.specs.TreeSegmentViews.{goal_view}
 use Rattle.lra_path_disjuncts.specs.TableDisjuncts.{lists_done}
 use Rattle.lra_paths.proofs.sources.Source.paths_to.Given as goal
 
--- the paths of the ways so far
+-- the paths of the segments so far
 abbrev pub invariant-ways : goal.invariant-ways
 invariant-ways l = lists_done l.all.items ≡ to_goal l.self.entries.items (take l.way-index l.way-items) (goal_view l.goal)
