@@ -191,7 +191,7 @@ module _ (V H : Type 0) (ops : Operations V H) where
 abbrev pub Absorption : Type 0 → Type 1
 Absorption V = V → Exactness → V → Type 0
 
--- nobody does anything
+-- no interference: no other thread does anything
 abbrev pub nothing_absorbed : {V : Type 0} → Absorption V
 nothing_absorbed v e w = (w ≡ v) × (e ≡ Exact)
 

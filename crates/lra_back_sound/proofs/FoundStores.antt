@@ -1,5 +1,5 @@
--- What is found by going back: the last heads are closed under paths backwards, have the seed's stores, and the values
--- that are found have what both heads and forward values have.
+-- What is found by going back: the last heads are inductive along paths backwards, have the seed's stores, and the
+-- values that are found have what both heads and forward values have.
 use Rattle.std.proofs.Common.{◌≡◌, ℕ, suc, ℤ, List, [], ◌∷◌, ◌++◌, Option, None, Some, zero, false, length, inl, inr, sym, ap, ◌∙◌, subst, refl}
 use Rattle.std.proofs.{lemmas.Bool.eq-eqb, lemmas.List.append-nil, lemmas.Option.same_Some, lemmas.Option.none-some, lemmas.Option.slice_get_within}
 use Rattle.std.specs.{List.flat_map, Prelude.slice_get, Prelude.cond, Prelude.Contains}

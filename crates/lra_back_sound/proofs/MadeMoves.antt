@@ -1,5 +1,5 @@
--- Moves of which each disjunct can be made of a value with so many dimensions, and leaves so many: those of what is done on
--- a segment, where it fits.
+-- Moves of which each disjunct can be made of a value with so many dimensions, and leaves so many: those of what is
+-- done on a segment, where it fits.
 use Rattle.std.proofs.Common.{◌≡◌, ℕ, ℤ, pos, negsuc, zero, suc, ◌+◌, ◌-◌, ◌≤◌, ◌<◌, List, [], ◌∷◌, ◌++◌, length, Option, Some, None, Bool, true, false, refl, sym, ◌∙◌, subst, arith}
 use Rattle.std.proofs.{lemmas.List.length-replicate, lemmas.List.Elements.All-append}
 use Rattle.std.specs.{List.All, Prelude.⊤, Prelude.not, Prelude.replicate, Prelude.slice_set}

@@ -1,4 +1,4 @@
--- Rows that are closed along paths: from each rational point of its source's rows a path leads to points of its
+-- Rows that are inductive along paths: from each rational point of its source's rows a path leads to points of its
 -- target's rows alone.
 use Rattle.std.specs.Prelude.{◌≤◌, ◌<◌, ℕ, ℤ, ⊤, List, length, None, Some, Contains}
 use Rattle.lra_linear_spec.specs.{Descriptions.Con, Points.IsPoint}

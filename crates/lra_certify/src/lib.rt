@@ -1,5 +1,5 @@
-//! Certificates written: from rows that are closed along paths, and assertions to whose negation no path leads, to the
-//! text of a certificate that meets its program, with the first multipliers in each line.
+//! Certificates written: from rows that are inductive along paths, and assertions to whose negation no path leads, to
+//! the text of a certificate that meets its program, with the first multipliers in each line.
 //!
 //! `specs/` is to be read in the order of `specs/Lib.antt`: points along paths, rows that are closed, what is written
 //! of a path, and of a program. Nothing here stands on an iteration.

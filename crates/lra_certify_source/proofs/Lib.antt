@@ -1,7 +1,7 @@
 -- What is taken of values and verdicts, and what a report shows of it.
 pub mod TakenSteps
 pub mod Listing
--- Rows that are closed along paths.
+-- Rows that are inductive along paths.
 pub mod ClosedPaths
 -- What is written, and what is refused.
 pub mod Written

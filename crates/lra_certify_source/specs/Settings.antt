@@ -2,7 +2,7 @@
 use Rattle.std.specs.Prelude.{true, false}
 use Rattle.lra_options.specs.{declared.options.Domain.TheVariants.Poly, declared.options.Options.Options}
 
--- over polyhedra, one for each point; heads aren't narrowed, so what is found is closed along paths
+-- over polyhedra, one for each point; heads aren't narrowed, so what is found is inductive along paths
 abbrev pub certify_options : Options
 certify_options = record {
   domain = Poly;

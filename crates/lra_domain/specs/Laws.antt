@@ -12,13 +12,13 @@ pub record Laws {V H : Type 0} (m : Abstraction V H) : Type 0 where
   -- a store has as many numbers as there are dimensions
   pub sized : (v : V) (s : List ℤ) → m.well_formed v → m.gamma v s → length s ≡ m.dims v
   pub head_sized : (h : H) (s : List ℤ) → m.head_well_formed h → m.head_gamma h s → length s ≡ m.head_dims h
-  -- a universal value of n dimensions has them, and all lists of n numbers; a void one has them, and no store
+  -- a top value of n dimensions has them, and all lists of n numbers; a bottom value has them, and no store
   pub top_dims : (n cap : ℕ) (v : V) → m.top n cap v → m.dims v ≡ n
   pub top_stores : (n cap : ℕ) (v : V) → m.well_formed v → m.top n cap v
       → (s : List ℤ) → length s ≡ n → m.gamma v s
   pub bottom_dims : (n cap : ℕ) (v : V) → m.bottom n cap v → m.dims v ≡ n
   pub bottom_stores : (n cap : ℕ) (v : V) → m.well_formed v → m.bottom n cap v → (s : List ℤ) → ¬ m.gamma v s
-  -- a value has no more parts than its caps; a universal and a void one of some cap are capped by it
+  -- a value has no more parts than its caps; a top and a bottom one of some cap are capped by it
   pub capped_parts : (v : V) (c : ℕ) → m.capped v c → length (m.parts v) ≤ c
   pub top_capped : (n cap : ℕ) (v : V) → 1 ≤ cap → m.top n cap v → m.capped v cap
   pub bottom_capped : (n cap : ℕ) (v : V) → 1 ≤ cap → m.bottom n cap v → m.capped v cap
@@ -50,7 +50,7 @@ pub record Laws {V H : Type 0} (m : Abstraction V H) : Type 0 where
   -- an inclusion answers Yes only where next lies in the head, No only where it doesn't; this is asked of all contents
   pub answers_yes : (h : H) (v : V) (mode : Mode) → m.answers h v mode Yes → m.stays h v mode
   pub answers_no : (h : H) (v : V) (mode : Mode) → m.answers h v mode No → ¬ m.stays h v mode
-  -- a head that is given up has all stores; it has a defined value, and each such value is universal
+  -- a head that is given up has all stores; it has a defined value, and each such value is a top value
   pub given_up_stores : (old : H) (mode : Mode) (new : H) → m.head_well_formed old → m.head_well_formed new
       → m.given_up old mode new → (s : List ℤ) → length s ≡ m.head_dims old → m.head_gamma new s
   pub given_up_valued : (old : H) (mode : Mode) (new : H) → m.head_well_formed old → m.head_well_formed new
@@ -75,7 +75,7 @@ pub record SingleLaws {V H : Type 0} (m : Abstraction V H) : Type 0 where
 -- what values of one part at most keep further, so that sets of them can be made; over all contents
 pub record BaseLaws {V H : Type 0} (m : Abstraction V H) : Type 0 where
   pub one_part : (v : V) → length (m.parts v) ≤ 1
-  -- there is one universal value, whatever the cap; one join, one head that starts with a value, one value of a head
+  -- there is one top value, whatever the cap; one join, one head that starts with a value, one value of a head
   pub one_top : (n c d : ℕ) (v w : V) → m.top n c v → m.top n d w → v ≡ w
   pub one_joined : (a b v w : V) → m.joined a b v → m.joined a b w → v ≡ w
   pub one_started : (v : V) (given : LinearSystem ConKind) (g h : H) → m.started v given g → m.started v given h → g ≡ h
@@ -96,7 +96,7 @@ pub record BaseLaws {V H : Type 0} (m : Abstraction V H) : Type 0 where
   pub stays_value : (h : H) (v : V) (mode : Mode) → m.valued h v → m.stays h v mode
   pub stays_started : (h : H) (v : V) (given : LinearSystem ConKind) (mode : Mode) → m.started v given h →
       m.stays h v mode
-  -- a head that is held started with a value that is; a universal value has a part
+  -- a head that is held started with a value that is; a top value has a part
   pub started_formed : (h : H) (v : V) (given : LinearSystem ConKind) → m.started v given h → m.head_well_formed h →
       m.well_formed v
   pub universal_filled : (n cap : ℕ) (v : V) → m.top n cap v → m.parts v ≢ []

@@ -28,9 +28,9 @@ use std::alloc::{AllocError, Global};
 /// head, and `is_empty` and `rank` say so of the one at hand: what the type's invariant says belongs there.
 ///
 /// **Laws.** Give one record, `laws`, that this meaning keeps. What it says of stores and of bounds it says of
-/// well-formed contents; what relates dimensions, caps, parts and answers it says of all. A store has as many numbers as
-/// there are dimensions. What `top` allows has `n` dimensions and all their stores, what `bottom` allows has `n` and no
-/// store, and a value without parts has no store. What lies below another content, or in a head, has no store beyond
+/// well-formed contents; what relates dimensions, caps, parts and answers it says of all. A store has as many numbers
+/// as there are dimensions. What `top` allows has `n` dimensions and all their stores, what `bottom` allows has `n` and
+/// no store, and a value without parts has no store. What lies below another content, or in a head, has no store beyond
 /// those of that content, or of the head. What is `bounded` is one thing, within which a form's value at each store
 /// lies. The value of a head that is given up is one that `top` allows.
 ///
@@ -298,7 +298,7 @@ pub trait ExactParts: Domain {
 }
 
 /// A domain whose values have one part at most: polyhedra, boxes, octagons. Its ranks begin with 1. Its meaning allows
-/// one universal value, one join of two values, one head that starts with a value, and one value of a head.
+/// one top value, one join of two values, one head that starts with a value, and one value of a head.
 pub trait BaseDomain: Domain {
     /// What the meaning keeps further, so that sets of such values can be made.
     ghost base_laws: { BaseLaws Self.abstraction };

@@ -108,7 +108,7 @@ fn finish<D: Domain, F: Interfere<D>>(
     Ok(outcome)
 }
 
-/// What comes into a loop's body from the value at its head: what the condition leaves, or the kept turn, where that
+/// What comes into a loop's body from the value at its head: what the condition leaves, or the kept round, where that
 /// entered it last.
 fn enter<D: Domain, F: Interfere<D>>(
     alloc: Global,

@@ -40,7 +40,7 @@ b_is = read (long_variable (local 1))
 abbrev leaving : Node
 leaving = seq (point 5) (choose 5 0 (compare operators.at_least b_is (literal Int 3)) (seq (point 6) (seq (act 6 (truncate_to 2)) (leave 2 broken))) empty)
 
--- nobody asks for main's result, which has to be an `int`
+-- nothing uses main's result, which has to be an `int`
 abbrev to_main : Receiver
 to_main = result_receiver (Some Int) nobody
 

@@ -1,4 +1,4 @@
--- What is reported of an iteration over a program is closed along its paths.
+-- What is reported of an iteration over a program is inductive along its paths.
 use Rattle.std.proofs.Common.{◌≡◌, ℕ, suc, List, ◌++◌, length, Bool, true, Option, Some, None, refl, sym, ap, ◌∙◌, subst}
 use Rattle.std.proofs.{lemmas.Bool.and_parts, lemmas.Bool.eqb-true, lemmas.Option.same_Some}
 use Rattle.std.specs.{List.Contains, Prelude.nat_eq, Prelude.◌&&◌, Prelude.slice_get}

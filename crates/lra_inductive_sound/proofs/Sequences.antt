@@ -19,7 +19,7 @@ outs_both one behind two normal = then_outs (one normal) (behind normal) ++ two 
 outs_both one behind two (jump k) = one (jump k) ++ then_outs (one normal) (behind (jump k)) ++ two (jump k)
 
 module _ (V H X : Type 0) (m : Abstraction V H) (o : PointsOf V H X) where
-  -- a part with these segments is closed
+  -- a part with these segments is inductive
   pub record Closes (T : Completion → List (List SegmentStep)) (E : List GoalSegment) (O : Completion → List Suffix) (I : List Segment) (v : V)
       (r : PassResult V) : Type 0 where
     pub passes : (h : Completion) (ops : List SegmentStep) → Contains (T h) ops → KeptBy m o v ops (IsExitValue r h)

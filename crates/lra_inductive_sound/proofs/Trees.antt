@@ -1,4 +1,4 @@
--- Each tree is closed, from any value, in a pass that doesn't narrow its loops.
+-- Each tree is inductive, from any value, in a pass that doesn't narrow its loops.
 use Rattle.std.proofs.Common.{◌≡◌, ℕ, List, [], ◌∷◌, ◌++◌, map, Option, Some, None, Bool, true, false, inl, inr, refl, sym, ap, ◌∙◌, subst}
 use Rattle.std.proofs.lemmas.List.Elements.{Contains-append_cases, Contains-append_left, Contains-append_right}
 use Rattle.std.proofs.lemmas.Option.{same_Some, none-some}

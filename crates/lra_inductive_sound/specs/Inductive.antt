@@ -1,5 +1,5 @@
--- Values that are closed along paths: whatever a path leads to, from a point of its source's value, is a point of its
--- target's value, and no path leads to where a proved assertion is false.
+-- Values that are inductive along paths: whatever a path leads to, from a point of its source's value, is a point of
+-- its target's value, and no path leads to where a proved assertion is false.
 use Rattle.std.specs.Prelude.{◌≡◌, ℕ, suc, List, Bool, true, Option, Some, slice_get, Contains}
 use Rattle.lra_domain.specs.{Abstraction.Abstraction, Actions.Action}
 use Rattle.lra_program.specs.{Program.Program, Sites.Site, Sites.sites_of}

@@ -6,12 +6,12 @@ ghost use Rattle.lra_inductive_sound.specs.{RationalPoints.rational_points, Stor
 
 use lra_domain::Domain;
 
-/// The polyhedra of an iteration that isn't narrowed, flagged or not, are closed along paths at rational points.
+/// The polyhedra of an iteration that isn't narrowed, flagged or not, are inductive along paths at rational points.
 pub fn polyhedra_are_inductive()
     ensures { ValuesAreInductive polyhedron_abstraction rational_points }
 {}
 
-/// Over any domain, what such an iteration finds is closed along paths at stores.
+/// Over any domain, what such an iteration finds is inductive along paths at stores.
 pub fn stores_are_inductive<D: Domain>()
     ensures { ValuesAreInductive D.abstraction (stores D.abstraction) }
 {}

@@ -120,7 +120,8 @@ aimed = record { array = two_elements; place = at 54; index = program.element tw
 abbrev element_receiver : Receiver
 element_receiver = result_receiver (Some Long) (waiting_in two_elements)
 
--- the index is computed where the call gives its arguments, and the element gets what the return gives: catches a receiver that is nobody
+-- the index is computed where the call gives its arguments, and the element gets what the return gives: catches a
+-- receiver that is missing
 unfoldable pub element_called_graph : (g : Node)
     × InlineItems (resolve element_called) (sites_of (resolve element_called)) (main_inline_state (resolve element_called))
     (resolve element_called).main.body g 0 4

@@ -34,7 +34,7 @@ pub fn is_space_or_tab(byte: u8) -> bool
     byte == b' ' || byte == b'\t'
 }
 
-/// How many bytes at the start go on a word.
+/// How many bytes at the start continue a word.
 pub fn word_length(bytes: &[u8]) -> usize
     ensures { result ≡ prefix_len is_word_byte bytes.now }
 {

@@ -8,7 +8,7 @@ ghost use Rattle.lra_octagon.specs.ExactRows.{IsOctagonEquality, IsOctagonInequa
 ghost use Rattle.lra_octagon.specs.Parts.{octagon_equalities, octagon_inequalities};
 ghost use Rattle.lra_octagon.specs.{Abstraction.octagon_abstraction, Content.OctagonContent, Least.IsTightOctagon};
 
-/// What is defined of tight octagons is tight: so an octagon that exact calls made of universal and empty ones is, and
+/// What is defined of tight octagons is tight: so an octagon that exact calls made of top and bottom values is, and
 /// `is_empty`, `included` and `join` say of it what they say of tight ones.
 pub fn exact_octagons_are_tight()
     ensures universal { (n cap : ℕ) (a : OctagonContent) → octagon_abstraction.top n cap a → IsTightOctagon a }

@@ -63,7 +63,7 @@ module _ (asks : Op → Bool) where
     ops_where fresh (iterate q base c a) = op_where q None (test base c true) ++ ops_where None a
     ops_where fresh (catch q k a) = ops_where None a
     ops_where fresh (leave n k) = []
-    -- a value that is looked for goes to nobody
+    -- a value that is looked for goes to no receiver
     ops_where fresh (select q base e arms) = op_where q None (store_value base nobody e) ++ ops_where_in_arms None arms
 
     -- one after the other

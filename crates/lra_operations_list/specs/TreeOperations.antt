@@ -10,7 +10,7 @@ use Rattle.lra_operations_list.specs.declared.tree_operations.OpRef.{OpRef}
 use Rattle.lra_operations_list.specs.declared.tree_operations.OpRef.TheVariants.{Change, Condition, Value}
 use Rattle.lra_operations_list.specs.declared.tree_operations.OpRefAtPoint.{OpRefAtPoint}
 
--- a condition is asked once, whichever side goes on; a value that is looked for goes to nobody
+-- a condition is asked once, whichever side goes on; a value that is looked for goes to no receiver
 abbrev pub op_ref_view : OpRef → Op
 op_ref_view (Change o) = op_view o.now
 op_ref_view (Condition base c) = test base (cond_view c.now) true

@@ -40,7 +40,7 @@ comparison_is n = record {
   self = comparison_self;
 }
 
--- it goes on no expression
+-- it continues no expression
 after_comparison : (k : Comparison) (e : ExprTree) (at : Place) → AfterExpr e (Some (token (mark_of_comparison k) at))
 after_comparison comparison.Below e at = after_expr e _ refl refl refl
 after_comparison comparison.AtMost e at = after_expr e _ refl refl refl
@@ -398,7 +398,7 @@ after_negation (opposite_again a) o h = after_negation a o h
 after_negation (value_of_unary u) o h = after_unary u o h
 after_negation (group_opposed c) o h = tt
 
--- a token that goes on no test may follow each
+-- a token that continues no test may follow each
 test_then : (a : TestTree) (o : Option Token) → is_mark mark.OpenBracket o ≡ false → has (factor_operator o) ≡ false → has (sum_operator o) ≡ false →
     has (next_comparison o) ≡ false → AfterTest a o
 test_then (opposite a) o h s p q = after_negation a o h

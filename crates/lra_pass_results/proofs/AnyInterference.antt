@@ -1,4 +1,4 @@
--- Trees in which others don't act: a pass among nobody is one among any.
+-- Trees in which others don't act: a pass without interference is one under any interference.
 use Rattle.std.proofs.Common.{ℕ, List, [], ◌∷◌, map, Option, sym, subst}
 use Rattle.lra_domain.specs.{Abstraction.Abstraction, Interference.Interference, Interference.no_interference}
 use Rattle.lra_operations.specs.declared.tree.Node as node

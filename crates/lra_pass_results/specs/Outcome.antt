@@ -108,7 +108,7 @@ pub record IsKept {V H : Type 0} (o : Interference V) (m : Abstraction V H) (set
   pub passed : IsPassed o m set g before v r
   pub unflagged : f ≡ None → r.flag ≡ None
 
--- a kept turn of a loop's body, if there is one, may be given again
+-- a kept round of a loop's body, if there is one, may be given again
 abbrev pub AreKept : {V H : Type 0} → Interference V → Abstraction V H → Plan → Node → Option ℕ → Option (LoopRound V) →
     Type 0
 AreKept o m set g f None = ⊤

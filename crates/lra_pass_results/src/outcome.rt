@@ -75,7 +75,7 @@ impl<D: Drop> Drop for LoopRound<D> {
     }
 }
 
-/// What comes into a loop's body: the kept turn, where the same value entered it, or else the value, twice, and the
+/// What comes into a loop's body: the kept round, where the same value entered it, or else the value, twice, and the
 /// first flagged point so far.
 #[derive(Drop)]
 pub enum Entered<D> {
@@ -359,7 +359,7 @@ impl<D: Drop> LoopRound<D> {
     }
 }
 
-/// The kept turn of a loop's body, where the same value enters it again: passed again it would give the same, but for
+/// The kept round of a loop's body, where the same value enters it again: passed again it would give the same, but for
 /// what is flagged so far.
 fn reuse_turn<D: Domain, F: Interfere<D>>(
     kept: Option<LoopRound<D>>,
@@ -380,7 +380,7 @@ fn reuse_turn<D: Domain, F: Interfere<D>>(
     Some(turn)
 }
 
-/// The kept turn, where this value entered it, or else the value.
+/// The kept round, where this value entered it, or else the value.
 pub fn enter_with<D: Domain, F: Interfere<D>>(
     alloc: Global,
     kept: Option<LoopRound<D>>,

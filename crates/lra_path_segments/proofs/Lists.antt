@@ -36,7 +36,7 @@ map_twice y z (x ∷ xs) =
 pub each_then_append : {A : Type 0} (xs ys zs : List (List A)) → each_then xs (ys ++ zs) ≡ each_then xs ys ++ each_then xs zs
 each_then_append xs ys zs = flat_map-append (λ y. map (λ x. x ++ y) xs) ys zs
 
--- one list after all
+-- one list appended to each
 each_then_onto : {A : Type 0} (xs ys : List (List A)) (z : List A) → each_then xs (map (λ y. y ++ z) ys) ≡ map (λ w. w ++ z) (each_then xs ys)
 each_then_onto xs [] z = refl
 each_then_onto xs (y ∷ ys) z =

@@ -169,7 +169,7 @@ fn join<'g>(
     })
 }
 
-/// Each of the ones, and then the other, after all.
+/// Appends to `all` each of the first segments followed by the other.
 fn push_joined<'g>(
     alloc: Global,
     ones: &[TreeSegment<'g>],
@@ -186,7 +186,7 @@ fn push_joined<'g>(
     Ok(())
 }
 
-/// Each of the ones with each of the others, after all.
+/// Appends to `all` each of the first segments followed by each of the others.
 fn push_all_joined<'g>(
     alloc: Global,
     ones: &[TreeSegment<'g>],
@@ -202,7 +202,8 @@ fn push_all_joined<'g>(
     Ok(())
 }
 
-/// Each that ends the one tree, with each that begins the other; what is left at once before, what begins later after.
+/// Each segment that ends the first tree, followed by each that begins the second. Those that leave the first tree
+/// elsewhere come before them, those that begin later in the second come after them.
 fn join_parts<'g>(
     alloc: Global,
     first: Parted<'g>,
@@ -241,7 +242,7 @@ pub fn sequence<'g>(
 
 // choices -----------------------------------------------------------------------------------------
 
-/// After a move, where it begins at the tree's start.
+/// The segment with the move before it, if it begins at the tree's start.
 fn prefix<'g>(first: Move<'g>, stretch: TreeSegment<'g>) -> Result<TreeSegment<'g>, AllocError>
     ensures { IfOk result (λ s. tree_segment_view s ≡
         ways.prefixed (move_view first.entry) (tree_segment_view stretch.entry)) }
@@ -260,7 +261,7 @@ fn prefix<'g>(first: Move<'g>, stretch: TreeSegment<'g>) -> Result<TreeSegment<'
     }
 }
 
-/// Each after a move, where it begins at the tree's start, after all.
+/// Appends to `all` each segment, with the move before it if it begins at the tree's start.
 fn push_prefixed<'g>(
     first: Move<'g>,
     stretches: Vec<TreeSegment<'g>>,
@@ -402,7 +403,7 @@ fn at_most_one<'g>(alloc: Global, only: Option<Move<'g>>) -> Result<Vec<Move<'g>
     }
 }
 
-/// A segment of at most one move after all.
+/// Appends to `all` a segment of at most one move.
 pub fn push_short<'g>(
     alloc: Global,
     source: Option<usize>,
@@ -546,7 +547,7 @@ pub fn go_round<'g>(
 
 // jumps -------------------------------------------------------------------------------------------
 
-/// Each ends the tree, after all.
+/// Appends to `all` each segment, which then ends the tree.
 fn push_ended<'g>(
     stretches: Vec<TreeSegment<'g>>,
     all: &mut Vec<TreeSegment<'g>>,

@@ -39,8 +39,8 @@ first_segments g goal = filter (λ way. same_goal way.goal goal) (enter g)
 abbrev pub next_segments : Node → ℕ → Goal → List Segment
 next_segments g p goal = filter (λ segment. nat_eq segment.source p && same_goal segment.to_goal.goal goal) (inside g)
 
--- from the source to the goal, in the order of the segments, and of the disjuncts of each: in a program with these globals
--- and these points
+-- from the source to the goal, in the order of the segments, and of the disjuncts of each: in a program with these
+-- globals and these points
 abbrev pub actions_between_in : List GlobalVariable → List Site → Node → ℕ → Goal → List (List Action)
 actions_between_in globals sites g zero goal = flat_map (λ way. started globals way.ops) (first_segments g goal)
 actions_between_in globals sites g (suc p) goal =

@@ -13,7 +13,7 @@ is_lower [] ys = false
 is_lower (c ∷ cs) [] = false
 is_lower (c ∷ cs) (d ∷ ds) = int_lt c d && pointwise int_eq cs ds
 
--- the second is an inequality, and holds with room where the first holds
+-- the second is an inequality, and holds strictly where the first holds
 abbrev pub is_tighter : LinearRow → LinearRow → Bool
 is_tighter s r = not r.equal && is_lower s.row r.row
 

@@ -64,7 +64,7 @@ remainder_overflows = refl
 typed_read : value_of x (record { base = 0; store = pos 2147483648 ∷ []; arrays = [] }) [] ≡ None
 typed_read = refl
 
--- ways: int half(long x), called for a `long`, for an `int`, for nobody; long f(int a), called for an `int`
+-- ways: int half(long x), called for a `long`, for an `int`, for no receiver; long f(int a), called for an `int`
 for_a_long : (result_receiver (Some Int) (variable_at 0 Long)).conversions ≡ Short
 for_a_long = refl
 

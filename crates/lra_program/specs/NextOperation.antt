@@ -35,7 +35,7 @@ module _ (Q : Op → State → Type 0) (P : Program) where
   DeclaratorOpIs t (Some e) h s = (m : State) × (run_op (append t) s ≡ Some m) ×
       RvalueOpIs (variable_at (length s.store) t) e h m
 
-  -- of a condition it is asked once, whichever side goes on; a value that is looked for goes to nobody
+  -- of a condition it is asked once, whichever side goes on; a value that is looked for goes to no receiver
   abbrev pub StmtOpIs : Stmt → List Item → CallContext → State → Type 0
   StmtOpIs absent k h s = ⊥
   StmtOpIs (nothing at) k h s = ⊥

@@ -51,7 +51,7 @@ waiting_in a = record {
   conversions = with_conversion a.number_type Wide;
 }
 
--- a call whose result nobody asks for
+-- a call whose result nothing uses
 abbrev pub nobody : Receiver
 nobody = record { target = None; conversions = Wide }
 

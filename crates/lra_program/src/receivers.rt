@@ -100,7 +100,7 @@ impl Receiver {
         }
     }
 
-    /// Of a result for which nobody asks.
+    /// Of a result that nothing uses.
     pub fn nobody() -> Self
         ensures { result ≡ nobody }
     {

@@ -32,7 +32,7 @@ pub record IsLineStart (before : List ℕ) : Type 0 where
   pub whole_lines : (lines ≡ []) ⊎ ((ls : List ℕ) × (lines ≡ ls ++ 10 ∷ []))
   pub only_blanks : list_all is_space_or_tab blanks ≡ true
 
--- the next byte goes on no word
+-- the next byte continues no word
 abbrev pub IsWordEnd : List ℕ → Type 0
 IsWordEnd [] = ⊤
 IsWordEnd (c ∷ cs) = is_word_byte c ≡ false

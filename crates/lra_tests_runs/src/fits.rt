@@ -15,7 +15,7 @@ const FITS: &str = "lra analyse --domain box --fits";
 /// Over octagons.
 const OCTAGONS: &str = "lra analyse --domain oct --fits";
 
-/// Results of a `long` divided by 2, given to an `int`, to a `long`, to nobody, and to `main`'s type.
+/// Results of a `long` divided by 2, given to an `int`, to a `long`, to no receiver, and to `main`'s type.
 const HALVES: &str =
     "int half(long x){ return x/2; } int main(void){ long y=half(6); int z=half(y); half(z); return y; }";
 

@@ -1,4 +1,4 @@
--- Goals of `analyse`: among nobody a derivation is one of a program that runs alone.
+-- Goals of `analyse`: without interference a derivation is one of a program that runs alone.
 use Rattle.std.proofs.Common.{List, map, sym, subst}
 use Rattle.lra_program.specs.{WellFormed.AreGoodGlobals, declared.program.GlobalVariable.GlobalVariable}
 use Rattle.lra_operations.specs.TreeViews.{node_view, site_view}
