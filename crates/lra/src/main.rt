@@ -34,7 +34,7 @@ fn tell_fault(rt: &HostRuntime, name: &str, error: Error) {
     let _ = eprintln!(rt; "lra: {name}: {error}");
 }
 
-/// Runs the words' command over the reader, and says why it couldn't be read, where that is so.
+/// Runs the words' command over the reader, and says why it couldn't be read, if that is so.
 fn run_over<R: Read + Drop>(rt: &HostRuntime, words: &[String], name: &str, reader: R) -> Status {
     let mut source = RealSource::new(reader);
     let mut sink = RealSink::new(rt.stdout());

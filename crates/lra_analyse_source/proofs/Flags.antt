@@ -17,7 +17,7 @@ use Rattle.lra_analysis_spec.specs.{Analysis.Iteration, Operations.Operations, P
 use Rattle.lra_analysis_spec.proofs.Transfer.{jump_flag, behind_flag}
 use Rattle.lra_fixpoint.specs.Numbers.{ArmsAreBelow, AreBelow}
 
--- the first flagged point, where there is one, is below n
+-- the first flagged point, if there is one, is below n
 abbrev pub IsBelow : ℕ → Option ℕ → Type 0
 IsBelow n None = ⊤
 IsBelow n (Some q) = q < n

@@ -39,7 +39,7 @@ pub record ReportsIteration {V H : Type 0} (m : Abstraction V H) (shown : V → 
   pub are_shown : AreShown m settings.domain shown values
   -- and the report shows it
   pub states : map (λ (p : PointReport). p.state) r.points ≡ map shown values
-  -- what fits, where it is asked for, and the first flag after that; without a flag by what the written iteration
+  -- what fits, if it is asked for, and the first flag after that; without a flag by what the written iteration
   -- leaves; a first flag there is where what it leaves exceeds a limit
   pub fitting : List (ℕ × Bool)
   pub overflow_flag : Option ℕ

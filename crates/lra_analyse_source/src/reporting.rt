@@ -26,7 +26,7 @@ use lra_report::Report;
 use lra_report_build::{Findings, Outline, Show, list, states_of};
 use std::alloc::{AllocError, Global};
 
-/// Which operations of a tree fit, where it is asked for; else nothing is reported, and nothing done.
+/// Which operations of a tree fit, if it is asked for; else nothing is reported, and nothing done.
 fn judge_if<D: AbstractDomain>(
     alloc: Global,
     asked: bool,
@@ -57,7 +57,7 @@ struct Judged {
     inside: BoundsVerdicts,
 }
 
-/// Which operations of a tree fit, where it is asked for, and which accesses lie inside their arrays, by the values
+/// Which operations of a tree fit, if it is asked for, and which accesses lie inside their arrays, by the values
 /// that an iteration found at the points.
 fn judge_solution<D: AbstractDomain>(
     alloc: Global,

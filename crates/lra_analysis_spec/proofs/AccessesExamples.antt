@@ -54,7 +54,7 @@ abbrev a_at : Expr → ℕ → Element
 a_at i c = record { array = a; place = at c; index = i }
 
 module _ {V H : Type 0} (m : Abstraction V H) (ops : Operations V H) (v : V) where
-  -- an index that isn't linear lies inside only where no run comes
+  -- an index that isn't linear lies inside only if no run comes
   input_inside_nowhere : (b : Bool) → AccessJudged m ops v 0 (a_at input 30) b Exact → b ≡ true → m.parts v ≡ []
   input_inside_nowhere b judged is = elim (judged.0.0 is) [ inl none ↦ none | inr never ↦ absurd never ]
 

@@ -12,7 +12,7 @@ abbrev some_judgements : List (Finding Bool)
 some_judgements = record { point = 3; answer = true; exactness = Exact } ∷ record { point = 5; answer = false; exactness = Flagged } ∷ record
     { point = 7; answer = true; exactness = Flagged } ∷ []
 
--- the first of those that are judged; none where the iteration has one
+-- the first of those that are judged; none if the iteration has one
 first_of_three : first_flagged None some_judgements ≡ Some 5
 first_of_three = refl
 

@@ -189,7 +189,7 @@ cell_leads t (Variable x) w s z ok led =
     (sym (length-set s.store x z)) (get_set s.store x z) ok (led x)
 cell_leads t (Waiting p) w s z ok led = store_waiting p z s.waiting s
 
--- the target, where there is one, gets a number of its type
+-- the target, if there is one, gets a number of its type
 target_leads : (o : Option Target) (w : Linearized) (s : State) (z : ℤ) → target_accepts o z ≡ true
     → ((x : ℕ) → MayLead (set_to (length s.store) x w) s.store (slice_set s.store x z))
     → MayLead (set_target (length s.store) o w) s.store (put o z s).store

@@ -115,7 +115,7 @@ module _ {V H : Type 0} (m : Abstraction V H) where
     abbrev pub Judges : Node → List V → Option ℕ → List (ℕ × Bool) → Option ℕ → Type 0
     Judges g values flagged fitting behind = Finds ops OpFits (computing_ops None g) values flagged fitting behind
 
-    -- where it is asked for; else nothing is reported, and nothing done
+    -- if it is asked for; else nothing is reported, and nothing done
     abbrev pub JudgesIf : Bool → Node → List V → Option ℕ → List (ℕ × Bool) → Option ℕ → Type 0
     JudgesIf true g values flagged fitting behind = Judges g values flagged fitting behind
     JudgesIf false g values flagged fitting behind = (fitting ≡ []) × (behind ≡ flagged)

@@ -20,7 +20,7 @@ abbrev pub test_rows : Option Test → List (List ℤ)
 test_rows None = []
 test_rows (Some t) = row_of t.expr (pos 0) ∷ row_of t.expr (pos 1) ∷ []
 
--- d the left side minus the right one; of `==` and `!=` the rows d >= 0 and -d >= 0; none where it isn't linear
+-- d the left side minus the right one; of `==` and `!=` the rows d >= 0 and -d >= 0; none if it isn't linear
 abbrev pub comparison_rows : Comparison → Option Form → List (List ℤ)
 comparison_rows op None = []
 comparison_rows equal (Some d) = row_of d (pos 0) ∷ opposite_row d ∷ []

@@ -46,7 +46,7 @@ module _ {V H : Type 0} (ops : Operations V H) where
         CondAnswers base c v xs f × Filters ops base c false v g w × CondAnswers base d w ys h × (bs ≡ xs ++ ys) ×
         (e ≡ worse (worse f g) h)
 
-  -- after the new variable, where there is one
+  -- after the new variable, if there is one
   abbrev pub Declares : Option NumberType → V → Exactness → V → Type 0
   Declares None v e w = (w ≡ v) × (e ≡ Exact)
   Declares (Some t) v e w = OpTransfer ops (append t) v e w

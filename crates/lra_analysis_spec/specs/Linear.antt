@@ -52,11 +52,11 @@ constant_form live k = record { constant = k; coefficients = replicate live (pos
 abbrev pub variable_form : ℕ → ℕ → Form
 variable_form live place = record { constant = pos 0; coefficients = slice_set (replicate live (pos 0)) place (pos 1) }
 
--- none where the variable doesn't live
+-- none if the variable doesn't live
 abbrev pub live_form : ℕ → ℕ → Option Form
 live_form live place = if nat_lt place live then Some (variable_form live place) else None
 
--- with so many live variables, of which the call's own come after the first `base`; none where the expression isn't
+-- with so many live variables, of which the call's own come after the first `base`; none if the expression isn't
 -- linear: an element of an array has none
 abbrev pub form_of : ℕ → ℕ → Expr → Option Form
 form_of live base (literal t n) = fitting (constant_form live (pos n))

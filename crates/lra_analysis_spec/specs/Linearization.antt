@@ -60,7 +60,7 @@ share_form live plus = None
 share_form live minus = None
 share_form live times = None
 
--- an expression whose last operator is one of these; none where it is another one
+-- an expression whose last operator is one of these; none if it is another one
 abbrev pub share_of : ℕ → ℕ → Expr → Option (Division × Form)
 share_of live base (binary op a b) = share_form live op >>= λ h. form_of live base a >>= λ f.
     form_of live base b >>= λ g. division f g >>= λ d. Some (d, h)

@@ -165,7 +165,7 @@ abbrev pub set_cell : ℕ → NumberType → Cell → Linearized → Moves
 set_cell live t (Variable x) v = within_type t live x (set_to live x v)
 set_cell live t (Waiting p) v = stay
 
--- the target, where there is one, is set so
+-- the target, if there is one, is set so
 abbrev pub set_target : ℕ → Option Target → Linearized → Moves
 set_target live None v = stay
 set_target live (Some t) v = set_cell live t.number_type t.cell v

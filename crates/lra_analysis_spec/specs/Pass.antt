@@ -25,7 +25,7 @@ pub data PassEntry (V : Type 0) : Type 0 where
   recorded : ℕ → ℕ → V → PassEntry V
 
 -- what a pass gives: its entries in the order in which they are found, the value after the tree, the values of its
--- jumps in text order, and the point of the first flagged operation, where there is one
+-- jumps in text order, and the point of the first flagged operation, if there is one
 pub record PassResult (V : Type 0) : Type 0 where
   pub entries : List (PassEntry V)
   pub normal : V

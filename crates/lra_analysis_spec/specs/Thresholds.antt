@@ -23,8 +23,8 @@ use Rattle.lra_analysis_spec.specs.Plan.{Widening, standard, limited, by_thresho
 abbrev pub row_against : Form → ℤ → List ℤ
 row_against f more = (neg_ℤ f.constant +ℤ more) ∷ map neg_ℤ f.coefficients
 
--- d + k >= 0 and -d + k >= 0 for k = -1, 0, 1, with d the left side minus the right one; none where it isn't linear, or
--- where a variable doesn't live
+-- d + k >= 0 and -d + k >= 0 for k = -1, 0, 1, with d the left side minus the right one; none if it isn't linear, or
+-- if a variable doesn't live
 abbrev pub rows_around : Option Form → List (List ℤ)
 rows_around None = []
 rows_around (Some d) =

@@ -34,13 +34,13 @@ PreOfAllPoints {V} ops paths forward q (target ∷ targets) so e all =
     (some : Option V) × (c d : Exactness) × PreOfPaths ops forward target (paths q) so c some ×
     PreOfAllPoints ops paths forward (suc q) targets some d all × (e ≡ worse c d)
 
--- and last the seed, where there is one
+-- and last the seed, if there is one
 abbrev pub JoinsSeed : {V H : Type 0} → BackwardOperations V H → Option V → Option V → Exactness → Option V → Type 0
 JoinsSeed ops None so e all = (all ≡ so) × (e ≡ Exact)
 JoinsSeed {V} ops (Some seed) so e all = (w : V) × JoinsRunning ops.forward so seed e w × (all ≡ Some w)
 
 -- The next value of a point, over the heads as they are: what its paths bring back, by the numbers of their targets,
--- and last the seed; where there is none of both, it is an empty value of one part.
+-- and last the seed; if there is none of both, it is an empty value of one part.
 abbrev pub IsNext : {V H : Type 0} → BackwardOperations V H → (ℕ → List (List Action)) → V → Option V → List H →
     Exactness →
     V → Type 0

@@ -63,8 +63,8 @@ impl<D: Backward> Task<'_, D> {
         })
     }
 
-    /// The next value of the point, over the heads as they are: what its paths bring back, and last the seed; where
-    /// there is none of both, it is empty.
+    /// The next value of the point, over the heads as they are: what its paths bring back, and last the seed; if there
+    /// is none of both, it is empty.
     pub fn next(&self, point: usize, heads: &[D::Head]) -> Result<PreValue<D>, AllocError>
         requires task { IsTask D.abstraction self.now }
         requires heads { AreHeads D.abstraction self.now.forward.now heads.now }

@@ -145,7 +145,7 @@ BacksHaveSamePoints = (source : List ℕ) (p : ℕ) (r : BackReport) → IsBackR
 
 -- refusals ---------------------------------------------------------------------------------------------------------
 
--- the source's own refusal; no assertion at the point; or, where there is one, too many paths from the source of this
+-- the source's own refusal; no assertion at the point; or, if there is one, too many paths from the source of this
 -- number, be they on the way to it or not
 abbrev pub IsBackRefusalOf : List ℕ → ℕ → BackRefusal → Type 0
 IsBackRefusalOf source p (Source r) = Refuse Spells source r.cause r.place

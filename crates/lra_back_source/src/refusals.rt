@@ -7,7 +7,7 @@ use std::alloc::AllocError;
 /// Why a source is refused that is to be gone back over from an assertion.
 #[derive(Clone, Copy, Debug, PartialEq, Eq)]
 pub enum BackRefusal {
-    /// It is refused as a source.
+    /// The source is refused.
     Source(Refusal),
     /// No assertion has the number.
     NoAssertion,

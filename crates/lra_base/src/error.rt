@@ -9,7 +9,7 @@ use std::alloc::{AllocError, AllocFailed};
 /// Why a source has no tokens, no tree, no program or no report.
 #[derive(Clone, Copy, PartialEq, Eq, Debug)]
 pub enum SourceError {
-    /// It is refused, for its first fault.
+    /// The source is refused, for its first fault.
     Refused(Refusal),
     /// Memory ran out.
     Memory,

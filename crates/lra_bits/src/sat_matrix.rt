@@ -151,7 +151,7 @@ impl SatMatrix {
         Ok(())
     }
 
-    /// Puts a value after each row: a further column. Memory is taken for each 64th column alone; where there is none,
+    /// Puts a value after each row: a further column. Memory is taken for each 64th column alone; if there is none,
     /// the matrix stays as it was.
     pub fn push_column(&mut self, last: &BitRow) -> Result<(), AllocError>
         requires { length last.now ≡ length self.old.rows }

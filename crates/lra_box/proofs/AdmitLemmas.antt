@@ -58,7 +58,7 @@ admitted_comes x i b s z h k = (length-set {A = ℤ} s x z ∙ h.0, comes_in x i
 
 -- the bounds of a place ---------------------------------------------------------------------------
 
--- there are none exactly where there is no store
+-- there are none exactly if there is no store
 pub bound_empty : (x : ℕ) (b : BoxContent) → WellFormedBox b → (bound_at x b.bounds ≡ None) ↔ ((s : List ℤ) → ¬ BoxGamma b s)
 bound_empty x b h = by_bounds b.bounds h.0 h.1
   where

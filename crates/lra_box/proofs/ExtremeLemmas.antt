@@ -83,7 +83,7 @@ flip_pos n (pos zero) = grind (arith, ints)
 flip_pos n (pos (suc k)) = grind (arith, ints)
 flip_pos n (negsuc k) = grind (arith, ints)
 
--- where there is no end of the products there is a product beyond each number
+-- if there is no end of the products there is a product beyond each number
 product_endless : (side : Side) (c : ℤ) (i : Interval) (b : ℤ) → crossed i ≡ false → end_product side c i ≡ None → (x : ℤ) × (InInterval i x × (¬ BoundHolds side (Some b) (c *ℤ x)))
 product_endless side (pos zero) i b h e = cc
 product_endless Low (pos (suc n)) i b h e =

@@ -98,7 +98,7 @@ place_within : (a : ℤ) (cs : List ℤ) (k : ℕ) (is js : List Interval) → I
 place_within a cs k is js w =
     tightened_within (slice_index_or cs k (pos 0)) _ _ _ _ (sum_within a a (slice_set cs k (pos 0)) is js (omega (arith, ints)) w) (at_within is js k w)
 
--- what a place is replaced by, or none where that is crossed
+-- what a place is replaced by, or none if that is crossed
 pub put_within : (is js : List Interval) (k : ℕ) (i j : Interval) → IntervalsWithin is js → IntervalWithin i j
     → BoundsWithin (cond (crossed i) None (Some (slice_set is k i))) (cond (crossed j) None (Some (slice_set js k j)))
 put_within is js k i j w v = by_tests (crossed i) (crossed j) refl refl

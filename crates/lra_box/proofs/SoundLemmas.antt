@@ -126,7 +126,7 @@ grown_sound Widen a b h k = widened_sound a _ h (joined_sound a b h k)
 grown_sound Limited a b h k = widened_sound a _ h (joined_sound a b h k)
 grown_sound Tightest a b h k = widened_sound a _ h (joined_sound a b h k)
 
--- the bounds are absent exactly where there is no store
+-- the bounds are absent exactly if there is no store
 pub none_stores : (b : Option (Vec Interval Global)) (answer : Bool) → is_some b ≡ not answer → BoundsAreValid (bounds_view b) → IsTrue answer ↔ ((s : List ℤ) → ¬ has_bounds (bounds_view b) s)
 none_stores None true e h = (λ t s k. k, λ none. refl)
 none_stores None false e h = absurd (let no : false ≡ true = e in cc)

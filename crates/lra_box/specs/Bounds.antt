@@ -7,7 +7,7 @@ use Rattle.lra_domain.specs.declared.Exactness.TheVariants.{Exact, Flagged}
 use Rattle.lra_box.specs.declared.interval.Side.TheVariants.{Low, High}
 use Rattle.lra_box.specs.{declared.ends.Bound.Bound, declared.interval.Interval.Interval, declared.interval.Side.Side}
 
--- the bound, where there is one, holds of the number
+-- the bound, if there is one, holds of the number
 abbrev pub BoundHolds : Side → Option ℤ → ℤ → Type 0
 BoundHolds side None x = Unit {0}
 BoundHolds Low (Some l) x = l ≤ℤ x
@@ -87,7 +87,7 @@ SumPasses side a (c ∷ cs) (i ∷ is) =
     EndProductPasses side c i ⊎ IsSomeAnd (end_product side c i)
     (λ p. (¬ InRange (a +ℤ p)) ⊎ SumPasses side (a +ℤ p) cs is)
 
--- a computed bound is the table's, where nothing passes; it is absent and flagged only where something passes
+-- a computed bound is the table's, where nothing passes; it is absent and flagged only if something passes
 pub record IsBound (table : Option ℤ) (passes : Type 0) (b : Bound) : Type 0 where
   pub exact : b.exactness ≡ Exact → b.value ≡ table
   pub flagged : b.exactness ≡ Flagged → passes × (b.value ≡ None)
@@ -95,7 +95,7 @@ pub record IsBound (table : Option ℤ) (passes : Type 0) (b : Bound) : Type 0 w
 abbrev pub form : ℤ → List ℤ → Form
 form constant factors = record { constant = constant; coefficients = factors }
 
--- the least or the greatest value of the form over the box, or none where the values go on without end on that side
+-- the least or the greatest value of the form over the box, or none if the values go on without end on that side
 pub record IsExtreme (side : Side) (is : List Interval) (e : Form) (o : Option ℤ) : Type 0 where
   -- no value goes beyond the bound
   pub bounds : (s : List ℤ) → InBounds is s → BoundHolds side o (form_value e s)

@@ -3,7 +3,7 @@ use Rattle.std.specs.Prelude.{◌≡◌, ℕ, List, length, Option, None, Some, 
 use Rattle.std.specs.{Option.option_map, declared.alloc.Global.Global}
 use Rattle.lra_box.specs.{Bounds.AllValidIntervals, declared.interval.Interval.Interval}
 
--- the dimensions of a box, and its intervals, or none where it is empty
+-- the dimensions of a box, and its intervals, or none if it is empty
 pub record BoxContent : Type 0 where
   pub dims : ℕ
   pub bounds : Option (List Interval)

@@ -1,5 +1,5 @@
 -- What a box says of the least and the greatest value of a form: the ends by which an assignment of the form sets the
--- bounds, and none where a number passes the range on the way.
+-- bounds, and none if a number passes the range on the way.
 use Rattle.std.specs.Prelude.{◌≡◌, ◌⊎◌, ℤ, ◌+ℤ◌, List, Option, None, Some}
 use Rattle.lra_linear_spec.specs.Range.{InRange}
 use Rattle.lra_linear_forms.specs.Form.{Form}
@@ -7,7 +7,7 @@ use Rattle.lra_box.specs.Bounds.{EndProductPasses, SumPasses, end_product, end_s
 use Rattle.lra_box.specs.declared.interval.Side.TheVariants.{Low, High}
 use Rattle.lra_box.specs.{declared.interval.Interval.Interval, declared.interval.Side.Side}
 
--- the end of a sum that begins with a number: the table's, or none where a product or a partial sum passes
+-- the end of a sum that begins with a number: the table's, or none if a product or a partial sum passes
 abbrev pub IsEndFrom : Side → ℤ → List ℤ → List Interval → Option ℤ → Type 0
 IsEndFrom side a cs is o =
     ((¬ SumPasses side a cs is) × (o ≡ end_sum side a cs is)) ⊎ (SumPasses side a cs is × (o ≡ None))
@@ -21,7 +21,7 @@ abbrev pub BoundsTell : Option (List Interval) → Form → Option ℤ → Optio
 BoundsTell None f l h = (l ≡ None) × (h ≡ None)
 BoundsTell (Some is) f l h = IsEnd Low f is l × IsEnd High f is h
 
--- a sum with one product more; none where there is no such product, or a number passes
+-- a sum with one product more; none if there is no such product, or a number passes
 pub record HasProduct (side : Side) (a c : ℤ) (i : Interval) (b : ℤ) : Type 0 where
   pub product : ℤ
   pub is : end_product side c i ≡ Some product

@@ -35,7 +35,7 @@ abbrev pub place_refined : ℤ → List ℤ → ℕ → List Interval → Interv
 place_refined a cs k is = tightened (slice_index_or cs k (pos 0)) (others_most a cs k is)
     (slice_index_or is k full_interval)
 
--- one place: the bounds with its interval tightened, or none where it is crossed then
+-- one place: the bounds with its interval tightened, or none if it is crossed then
 abbrev pub refine_place : ℤ → List ℤ → ℕ → Option (List Interval) → Option (List Interval)
 refine_place a cs k None = None
 refine_place a cs k (Some is) = if crossed (place_refined a cs k is) then None

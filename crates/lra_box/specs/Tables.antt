@@ -65,7 +65,7 @@ BoundsWithin None b = Unit {0}
 BoundsWithin (Some is) None = ⊥
 BoundsWithin (Some is) (Some js) = IntervalsWithin is js
 
--- the bounds of a place; none where the box is empty
+-- the bounds of a place; none if the box is empty
 abbrev pub bound_at : ℕ → Option (List Interval) → Option Interval
 bound_at x None = None
 bound_at x (Some is) = Some (slice_index_or is x full_interval)

@@ -1,4 +1,4 @@
-//! The bounds of a box: an interval for each dimension, or none where it is empty.
+//! The bounds of a box: an interval for each dimension, or none if it is empty.
 
 ghost use Rattle.std.specs.Prelude.{◌≡◌, ◌+◌, ◌-◌, pos, neg_ℤ, ◌+ℤ◌, ◌≤ℤ◌, ◌≤◌, ◌<◌, ◌^◌, ◌++◌, All, IfOk, OnErr, OnOk};
 ghost use Rattle.std.specs.Prelude.{IsTrue, ◌↔◌, None, Some, length, map, replicate, slice_set, take, List};
@@ -19,7 +19,7 @@ use lra_linear_forms::{LinExpr, Test};
 use lra_linear_spec::ConKind;
 use std::alloc::{AllocError, Global};
 
-/// The intervals of a box, or none where it is empty.
+/// The intervals of a box, or none if it is empty.
 pub type Bounds = Option<Vec<Interval>>;
 
 /// All stores of `n` dimensions.
@@ -190,7 +190,7 @@ pub fn forget_in(bounds: &mut Bounds, x: usize)
     }
 }
 
-/// The bounds of place `x`; none where the box is empty.
+/// The bounds of place `x`; none if the box is empty.
 pub fn find_bound(bounds: &Bounds, x: usize) -> Option<Interval>
     requires { (is : List Interval) → bounds_view bounds.now ≡ Some is → x < length is }
     ensures { result ≡ bound_at x (bounds_view bounds.now) }

@@ -115,7 +115,7 @@ impl Domain for Boxes {
         1
     }
 
-    /// Yes exactly where there is no part, and exactly where there is no store.
+    /// Yes exactly if there is no part, and exactly if there is no store.
     fn is_empty(&self) -> bool
         ensures formed { box_abstraction.well_formed self.now }
         ensures parts { IsTrue result ↔ (box_abstraction.parts self.now ≡ []) }

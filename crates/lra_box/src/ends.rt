@@ -100,7 +100,7 @@ pub fn sum_end(side: Side, constant: i128, coefficients: &[i128], bounds: &[Inte
     }
 }
 
-/// A sum with the least or the greatest product of a coefficient with a number of the interval; none where there is no
+/// A sum with the least or the greatest product of a coefficient with a number of the interval; none if there is no
 /// such product, or a number passes the range.
 pub fn plus_end(side: Side, sum: i128, factor: i128, interval: Interval) -> Option<i128>
     ensures { PlusEnd side sum factor interval result }
@@ -112,7 +112,7 @@ pub fn plus_end(side: Side, sum: i128, factor: i128, interval: Interval) -> Opti
     }
 }
 
-/// The least or the greatest value of the form over the intervals, as an assignment sums it; none where it has none, or
+/// The least or the greatest value of the form over the intervals, as an assignment sums it; none if it has none, or
 /// a number passes the range. Takes no memory.
 pub fn form_end(side: Side, e: &LinExpr, bounds: &[Interval]) -> Option<i128>
     requires { length e.now.coefficients ≡ length bounds.now }

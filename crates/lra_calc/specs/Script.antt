@@ -1,6 +1,6 @@
 -- What a script may write: its lines are carried out one after the other, and the first that is refused is answered in
 -- place of all. A line that makes a set makes its canonical lists, so that what is shown depends on the set alone. Only
--- where what it gives exceeds a limit may it make those of a larger set; then it is flagged. So a script that isn't
+-- if what it gives exceeds a limit may it make those of a larger set; then it is flagged. So a script that isn't
 -- flagged has one answer.
 use Rattle.std.specs.Prelude.{◌≡◌, ◌+◌, ℕ, suc, ℤ, pos, negsuc, Bool, true, false, ◌&&◌, nat_eq, nat_lt, nat_le, List}
 use Rattle.std.specs.Prelude.{[], ◌∷◌, ◌++◌, length, take, map, codes, bytes_eq, if◌then◌else◌, Option, Some, None}
@@ -156,7 +156,7 @@ abbrev pub decided : Bool → Result ℤ Excess → Option Bool → Option Bool
 decided equal (Err e) later = None
 decided equal (Ok p) later = if is_met equal p then later else Some false
 
--- whether the point is in the set of points with these constraints, tried in order; none where the product with one
+-- whether the point is in the set of points with these constraints, tried in order; none if the product with one
 -- passes the range before an answer is found
 abbrev pub membership : List LinearRow → List ℤ → Option Bool
 membership [] x = Some true
@@ -254,7 +254,7 @@ pub record Stopped : Type 0 where
   pub before : Option Session
   pub refused : Refused
 
--- a script's end: the last session, none where all lines are skipped; or its first refused line
+-- a script's end: the last session, none if all lines are skipped; or its first refused line
 abbrev pub End : Type 0
 End = Result (Option Session) Stopped
 

@@ -13,10 +13,10 @@ use std::fmt::Write;
 /// Why a line is refused.
 #[derive(Debug)]
 pub enum Fault {
-    /// It is no line of the format, or the first is no `dims`, or a later one is.
+    /// The line is none of the format, or the first is no `dims`, or a later one is.
     BadLine,
 
-    /// This name was not made before it.
+    /// The line uses a name under which no set was made before.
     UnknownName(String),
 
     /// A row or a point has another count of numbers than is needed.
@@ -148,7 +148,7 @@ impl From<AllocError> for CalcError {
 /// Why a line was not carried out.
 #[derive(Debug, Drop)]
 pub enum LineError {
-    /// It is refused.
+    /// The line is refused.
     Refused(Fault),
 
     /// There was no memory.

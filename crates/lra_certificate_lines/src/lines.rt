@@ -26,7 +26,7 @@ fn count_feeds(bytes: &[u8]) -> usize
     bytes.iter().filter(|byte| **byte == b'\n').count()
 }
 
-/// The line that begins here; none where no line feed ends it.
+/// The line that begins here; none if no line feed ends it.
 pub fn line_at(bytes: &[u8], at: usize) -> Option<&[u8]>
     requires { at ≤ length bytes.now }
     ensures { MatchOption result (line_on (pieces_at bytes.now at) ≡ None)

@@ -103,7 +103,7 @@ fn count_tests(path: &[&Change]) -> usize
     count
 }
 
-/// How many premises the lines of a path have; none where no memory holds so many.
+/// How many premises the lines of a path have; none if no memory holds so many.
 fn count_premises(rows: &ConSys, path: &[&Change]) -> Option<usize>
     ensures { IfSome result (λ n. (n < 2 ^ 62)
         × (n ≡ length (constraints rows.now) + tests_in (all_done path.now))) }

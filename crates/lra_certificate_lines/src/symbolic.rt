@@ -103,7 +103,7 @@ fn symbols_of(change: &Change) -> usize
     }
 }
 
-/// How many symbols the changes bring; none where no memory holds a row of so many columns.
+/// How many symbols the changes bring; none if no memory holds a row of so many columns.
 fn count_symbols(path: &[&Change]) -> Option<usize>
     ensures { MatchOption result (2 ^ 60 ≤ new_symbols (all_done path.now))
         (λ n. (n ≡ new_symbols (all_done path.now)) × (n < 2 ^ 60)) }

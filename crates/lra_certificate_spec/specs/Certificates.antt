@@ -25,7 +25,7 @@ pub record ListedAssertion : Type 0 where
 
 pub record Certificate : Type 0 where
   pub source : List ℕ
-  -- point by point: its rows; none where it is empty
+  -- point by point: its rows; none if it is empty
   pub states : List (Option (List LinearRow))
   -- path by path
   pub paths : List Evidence

@@ -43,7 +43,7 @@ fn push_body(
     Ok(())
 }
 
-/// The lines after the source of a certificate that has these rows at the points of the program, none where nothing
+/// The lines after the source of a certificate that has these rows at the points of the program, none if nothing
 /// comes there, and lists the assertions at these points; or the first path to which no multipliers are found.
 pub fn certify(
     alloc: Global,

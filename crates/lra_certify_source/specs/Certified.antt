@@ -18,7 +18,7 @@ use Rattle.lra_certify_source.specs.{Assertions.proved_numbers, declared.refusal
 
 -- what a report shows ----------------------------------------------------------------------------------------------
 
--- the rows of a point; none where no run comes there
+-- the rows of a point; none if no run comes there
 abbrev pub rows_at : Invariant → Option (List ReportRow)
 rows_at [] = None
 rows_at (part ∷ parts) = Some part.rows

@@ -10,7 +10,7 @@ use lra_poly_domain::Polyhedron;
 use lra_systems::ConSys;
 use std::alloc::{AllocError, Global};
 
-/// The rows of a value; none where it has no point.
+/// The rows of a value; none if it has no point.
 fn state_of(value: &Polyhedron) -> Result<Option<ConSys>, AllocError>
     ensures state { IfOk result (λ s. state_view s ≡ state_by value.now) }
     ensures dims { IfOk result (λ s. dims_in s ≡ dims_by value.now) }

@@ -7,7 +7,7 @@ use std::alloc::AllocError;
 /// Why a source is refused that is to be certified.
 #[derive(Clone, Copy, Debug, PartialEq, Eq)]
 pub enum CertifyRefusal {
-    /// It is refused as a source.
+    /// The source is refused.
     Source(Refusal),
     /// More than 1,024 paths lead from the source of this number to one point, or to where one assertion is false.
     Paths(usize),

@@ -33,7 +33,7 @@ answered = Proved ∷ Unknown ∷ Refused ∷ Usage ∷ []
 abbrev pub silent : List Status
 silent = ReadFault ∷ Memory ∷ []
 
--- there is no answer; no reading fails where there is no limit of bytes to read
+-- there is no answer; no reading fails if there is no limit of bytes to read
 abbrev pub faults : Option ℕ → List Status
 faults None = WriteFault ∷ Memory ∷ []
 faults (Some limit) = ReadFault ∷ WriteFault ∷ Memory ∷ []

@@ -136,7 +136,7 @@ handed_out m r name inner names rows is =
         let same_rows : w ≡ q.1 = ap (λ (o : Option (List Row)). unwrap_or o q.1) f in
         rw (same_name, same_rows) refl
 
--- nothing is handed out where there is no subcommand
+-- nothing is handed out if there is no subcommand
 pub none_handed_out : (m : ArgMatches) (r : Option (Bor Text × Bor ArgMatches)) → option_map (λ p. p.0.now) r ≡ subcommand_name_of m → r ≡ None
     → command_of (subcommand_rows_of m) ≡ None
 none_handed_out m r names is =

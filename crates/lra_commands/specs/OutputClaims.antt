@@ -64,7 +64,7 @@ pub record HoldsInAllRuns (bytes : List ℕ) (r : Report) : Type 0 where
 
 -- the report shows what the written iteration finds, whose loops have these constants as thresholds where the options
 -- ask for such: at each point the state that shows its value there, whose rows
--- mean the value, on each assertion its verdict, where it is asked for at each point at which something is computed
+-- mean the value, on each assertion its verdict, if it is asked for at each point at which something is computed
 -- whether all of it fits, and of each access whether it lies inside its array
 pub record ReportsWritten {V H : Type 0} (m : Abstraction V H) (shown : V → Invariant) (o : Options)
     (constants : List ℤ)
@@ -118,7 +118,7 @@ pub record ReportsAccesses (o : Options) (bytes : List ℕ) (r : Report) : Type 
   pub right : AllByRecursion (IsRight (resolve tree)) r.verdicts
   pub tells : ForOptions o (λ V H m shown. ReportsAccessing m shown o (resolve tree) r)
 
--- Where it is asked for, a line for each point at which something is computed says whether all of it fits by the
+-- If it is asked for, a line for each point at which something is computed says whether all of it fits by the
 -- values whose states are shown: it may overflow exactly where something doesn't.
 pub record ReportsFitting {V H : Type 0} (m : Abstraction V H) (shown : V → Invariant) (o : Options) (P : Program)
     (r : Report) : Type 0 where

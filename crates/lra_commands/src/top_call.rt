@@ -68,7 +68,7 @@ fn read_within<S: Source>(alloc: Global, limit: usize, source: &mut S) -> Result
     }
 }
 
-/// The bytes that a command reads; none where it leaves its input as it is.
+/// The bytes that a command reads; none if it leaves its input as it is.
 #[tactic(auto, using(crate::proofs::Reading::found_limit))]
 fn read_input<S: Source>(
     alloc: Global,
@@ -227,7 +227,7 @@ pub fn run<S: Source, K: Sink>(
 
     // With which statuses what the words ask for may end: those of its answer, by what the input
     // says of its bytes, or of a fault. (Where a flagged set is widened, both answers to a script
-    // may be right: which depends on the set.) Usage: only where they ask for no command: the
+    // may be right: which depends on the set.) Usage: only if they ask for no command: the
     // command line doesn't take them, or their options conflict.
     ensures ends { (asked : Option Command) → IsAsked (map string_bytes words.now) asked → (among : List _) →
         AllowedStatuses asked (S.left source.old) among → Ends among result ⊎ Ends (faults (asked_limit asked)) result }
@@ -238,7 +238,7 @@ pub fn run<S: Source, K: Sink>(
         IsRead (asked_limit asked) (S.left source.old) (S.left source.new) (result ≡ Status.ReadFault)
         (result ≢ Status.ReadFault × result ≢ Status.Memory) }
 
-    // A fault is the answer only where its count rose; every other answer leaves the counts. Where
+    // A fault is the answer only if its count rose; every other answer leaves the counts. Where
     // nothing fails and memory doesn't run out, there is an answer, written whole: so a source
     // without a cause of refusal gets its report, and a script that runs whole its output. A sink
     // that surely takes each text that is required doesn't fail.

@@ -149,7 +149,7 @@ impl Cone {
     }
 
     /// Takes a row in: the cone becomes that of its vectors at which the row holds. Where that exceeds a limit, or
-    /// where there is no memory, the cone stays as it was.
+    /// if there is no memory, the cone stays as it was.
     pub fn add_row(&mut self, row: &Row, kind: ConKind) -> Result<(), ConeError>
         requires { length row.now ≡ suc self.old.dims }
         ensures dims { self.new.dims ≡ self.old.dims }

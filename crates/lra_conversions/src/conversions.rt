@@ -20,7 +20,7 @@ use std::alloc::{AllocError, Global};
 /// The rows kept, their points, rays and lines, and the rows left out. The positivity row is taken first, then the rows
 /// in their order; one with which a number passes the range, or the cone has too many rays, is left out. The two lists
 /// have the same points: without a loss those of the list given, else at least those. Generators are in canonical
-/// order; there are none where there is no point (Chernikova 1965, Fukuda and Prodon 1996).
+/// order; there are none if there is no point (Chernikova 1965, Fukuda and Prodon 1996).
 pub fn generate(alloc: Global, rows: &ConSys) -> Result<(ConSys, GenSys, Vec<Loss>), AllocError>
     ensures dims { IfOk result (λ r. (r.0.dims ≡ rows.now.dims) × (r.1.dims ≡ rows.now.dims)) }
     ensures points { IfOk result (λ r. SameSet rows.now.dims (Con (constraints r.0)) (Gen (generators r.1))) }
@@ -67,7 +67,7 @@ fn take_generators(alloc: Global, given: &GenSys) -> Result<(ConSys, Conversion)
 /// The constraints of the generators, and the generators that were not added. With such a one a number passes the
 /// range, or there are too many constraints; it counts none the less: of the constraints found without it those stay
 /// that are valid on it. Without a loss the constraints are in canonical order and have the same points, else at least
-/// those; where there is no point, the one constraint is -1 >= 0.
+/// those; if there is no point, the one constraint is -1 >= 0.
 pub fn constrain(alloc: Global, given: &GenSys) -> Result<(ConSys, Vec<Loss>), AllocError>
     requires { FitKinds given.now.rows given.now.kinds }
     ensures dims { IfOk result (λ r. r.0.dims ≡ given.now.dims) }

@@ -3,7 +3,7 @@ use Rattle.std.specs.Prelude.{ℕ, ◌*◌, ◌<◌, ℤ, Option, None, Some, Li
 use Rattle.lra_dbm.specs.Tight.{Entries, IsStore, IsTight}
 use Rattle.lra_dbm.specs.{Cells.Cells, Cells.entries, Cells.IsMatrix, Entry.◌⊑◌}
 
--- the tight matrix with the same stores, or none where there is no store
+-- the tight matrix with the same stores, or none if there is no store
 pub record IsTightWith (n : ℕ) (m : Entries) (cells : Cells) : Type 0 where
   pub is : IsMatrix n cells
   pub tight : IsTight n (entries n cells)

@@ -99,7 +99,7 @@ impl Dbm {
     }
 
     /// Closes the matrix in place by numbered steps: shortest paths, rounding of the unary entries, strengthening
-    /// (Bagnara, Hill and Zaffanella, 2008). Empty comes only where there is no store, and is exact. Otherwise the
+    /// (Bagnara, Hill and Zaffanella, 2008). Empty comes only if there is no store, and is exact. Otherwise the
     /// stores stay, and the matrix is tight where no number of the steps passes the range. A number that passes counts
     /// as infinite and flags.
     pub fn close(&mut self) -> (Closing, Exactness)

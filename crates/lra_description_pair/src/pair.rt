@@ -87,7 +87,7 @@ impl DescriptionPair {
         &self.rows
     }
 
-    /// The points, rays and lines, in canonical order; none where there is no point.
+    /// The points, rays and lines, in canonical order; none if there is no point.
     pub fn generators(&self) -> &GenSys
         ensures dims { result.now.dims ≡ self.now.dims }
         ensures generators { generators result.now ≡ self.now.generators }
@@ -178,7 +178,7 @@ fn show_generators(
     known_generators(alloc, n, lines, rays, columns)
 }
 
-// The same of the cone's constraints.
+// What `show_generators` gives, of the cone's constraints.
 fn show_constraints(
     alloc: Global,
     n: usize,
@@ -290,7 +290,7 @@ fn of_generators(
     })
 }
 
-// What is reported where there is no own list: the last of the rows added stands for them.
+// What is reported if there is no own list: the last of the rows added stands for them.
 fn find_own_loss(alloc: Global, cone: &Cone, cause: Cause) -> Result<Loss, AllocError>
     requires { 0 < length cone.now.taken }
     ensures cone { IsCone cone.now }
@@ -489,7 +489,7 @@ fn from_points(alloc: Global, given: &GenSys) -> Result<(DescriptionPair, Vec<Lo
     }
 }
 
-// The polyhedron of the generators that were added to the cone, some of them points; none where a number passes in
+// The polyhedron of the generators that were added to the cone, some of them points; none if a number passes in
 // the canonical ones, or there are too many.
 fn convert_own_list(
     alloc: Global,
@@ -513,7 +513,7 @@ fn convert_own_list(
 }
 
 /// The polyhedron of the generators that were added to a cone, and of further ones that are added after them, some
-/// of all of them points. None where one of these isn't added, or where a number passes in the canonical generators,
+/// of all of them points. None if one of these isn't added, or if a number passes in the canonical generators,
 /// or there are too many.
 pub fn with_generators(
     alloc: Global,

@@ -243,7 +243,7 @@ generators_go lines rays old found points spread directions w (Ok known) ew p d 
     ap (λ (l : List (List Bool)). l ++ map told lines) (sym (map-append told (rows_in points) (rows_in directions))) ∙
     sym (map-append told (rows_in points ++ rows_in directions) lines) ∙ ap (map told) (sym r))
 
--- where there is none
+-- if there is none
 pub none_go : (lines rays : List (List ℤ)) (old : Matrix) (rows : List (List ℤ)) (new : Matrix) (w : ℕ) → w ≡ old.width → rows ≡ [] → new ≡ record
     { width = w; rows = [] } →
     GoesWith lines rays old rows new

@@ -27,7 +27,7 @@ pub record HasGenerators (n : ℕ) (system : List (List ℤ)) (generators : List
   pub directions : (r : List ℤ) → Contains rays r ⊎ Contains lines r → entry r 0 ≡ pos 0
   pub some_point : points ≢ []
 
--- the canonical generators of the constraints; none where these have no point
+-- the canonical generators of the constraints; none if these have no point
 abbrev pub AreGeneratorsOf : ℕ → List LinearRow → List LinearRow → Type 0
 AreGeneratorsOf n rows generators =
     ((generators ≡ []) × IsEmptySet n (Con rows))
@@ -82,7 +82,7 @@ pub record ListsGenerators (lines rays : List (List ℤ)) (list : LinearSystem G
   pub directions_sorted : IsSorted row_cmp directions
   pub some_point : points ≢ []
 
--- nothing where no ray is above 0 in column 0
+-- nothing if no ray is above 0 in column 0
 abbrev pub ShowsGenerators : List (List ℤ) → List (List ℤ) → LinearSystem GenKind → Type 0
 ShowsGenerators lines rays list =
     ((list.rows ≡ []) × (list.kinds ≡ []) × (points_of rays ≡ [])) ⊎ ListsGenerators lines rays list

@@ -155,7 +155,7 @@ fn append_generators(
     Ok(())
 }
 
-// The same of constraints.
+// Appends marked constraints, as `append_generators` does generators.
 fn append_constraints(
     list: &mut ConSys,
     matrix: &mut SatMatrix,

@@ -174,7 +174,7 @@ fn listed_generators(
     Ok(list)
 }
 
-/// The points, rays and lines, each in order, of a cone of n + 1 columns with these lines and rays; none where no ray
+/// The points, rays and lines, each in order, of a cone of n + 1 columns with these lines and rays; none if no ray
 /// is above 0 in column 0.
 pub fn generator_list(
     alloc: Global,

@@ -54,7 +54,7 @@ pub record Abstraction (V H : Type 0) : Type 1 where
   pub head_leq : H → H → Type 0
   -- the head that starts with the value, for the widening thresholds
   pub started : V → LinearSystem ConKind → H → Type 0
-  -- next is included in the head; what the inclusion may answer: Wide only where it exceeds a limit
+  -- next is included in the head; what the inclusion may answer: Wide only if it exceeds a limit
   pub stays : H → V → Mode → Type 0
   pub answers : H → V → Mode → Included → Type 0
   -- the second head has all points of the first one and of next

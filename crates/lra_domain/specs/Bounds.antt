@@ -7,7 +7,7 @@ AtMost a None = Unit {0}
 AtMost None (Some b) = ⊥
 AtMost (Some a) (Some b) = a ≤ℤ b
 
--- the greater bound, none where one of the two is none
+-- the greater bound, none if one of the two is none
 abbrev pub greater : Option ℤ → Option ℤ → Option ℤ
 greater None b = None
 greater (Some a) None = None
@@ -24,13 +24,13 @@ abbrev pub finite : Option ℤ → ℕ
 finite None = 0
 finite (Some a) = 1
 
--- the lesser lower bound, none where one of the two is none
+-- the lesser lower bound, none if one of the two is none
 abbrev pub lesser_low : Option ℤ → Option ℤ → Option ℤ
 lesser_low None b = None
 lesser_low (Some a) None = None
 lesser_low (Some a) (Some b) = Some (int_min a b)
 
--- the number isn't below the bound, where there is one; it isn't above it
+-- the number isn't below the bound, if there is one; it isn't above it
 abbrev pub IsLowerBound : Option ℤ → ℤ → Type 0
 IsLowerBound None z = ⊤
 IsLowerBound (Some l) z = l ≤ℤ z

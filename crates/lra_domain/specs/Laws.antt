@@ -47,7 +47,7 @@ pub record Laws {V H : Type 0} (m : Abstraction V H) : Type 0 where
   -- the stores of what lies in a head are the head's
   pub stays_stores : (h : H) (v : V) (mode : Mode) → m.head_well_formed h → m.well_formed v → m.stays h v mode
       → Within (m.gamma v) (m.head_gamma h)
-  -- an inclusion answers Yes only where next lies in the head, No only where it doesn't; this is asked of all contents
+  -- an inclusion answers Yes only if next lies in the head, No only if it doesn't; this is asked of all contents
   pub answers_yes : (h : H) (v : V) (mode : Mode) → m.answers h v mode Yes → m.stays h v mode
   pub answers_no : (h : H) (v : V) (mode : Mode) → m.answers h v mode No → ¬ m.stays h v mode
   -- a head that is given up has all stores; it has a defined value, and each such value is a top value

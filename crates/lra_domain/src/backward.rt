@@ -13,7 +13,7 @@ use std::alloc::AllocError;
 /// Give one record, `backward_abstraction`: the defined results as relations on contents, and when each call may exceed
 /// a limit.
 /// Each call keeps every store from which its change may lead into the value, and `meet` each store of both. Each
-/// result covers the defined one; an `Exact` one is the defined one, a `Flagged` one comes only where the call exceeds
+/// result covers the defined one; an `Exact` one is the defined one, a `Flagged` one comes only if the call exceeds
 /// a limit on its operands. The other changes go back by `Domain` itself: a forgotten dimension is forgotten, embedded
 /// ones are removed, removed ones embedded. An `AllocError` can come from each call.
 pub trait Backward: Domain {

@@ -3,7 +3,7 @@
 ghost use Rattle.std.specs.Prelude.{◌≡◌, ◌↔◌, IsTrue};
 ghost use Rattle.lra_domain.specs.Bounds.{AtMost, finite, greater, lesser_low, stable};
 
-/// The greater bound; none where one of the two is none.
+/// The greater bound; none if one of the two is none.
 pub fn join_highs(a: Option<i128>, b: Option<i128>) -> Option<i128>
     ensures { result ≡ greater a b }
 {
@@ -13,7 +13,7 @@ pub fn join_highs(a: Option<i128>, b: Option<i128>) -> Option<i128>
     }
 }
 
-/// The lesser lower bound; none where one of the two is none.
+/// The lesser lower bound; none if one of the two is none.
 pub fn join_lows(a: Option<i128>, b: Option<i128>) -> Option<i128>
     ensures { result ≡ lesser_low a b }
 {

@@ -40,18 +40,18 @@ use std::alloc::{AllocError, Global};
 /// those without their last `k` numbers; and by `holds_both` that a grown head has all of the old head and of next.
 /// Points are stores, unless the domain knows others (a polyhedron's are rational); the laws `kept_stores`,
 /// `old_stores` and `next_stores` lead to stores. `join` covers both operands; `start` keeps the first value's stores,
-/// `value` the head's; `Stable` comes only where next lies in the head. `included` says `Yes`, and `is_empty` true,
-/// only where it is so.
+/// `value` the head's; `Stable` comes only if next lies in the head. `included` says `Yes`, and `is_empty` true,
+/// only if it is so.
 ///
 /// **Bounds.** `bounds` reports a lower and an upper bound of a form's values, as `bounded` says of the content; it
 /// takes no memory.
 ///
 /// **Exactness.** Each result covers the defined one, and that of a join both operands. An `Exact` one is the defined
-/// one; a `Flagged` one comes only where the call exceeds a limit on its operands. `included` answers `Yes` and `No` by
-/// what is so, `Wide` only where it exceeds a limit.
+/// one; a `Flagged` one comes only if the call exceeds a limit on its operands. `included` answers `Yes` and `No` by
+/// what is so, `Wide` only if it exceeds a limit.
 ///
-/// **Heads.** `answers` says what the inclusion of next in a head may answer: `Yes` only where next lies in it, `No`
-/// only where it doesn't, `Wide` only where it exceeds a limit. `grow` answers `Stable` only with `Yes`, `Grew(Exact)`
+/// **Heads.** `answers` says what the inclusion of next in a head may answer: `Yes` only if next lies in it, `No`
+/// only if it doesn't, `Wide` only if it exceeds a limit. `grow` answers `Stable` only with `Yes`, `Grew(Exact)`
 /// only with `No`. `Grew(Flagged)` comes with `Wide`, and then the head is given up: it has all stores, as a content
 /// that `given_up` allows; or with `No`, where the join or the widening exceeds a limit. Which thresholds are `left` is
 /// reported of each growth, flagged or not.
@@ -61,7 +61,7 @@ use std::alloc::{AllocError, Global};
 ///
 /// **Parts.** `parts` gives what rows say of the value: at each store all rows of some part hold; each row has one
 /// column more than `dims`. That nothing else meets them is guaranteed by `ExactParts` alone: a domain of congruences,
-/// or of what is odd, has its bounds as rows, and stores fewer. `is_empty` says yes exactly where there is no part.
+/// or of what is odd, has its bounds as rows, and stores fewer. `is_empty` says yes exactly if there is no part.
 ///
 /// **Caps.** A value may have several caps, numbers of parts that it never passes; `capped` names them, `head_capped`
 /// those of a head. What `top` and `bottom` allow with a cap of at least 1 has that cap. Each call keeps the caps:
@@ -121,7 +121,7 @@ pub trait Domain: Sized + Drop {
         ensures parts { IsTrue result ↔ (abstraction.parts self.now ≡ []) }
         ensures stores { IsTrue result → (s : List ℤ) → ¬ abstraction.gamma self.now s };
 
-    /// A lower and an upper bound of the form's values, as the content states them; none where it says none.
+    /// A lower and an upper bound of the form's values, as the content states them; none if it says none.
     fn bounds(&self, e: &LinExpr) -> (Option<i128>, Option<i128>)
         requires { length e.now.coefficients ≡ abstraction.dims self.now }
         ensures { abstraction.bounded self.now e.now result.0 result.1 };

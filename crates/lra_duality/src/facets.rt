@@ -153,7 +153,7 @@ fn facets(
     Ok(whole)
 }
 
-/// The cone of what is valid on the generators, by the constraints; none where `cone_of` gives none, or there are as
+/// The cone of what is valid on the generators, by the constraints; none if `cone_of` gives none, or there are as
 /// many constraints, equalities counted with them, as a cone may have rays. The positivity row is one of its rays where
 /// no inequality is tight wherever it is.
 pub fn facet_cone(

@@ -18,7 +18,7 @@ use std::cmp::Ordering;
 /// The greatest value of a form on a polyhedron, or why there is none. Places are those of generators, from 0.
 #[derive(Clone, Copy, Debug, PartialEq, Eq)]
 pub enum Maximum {
-    /// There is no point.
+    /// The polyhedron has no point.
     Empty,
     /// The product of the form with the generator at the place, the first such, passes the range.
     Wide { place: usize },

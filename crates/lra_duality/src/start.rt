@@ -145,7 +145,7 @@ pub fn leaves_room(count: usize) -> bool
     count < RAY_LIMIT
 }
 
-/// The cone of the constraints, by these generators; none where there is no generator, or are more, lines counted with
+/// The cone of the constraints, by these generators; none if there is no generator, or are more, lines counted with
 /// them, than a cone may have rays, or too many dimensions.
 pub fn cone_of(
     alloc: Global,

@@ -1,4 +1,4 @@
--- Bounds of the gauge: 0 where there is no store, 255 where nothing is bounded.
+-- Bounds of the gauge: 0 if there is no store, 255 where nothing is bounded.
 use Rattle.std.specs.Prelude.{ℕ, ◌+◌, ◌<◌, max}
 use Rattle.lra_domain.specs.declared.Mode.{Mode}
 use Rattle.lra_domain.specs.declared.Mode.TheVariants.{Join, Widen, Limited, Tightest}

@@ -9,7 +9,7 @@ use lra_linear_forms::{LinExpr, Test};
 use lra_systems::ConSys;
 use std::alloc::{AllocError, Global};
 
-/// All stores of some dimensions, or none where the bound is 0; the bound is of a number beside the stores.
+/// All stores of some dimensions, or none if the bound is 0; the bound is of a number beside the stores.
 #[derive(Drop)]
 pub struct ExampleDomain {
     pub dims: u32,
@@ -58,7 +58,7 @@ impl Domain for ExampleDomain {
         self.bound == 0
     }
 
-    /// It says no bounds of forms.
+    /// The example gives no bounds of forms.
     fn bounds(&self, _e: &LinExpr) -> (Option<i128>, Option<i128>) {
         (None, None)
     }

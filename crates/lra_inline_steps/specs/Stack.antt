@@ -243,7 +243,7 @@ abbrev pub labelled_all : List CaseLabel → resolved.Cases → resolved.Cases
 labelled_all [] cs = cs
 labelled_all (l ∷ ls) cs = resolved.labelled l (labelled_all ls cs)
 
--- the next statement of a `switch` and what comes after it; none where no statement is left
+-- the next statement of a `switch` and what comes after it; none if no statement is left
 abbrev pub from_next : Option NextCase → resolved.Cases
 from_next None = resolved.no_cases
 from_next (Some x) = resolved.stated (stmt_view x.stmt.now) (cases_of (map case_view x.rest.now))

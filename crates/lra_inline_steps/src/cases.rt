@@ -18,7 +18,7 @@ use lra_operations::forms::{add_arm, selection};
 use lra_program::CaseItem;
 use std::alloc::{AllocError, Global};
 
-/// The labels that come next, written after the others; then the statement after them, where there is one.
+/// The labels that come next, written after the others; then the statement after them, if there is one.
 fn pass_labels<'a>(
     arms: &mut Vec<Arm>,
     cases: &'a [CaseItem],

@@ -79,7 +79,7 @@ fn inline_assertion(
     finish(put_point(around.alloc, point, check))
 }
 
-/// An assumption: only where its condition is true does the run go on.
+/// An assumption: only if its condition is true does the run go on.
 fn assumption_of(
     around: &Around<'_>,
     label: usize,

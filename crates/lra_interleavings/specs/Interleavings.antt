@@ -26,7 +26,7 @@ pub record Thread : Type 0 where
   pub waiting : List ℕ
   pub draws : List ℤ
 
--- what all share, and the threads in the order of their numbers; none where one has ended
+-- what all share, and the threads in the order of their numbers; none if one has ended
 pub record Threads : Type 0 where
   pub globals : List ℤ
   pub arrays : Contents

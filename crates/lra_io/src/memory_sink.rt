@@ -1,4 +1,4 @@
-// Sinks in memory: one whose writes fail by a list, and one whose writes fail only where it is full.
+// Sinks in memory: one whose writes fail by a list, and one whose writes fail only if it is full.
 ghost use Rattle.std.specs.Prelude.{◌≡◌, ◌≤◌, ◌<◌, ◌+◌, ℕ, List, length, IfOk, IsOk, OnOk, OnErr, Some, []};
 ghost use Rattle.std.specs.{Io.WritesAtMost, Io.KnownBytes.WriteAppends};
 ghost use Rattle.lra_io.specs.{Causes.HasCause, Memory.StoreWrites, Memory.StoreGoesOn, Memory.StoreStops};

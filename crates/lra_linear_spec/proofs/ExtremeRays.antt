@@ -22,7 +22,7 @@ pub record Free (r : List ℤ) (others lines : List (List ℤ)) : Type 0 where
   pub needed : ¬ (Generated (others ++ lines) (entry r))
   pub pointed : (t : List ℤ) → Contains (r ∷ others) t → ¬ (Generated ((r ∷ others) ++ lines) (λ j. neg_ℤ (entry t j)))
 
--- a sum of rows of a pointed cone has its negative there only where it is zero
+-- a sum of rows of a pointed cone has its negative there only if it is zero
 pub pointed_sum_zero : (cone : List (List ℤ)) (rows : List (List ℤ)) → ((t : List ℤ) → Contains rows t → Generated cone (entry t) × ¬ (Generated cone (λ j. neg_ℤ (entry t j)))) →
     (fs : List ℕ) → Generated cone (λ j. neg_ℤ (sum_of fs rows j)) → (j : ℕ) → sum_of fs rows j ≡ pos 0
 pointed_sum_zero cone rows h [] g j = refl

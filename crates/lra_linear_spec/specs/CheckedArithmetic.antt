@@ -1,4 +1,4 @@
--- Arithmetic on rows that answers with the first number that passes the range, where there is one. Columns are taken
+-- Arithmetic on rows that answers with the first number that passes the range, if there is one. Columns are taken
 -- from 0 up;
 -- in each column the products come before the sum. That an Ok is the product, or the sum of the two multiples, is
 -- proved in proofs/CheckedArithmetic.

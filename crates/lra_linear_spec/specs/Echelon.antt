@@ -37,7 +37,7 @@ pub record IsEchelonOf (form rows : List (List ℤ)) : Type 0 where
   pub echelon : IsEchelon form pivots
   pub same : (u : ℕ → ℤ) → (Spanned form u → Spanned rows u) × (Spanned rows u → Spanned form u)
 
--- the first column other than 0 in the order above; 0 where there is none
+-- the first column other than 0 in the order above; 0 if there is none
 abbrev pub lead_from : ℕ → List ℤ → ℕ
 lead_from j [] = 0
 lead_from j (x ∷ xs) = cond (int_eq x (pos 0)) (lead_from (suc j) xs) j

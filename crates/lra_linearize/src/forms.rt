@@ -268,8 +268,8 @@ fn literal_of(alloc: Global, live: usize, number: u64) -> Result<Option<LinExpr>
     }
 }
 
-/// The linear form of an expression over so many live variables, of which the call's own begin at `base`; none where
-/// the expression isn't linear, where a variable doesn't live, or where a number on the way passes 64 bits (Cousot and
+/// The linear form of an expression over so many live variables, of which the call's own begin at `base`; none if
+/// the expression isn't linear, if a variable doesn't live, or if a number on the way passes 64 bits (Cousot and
 /// Halbwachs, 1978).
 #[cycle(form)]
 pub fn form_of_expression(

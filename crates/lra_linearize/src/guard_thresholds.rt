@@ -73,7 +73,7 @@ fn give_difference(alloc: Global, d: &LinExpr, rows: &mut ConSys) -> Result<(), 
     Ok(())
 }
 
-/// The rows of a comparison; none where its difference isn't linear.
+/// The rows of a comparison; none if its difference isn't linear.
 fn give_comparison(
     alloc: Global,
     base: usize,

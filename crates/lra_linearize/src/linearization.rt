@@ -157,7 +157,7 @@ fn see_share_by(
     Ok(Linearized::Divided(division, form))
 }
 
-/// The division that an expression without a linear form is; nothing where its last operator is another one, or where
+/// The division that an expression without a linear form is; nothing if its last operator is another one, or if
 /// it can't be split into two cases.
 #[cycle(share)]
 fn see_share(alloc: Global, live: usize, base: usize, e: &Expr) -> Result<Linearized, AllocError>
@@ -218,7 +218,7 @@ pub fn linearize(
     }
 }
 
-/// A form as it is seen, where there is one.
+/// A form as it is seen, if there is one.
 fn linear_if_some(form: Option<LinExpr>) -> Linearized
     ensures { result ≡ linear_if form }
 {
@@ -228,7 +228,7 @@ fn linear_if_some(form: Option<LinExpr>) -> Linearized
     }
 }
 
-/// A form over a division's variables as it is seen, where there is one.
+/// A form over a division's variables as it is seen, if there is one.
 fn divided_if_some(
     alloc: Global,
     division: &Division,

@@ -173,7 +173,7 @@ fn take_around(alloc: Global, d: &LinExpr, rows: &mut ConSys) -> Result<(), Allo
     take_both(alloc, d, &-1, &1, rows)
 }
 
-/// The rows around a comparison are added; none where its difference isn't linear, or a variable doesn't live.
+/// The rows around a comparison are added; none if its difference isn't linear, or a variable doesn't live.
 fn take_comparison(
     alloc: Global,
     base: usize,

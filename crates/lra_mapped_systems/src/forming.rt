@@ -47,7 +47,7 @@ fn loss_at(alloc: Global, list: &ConSys, place: usize, excess: Excess) -> Result
     Ok(loss)
 }
 
-// The same of a generator.
+// What is reported about the generator at the place, where a number passes as it is formed.
 fn generator_loss(
     alloc: Global,
     list: &GenSys,

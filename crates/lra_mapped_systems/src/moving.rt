@@ -48,7 +48,7 @@ fn opposite_but(alloc: Global, form: &Row, column: usize) -> Result<Row, AllocEr
     Ok(row)
 }
 
-/// The form that takes the form back; none where that has neither 1 nor -1 at the column.
+/// The form that takes the form back; none if that has neither 1 nor -1 at the column.
 pub fn invert(alloc: Global, form: &Row, column: usize) -> Result<Option<Row>, AllocError>
     requires { column < length form.now }
     ensures back { IfOk result (λ back. IfSome back (IsInverse column (length form.now) form.now)) }

@@ -12,7 +12,7 @@ within_range z = if in_range z then Some z else None
 abbrev pub added_to : ℤ → ℤ → Option ℤ
 added_to sum product = option_and_then (λ p. within_range (sum +ℤ p)) (within_range product)
 
--- the sum in this column, or none where a product or a partial sum passes
+-- the sum in this column, or none if a product or a partial sum passes
 abbrev pub column_sum : ℤ → List ℤ → List (List ℤ) → ℕ → Option ℤ
 column_sum sum [] rows j = Some sum
 column_sum sum (l ∷ ls) [] j = Some sum

@@ -97,7 +97,7 @@ fn first_number(constant: i128, column: usize) -> Option<i128>
     Some(0)
 }
 
-/// Whether the multiple of the claim is the sum in this column; none where one of their numbers passes the range.
+/// Whether the multiple of the claim is the sum in this column; none if one of their numbers passes the range.
 fn agrees_at(rows: &[Row], claim: &Row, m: &Multipliers, column: usize) -> Option<bool>
     requires count { length m.now.factors.items ≡ length rows.now }
     requires widths { All (λ r. column < length r) rows.now }
@@ -110,7 +110,7 @@ fn agrees_at(rows: &[Row], claim: &Row, m: &Multipliers, column: usize) -> Optio
     Some(multiple == sum)
 }
 
-/// Whether the multiple of the claim is the sum in each column; none where one of their numbers passes the range.
+/// Whether the multiple of the claim is the sum in each column; none if one of their numbers passes the range.
 fn columns_agree(rows: &[Row], claim: &Row, m: &Multipliers) -> Option<bool>
     requires count { length m.now.factors.items ≡ length rows.now }
     requires widths { All (λ r. length r ≡ length claim.now) rows.now }

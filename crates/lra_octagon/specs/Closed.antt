@@ -5,7 +5,7 @@ use Rattle.lra_domain.specs.declared.Exactness.TheVariants.{Exact, Flagged}
 use Rattle.lra_dbm.specs.{Cells.Cells, Cells.entries, Closure.IsClosure, Tight.IsStore}
 use Rattle.lra_octagon.specs.{Content.CellsFit, Content.has_store, Tables.ClosingPasses, Tables.Forgets, Tables.equated}
 
--- the stores are kept; an exact result is the closure, a flagged one comes only where a number of closing passes the
+-- the stores are kept; an exact result is the closure, a flagged one comes only if a number of closing passes the
 -- range
 pub record ClosedTo (n : ℕ) (old : Cells) (new : Option Cells) (e : Exactness) : Type 0 where
   pub stores : (s : List ℤ) → IsStore n (entries n old) s → has_store n new s

@@ -4,7 +4,7 @@ use Rattle.std.specs.Prelude.{◌≡◌, ℕ, ℤ, pos, List, Option, None, Some
 use Rattle.lra_dbm.specs.Cells.{Cells, entries, outside, IsMatrix, DbmContent as Matrix}
 use Rattle.lra_dbm.specs.{Pointwise.CellsWithin, Tight.IsStore}
 
--- the dimensions of an octagon or a head, and the cells of its matrix, or none where it is empty
+-- the dimensions of an octagon or a head, and the cells of its matrix, or none if it is empty
 pub record OctagonContent : Type 0 where
   pub dims : ℕ
   pub cells : Option Cells

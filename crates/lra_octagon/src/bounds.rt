@@ -1,4 +1,4 @@
-//! The matrix of an octagon, or none where it is empty.
+//! The matrix of an octagon, or none if it is empty.
 
 ghost use Rattle.std.specs.Prelude.{◌≡◌, ◌≤◌, ◌<◌, ◌+◌, ◌-◌, ◌^◌, ◌↔◌, None, Some, ℕ, IsTrue, IfOk, OnOk, OnErr};
 ghost use Rattle.lra_domain.specs.{Abstraction.Values, declared.Mode.Mode};
@@ -11,7 +11,7 @@ use lra_dbm::{Closing, Dbm};
 use lra_domain::{Exactness, Mode, Rank};
 use std::alloc::{AllocError, Global};
 
-/// The matrix of an octagon, or none where it is empty.
+/// The matrix of an octagon, or none if it is empty.
 pub type Bounds = Option<Dbm>;
 
 #[tactic(auto, using(crate::proofs::FitLemmas::whole_fits))]
@@ -161,7 +161,7 @@ pub fn grow_bounds(
     }
 }
 
-/// 1, 0, 0, and how many entries are finite; one more than the most there can be where there is no matrix.
+/// 1, 0, 0, and how many entries are finite; one more than the most there can be if there is no matrix.
 pub fn octagon_rank(n: usize, bounds: &Bounds) -> Rank
     requires few { n ≤ 2 ^ 30 }
     requires dims { DimsFit n bounds.now }

@@ -100,7 +100,7 @@ impl Domain for Octagon {
         1
     }
 
-    /// Yes exactly where there is no part; of a tight octagon, exactly where there is no store.
+    /// Yes exactly if there is no part; of a tight octagon, exactly if there is no store.
     fn is_empty(&self) -> bool
         ensures formed { octagon_abstraction.well_formed self.now }
         ensures parts { IsTrue result ↔ (octagon_abstraction.parts self.now ≡ []) }
@@ -117,7 +117,7 @@ impl Domain for Octagon {
         bounds_of(self.dims, &self.matrix, e)
     }
 
-    /// Entry by entry; of a tight octagon, No only where a store lies beyond the other.
+    /// Entry by entry; of a tight octagon, No only if a store lies beyond the other.
     fn included(&self, other: &Self) -> Included
         requires { octagon_abstraction.dims self.now ≡ octagon_abstraction.dims other.now }
         ensures stores { result ≡ Included.Yes →

@@ -186,7 +186,7 @@ impl Node {
     }
 
     /// A tree of those in this one that is next, and what is left: the others hang before the rest, in the box of the
-    /// tree that is next, or in place of the last arm. None where nothing is left.
+    /// tree that is next, or in place of the last arm. None if nothing is left.
     fn take_apart(self, rest: Node) -> Option<(Node, Node)>
         ensures { IfSome result (λ r. whole_size r.0 + hung_size r.1 < whole_size self + hung_size rest) }
     {

@@ -13,7 +13,7 @@ pub enum OpRef<'a> {
     Value(usize, &'a Expr),
 }
 
-/// What is done at a point, after a new variable of this type where there is one.
+/// What is done at a point, after a new variable of this type if there is one.
 #[derive(Clone, Copy)]
 pub struct OpRefAtPoint<'a> {
     pub point: usize,

@@ -37,7 +37,7 @@ set_number Parts value o = record o { parts = value }
 set_number Delay value o = record o { delay = value }
 set_number Narrow value o = record o { narrow = value }
 
--- a report shows it always, or only where it isn't its default
+-- a report shows it always, or only if it isn't its default
 abbrev pub is_number_always_reported : NumberOption → Bool
 is_number_always_reported Parts = true
 is_number_always_reported Delay = true
@@ -57,7 +57,7 @@ default_number option = written_number (number_row option).default
 
 -- flags ------------------------------------------------------------------------------------------------------------
 
--- a flag: off where words don't give it; a report shows it always, or only where it is on. Those that change no state
+-- a flag: off where words don't give it; a report shows it always, or only if it is on. Those that change no state
 -- stand beside `--best`
 pub record FlagRow : Type 0 where
   pub name : List ℕ

@@ -75,7 +75,7 @@ fn fill<A: Drop>(table: &mut Vec<Option<Verdict<A>>>, point: usize, verdict: Ver
     table[point] = Some(verdict);
 }
 
-/// The answer for what is done at a point with this value, after the new variable where there is one.
+/// The answer for what is done at a point with this value, after the new variable if there is one.
 fn answer_done<D: Domain, Q: Question<D>>(
     alloc: Global,
     done: &OpRefAtPoint<'_>,

@@ -137,7 +137,7 @@ fn ends_parameter(rest: &[Token]) -> bool
     next_is(rest, Mark::CloseParen)
 }
 
-/// A parameter of this type, or nothing where it ends without a name.
+/// A parameter of this type, or nothing if it ends without a name.
 fn read_name_or_none(
     alloc: Global,
     number_type: NumberType,

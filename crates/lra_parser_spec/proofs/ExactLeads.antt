@@ -167,7 +167,7 @@ lead_first l z o (inr s) = let k = from_plain l z s in lead_begins k.0 l z o (λ
 
 -- what it is in the grammar ----------------------------------------------------------------------------------------
 
--- the type of the result, where there is one, and the name; `extern` and the words in place of a name are no function's
+-- the type of the result, if there is one, and the name; `extern` and the words in place of a name are no function's
 abbrev pub head_of : Lead → Option Heading
 head_of (lead.Typed t x) = Some (Some t, x)
 head_of (lead.Void x) = Some (None, x)

@@ -16,7 +16,7 @@ use Rattle.lra_parser_spec.proofs.{Parts.exact_behind, Parts.exact_ended, Parts.
 
 -- a name or nothing ------------------------------------------------------------------------------------------------
 
--- nothing stands only where a parameter ends
+-- nothing stands only if a parameter ends
 abbrev AfterName : Option Parameter → Option Token → Type 0
 AfterName None o = ends_parameter o ≡ true
 AfterName (Some q) o = ⊤

@@ -123,7 +123,7 @@ all_named (Some p ∷ ps) = option_map (λ qs. p ∷ qs) (all_named ps)
 
 -- functions and prototypes ------------------------------------------------------------------------------------------
 
--- the type of the result, where there is one, and the name
+-- the type of the result, if there is one, and the name
 abbrev pub Heading : Type 0
 Heading = Option NumberType × Identifier
 

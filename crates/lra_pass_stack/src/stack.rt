@@ -135,7 +135,7 @@ impl<'a, D: Drop, H: Drop> GrowingFrame<'a, D, H> {
         Ok(Next::Opens(PassFrame::Growing(place), tree))
     }
 
-    /// This place opens, for a tree that gives this again.
+    /// Opens this frame, for a tree whose kept outcome is given again.
     pub fn again(self, alloc: Global, outcome: PassOutcome<D>) -> Result<Next<'a, D, H>, AllocError>
         ensures { IfOk result (λ n. (b : Box (GrowingFrame D H) Global) × (p : Box (PassFrame D H) Global) ×
             (n ≡ Again p outcome) × (p.value ≡ growing_place b) × (b.value ≡ self.entry)) }
@@ -160,7 +160,7 @@ impl<'a, D: Drop> NarrowingFrame<'a, D> {
         Ok(Next::Opens(PassFrame::Narrowing(place), tree))
     }
 
-    /// This place opens, for a tree that gives this again.
+    /// Opens this frame, for a tree whose kept outcome is given again.
     pub fn again<H: Drop>(
         self,
         alloc: Global,

@@ -52,7 +52,7 @@ DisjunctsAreCases = (p : Moves) → IsPermutation (cases p) (disjuncts p)
 abbrev pub DisjunctsLead : Type 0
 DisjunctsLead = (p : Moves) (s t : List ℤ) → MayLead p s t ↔ SomeLeads (disjuncts p) s t
 
--- operations lead a state to another one only where one of their lists of actions may lead the one's store to the
+-- operations lead a state to another one only if one of their lists of actions may lead the one's store to the
 -- other's
 abbrev pub WrittenLead : Type 0
 WrittenLead = (ops : List SegmentStep) (s t : State) → RunsOps ops s t →

@@ -370,7 +370,7 @@ fn push_any(
     )
 }
 
-/// The target, where there is one, gets the expression's value, which is one of its type.
+/// The target, if there is one, gets the expression's value, which is one of its type.
 fn push_give(
     frame: ConditionContext,
     target: Option<Target>,
@@ -393,7 +393,7 @@ fn push_give(
     }
 }
 
-/// The target, where there is one, gets any value of its type.
+/// The target, if there is one, gets any value of its type.
 fn push_give_any(
     frame: ConditionContext,
     target: Option<Target>,

@@ -241,7 +241,7 @@ pub fn push_comparison_guards(
 
 // conditions --------------------------------------------------------------------------------------
 
-/// The other way round.
+/// The comparison the other way round.
 pub fn opposite_both(both: Both) -> Both
     ensures so { result.so ≡ both.not }
     ensures not { result.not ≡ both.so }

@@ -21,7 +21,7 @@ pub fn disjuncts_lead()
     ensures { DisjunctsLead }
 {}
 
-/// Operations lead a state to another one only where one of their lists of actions may.
+/// Operations lead a state to another one only if one of their lists of actions may.
 #[tactic(auto, using(crate::proofs::WrittenSteps::written_lead))]
 pub fn written_lead()
     ensures { WrittenLead }

@@ -15,7 +15,7 @@ pub data End : Type 0 where
   exits : Completion → End
   reaches : Goal → End
 
--- from the tree's start where there is no source, else from this point in it
+-- from the tree's start if there is no source, else from this point in it
 pub record TreeSegment : Type 0 where
   pub source : Option ℕ
   pub ops : List SegmentStep

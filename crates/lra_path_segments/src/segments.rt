@@ -23,7 +23,7 @@ pub struct Selection<'g> {
     pub arms: &'g [Arm],
 }
 
-/// What is done on a segment: a least change, nothing where the condition has this value, or a value is computed that
+/// What is done on a segment: a least change, nothing if the condition has this value, or a value is computed that
 /// goes to this label.
 #[derive(Clone, Copy)]
 pub enum Move<'g> {
@@ -53,7 +53,7 @@ pub enum End {
     Reaches(Goal),
 }
 
-/// A segment, or a part of one: from the tree's start where there is no source, else from this point in it.
+/// A segment, or a part of one: from the tree's start if there is no source, else from this point in it.
 #[derive(Drop)]
 pub struct TreeSegment<'g> {
     pub source: Option<usize>,
@@ -150,7 +150,7 @@ fn part<'g>(
 
 // one tree and then another -----------------------------------------------------------------------
 
-/// The one, and then the other.
+/// The first segment followed by the second.
 fn join<'g>(
     alloc: Global,
     one: &TreeSegment<'g>,

@@ -96,7 +96,7 @@ switch_next : inside a_switch ≡ record { source = 1; to_goal = record { ops = 
     ∷ record { source = 2; to_goal = record { ops = does drop_all ∷ []; goal = comes_to 3 } } ∷ []
 switch_next = refl
 
--- past all labels there is a segment only where none of them is `default`
+-- past all labels there is a segment only if none of them is `default`
 past_default : through (select 1 0 x (entry Default (arm (point 3) no_arms))) normal ≡ []
 past_default = refl
 

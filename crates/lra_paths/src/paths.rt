@@ -46,7 +46,7 @@ impl From<AllocError> for PathsFailure {
     }
 }
 
-/// Where segments begin: at a point, or at the start where there is none; how many variables live there, and the place
+/// Where segments begin: at a point, or at the start if there is none; how many variables live there, and the place
 /// of what is done before.
 #[derive(Clone, Copy)]
 struct Departure {

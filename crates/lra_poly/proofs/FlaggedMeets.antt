@@ -1,4 +1,4 @@
--- A meet that goes on from the lists at hand is flagged only where these exceed a limit.
+-- A meet that goes on from the lists at hand is flagged only if these exceed a limit.
 use Rattle.std.proofs.Common.{◌≡◌, ◌∙◌, ℕ, suc, List, [], ◌∷◌, ◌++◌, ap, refl, subst, sym, inl, inr}
 use Rattle.std.proofs.lemmas.List.{append-nil, append_assoc}
 use Rattle.std.specs.List.{Contains}

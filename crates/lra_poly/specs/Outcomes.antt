@@ -29,7 +29,7 @@ first_loss [] = Exact
 first_loss (loss ∷ later) = Flagged loss
 
 -- A value of n dimensions is made for the set P. Flagged or not, it has all points of P; where it is exact it has no
--- other. It is flagged only where that exceeds a limit, and then the loss is reported.
+-- other. It is flagged only if that exceeds a limit, and then the loss is reported.
 pub record Becomes (n : ℕ) (P : PointSet) (strains : strain.Loss → Type 0) (new : Polyhedron) (o : Outcome)
     : Type 0 where
   pub dims : new.dims ≡ n

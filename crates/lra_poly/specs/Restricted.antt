@@ -24,7 +24,7 @@ IsMetWith p more made o =
 abbrev pub IsSeenWithin : Polyhedron → List LinearRow → Type 0
 IsSeenWithin p rows = IsInclusion rows p.generators Yes
 
--- what was made is the new value; if it is flagged, only where it is seen to lie in the old one, which else stays
+-- what was made is the new value; if it is flagged, only if it is seen to lie in the old one, which else stays
 abbrev pub IsSettled : Polyhedron → Polyhedron → Outcome → Polyhedron → Type 0
 IsSettled old made Exact new = new ≡ made
 IsSettled old made (Flagged loss) new =

@@ -239,7 +239,7 @@ impl Poly {
         &self.rows
     }
 
-    /// The points, rays and lines, in canonical order; none where there is no point.
+    /// The points, rays and lines, in canonical order; none if there is no point.
     pub fn generators(&self) -> &GenSys
         ensures dims { result.now.dims ≡ self.now.dims }
         ensures generators { generators result.now ≡ self.now.generators }
@@ -368,7 +368,7 @@ impl Poly {
         Ok((made, outcome))
     }
 
-    // The same, where these are added after those, by the lists at hand.
+    // The polyhedron of the constraints and of these, which are added after them, by the lists at hand.
     fn meet_rows(&self, more: &ConSys) -> Result<(Poly, Outcome), AllocError>
         requires { more.now.dims ≡ self.now.dims }
         ensures becomes { IfOk result (λ r.
@@ -394,7 +394,7 @@ impl Poly {
 
     /// Takes these constraints in: keeps the points that meet each of them. Where each point is seen to meet them,
     /// nothing changes. Where it is flagged it has at least those points, and no point that it hadn't before: what was
-    /// made comes in only where it is known to lie in the old value.
+    /// made comes in only if it is known to lie in the old value.
     pub fn add_rows(&mut self, more: &ConSys) -> Result<Outcome, AllocError>
         requires { more.now.dims ≡ self.old.dims }
         ensures dims { self.new.dims ≡ self.old.dims }
@@ -459,8 +459,8 @@ impl Poly {
         Ok(outcome)
     }
 
-    /// The polyhedron of its generators and of these, which are added after them, by the lists at hand. None where
-    /// one of these isn't added, or where a number passes in the canonical generators, or there are too many, or
+    /// The polyhedron of its generators and of these, which are added after them, by the lists at hand. None if
+    /// one of these isn't added, or if a number passes in the canonical generators, or there are too many, or
     /// there are no lists to go on from.
     pub fn extend(&self, more: &GenSys) -> Result<Option<Poly>, AllocError>
         requires dims { more.now.dims ≡ self.now.dims }
@@ -499,7 +499,7 @@ impl Poly {
         Ok((made, outcome))
     }
 
-    // The same, by the lists at hand where these can be gone on from.
+    // The polyhedron of its generators and of these, by the lists at hand if these can be extended.
     fn unite(&self, more: &GenSys) -> Result<(Poly, Outcome), AllocError>
         requires dims { more.now.dims ≡ self.now.dims }
         requires kinds { FitKinds more.now.rows more.now.kinds }

@@ -21,7 +21,7 @@ only r x h = elim (contains_cases r x [] h) [
   | inr c ↦ absurd (contains_none x c)
 ]
 
--- there is none where all stay in the range
+-- there is none if all stay in the range
 none_passes : (p : Polyhedron) (row : List ℤ) → All (StaysInRange row) p.generators → ¬ ProductStrains p row
 none_passes p row stays (e, x) =
     let same : x.row ≡ inequality row = only (inequality row) x.row x.has_row in

@@ -1,5 +1,5 @@
 -- What a polyhedron says of a form: the least and the greatest value on its rational points, rounded inwards to whole
--- numbers. Nothing is reported where there is no point, where there is no such value, or where a product of the form
+-- numbers. Nothing is reported if there is no point, if there is no such value, or where a product of the form
 -- with a generator passes the range.
 use Rattle.std.specs.Int.{int_div_euclid}
 use Rattle.std.specs.Prelude.{◌≡◌, ◌⊎◌, ℤ, neg_ℤ, List, Option, None, Some, option_map}
@@ -29,7 +29,7 @@ PolyhedronBounded p form low high =
     (FormStrains p form × (low ≡ None) × (high ≡ None))
     ⊎ (¬ FormStrains p form × IsLeastRounded p (form_row form) low × IsGreatestRounded p (form_row form) high)
 
--- the floor of the greatest value, where there is one
+-- the floor of the greatest value, if there is one
 abbrev pub rounded_down : Maximum → Option ℤ
 rounded_down Empty = None
 rounded_down (Wide place) = None

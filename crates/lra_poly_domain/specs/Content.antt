@@ -37,7 +37,7 @@ is_absurd r = not r.equal && is_negative r.row
 abbrev pub listed : Polyhedron → LinearSystem ConKind
 listed p = record { dims = p.dims; rows = rows_of p.rows; kinds = map (λ r. constraint_kind r.equal) p.rows }
 
--- the constraints are the one part; none where one of them holds at no point, as in a polyhedron without a point
+-- the constraints are the one part; none if one of them holds at no point, as in a polyhedron without a point
 abbrev pub polyhedron_parts : Polyhedron → List (LinearSystem ConKind)
 polyhedron_parts p = cond (list_any is_absurd p.rows) [] (listed p ∷ [])
 
@@ -48,7 +48,7 @@ pub record PolyhedronLeq (a b : Polyhedron) : Type 0 where
   pub within : IsWithin a.dims (Con a.rows) (Con b.rows)
   pub partless : polyhedron_parts b ≡ [] → polyhedron_parts a ≡ []
 
--- what the inclusion of the first in the second may answer: Wide only where a product passes
+-- what the inclusion of the first in the second may answer: Wide only if a product passes
 abbrev pub PolyhedronAnswers : Polyhedron → Polyhedron → Included → Type 0
 PolyhedronAnswers a b Yes = PolyhedronLeq a b
 PolyhedronAnswers a b No = ¬ PolyhedronLeq a b

@@ -132,7 +132,7 @@ bounded_between p f l h s (inr some) has = subst (IsBetween l h) (form_product f
     (above p (form_row f) l s has some.1, under p (form_row f) h s has some.2)
 
 -- ---- one thing is reported
--- there is no greatest value where there is no point, or no bound
+-- there is no greatest value if there is no point, or no bound
 not_greatest : (p : Polyhedron) (row : List ℤ) (k : ℤ) → IsGreatestRounded p row None →
     ¬ IsGreatestRounded p row (Some k)
 not_greatest p row k (inl empty) (num, den, g, same) = empty g.point g.is_point g.inside

@@ -71,7 +71,7 @@ impl Polyhedron {
         self.poly.rows()
     }
 
-    /// The points, rays and lines, in canonical order; none where there is no point.
+    /// The points, rays and lines, in canonical order; none if there is no point.
     pub fn generators(&self) -> &GenSys
         ensures dims { result.now.dims ≡ self.now.dims }
         ensures generators { generators result.now ≡ self.now.generators }
@@ -117,7 +117,7 @@ impl Domain for Polyhedron {
         1
     }
 
-    /// Yes exactly where there is no rational point.
+    /// Yes exactly if there is no rational point.
     fn is_empty(&self) -> bool {
         let _canonical = self.poly.rows(); // fact: both lists are canonical
         self.poly.is_empty()

@@ -39,7 +39,7 @@ fn forget_anew(p: &mut Poly, x: usize) -> Result<Outcome, AllocError>
     Ok(outcome)
 }
 
-// The polyhedron with anything as coordinate x, by the lists at hand; none where these can't be gone on from.
+// The polyhedron with anything as coordinate x, by the lists at hand; none if these can't be gone on from.
 fn extend_along(p: &Poly, x: usize) -> Result<Option<Poly>, AllocError>
     requires { x < p.now.dims }
     ensures { IfOk result (λ made. IfSome made
@@ -121,7 +121,7 @@ fn is_form(alloc: Global, x: usize, form: &LinExpr) -> Result<Test, AllocError>
     })
 }
 
-// The points with the form's value as coordinate x, which the form is without; none where that is flagged.
+// The points with the form's value as coordinate x, which the form is without; none if that is flagged.
 fn meet_form(free: Poly, x: usize, form: &LinExpr) -> Result<Option<Poly>, AllocError>
     requires column { x < free.dims }
     requires form { length form.now.coefficients ≡ free.dims }
@@ -138,8 +138,8 @@ fn meet_form(free: Poly, x: usize, form: &LinExpr) -> Result<Option<Poly>, Alloc
     }
 }
 
-// The image by a form without the coordinate x: that coordinate is anything, and then it is the form. None where that
-// is flagged, or where it can't be gone on from the lists at hand.
+// The image by a form without the coordinate x: that coordinate is anything, and then it is the form. None if that
+// is flagged, or if it can't be gone on from the lists at hand.
 fn forget_and_set(p: &Poly, x: usize, form: &LinExpr) -> Result<Option<Poly>, AllocError>
     requires column { x < p.now.dims }
     requires form { length form.now.coefficients ≡ p.now.dims }
@@ -156,7 +156,7 @@ fn forget_and_set(p: &Poly, x: usize, form: &LinExpr) -> Result<Option<Poly>, Al
     }
 }
 
-// The image by what is at hand: by both lists, or by a coordinate that is forgotten and set. None only where both lists
+// The image by what is at hand: by both lists, or by a coordinate that is forgotten and set. None only if both lists
 // don't move.
 fn find_image(p: &Poly, x: usize, form: &LinExpr, row: &Row) -> Result<Option<Poly>, AllocError>
     requires column { x < p.now.dims }
@@ -229,7 +229,7 @@ pub fn image(p: &mut Poly, x: usize, form: &LinExpr) -> Result<Outcome, AllocErr
     }
 }
 
-// The loss, or where there is none the outcome.
+// The loss, or if there is none the outcome.
 fn first_told(lost: Option<Loss>, outcome: Outcome) -> Outcome
     ensures none { lost ≡ None → result ≡ outcome }
     ensures some { (loss : strain.Loss) → lost ≡ Some loss → result ≡ Outcome.Flagged loss }

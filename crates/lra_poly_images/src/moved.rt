@@ -32,7 +32,7 @@ fn move_lists(p: &Poly, column: usize, form: &Row, back: &Row) -> Result<Poly, R
     Ok(image)
 }
 
-// The same; none where a number passes the range.
+// The image by both lists, moved; none if a number passes the range.
 fn move_lists_in_range(
     p: &Poly,
     column: usize,
@@ -53,8 +53,8 @@ fn move_lists_in_range(
     }
 }
 
-/// The image under the assignment of the form to the column, by both lists. None where the form hasn't 1 or -1 at the
-/// column, where there is no point, or where a number passes the range.
+/// The image under the assignment of the form to the column, by both lists. None if the form hasn't 1 or -1 at the
+/// column, if there is no point, or if a number passes the range.
 pub fn move_forward(p: &Poly, column: usize, form: &Row) -> Result<Option<Poly>, AllocError>
     requires above { 0 < column }
     requires column { column < suc p.now.dims }

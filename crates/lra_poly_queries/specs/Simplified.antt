@@ -31,8 +31,8 @@ pub record RelationPasses (n : ℕ) (rows : List LinearRow) (g : LinearRow) (los
 abbrev pub TrialStrains : ℕ → List LinearRow → LinearRow → Loss → Type 0
 TrialStrains n rows g loss = FromRowsStrains n rows loss ⊎ RelationPasses n rows g loss
 
--- what is reported about a constraint: nothing where the context and the others give it; else an outcome, and an exact
--- one only where they don't
+-- what is reported about a constraint: nothing if the context and the others give it; else an outcome, and an exact
+-- one only if they don't
 abbrev pub TellsRedundant : ℕ → List LinearRow → List LinearRow → LinearRow → Option Outcome → Type 0
 TellsRedundant n context others g None = IsRedundant n context others g
 TellsRedundant n context others g (Some o) =
@@ -70,7 +70,7 @@ IsNeededOrStrains p context front g back =
     ⊎ ((loss : Loss) × OwnTrialStrains p context front g back loss)
 
 -- Within the context the same points, given by some of p's constraints in their order. Each of these is needed, or its
--- own trial exceeds a limit. Where the outcome is exact, all are needed; it is flagged only where the trial of one
+-- own trial exceeds a limit. Where the outcome is exact, all are needed; it is flagged only if the trial of one
 -- exceeds a limit.
 pub record IsSimplified (p context : Polyhedron) (kept : List LinearRow) (o : Outcome) : Type 0 where
   pub same : SameSet p.dims (Meet (Con context.rows) (Con kept)) (Meet (Con context.rows) (Con p.rows))

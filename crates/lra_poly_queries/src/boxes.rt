@@ -39,7 +39,7 @@ fn coordinate(alloc: Global, n: usize, dim: usize) -> Result<LinExpr, AllocError
     Ok(form)
 }
 
-// The form's least value, where there is one, of a form no product of which passes.
+// The form's least value, if there is one, of a form no product of which passes.
 fn least_end(p: &Poly, form: &LinExpr) -> Option<Fraction>
     requires width { length form.now.coefficients ≡ p.now.dims }
     requires some { ¬ IsEmptySet p.now.dims (Con p.now.rows) }
@@ -84,8 +84,8 @@ fn extent_of(p: &Poly, dim: usize) -> Result<Extent, AllocError>
     Ok(Extent { least, greatest })
 }
 
-/// The least box around the polyhedron: the values of each coordinate, in the order of the dimensions; `None` where
-/// there is no point.
+/// The least box around the polyhedron: the values of each coordinate, in the order of the dimensions; `None` if there
+/// is no point.
 pub fn least_box(p: &Poly) -> Result<Option<Vec<Extent>>, AllocError>
     ensures some { IfOk result (λ found. IfSome found (λ extents. IsLeastBox p.now extents.items)) }
     ensures none { IfOk result (λ found. IsNone found ↔ IsEmptySet p.now.dims (Con p.now.rows)) }

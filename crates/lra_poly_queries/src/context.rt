@@ -56,7 +56,7 @@ fn product_loss(p: &Poly, row: &Row, kind: ConKind, excess: Excess) -> Result<Lo
     Ok(loss)
 }
 
-// Nothing where the constraint is known to hold at each point of the context at which the others hold; else what was
+// Nothing if the constraint is known to hold at each point of the context at which the others hold; else what was
 // lost as it was tried.
 fn try_given(
     context: &Poly,
@@ -85,7 +85,7 @@ fn try_given(
     }
 }
 
-// The same of the constraint at the place: the others are those kept, and those after the place.
+// Tries the constraint at the place: the others are those kept, and those after the place.
 fn try_at(
     context: &Poly,
     kept: &ConSys,

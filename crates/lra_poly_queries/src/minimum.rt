@@ -12,7 +12,7 @@ use lra_row::opposite;
 /// The least value of a form on a polyhedron, or why there is none. Places are those of generators, from 0.
 #[derive(Clone, Copy, Debug, PartialEq, Eq)]
 pub enum Minimum {
-    /// There is no point.
+    /// The polyhedron has no point.
     Empty,
     /// The product of the form's opposite with the generator at the place, the first such, passes the range.
     Wide { place: usize },

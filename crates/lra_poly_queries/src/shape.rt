@@ -41,7 +41,7 @@ fn equalities_before(kinds: &[ConKind]) -> usize
         .count()
 }
 
-/// How many dimensions it has: those of the space less its equalities; none where there is no point.
+/// How many dimensions it has: those of the space less its equalities; none if there is no point.
 pub fn dimension(p: &Poly) -> Option<usize>
     ensures some { IfSome result (AffineDimension p.now) }
     ensures none { IsNone result ↔ IsEmptySet p.now.dims (Con p.now.rows) }

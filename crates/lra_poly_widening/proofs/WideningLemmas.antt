@@ -317,7 +317,7 @@ some_equalities p rows b n hp er e h m =
 pub no_equalities : (p : Polyhedron) (n : ℕ) → IsPolyhedron p → IsEmptySet p.dims (Con p.rows) → n ≡ suc p.dims → n ≡ equalities_from p.generators p
 no_equalities p n hp empty e = e ∙ sym (ap (λ l. equalities_from l p) (none_where_empty p hp empty))
 
--- there is one constraint where there is no point
+-- there is one constraint if there is no point
 pub one_row : (p : Polyhedron) (list : LinearSystem ConKind) → IsPolyhedron p → IsEmptySet p.dims (Con p.rows) → constraints list ≡ p.rows →
     0 < length list.rows
 one_row p list (inr h) empty e = absurd (some_generator p h (none_where_empty p (inr h) empty))

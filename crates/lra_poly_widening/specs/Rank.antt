@@ -23,7 +23,7 @@ is_free p rows r = not r.equal && not (list_any (is_tight_as p.generators r) row
 abbrev pub free : Polyhedron → List LinearRow → List LinearRow
 free p rows = filter (is_free p rows) p.rows
 
--- the equalities, one more than the dimensions where there is no point
+-- the equalities, one more than the dimensions if there is no point
 abbrev pub equalities_from : List LinearRow → Polyhedron → ℕ
 equalities_from [] p = suc p.dims
 equalities_from (g ∷ generators) p = length (filter (λ r. r.equal) p.rows)

@@ -34,7 +34,7 @@ fn count_equalities(list: &ConSys) -> usize
     count
 }
 
-// The equalities, one more than the dimensions where there is no point: there the one constraint has so many columns.
+// The equalities, one more than the dimensions if there is no point: there the one constraint has so many columns.
 fn equalities(p: &Poly) -> u64
     ensures { result ≡ equalities_from p.now.generators p.now }
 {

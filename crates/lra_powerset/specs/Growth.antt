@@ -78,7 +78,7 @@ pub record SingleAnswers {V H : Type 0} (m : Abstraction V H) (old : SetHead V H
   pub dims : m.head_dims before ≡ old.dims
   pub answers : OneAnswers m before qs mode o after
 
--- the value of a single part's head, as parts: none where it is empty
+-- the value of a single part's head, as parts: none if it is empty
 pub record OneValued {V H : Type 0} (m : Abstraction V H) (h : H) (e : Exactness) (ps : List V) : Type 0 where
   pub value : V
   pub values : Values m h e value

@@ -97,7 +97,7 @@ pub record SetJoined {V H : Type 0} (m : Abstraction V H) (one two new : SetCont
 abbrev pub SetJoinStrains : {V H : Type 0} → Abstraction V H → SetContent V → SetContent V → Type 0
 SetJoinStrains m one two = (joins : ℕ) × CollapseStrains m one.cap joins (one.parts ++ two.parts)
 
--- the lowest of what the parts report from below and the highest from above: none where a part says none, and nothing
+-- the lowest of what the parts report from below and the highest from above: none if a part says none, and nothing
 -- of no parts
 abbrev pub PartsBounded : {V H : Type 0} → Abstraction V H → List V → Form → Option ℤ → Option ℤ → Type 0
 PartsBounded m [] f l h = (l ≡ None) × (h ≡ None)

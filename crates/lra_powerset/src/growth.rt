@@ -52,7 +52,7 @@ pub fn start_with<D: BaseDomain>(
     Ok(Held::Many(parts))
 }
 
-/// The parts of the value of a single part's head: none where it is empty.
+/// The parts of the value of a single part's head: none if it is empty.
 pub fn value_one<D: BaseDomain>(
     alloc: Global,
     head: &D::Head,
@@ -117,7 +117,7 @@ fn is_exact(grown: Grown) -> bool
     }
 }
 
-/// The parts become one, which grows by the other; nothing where a join of parts or its growth exceeds a limit.
+/// The parts become one, which grows by the other; nothing if a join of parts or its growth exceeds a limit.
 fn start_and_grow<D: BaseDomain>(
     alloc: Global,
     given: &ConSys,
@@ -145,7 +145,7 @@ fn start_and_grow<D: BaseDomain>(
     }
 }
 
-/// The parts, not one, become one, which grows by next's; nothing where a join of parts or its growth exceeds a limit.
+/// The parts, not one, become one, which grows by next's; nothing if a join of parts or its growth exceeds a limit.
 pub fn become_one<D: BaseDomain>(
     alloc: Global,
     given: &ConSys,

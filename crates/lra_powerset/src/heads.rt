@@ -133,7 +133,7 @@ impl<D: BaseDomain> PowerSetHead<D> {
         }
     }
 
-    // Its value.
+    // The head's value.
     pub(crate) fn value(&self, alloc: Global) -> Result<(PowerSet<D>, Exactness), AllocError>
         ensures values { IfOk result
             (λ r. Values (set_abstraction D.abstraction) self.now r.1 r.0) }
@@ -293,7 +293,7 @@ impl<D: BaseDomain> PowerSetHead<D> {
         }
     }
 
-    // Its parts, in which next doesn't lie, become one, which grows.
+    // The head's parts, in which next doesn't lie, become one, which grows.
     fn unite(&mut self, next: &PowerSet<D>, mode: Mode) -> Result<Grown, AllocError>
         requires dims { next.now.dims ≡ self.old.dims }
         requires widens { mode ≢ Join }
@@ -318,7 +318,7 @@ impl<D: BaseDomain> PowerSetHead<D> {
         }
     }
 
-    // Its parts become one, which grows, unless next lies in them.
+    // The head's parts become one, which grows, unless next lies in them.
     fn widen_many(&mut self, next: &PowerSet<D>, mode: Mode) -> Result<Grown, AllocError>
         requires dims { next.now.dims ≡ self.old.dims }
         requires widens { mode ≢ Join }

@@ -280,7 +280,7 @@ impl<D: BaseDomain> Domain for PowerSet<D> {
         self.cap
     }
 
-    /// Yes exactly where there is no part.
+    /// Yes exactly if there is no part.
     fn is_empty(&self) -> bool {
         self.parts.is_empty()
     }
@@ -316,7 +316,7 @@ impl<D: BaseDomain> Domain for PowerSet<D> {
         Ok(exactness)
     }
 
-    /// The other's parts are appended, and the list is reduced and kept within the cap.
+    /// The join: the other's parts are appended, and the list is reduced and kept within the cap.
     fn join(&mut self, other: &Self) -> Result<Exactness, AllocError> {
         let both = copy_both(self.alloc, self.parts.as_slice(), other.parts.as_slice())?;
         let (settled, exactness) = collapse(self.alloc, self.cap as usize, both)?;

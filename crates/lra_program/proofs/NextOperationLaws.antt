@@ -11,7 +11,7 @@ use Rattle.lra_program.specs.Step.{continue_target, ReturnTarget, return_target,
 use Rattle.lra_program.specs.Value.{index_of, Drawn, value_of, Argument, truth_of}
 use Rattle.lra_program.specs.{Receivers.variable_at, Receivers.waiting_in, Receivers.nobody, Step.do_return, Step.do_switch, Step.do_stmt, Step.do_declare, declared.receivers.Receiver.Receiver}
 
--- in each of these no step follows only where what is done has no state ----------------------------------------------
+-- in each of these no step follows only if what is done has no state -------------------------------------------------
 
 undone : (k : List Item) (h : CallContext) (o : Option State) → go k h o ≡ None → o ≡ None
 undone k h None e = refl

@@ -88,7 +88,7 @@ drawn_once_run : visited drawn_once (pos 0 ∷ pos 0 ∷ pos 4 ∷ pos 9 ∷ [])
     ≡ ([], 1, []) ∷ ([], 2, pos 0 ∷ []) ∷ ([], 4, pos 0 ∷ []) ∷ ([], 5, pos 0 ∷ []) ∷ ([], 6, pos 9 ∷ []) ∷ []
 drawn_once_run = refl
 
--- switch(1/0){} ; : the value is computed where there is no label, too, and the run ends in it
+-- switch(1/0){} ; : the value is computed if there is no label, too, and the run ends in it
 computed_without_labels : visited (main_alone (statement (switch 1 (binary over (number 1) (number 0)) no_cases) (statement (nothing 2) no_more)) 3) []
     ≡ ([], 1, []) ∷ []
 computed_without_labels = refl

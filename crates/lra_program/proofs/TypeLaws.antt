@@ -1,4 +1,4 @@
--- A value, where there is one, has its expression's type; and what stops by a number computes something.
+-- A value, if there is one, has its expression's type; and what stops by a number computes something.
 use Rattle.std.proofs.Common.{◌≡◌, ℤ, pos, List, [], ◌∷◌, Option, Some, None, Bool, true, false, refl, ap, subst, inl, inr}
 use Rattle.std.specs.Prelude.{◌-ℤ◌, slice_get, if◌then◌else◌, int_div, int_rem, ◌&&◌, ◌||◌, ◌⊎◌}
 use Rattle.std.proofs.lemmas.Bool.{or_left, or_right}

@@ -19,7 +19,7 @@ wide_literal = (refl, λ h. let e : false ≡ true = h in cc)
 wide_int : (IsGoodExpr run.one_variable 0 (literal Int 2147483647)) × (IsGoodExpr run.one_variable 0 (literal Int 2147483648) → ⊥)
 wide_int = (refl, λ h. let e : false ≡ true = h in cc)
 
--- a second global variable, where there is one
+-- a second global variable, if there is one
 second_global : IsGoodExpr run.counted 0 (read (run.long_variable (global 0))) × (IsGoodExpr run.counted 0 (read (run.long_variable (global 1))) → ⊥)
 second_global = (omega arith, λ h. omega (arith, h))
 

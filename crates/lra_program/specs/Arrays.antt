@@ -17,7 +17,7 @@ abbrev pub elements_of : Place → Contents → List ℤ
 elements_of p [] = []
 elements_of p (c ∷ cs) = if is_same_place p c.0 then c.1 else elements_of p cs
 
--- where the element of this index stands, among so many; none where the index is outside
+-- where the element of this index stands, among so many; none if the index is outside
 abbrev pub place_among : ℕ → ℤ → Option ℕ
 place_among n (pos k) = if nat_lt k n then Some k else None
 place_among n (negsuc k) = None

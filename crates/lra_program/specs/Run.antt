@@ -34,7 +34,7 @@ start P draws = record {
   state = begun P draws;
 }
 
--- the label of the point on top, where there is one
+-- the label of the point on top, if there is one
 abbrev pub label_of : Stmt → Option ℕ
 label_of absent = None
 label_of (nothing at) = Some at

@@ -68,7 +68,7 @@ kept_if false false s = Some s
 kept_if true false s = None
 kept_if false true s = None
 
--- none where a type on the value's way doesn't have it
+-- none if a type on the value's way doesn't have it
 abbrev pub receive : Receiver → State → Drawn ℤ → Option State
 receive x s None = None
 receive x s (Some r) = kept_if true (accepts x r.0) (put x.target r.0 (record s { draws = r.1 }))
@@ -343,6 +343,6 @@ next_at P (end_for n ∷ k) h s = go k h (run_op (truncate_to n) s)
 next_at P (return_frame b ∷ k) h s = go_on (run_any b.receiver s) (λ t. go k b.here (run_op (truncate_to b.length) t))
 next_at P (leave_call ∷ k) h s = do_leave (return_target k) (Some s)
 
--- the configuration that follows, or none where the run ends
+-- the configuration that follows, or none if the run ends
 abbrev pub next : Program → Config → Option Config
 next P c = next_at P c.items c.here c.state

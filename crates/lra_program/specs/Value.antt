@@ -1,4 +1,4 @@
--- The value of an expression, a number of its type, and of a condition, with the draws that are left; none where the
+-- The value of an expression, a number of its type, and of a condition, with the draws that are left; none if the
 -- run stops: at a number that doesn't fit the type in which it is computed, at a divisor 0, at that type's least number
 -- divided by -1 (also for `%`), at an argument that doesn't fit its parameter, at an index outside its array, and where
 -- a draw is needed and none is left (ISO/IEC 9899:2011, 6.5; overflow and an index outside, undefined there, end the
@@ -91,7 +91,7 @@ value_of (binary op a b) s draws = value_of a s draws >>= λ r. value_of b s r.1
 value_of (element a at e) s draws = value_of e s draws >>= λ r. place_among a.length r.0 >>= λ k.
     slice_get (elements_of a.declared s.arrays) k >>= λ y. number a.number_type y >>= λ z. Some (z, r.1)
 
--- a value, where there is one, is a number of its expression's type
+-- a value, if there is one, is a number of its expression's type
 abbrev pub ValuesHaveTypes : Type 0
 ValuesHaveTypes = (e : Expr) (s : Environment) (draws left : List ℤ) (z : ℤ) → value_of e s draws ≡ Some (z, left) →
     IsTrue (fits (type_of e) z)

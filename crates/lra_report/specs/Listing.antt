@@ -1,6 +1,6 @@
 -- Which points and verdicts the report of a source lists: all points in the order of their numbers, from 1, each with
 -- its path, its place, the names of its live variables, and rows and generators over these; and a verdict on each of
--- what is judged, in order: on each assertion, where it is asked for on each point at which something is computed, and
+-- what is judged, in order: on each assertion, if it is asked for on each point at which something is computed, and
 -- on each access of an array, at each point in the order of evaluation.
 use Rattle.std.specs.List.{AllByRecursion, list_any, flat_map}
 use Rattle.std.specs.Prelude.{◌≡◌, ℕ, suc, Bool, true, false, List, [], ◌∷◌, ◌++◌, length, map, Option, Some, None, ⊤}
@@ -146,7 +146,7 @@ pub record Lists (t : FileTree) (r : Report) : Type 0 where
   pub is_graph : IsInlinedTree (resolve t) tree
   pub verdicts : (g : Node) → IsInlinedTree (resolve t) g → AreJudged (labels_of t) (subjects r.options g t) r.verdicts
 
--- the number of the first flagged point, where there is one, is that of a point
+-- the number of the first flagged point, if there is one, is that of a point
 abbrev pub IsFlag : ℕ → Option ℕ → Type 0
 IsFlag count None = ⊤
 IsFlag count (Some number) = (0 < number) × (number ≤ count)

@@ -36,7 +36,7 @@ state_text names (part ∷ parts) = part_text names part ++ further_parts_text n
 
 -- the report -------------------------------------------------------------------------------------------------------
 
--- nothing where it isn't reported
+-- nothing if it isn't reported
 abbrev pub number_text : Options → NumberOption → List ℕ
 number_text o option = if is_number_reported option o then codes " " ++ (number_row option).name ++ codes " " ++
     decimal (number_value option o) else []

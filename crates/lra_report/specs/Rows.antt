@@ -4,7 +4,7 @@ use Rattle.lra_linear_spec.specs.{Range.InRange, declared.GenKind.GenKind}
 use Rattle.lra_systems.specs.LinearSystems.{LinearSystem, FitKinds}
 use Rattle.lra_row_text.specs.{Lists.shown_generators, Part.ReportGenerator, Part.Part, Rows.ReportRow}
 
--- none where there is no list
+-- none if there is no list
 abbrev pub optional_generators : Option (LinearSystem GenKind) → List ReportGenerator
 optional_generators None = []
 optional_generators (Some g) = shown_generators g.rows g.kinds

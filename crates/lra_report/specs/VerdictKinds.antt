@@ -38,7 +38,7 @@ assertion_row = record {
   apart = refl;
 }
 
--- an operation that computes something; its key stands where it is asked for, be it that nothing computes
+-- an operation that computes something; its key stands if it is asked for, be it that nothing computes
 abbrev pub fit_row : VerdictRow
 fit_row = record {
   word = codes "fit";
@@ -53,7 +53,7 @@ fit_row = record {
   apart = refl;
 }
 
--- an access of an array, reported at the array's name; its key stands where there is one
+-- an access of an array, reported at the array's name; its key stands if there is one
 abbrev pub access_row : VerdictRow
 access_row = record {
   word = codes "access";

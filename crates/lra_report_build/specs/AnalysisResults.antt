@@ -34,7 +34,7 @@ AreVerdicts sites verdicts = AreVerdictsOn (IsAssertion sites) verdicts
 abbrev pub IsComputing : Node → List Site → ℕ → Type 0
 IsComputing g sites q = (s : Site) × (slice_get sites q ≡ Some s) × IsTrue (computes_at g q)
 
--- one for each of these points, where it is asked for; else none
+-- one for each of these points, if it is asked for; else none
 abbrev pub AreFitting : Bool → Node → List Site → List (ℕ × Bool) → Type 0
 AreFitting true g sites fitting = AreVerdictsOn (IsComputing g sites) fitting
 AreFitting false g sites fitting = fitting ≡ []

@@ -8,7 +8,7 @@ use Rattle.lra_options.specs.declared.options.Domain.TheVariants.{Poly}
 use Rattle.lra_row_text.specs.{Part.Part, ShownDescriptions.shown_constraint, ShownDescriptions.shown_generator}
 use Rattle.lra_report.specs.{Listing.HasWidth, Parts.ShowsPart, Report.Invariant, Report.InvariantHolds}
 
--- no part where there is no generator
+-- no part if there is no generator
 abbrev pub part_if_any : List LinearRow → Part → Invariant
 part_if_any [] part = []
 part_if_any (g ∷ gs) part = part ∷ []

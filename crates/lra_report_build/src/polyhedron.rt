@@ -14,7 +14,7 @@ use lra_report::Part;
 use lra_systems::{ConSys, GenSys};
 use std::alloc::{AllocError, Global};
 
-/// The state of a polyhedron, given by its canonical lists: no part where there is no point, else one part that has
+/// The state of a polyhedron, given by its canonical lists: no part if there is no point, else one part that has
 /// both lists.
 fn polyhedron_state(
     alloc: Global,

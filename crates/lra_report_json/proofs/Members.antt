@@ -39,7 +39,7 @@ Alike no_members (member l e ns) = ⊥
 Alike (member k d ms) no_members = ⊥
 Alike (member k d ms) (member l e ns) = (k ≡ l) × Apart d e × Alike ms ns
 
--- the text of the first value at a key; nothing where there is none
+-- the text of the first value at a key; nothing if there is none
 abbrev pub text_at : List ℕ → Members → List ℕ
 text_at key no_members = []
 text_at key (member k d ms) = if bytes_eq key k then compact_text d else text_at key ms

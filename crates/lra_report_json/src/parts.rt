@@ -25,7 +25,7 @@ fn rows_value(alloc: Global, part: &Part, names: &Names) -> Result<Value, AllocE
     Ok(Value::from(texts))
 }
 
-/// The list of a part's generators, empty where there is none.
+/// The list of a part's generators, empty if there is none.
 fn generators_value(alloc: Global, part: &Part, names: &Names) -> Result<Value, AllocError>
     ensures { IfOk result (λ value. view value ≡ generators_data names.now part.now.generators) }
 {

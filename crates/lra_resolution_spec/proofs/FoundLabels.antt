@@ -1,4 +1,4 @@
--- The label of a number, where there is one.
+-- The label of a number, if there is one.
 use Rattle.std.proofs.Common.{◌≡◌, ◌∙◌, sym, ap, refl, ◌+◌, ◌≤◌, ◌<◌, ℕ, suc, List, length, map, Option, Some, None, get_or, arith, subst, add-one, MatchOption, IfSome, option_map}
 use Rattle.std.proofs.lemmas.Option.{slice_get_read, slice_get_past, slice_get-map}
 use Rattle.std.specs.Prelude.{slice_get}

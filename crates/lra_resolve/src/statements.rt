@@ -152,7 +152,7 @@ fn resolve_block(
 /// The items of a block, each under its labels; what they declare stays in the scope.
 ///
 /// Refused at the first fault: `UnknownName`, `DuplicateName`, `BadCall`, or `Misplaced` for `break` and `continue`.
-/// `Memory` where memory runs out.
+/// `Memory` if memory runs out.
 #[cycle(statement)]
 #[tactic(auto, using(lra_resolve_simple::proofs::StatementLaws::items_rules))]
 pub fn resolve_items(

@@ -141,7 +141,7 @@ pub fn resolve_head(
 
 /// An assertion under a new label at its place.
 ///
-/// `UnknownName` at the first variable of its condition that isn't known, `Memory` where memory runs out.
+/// `UnknownName` at the first variable of its condition that isn't known, `Memory` if memory runs out.
 pub fn resolve_assert(
     around: &Around<'_>,
     scope: &Scope,
@@ -161,7 +161,7 @@ pub fn resolve_assert(
 
 /// An assumption under a new label at its place.
 ///
-/// `UnknownName` at the first variable of its condition that isn't known, `Memory` where memory runs out.
+/// `UnknownName` at the first variable of its condition that isn't known, `Memory` if memory runs out.
 pub fn resolve_assume(
     around: &Around<'_>,
     scope: &Scope,

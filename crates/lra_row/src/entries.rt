@@ -185,7 +185,7 @@ pub fn divide(xs: &mut [i128], divisor: i128)
     }
 }
 
-/// The first column other than 0 in the order 1, 2, 3 and on; 0 where there is none.
+/// The first column other than 0 in the order 1, 2, 3 and on; 0 if there is none.
 pub fn pivot_of(xs: &[i128]) -> usize
     ensures pivot { result ≡ pivot xs.now }
     ensures inside { 0 < length xs.now → result < length xs.now }

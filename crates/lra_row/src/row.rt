@@ -114,7 +114,7 @@ impl Row {
         self.entries.as_slice()[column]
     }
 
-    /// The first column other than 0 in the order 1, 2, 3 and on; 0 where there is none.
+    /// The first column other than 0 in the order 1, 2, 3 and on; 0 if there is none.
     pub fn pivot(&self) -> usize
         ensures pivot { result ≡ pivot self.now }
         ensures inside { 0 < length self.now → result < length self.now }

@@ -122,7 +122,7 @@ fn push_others(
     Ok(())
 }
 
-/// The constraints, each on a line; `true` where there is none.
+/// The constraints, each on a line; `true` if there is none.
 pub fn system_text(alloc: Global, list: &ConSys, names: &Names) -> Result<String, AllocError>
     requires { length names.now ≡ list.now.dims }
     ensures { IfOk result (λ text. string_bytes text ≡
@@ -133,7 +133,7 @@ pub fn system_text(alloc: Global, list: &ConSys, names: &Names) -> Result<String
     Ok(text)
 }
 
-/// The generators, each on a line; nothing where there is none.
+/// The generators, each on a line; nothing if there is none.
 pub fn generators_text(alloc: Global, list: &GenSys, names: &Names) -> Result<String, AllocError>
     requires names { length names.now ≡ list.now.dims }
     requires fit { FitKinds list.now.rows list.now.kinds }
@@ -145,7 +145,7 @@ pub fn generators_text(alloc: Global, list: &GenSys, names: &Names) -> Result<St
     Ok(text)
 }
 
-/// The parts of a value, with a line `or` between each two; `false` where there is none.
+/// The parts of a value, with a line `or` between each two; `false` if there is none.
 pub fn value_text(alloc: Global, parts: &[ConSys], names: &Names) -> Result<String, AllocError>
     requires { All (λ p. p.dims ≡ length names.now) parts.now }
     ensures { IfOk result (λ text. string_bytes text ≡ lines_of_parts names.now parts.now) }

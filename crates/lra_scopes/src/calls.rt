@@ -73,7 +73,7 @@ fn resolve_arguments(
 
 /// A call under a label, whose result is used or not.
 ///
-/// Refused at the first fault, with the causes of `resolve_rvalue`; a missing result is one only where it is used.
+/// Refused at the first fault, with the causes of `resolve_rvalue`; a missing result is one only if it is used.
 #[tactic(auto, using(crate::proofs::CallLaws::call_rules))]
 pub fn resolve_call(
     alloc: Global,
@@ -101,7 +101,7 @@ pub fn resolve_call(
 ///
 /// Refused at the first fault: `UnknownName` where a name isn't known, `NotArray` where an array stands for a scalar or
 /// a scalar for an array, `BadCall` where the called function has another number of parameters or no result. `Memory`
-/// where memory runs out.
+/// if memory runs out.
 pub fn resolve_rvalue(
     alloc: Global,
     functions: &Functions<'_>,
@@ -128,7 +128,7 @@ pub fn resolve_rvalue(
 
 /// What a declarator gives its variable, or a `return` gives, if anything.
 ///
-/// Refused at the first fault, as by `resolve_rvalue`. `Memory` where memory runs out.
+/// Refused at the first fault, as by `resolve_rvalue`. `Memory` if memory runs out.
 pub fn resolve_given(
     alloc: Global,
     functions: &Functions<'_>,
@@ -254,7 +254,7 @@ fn resolve_increment(
 /// An assignment under its label: `x += e` and `x++` read `x` first.
 ///
 /// Refused at the first fault, that of `x` before those of its index and of the rvalue, with the causes of
-/// `resolve_rvalue`. `Memory` where memory runs out.
+/// `resolve_rvalue`. `Memory` if memory runs out.
 pub fn resolve_assign(
     alloc: Global,
     functions: &Functions<'_>,

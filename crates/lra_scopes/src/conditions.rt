@@ -130,7 +130,7 @@ fn resolve_conjunction(
 
 /// A condition: its conjunctions, joined by `||` where there are several.
 ///
-/// `UnknownName` or `NotArray` at the first name at fault, `Memory` where memory runs out.
+/// `UnknownName` or `NotArray` at the first name at fault, `Memory` if memory runs out.
 #[cycle(condition)]
 #[tactic(auto, using(crate::proofs::CondLaws::cond_rules))]
 pub fn resolve_cond(

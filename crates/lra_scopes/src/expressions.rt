@@ -87,7 +87,7 @@ fn sum_operator(operator: SumOperator) -> Operator
 
 /// An operand with the signs before it; a plus sign changes nothing.
 ///
-/// `UnknownName` or `NotArray` at the first name at fault, `Memory` where memory runs out.
+/// `UnknownName` or `NotArray` at the first name at fault, `Memory` if memory runs out.
 #[cycle(expression)]
 pub fn resolve_unary(
     alloc: Global,
@@ -160,7 +160,7 @@ fn resolve_term(alloc: Global, scope: &Scope, term: &Term) -> Result<lra_program
 
 /// A sum of products, from the left.
 ///
-/// `UnknownName` or `NotArray` at the first name at fault, `Memory` where memory runs out.
+/// `UnknownName` or `NotArray` at the first name at fault, `Memory` if memory runs out.
 #[cycle(expression)]
 #[tactic(auto, using(crate::proofs::ChainLaws::expr_rules))]
 pub fn resolve_expr(
@@ -182,7 +182,7 @@ pub fn resolve_expr(
 
 /// An element: the array's name, then the index.
 ///
-/// `UnknownName` or `NotArray` at the first name at fault, `Memory` where memory runs out.
+/// `UnknownName` or `NotArray` at the first name at fault, `Memory` if memory runs out.
 #[tactic(auto, using(crate::proofs::FirstFaults::telling_rules))]
 pub fn resolve_element(
     alloc: Global,

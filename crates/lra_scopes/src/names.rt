@@ -103,7 +103,7 @@ impl Names {
         }
     }
 
-    /// One more name. It hides the older ones of its text. Where memory runs out there is none more.
+    /// One more name. It hides the older ones of its text. If memory runs out there is none more.
     pub fn push(&mut self, alloc: Global, name: &Word) -> Result<(), AllocError>
         ensures pushed { IfOk result (λ _. self.new ≡ self.old ++ name.now ∷ []) }
         ensures kept { IfErr result (λ _. self.new ≡ self.old) }

@@ -238,7 +238,7 @@ question_of word rest =
 
 -- lines ------------------------------------------------------------------------------------------------------------
 
--- what the words say, or none where they are no line
+-- what the words say, or none if they are no line
 abbrev pub line_of : List (List ℕ) → Option Line
 line_of [] = None
 line_of (word ∷ rest) =

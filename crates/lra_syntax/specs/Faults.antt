@@ -1,4 +1,4 @@
--- The tree of a list of tokens, and the first token at fault where there is none; of the whole grammar, or of a part of
+-- The tree of a list of tokens, and the first token at fault if there is none; of the whole grammar, or of a part of
 -- it.
 use Rattle.std.specs.List.{AllByRecursion}
 use Rattle.std.specs.Prelude.{◌≡◌, ℕ, ◌≤◌, ◌<◌, List, [], ◌∷◌, ◌++◌}

@@ -693,7 +693,7 @@ static OF_ANALYSE: [&str; 11] = [
     "--best  ",
 ];
 
-/// What the words of the line are shown, and nothing where they ask for something else.
+/// What the words of the line are shown, and nothing if they ask for something else.
 fn shown(alloc: Global, line: &str) -> Result<String, AllocError> {
     let words = words_of(alloc, line)?;
     match read_request(alloc, &words)? {

@@ -10,7 +10,7 @@ use lra_paths::{PathsFailure, Source, find_paths};
 use std::alloc::{AllocError, Global};
 
 /// What paths are looked for: how many lead from the source of this number to the goal; the least source with too many;
-/// nothing where the program has no graph, or memory fails.
+/// nothing if the program has no graph, or memory fails.
 #[derive(Clone, Copy, PartialEq, Eq)]
 enum Found {
     Paths(usize),
@@ -70,8 +70,8 @@ const TEN: &str =
 const ELEVEN: &str =
     "int main(void){ long a; assume(a!=0&&a!=1&&a!=2&&a!=3&&a!=4&&a!=5&&a!=6&&a!=7&&a!=8&&a!=9&&a!=10); }";
 
-/// As many paths as the definitions report, written out by hand: an equation that is false has two sides, and so has a
-/// division.
+/// As many paths as the definitions give, written out by hand: an equation that is false has two disjuncts, and so has
+/// a division.
 const COUNTS: [(&str, usize, Goal, Found); 17] = [
     (STRAIGHT, 0, Goal::ComesTo(0), Found::Paths(1)),
     (STRAIGHT, 1, Goal::ComesTo(1), Found::Paths(1)),

@@ -71,7 +71,7 @@ fn is_strip(alloc: Global) -> Result<bool, Unfit> {
     Ok(told && shows(&strip, &STRIP, &STRIP_GENERATORS))
 }
 
-// The same again, from its generators.
+// The polyhedron again, from its generators.
 fn again_of(alloc: Global, p: &Poly) -> Result<Poly, Unfit>
     ensures { IfOk result (λ q. q.dims ≡ p.now.dims) }
 {

@@ -108,7 +108,7 @@ fn has_halves(alloc: Global) -> Result<bool, Unfit> {
     are_halves(alloc, &set)
 }
 
-// How many polyhedra there are where there is no store.
+// How many polyhedra there are if there is no store.
 fn count_nowhere(alloc: Global) -> Result<usize, AllocError> {
     let none = Boxes::empty(alloc, 2, 1)?;
     let (made, _) = polyhedra_of(alloc, &none)?;

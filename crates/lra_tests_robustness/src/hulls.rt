@@ -79,7 +79,7 @@ fn cube(alloc: Global) -> Result<String, AllocError> {
     Ok(source)
 }
 
-/// What comes after this; nothing where it doesn't occur.
+/// What comes after this; nothing if it doesn't occur.
 fn behind<'a>(text: &'a str, front: &str) -> &'a str {
     match text.split_once(front) {
         Some((_, rest)) => rest,

@@ -184,7 +184,7 @@ fn lowers(
     Ok(has_square(&row, square, is_narrow))
 }
 
-// The same of the row of these numbers of 64 bits, as it is.
+// Whether the row of these numbers of 64 bits has this product with itself as it is, and is narrow or not.
 fn is_made_of(
     alloc: Global,
     numbers: &[i64],

@@ -34,7 +34,7 @@ const NEVER: &str = "int main(void){ for(long i=0;i<3;i=i+1) ; assert(0); }";
 const SCALED: &str = "int main(void){ long x=input(); x=4611686018427387904*x; \
     x=4611686018427387904*x; x=4611686018427387904*x; assert(x!=1); }";
 
-/// As many sides lead to `default` as are too many.
+/// As many disjuncts lead to `default` as are too many.
 const ELEVEN: &str = "int main(void){ long x; assert(x!=1); switch(x){ case 0: ; case 1: ; \
     case 2: ; case 3: ; case 4: ; case 5: ; case 6: ; case 7: ; case 8: ; case 9: ; \
     case 10: ; default: ; } }";

@@ -93,7 +93,7 @@ threads_interference globals k table = record {
 
 -- what is written --------------------------------------------------------------------------------------------------
 
--- the bounds of the variable x in each value that was noted for it, joined; none where all these are empty
+-- the bounds of the variable x in each value that was noted for it, joined; none if all these are empty
 abbrev pub written_to : ℕ → List (ℕ × BoxContent) → Option Interval
 written_to x [] = None
 written_to x ((y, v) ∷ notes) =

@@ -76,7 +76,7 @@ impl Intervals {
         grow_at(&mut self.all, x, Growth::Join, bound_of(value, x));
     }
 
-    /// They, global by global.
+    /// The intervals, global by global.
     pub fn as_slice(&self) -> &[Option<Interval>]
         ensures { result.now ≡ self.now }
     {

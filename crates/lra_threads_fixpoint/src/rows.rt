@@ -27,7 +27,7 @@ pub fn grow_at(row: &mut Vec<Option<Interval>>, x: usize, growth: Growth, other:
     }
 }
 
-/// The other list's intervals come in, each at its place.
+/// Joins or widens each interval with the other list's at its place.
 pub fn grow_all(row: &mut Vec<Option<Interval>>, growth: Growth, other: &[Option<Interval>])
     ensures { row.new.items ≡ grown_row growth row.old.items other.now }
 {

@@ -97,7 +97,7 @@ fn enter_loop(
 
 // what comes next ---------------------------------------------------------------------------------
 
-/// This place opens, and in it the tree is next.
+/// Opens this frame, in which the tree is next.
 fn open_in(
     places: &mut Vec<InstrumentFrame>,
     place: InstrumentFrame,

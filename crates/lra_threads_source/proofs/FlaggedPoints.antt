@@ -20,7 +20,7 @@ use Rattle.lra_threads_source.proofs.OpenedBelow.{opened_below}
 
 -- of rounds ----------------------------------------------------------------------------------------------------------
 
--- this is so of the flag, where there is one
+-- this is so of the flag, if there is one
 abbrev pub IfFlag : (ℕ × ℕ → Type 0) → Option (ℕ × ℕ) → Type 0
 IfFlag So None = ⊤
 IfFlag So (Some f) = So f

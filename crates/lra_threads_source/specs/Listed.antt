@@ -53,7 +53,7 @@ assertions_alone t k found = map (verdict_at (labels_of t) (thread_sites t k) As
 abbrev pub accesses_alone : FileTree → ℕ → ThreadResult → List Verdict
 accesses_alone t k found = flat_map (access_verdicts_at (labels_of t) (thread_sites t k)) (access_verdicts_of found)
 
--- the k-th thread gives the global of this name values of this interval; none where no write to it was found
+-- the k-th thread gives the global of this name values of this interval; none if no write to it was found
 abbrev pub reported_write : ℕ → List ℕ → Option Interval → List Writes
 reported_write k name None = []
 reported_write k name (Some i) = record { thread = suc k; name = name; low = i.low; high = i.high } ∷ []

@@ -18,7 +18,7 @@ use lra_linearize::{comparison_where, linearize_difference, subtract_number, tes
 use lra_program::Expr;
 use std::alloc::{AllocError, Global};
 
-/// What the comparison's test leaves of the value, by what is seen of its difference; all of it where there is none.
+/// What the comparison's test leaves of the value, by what is seen of its difference; all of it if there is none.
 fn leave_test<D: Domain>(
     alloc: Global,
     op: Comparison,

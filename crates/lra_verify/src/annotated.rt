@@ -18,7 +18,7 @@ use lra_paths::Source;
 use lra_systems::ConSys;
 use std::alloc::Global;
 
-/// The points of a program with the rows that are said of them, none where nothing comes there; no row of its start;
+/// The points of a program with the rows that are said of them, none if nothing comes there; no row of its start;
 /// and the segments from each source.
 #[derive(Clone, Copy)]
 pub struct AnnotatedProgram<'a> {

@@ -13,7 +13,7 @@ use lra_domain::Change;
 use lra_systems::ConSys;
 use std::alloc::{AllocError, Global};
 
-/// A source and a point, with the rows that are said of them; none where nothing comes there.
+/// A source and a point, with the rows that are said of them; none if nothing comes there.
 #[derive(Clone, Copy)]
 pub struct Edge<'a> {
     pub source: usize,

@@ -42,7 +42,7 @@ fn source_by<'b>(bytes: &'b [u8], number: &i128) -> Option<Head<'b>>
     }
 }
 
-/// The source of an input, of which the first line says how many bytes it has; none where that isn't so.
+/// The source of an input, of which the first line says how many bytes it has; none if that isn't so.
 pub fn head_of(alloc: Global, bytes: &[u8]) -> Result<Option<Head<'_>>, AllocError>
     ensures head { IfOk result (λ h. option_map head_view h ≡ head_of bytes.now) }
     ensures within { IfOk result (λ o. IfSome o (λ h. (length h.source.now ≤ length bytes.now)

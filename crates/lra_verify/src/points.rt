@@ -38,7 +38,7 @@ struct Point {
     behind: usize,
 }
 
-/// What is said of each point, and where the next line begins: its rows, or none where it is empty.
+/// What is said of each point, and where the next line begins: its rows, or none if it is empty.
 #[derive(Drop)]
 pub struct Points {
     pub states: Vec<Option<ConSys>>,

@@ -1,4 +1,4 @@
--- Goals of `state_of`: the rows of a value; none where it has no point.
+-- Goals of `state_of`: the rows of a value; none if it has no point.
 use Rattle.std.proofs.{Common.◌≡◌, Common.◌∙◌, Common.◌<◌, Common.List, Common.length, Common.sym, Common.ap, Common.arith, lemmas.Grind.common_steps}
 use Rattle.std.specs.Prelude.{Some, option_map}
 use Rattle.lra_linear_spec.specs.{Descriptions.LinearRow, declared.ConKind.ConKind}

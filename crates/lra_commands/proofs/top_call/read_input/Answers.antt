@@ -1,4 +1,4 @@
--- Goals of `read_input`: none where it leaves its input as it is.
+-- Goals of `read_input`: none if it leaves its input as it is.
 use Rattle.std.specs.Prelude.{Some}
 use Rattle.lra_commands.specs.Prepared.{IsTaken, IsReadBy}
 use Rattle.lra_commands.proofs.Reading.{of_limit, of_limit_ok}

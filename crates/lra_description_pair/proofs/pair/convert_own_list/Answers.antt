@@ -1,4 +1,4 @@
--- Goals of `convert_own_list`: the polyhedron of the generators that were added to the cone; none where a number passes
+-- Goals of `convert_own_list`: the polyhedron of the generators that were added to the cone; none if a number passes
 -- in the canonical ones, or there are too many.
 use Rattle.lra_description_pair.proofs.pair.convert_own_list.Goals as goal
 

@@ -1,4 +1,4 @@
--- Goals of `find_own_loss`: what is reported where there is no own list.
+-- Goals of `find_own_loss`: what is reported if there is no own list.
 use Rattle.std.proofs.{Common.◌∙◌, Common.arith, Common.ap, Common.sym, Common.length, Common.◌<◌, Common.◌-◌, lemmas.Result.IfOk-weaker}
 use Rattle.lra_linear_spec.specs.Kinds.{is_equality}
 use Rattle.lra_description_pair.specs.OwnLists.{IsOwnLoss}

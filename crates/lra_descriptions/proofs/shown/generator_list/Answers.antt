@@ -1,5 +1,5 @@
 -- Goals of `generator_list`: the points, rays and lines, each in order, of a cone of n + 1 columns with these lines
--- and rays; none where no ray is above 0 in column 0.
+-- and rays; none if no ray is above 0 in column 0.
 use Rattle.std.proofs.{Common.arith, Common.rules, Common.◌≡◌, Common.◌≢◌, Common.length, Common.[], Common.inl, Common.suc, lemmas.Grind.common_steps}
 use Rattle.lra_descriptions.specs.ShownLists.{points_of}
 use Rattle.lra_descriptions.proofs.Parted.{points_widths, directions_widths, put_together, none_before}

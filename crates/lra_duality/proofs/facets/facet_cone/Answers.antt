@@ -1,4 +1,4 @@
--- Goals of `facet_cone`: the cone of what is valid on the generators, by the constraints; none where `cone_of` gives
+-- Goals of `facet_cone`: the cone of what is valid on the generators, by the constraints; none if `cone_of` gives
 -- none, or there are as many constraints, equalities counted with them, as a cone may have rays.
 use Rattle.std.proofs.Common.{◌∙◌, ℕ, List, ap, refl, subst, sym}
 use Rattle.lra_linear_spec.specs.{Descriptions.LinearRow, Kinds.is_equality, Kinds.is_line}

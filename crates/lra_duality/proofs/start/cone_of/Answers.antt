@@ -1,4 +1,4 @@
--- Goals of `cone_of`: the cone of the constraints, by these generators; none where there is no generator, or are more,
+-- Goals of `cone_of`: the cone of the constraints, by these generators; none if there is no generator, or are more,
 -- lines counted with them, than a cone may have rays, or too many dimensions.
 use Rattle.std.proofs.Common.{ℕ, subst}
 use Rattle.lra_linear_spec.specs.{ConeStrain.row_limit, Kinds.is_line}

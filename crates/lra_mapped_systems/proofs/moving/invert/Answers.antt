@@ -1,4 +1,4 @@
--- Goals of `invert`: the form that takes the form back; none where that has neither 1 nor -1 at the column.
+-- Goals of `invert`: the form that takes the form back; none if that has neither 1 nor -1 at the column.
 use Rattle.std.proofs.Common.{inl, inr, length, refl, subst, sym}
 use Rattle.lra_mapped_systems.specs.Moving.{IsInverse}
 use Rattle.lra_mapped_systems.proofs.{MovingLosses.never, TakenBack.minus_one_back, TakenBack.one_back}

@@ -1,4 +1,4 @@
--- Goals of `greatest_end`: the form's greatest value, where there is one.
+-- Goals of `greatest_end`: the form's greatest value, if there is one.
 use Rattle.lra_poly_queries.proofs.boxes.greatest_end.Goals as goal
 
 pub returns-in-Wide-clause-end : goal.returns-in-Wide-clause-end

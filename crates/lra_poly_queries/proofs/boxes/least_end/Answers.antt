@@ -1,4 +1,4 @@
--- Goals of `least_end`: the form's least value, where there is one.
+-- Goals of `least_end`: the form's least value, if there is one.
 use Rattle.lra_poly_queries.proofs.boxes.least_end.Goals as goal
 
 pub returns-in-Wide-clause-end : goal.returns-in-Wide-clause-end

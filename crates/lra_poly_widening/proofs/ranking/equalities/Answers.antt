@@ -1,4 +1,4 @@
--- Goals of `equalities`: the equalities, one more than the dimensions where there is no point.
+-- Goals of `equalities`: the equalities, one more than the dimensions if there is no point.
 use Rattle.std.proofs.Common.{ap, length, refl, subst, suc, sym, ◌∙◌, ◌≡◌, ◌<◌, ℕ}
 use Rattle.lra_poly_widening.proofs.{Places.width_at, WideningLemmas.no_equalities, WideningLemmas.one_row, WideningLemmas.some_equalities}
 use Rattle.lra_poly_widening.proofs.ranking.equalities.Goals as goal

@@ -1,4 +1,4 @@
--- Goals of `become_one`: the parts, not one, become one, which grows by next's; nothing where a join of parts or
+-- Goals of `become_one`: the parts, not one, become one, which grows by next's; nothing if a join of parts or
 -- its growth exceeds a limit.
 use Rattle.std.proofs.{Common.◌≡◌, Common.◌<◌, Common.[], Common.length, Common.sym, Common.◌∙◌, Common.arith, lemmas.Grind.common_steps}
 use Rattle.lra_powerset.specs.Laws.{fits_formed}

@@ -1,4 +1,4 @@
--- Goals of `start_and_grow`: the parts become one, which grows by the other; nothing where a join of parts or its
+-- Goals of `start_and_grow`: the parts become one, which grows by the other; nothing if a join of parts or its
 -- growth exceeds a limit.
 use Rattle.std.proofs.Common.{inl, inr, subst, sym, ◌∙◌}
 use Rattle.lra_domain.specs.declared.Exactness.TheVariants.{Exact}

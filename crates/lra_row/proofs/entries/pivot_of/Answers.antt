@@ -1,4 +1,4 @@
--- Goals of `pivot_of`: the first column other than 0 in the order 1, 2, 3 and on; 0 where there is none.
+-- Goals of `pivot_of`: the first column other than 0 in the order 1, 2, 3 and on; 0 if there is none.
 use Rattle.std.proofs.Common.{pos, get_or, arith, rules, ◌∙◌, FitsSigned}
 use Rattle.std.specs.Int.{w128}
 use Rattle.lra_row.proofs.Pivots.{lead_later, zero_test}

@@ -1,4 +1,4 @@
--- Goals of `BoxesDomain::is_empty`: yes exactly where there is no part, and exactly where there is no store.
+-- Goals of `BoxesDomain::is_empty`: yes exactly if there is no part, and exactly if there is no store.
 use Rattle.lra_box.specs.Content.{bounds_view}
 use Rattle.lra_box.proofs.{SoundLemmas.none_stores, StepLemmas.has_length}
 use Rattle.lra_box.proofs.boxes.BoxesDomain.is_empty.Goals as goal

@@ -1,4 +1,4 @@
--- Goals of `OctagonDomain::included`: entry by entry; of a tight octagon, No only where a store lies beyond the
+-- Goals of `OctagonDomain::included`: entry by entry; of a tight octagon, No only if a store lies beyond the
 -- other.
 use Rattle.std.proofs.{Common.◌≡◌, Common.ap, Common.sym, Common.◌∙◌, lemmas.Bool.false≢true}
 use Rattle.lra_octagon.specs.{Content.OctagonContent, Content.CellsFit, Content.matrix_view, Laws.octagon_wider}

@@ -1,5 +1,5 @@
--- Goals of `OctagonDomain::is_empty`: yes exactly where there is no part; of a tight octagon, exactly where there
--- is no store.
+-- Goals of `OctagonDomain::is_empty`: yes exactly if there is no part; of a tight octagon, exactly if there is
+-- no store.
 use Rattle.lra_octagon.proofs.LeastLemmas.{no_store}
 use Rattle.lra_octagon.proofs.octagon.OctagonDomain.is_empty.Goals as goal
 

@@ -1,4 +1,4 @@
--- Goals of `PolyhedronDomain::is_empty`: yes exactly where there is no rational point.
+-- Goals of `PolyhedronDomain::is_empty`: yes exactly if there is no rational point.
 use Rattle.lra_poly_domain.proofs.PartLemmas.{empty_none, parts_where_empty}
 use Rattle.lra_poly_domain.proofs.polyhedron.PolyhedronDomain.is_empty.Goals as goal
 

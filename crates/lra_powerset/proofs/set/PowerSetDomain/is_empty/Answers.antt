@@ -1,4 +1,4 @@
--- Goals of `PowerSetDomain::is_empty`: yes exactly where there is no part.
+-- Goals of `PowerSetDomain::is_empty`: yes exactly if there is no part.
 use Rattle.std.proofs.{Common.◌≡◌, Common.[], Common.refl, Common.sym, Common.◌∙◌, Common.arith, lemmas.Grind.common_steps}
 use Rattle.std.specs.Prelude.{IsTrue}
 use Rattle.lra_powerset.proofs.SetLemmas.{none_rows, rows_none}
