@@ -29,7 +29,7 @@ fn words_of(rt: &(impl Env + AllocGlobal + Eprint)) -> Result<Vec<String>, Statu
     }
 }
 
-/// Says why the input of this name can't be read. Where that can't be reported, the exit status still does.
+/// Says why the input of this name can't be read. If that can't be reported, the exit status still does.
 fn tell_fault(rt: &HostRuntime, name: &str, error: Error) {
     let _ = eprintln!(rt; "lra: {name}: {error}");
 }

@@ -1,4 +1,4 @@
--- Where an access is judged to be inside its array, no run evaluates it outside.
+-- If an access is judged to be inside its array, no run evaluates it outside.
 use Rattle.std.proofs.Common.{◌≡◌, ◌∙◌, ℕ, List, Option, Some, Bool, true, refl, sym, ap, subst}
 use Rattle.std.specs.{List.Contains, Prelude.slice_get}
 use Rattle.lra_base.specs.declared.refusals.Place.{Place}

@@ -88,7 +88,7 @@ module _ (asks : Op → Bool) where
 
 -- what is found --------------------------------------------------------------------------------------------------------
 
--- where nothing is flagged after, nothing is before
+-- if nothing is flagged after, nothing is before
 first_none : {A : Type 0} (f : Option ℕ) (js : List (Finding A)) → first_flagged f js ≡ None → f ≡ None
 first_none f [] e = e
 first_none f (j ∷ js) e = none_noted j.point j.exactness f (first_none (noted j.point j.exactness f) js e)

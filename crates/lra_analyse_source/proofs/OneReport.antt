@@ -180,7 +180,7 @@ one_flag : (f : Option ℕ) (told : Option ℕ) → told ≡ option_map suc f �
 one_flag None told is none = refl
 one_flag (Some q) told is none = absurd (none-some _ (sym none ∙ is))
 
--- where nothing is flagged last, nothing is before
+-- if nothing is flagged last, nothing is before
 module _ {V H : Type 0} (m : Abstraction V H) {shown : V → Invariant} {o : Options} {constants : List ℤ} {P : Program} {r : Report}
     (x : ReportsIteration m shown o constants P r) (none : x.last ≡ None) where
   pub unflagged_behind : x.overflow_flag ≡ None

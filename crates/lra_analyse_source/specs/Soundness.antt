@@ -40,7 +40,7 @@ FittingIsSound {V} m =
     → (q : ℕ) (s : Site) → slice_get (sites_of P) q ≡ Some s → Contains fitting (q, true) → Overflows P (point_of s)
     → ⊥
 
--- where an access is judged to be inside its array by what is found, no run evaluates it outside
+-- if an access is judged to be inside its array by what is found, no run evaluates it outside
 abbrev pub AccessesAreSound : {V H : Type 0} → Abstraction V H → Type 0
 AccessesAreSound {V} m =
     (plan : Plan) (P : Program) (tree : Node) (values : List V) (verdicts : List (ℕ × Bool))

@@ -48,7 +48,7 @@ pub fn fitting_is_sound<D: Domain>()
     ensures { FittingIsSound D.abstraction }
 {}
 
-/// Where an access is judged to be inside its array, no run evaluates it outside.
+/// If an access is judged to be inside its array, no run evaluates it outside.
 pub fn accesses_are_sound<D: Domain>()
     ensures { AccessesAreSound D.abstraction }
 {}

@@ -140,7 +140,7 @@ abbrev pub JoinsRunning : {V H : Type 0} → Operations V H → Option V → V �
 JoinsRunning ops None u x w = (w ≡ u) × (x ≡ Exact)
 JoinsRunning ops (Some running) u x w = ops.joined running u x w
 
--- after the last arm: what runs there; where no label is `default`, what has no match joins it
+-- after the last arm: what runs there; if no label is `default`, what has no match joins it
 abbrev pub ComesOut : {V H : Type 0} → Operations V H → Bool → Option V → V → Exactness → V → Type 0
 ComesOut ops has_default None other x w = (w ≡ other) × (x ≡ Exact)
 ComesOut ops true (Some running) other x w = (w ≡ running) × (x ≡ Exact)

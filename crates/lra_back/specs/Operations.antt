@@ -1,6 +1,6 @@
 -- The operations of which going back is made: those of an iteration, what was so before an assignment or a test, and
 -- meets. Each is a relation of its operands, its exactness and its result, so that one definition serves for what is
--- written, for what drops something where it is flagged, and for where it exceeds a limit.
+-- written, for what drops something if it is flagged, and for where it exceeds a limit.
 use Rattle.std.specs.Prelude.{◌≡◌}
 use Rattle.lra_domain.specs.Actions.{Action, assign, forget, test, embed, remove_last}
 use Rattle.lra_domain.specs.Backward.{BackwardAbstraction, TransfersBackTo, MeetsBoth}

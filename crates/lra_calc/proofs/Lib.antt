@@ -12,7 +12,7 @@ pub mod Limit
 pub mod WidenLemmas
 -- From one fact about an answer to another.
 pub mod Endings
--- What refuses a script by its lines alone; one end of each script where nothing is flagged.
+-- What refuses a script by its lines alone; one end of each script if nothing is flagged.
 pub mod OneRefusal
 pub mod OneEnd
 -- Worked examples: whole scripts whose answers are known.

@@ -84,7 +84,7 @@ pub record ReportsWritten {V H : Type 0} (m : Abstraction V H) (shown : V → In
   pub accessed : JudgesAccesses m (exact_operations m) tree values None inside None
   pub proved : map reported_of r.verdicts ≡ reported_all verdicts fitting inside
 
--- where nothing is flagged, every value is the written iteration's, by the source's own constants
+-- if nothing is flagged, every value is the written iteration's, by the source's own constants
 pub record IsWrittenUnlessFlagged (o : Options) (bytes : List ℕ) (r : Report) : Type 0 where
   pub tree : FileTree
   pub accepted : Accepts Spells bytes tree

@@ -170,7 +170,7 @@ pub fn run<S: Source, K: Sink>(
     ensures nothing { Ends silent result → Keeps (K.held sink.old) (K.held sink.new) }
 
     // Where the words ask for a report and the status is that of one, the one report that the input
-    // must get and that is written so, in the words' format: it holds in all runs; where nothing is
+    // must get and that is written so, in the words' format: it holds in all runs; if nothing is
     // flagged, it says what the written iteration finds; over polyhedra rows and generators describe the same
     // points.
     ensures holds { (options : Options) (format : Format) →
@@ -219,7 +219,7 @@ pub fn run<S: Source, K: Sink>(
         WritesBack number (S.left source.old) (K.held sink.old) (K.held sink.new) result }
     // Where they ask for threads and the status is that of a report, what holds in every
     // interleaving of the threads' steps, with verdicts that are unknown exactly where the values
-    // that are shown say so; where nothing is flagged, it says what the written rounds find, and
+    // that are shown say so; if nothing is flagged, it says what the written rounds find, and
     // a flag stands at a point of which an operation exceeds a limit, all before it exact.
     ensures threads { (delay narrow : ℕ) →
         Asks (map string_bytes words.now) (Threads delay narrow) → Ends reported result →
@@ -238,8 +238,8 @@ pub fn run<S: Source, K: Sink>(
         IsRead (asked_limit asked) (S.left source.old) (S.left source.new) (result ≡ Status.ReadFault)
         (result ≢ Status.ReadFault × result ≢ Status.Memory) }
 
-    // A fault is the answer only if its count rose; every other answer leaves the counts. Where
-    // nothing fails and memory doesn't run out, there is an answer, written whole: so a source
+    // A fault is the answer only if its count rose; every other answer leaves the counts. If nothing
+    // fails and memory doesn't run out, there is an answer, written whole: so a source
     // without a cause of refusal gets its report, and a script that runs whole its output. A sink
     // that surely takes each text that is required doesn't fail.
     ensures read_fault { RisesAtFault Status.ReadFault (S.faults source.old) (S.faults source.new) result }

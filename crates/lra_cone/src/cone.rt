@@ -148,7 +148,7 @@ impl Cone {
         &self.saturation
     }
 
-    /// Takes a row in: the cone becomes that of its vectors at which the row holds. Where that exceeds a limit, or
+    /// Takes a row in: the cone becomes that of its vectors at which the row holds. If that exceeds a limit, or
     /// if there is no memory, the cone stays as it was.
     pub fn add_row(&mut self, row: &Row, kind: ConKind) -> Result<(), ConeError>
         requires { length row.now ≡ suc self.old.dims }

@@ -369,7 +369,7 @@ pub fn from_cone(
 }
 
 /// The polyhedron of the constraints, and what was lost: rows with which a number passes the range, or there are too
-/// many generators, are left out; where a number passes in the canonical constraints, or there are too many, all are.
+/// many generators, are left out; if a number passes in the canonical constraints, or there are too many, all are.
 /// Without a loss it has the points of the constraints, else at least those.
 pub fn from_rows(alloc: Global, rows: &ConSys) -> Result<(DescriptionPair, Vec<Loss>), AllocError>
     ensures becomes { IfOk result (λ r. IsMadeOfRows rows.now.dims (constraints rows.now) r.0 r.1.items) }
@@ -423,7 +423,7 @@ fn enclose_points(
     Ok((pair, losses))
 }
 
-// The polyhedron of the generators that were added to the cone, some of them points; where a number passes in the
+// The polyhedron of the generators that were added to the cone, some of them points; if a number passes in the
 // canonical ones, or there are too many, that of constraints that hold at each of them.
 fn of_taken_generators(
     alloc: Global,
@@ -545,8 +545,8 @@ pub fn with_generators(
     Ok(pair)
 }
 
-/// The polyhedron of the generators, and what was lost. Where one of them isn't added, those of the constraints that
-/// are valid on all of them are taken, as where a number passes in the canonical generators, or there are too many.
+/// The polyhedron of the generators, and what was lost. If one of them isn't added, those of the constraints that
+/// are valid on all of them are taken, as when a number passes in the canonical generators, or there are too many.
 /// Without a loss it has the points of the generators, else at least those.
 pub fn from_generators(
     alloc: Global,

@@ -114,7 +114,7 @@ fn goes<'a, D: Domain>(
     }
 }
 
-/// One step: it goes on at the innermost place, or opens one. Where none is open, the whole tree is passed.
+/// One step: it goes on at the innermost place, or opens one. If none is open, the whole tree is passed.
 fn take_step<'a, D: Domain, F: Interfere<D>>(
     alloc: Global,
     plan: &'a Plan,

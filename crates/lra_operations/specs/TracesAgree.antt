@@ -6,7 +6,7 @@ use Rattle.lra_program.specs.{Program.Program, Run.begun, Run.Point, Sites.Site,
 use Rattle.lra_operations.specs.Traces.{to_point, to_failure, Stop, stopped, RunsUpTo}
 use Rattle.lra_operations.specs.{Agree.IsInlinedTree, Agree.point_of, Agree.AreDistinct, Tree.Node}
 
--- the point that has the number in the list; where it has none, a point of no meaning
+-- the point that has the number in the list; if it has none, a point of no meaning
 abbrev pub point_or_none : Option Site → Point
 point_or_none None = record { path = []; label = 0 }
 point_or_none (Some s) = point_of s

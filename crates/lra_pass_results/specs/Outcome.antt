@@ -99,8 +99,8 @@ abbrev pub NarrowsTo : {V H : Type 0} → Interference V → Abstraction V H →
 NarrowsTo {V} {H} o m set q base c a first u s v r =
     DescendingIteration V H (lossy_operations m) q base c (LossyPass o m set a) set.narrow first u s v r
 
--- a result that may be given again for this value: that of a pass from it, whatever was flagged before that. Where
--- nothing is flagged so far, nothing was flagged then
+-- a result that may be given again for this value: that of a pass from it, whatever was flagged before that. If nothing
+-- is flagged so far, nothing was flagged then
 pub record IsKept {V H : Type 0} (o : Interference V) (m : Abstraction V H) (set : Plan) (g : Node) (f : Option ℕ)
     (v : V)
     (r : PassResult V) : Type 0 where

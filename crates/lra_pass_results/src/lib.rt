@@ -1,5 +1,5 @@
 //! What a pass over a program's tree of operations gives and keeps: outcomes, turns of loops, heads while they grow.
-//! And the trees that are passed where they stand. Where a function has a type parameter `F: Interfere<D>`, its
+//! And the trees that are passed where they stand. If a function has a type parameter `F: Interfere<D>`, its
 //! contract speaks of passes among others of that type, whichever they are: nothing here calls them.
 #![tactic(auto)]
 

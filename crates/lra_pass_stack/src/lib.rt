@@ -1,6 +1,6 @@
 //! The places where a pass over a tree of operations is under way, what must hold there, and what comes next in rows,
 //! choices and `switch`es.
-//! Where a function has a type parameter `F: Interfere<D>`, its contract speaks of a pass among others
+//! If a function has a type parameter `F: Interfere<D>`, its contract speaks of a pass among others
 //! of that type, whichever they are: nothing here calls them.
 #![tactic(auto)]
 

@@ -298,7 +298,7 @@ fn open_arm<'a, D: Domain, F: Interfere<D>>(
     Ok(Next::Opens(PassFrame::Select(place), Entering { node, value, flag }))
 }
 
-/// What runs after the last arm; where no label is `default`, what has no match joins it.
+/// What runs after the last arm; if no label is `default`, what has no match joins it.
 fn join_other<D: Domain>(
     point: usize,
     has_default: bool,
@@ -360,7 +360,7 @@ fn come_out<D: Domain>(
     }
 }
 
-/// The labels that come next are entered, then the tree after them is next; where no arm is left, the whole is passed.
+/// The labels that come next are entered, then the tree after them is next; if no arm is left, the whole is passed.
 fn next_of_arms<'a, D: Domain, F: Interfere<D>>(
     alloc: Global,
     selecting: Selecting<'a, D>,

@@ -8,12 +8,12 @@ use Rattle.lra_linear_spec.specs.Strain as strain
 use Rattle.lra_poly.specs.declared.outcome.Outcome.{Outcome}
 use Rattle.lra_poly.specs.declared.outcome.Outcome.TheVariants.{Exact, Flagged}
 
--- where the outcome is exact
+-- if the outcome is exact
 abbrev pub IfExact : Type 0 → Outcome → Type 0
 IfExact P Exact = P
 IfExact P (Flagged loss) = Unit {0}
 
--- where it is flagged, of the loss
+-- if it is flagged, of the loss
 abbrev pub IfFlagged : (strain.Loss → Type 0) → Outcome → Type 0
 IfFlagged P Exact = Unit {0}
 IfFlagged P (Flagged loss) = P loss
@@ -28,7 +28,7 @@ abbrev pub first_loss : List strain.Loss → Outcome
 first_loss [] = Exact
 first_loss (loss ∷ later) = Flagged loss
 
--- A value of n dimensions is made for the set P. Flagged or not, it has all points of P; where it is exact it has no
+-- A value of n dimensions is made for the set P. Flagged or not, it has all points of P; if it is exact it has no
 -- other. It is flagged only if that exceeds a limit, and then the loss is reported.
 pub record Becomes (n : ℕ) (P : PointSet) (strains : strain.Loss → Type 0) (new : Polyhedron) (o : Outcome)
     : Type 0 where

@@ -147,7 +147,7 @@ impl Poly {
         })
     }
 
-    /// The polyhedron of the constraints. Where it is flagged it has at least the points of the constraints.
+    /// The polyhedron of the constraints. If it is flagged, it has at least the points of the constraints.
     pub fn from_rows(alloc: Global, rows: &ConSys) -> Result<(Poly, Outcome), AllocError>
         ensures becomes { IfOk result (λ r. IsOfRows rows.now.dims (constraints rows.now) r.0 r.1) }
         ensures some { IfOk result (λ r. IsOfSome rows.now.dims (constraints rows.now) r.0) }
@@ -159,7 +159,7 @@ impl Poly {
         Ok((made, outcome_of(losses)))
     }
 
-    /// The polyhedron of the generators. Where it is flagged it has at least the points of the generators.
+    /// The polyhedron of the generators. If it is flagged, it has at least the points of the generators.
     pub fn from_generators(alloc: Global, given: &GenSys) -> Result<(Poly, Outcome), AllocError>
         requires { FitKinds given.now.rows given.now.kinds }
         ensures becomes { IfOk result (λ r. IsOfGenerators given.now.dims (generators given.now) r.0 r.1) }
@@ -356,7 +356,7 @@ impl Poly {
         }
     }
 
-    // The polyhedron of the constraints and of these, converted from nothing. Where it is flagged it has at least their
+    // The polyhedron of the constraints and of these, converted from nothing. If it is flagged, it has at least their
     // points.
     fn meet_rows_anew(&self, more: &ConSys) -> Result<(Poly, Outcome), AllocError>
         requires { more.now.dims ≡ self.now.dims }
@@ -393,7 +393,7 @@ impl Poly {
     }
 
     /// Takes these constraints in: keeps the points that meet each of them. Where each point is seen to meet them,
-    /// nothing changes. Where it is flagged it has at least those points, and no point that it hadn't before: what was
+    /// nothing changes. If it is flagged, it has at least those points, and no point that it hadn't before: what was
     /// made comes in only if it is known to lie in the old value.
     pub fn add_rows(&mut self, more: &ConSys) -> Result<Outcome, AllocError>
         requires { more.now.dims ≡ self.old.dims }
@@ -421,7 +421,7 @@ impl Poly {
         Ok(outcome)
     }
 
-    /// Becomes the meet with the other: the points of both. Where it is flagged it has at least those, and no point
+    /// Becomes the meet with the other: the points of both. If it is flagged, it has at least those, and no point
     /// that it hadn't before: the rows that strained when they were tried are left out. Where each point is seen to be
     /// in the other, nothing changes.
     pub fn meet(&mut self, other: &Poly) -> Result<Outcome, AllocError>
@@ -440,7 +440,7 @@ impl Poly {
         Ok(outcome)
     }
 
-    /// Keeps the points that pass the test. Where it is flagged it has at least those, and no point that it hadn't
+    /// Keeps the points that pass the test. If it is flagged, it has at least those, and no point that it hadn't
     /// before. Where each point is seen to pass, nothing changes.
     pub fn add_test(&mut self, test: &Test) -> Result<Outcome, AllocError>
         requires { length test.now.expr.coefficients ≡ self.old.dims }
@@ -483,7 +483,7 @@ impl Poly {
         }
     }
 
-    // The polyhedron of its generators and of these, converted from nothing. Where it is flagged it has at least their
+    // The polyhedron of its generators and of these, converted from nothing. If it is flagged, it has at least their
     // points.
     fn unite_anew(&self, more: &GenSys) -> Result<(Poly, Outcome), AllocError>
         requires dims { more.now.dims ≡ self.now.dims }
@@ -518,7 +518,7 @@ impl Poly {
     }
 
     /// Takes these generators in: becomes the polyhedron of its own and of these, which are added after them, by the
-    /// lists at hand where these can be gone on from. Where it is flagged it has at least their points.
+    /// lists at hand where these can be gone on from. If it is flagged, it has at least their points.
     pub fn add_generators(&mut self, more: &GenSys) -> Result<Outcome, AllocError>
         requires dims { more.now.dims ≡ self.old.dims }
         requires kinds { FitKinds more.now.rows more.now.kinds }
@@ -534,8 +534,8 @@ impl Poly {
         Ok(outcome)
     }
 
-    /// Becomes the hull with the other: the least closed polyhedron that has the points of both. Where the other is
-    /// seen to lie in it, nothing changes. Where it is flagged it has at least its points: then the generators of both
+    /// Becomes the hull with the other: the least closed polyhedron that has the points of both. If the other is seen
+    /// to lie in it, nothing changes. If it is flagged, it has at least its points: then the generators of both
     /// were converted from nothing, since it can't be gone on from the lists at hand, or one exceeds a limit after
     /// them.
     pub fn hull(&mut self, other: &Poly) -> Result<Outcome, AllocError>

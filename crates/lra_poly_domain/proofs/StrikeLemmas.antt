@@ -1,4 +1,4 @@
--- Widening thresholds that are struck for their products: where no product passes, what is kept are the rows that are
+-- Widening thresholds that are struck for their products: if no product passes, what is kept are the rows that are
 -- valid on both.
 use Rattle.std.proofs.Common.{◌≡◌, ◌∙◌, Bool, true, false, cond, List, [], ◌∷◌, Result, Ok, Err, ap, refl}
 use Rattle.std.proofs.lemmas.Bool.{or_parts}

@@ -41,7 +41,7 @@ forgotten_for_image k form p new loss above strains f = record {
   flagged = strains;
 }
 
--- nothing is claimed as flagged where the outcome is exact
+-- nothing is claimed as flagged if the outcome is exact
 pub not_flagged : (P : Loss → Type 0) (o : Outcome) → o ≡ Exact → IfFlagged P o
 not_flagged P Exact e = tt
 not_flagged P (Flagged loss) e = absurd (cc)

@@ -51,8 +51,8 @@ fn extend_along(p: &Poly, x: usize) -> Result<Option<Poly>, AllocError>
     Ok(made)
 }
 
-/// Lets the coordinate x be anything: becomes the set of the points that some value of x brings into it. Where it is
-/// flagged it has at least those.
+/// Lets the coordinate x be anything: becomes the set of the points that some value of x brings into it. If it is
+/// flagged, it has at least those.
 pub fn forget(p: &mut Poly, x: usize) -> Result<Outcome, AllocError>
     requires { x < p.old.dims }
     ensures dims { p.new.dims ≡ p.old.dims }
@@ -85,7 +85,7 @@ fn give_up(p: &mut Poly, x: usize) -> Result<(), AllocError>
     Ok(())
 }
 
-// Becomes the polyhedron of generators that give no more than what some value of the coordinate x brings into it; where
+// Becomes the polyhedron of generators that give no more than what some value of the coordinate x brings into it; if
 // that is flagged, the coordinate x is forgotten.
 fn replace_or_forget(p: &mut Poly, x: usize, list: &GenSys) -> Result<Outcome, AllocError>
     requires column { x < p.old.dims }
@@ -202,8 +202,8 @@ fn convert_image(p: &mut Poly, x: usize, form: &Row) -> Result<Outcome, AllocErr
     }
 }
 
-/// Gives the coordinate x the form's value: becomes the set of its points, each with that value as coordinate x. Where
-/// it is flagged, the coordinate may be anything: it has at least those points. Where the form has 1 or -1 at x nothing
+/// Gives the coordinate x the form's value: becomes the set of its points, each with that value as coordinate x. If it
+/// is flagged, the coordinate may be anything: it has at least those points. Where the form has 1 or -1 at x nothing
 /// is converted, unless a number passes the range or there is no point.
 pub fn image(p: &mut Poly, x: usize, form: &LinExpr) -> Result<Outcome, AllocError>
     requires column { x < p.old.dims }
@@ -255,8 +255,8 @@ fn convert_preimage(p: &mut Poly, x: usize, form: &Row) -> Result<Outcome, Alloc
     Ok(first_told(formed.lost, outcome))
 }
 
-/// Becomes the set of the points that are brought into it when the coordinate x is given the form's value. Where it is
-/// flagged it has at least those: constraints with which a number passes are left out. Where the form has 1 or -1 at x
+/// Becomes the set of the points that are brought into it when the coordinate x is given the form's value. If it is
+/// flagged, it has at least those: constraints with which a number passes are left out. Where the form has 1 or -1 at x
 /// nothing is converted, unless a number passes the range or there is no point.
 pub fn preimage(p: &mut Poly, x: usize, form: &LinExpr) -> Result<Outcome, AllocError>
     requires column { x < p.old.dims }

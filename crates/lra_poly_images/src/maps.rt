@@ -26,8 +26,8 @@ fn replace(p: &mut Poly, list: &GenSys) -> Result<Outcome, AllocError>
     Ok(outcome)
 }
 
-/// Takes away the last k dimensions: becomes the set of its points without their last k coordinates. Where it is
-/// flagged it has at least those.
+/// Takes away the last k dimensions: becomes the set of its points without their last k coordinates. If it is
+/// flagged, it has at least those.
 pub fn remove_last(p: &mut Poly, k: usize) -> Result<Outcome, AllocError>
     requires { k ≤ p.old.dims }
     ensures becomes { IfOk result (Becomes (p.old.dims - k)
@@ -42,7 +42,7 @@ pub fn remove_last(p: &mut Poly, k: usize) -> Result<Outcome, AllocError>
 }
 
 /// Adds k dimensions, the last ones, in which the coordinates may be anything: becomes the set of its points with any
-/// coordinates after them. Where it is flagged it has at least those.
+/// coordinates after them. If it is flagged, it has at least those.
 pub fn embed(p: &mut Poly, k: usize) -> Result<Outcome, AllocError>
     requires { p.old.dims + k < too_many_dimensions }
     ensures becomes { IfOk result (Becomes (p.old.dims + k)
@@ -100,7 +100,7 @@ fn elapse(p: &mut Poly, other: &Poly) -> Result<Outcome, AllocError>
 }
 
 /// Lets time elapse: becomes the hull of its points moved by any whole number of steps from 0 on, each step by the
-/// coordinates of a point of the other. Where it is flagged it has at least those. Where one of the two has no point it
+/// coordinates of a point of the other. If it is flagged, it has at least those. Where one of the two has no point it
 /// is never flagged.
 pub fn time_elapse(p: &mut Poly, other: &Poly) -> Result<Outcome, AllocError>
     requires { other.now.dims ≡ p.old.dims }

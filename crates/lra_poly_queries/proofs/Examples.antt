@@ -151,7 +151,7 @@ not_turned s = grind arith
 pub not_twice : IsSublist (steep ∷ steep ∷ []) (steep ∷ []) → ⊥
 not_twice s = grind arith
 
--- where none is kept, no trial exceeds a limit
+-- if none is kept, no trial exceeds a limit
 pub none_strains : (p context : Polyhedron) (loss : Loss) → SimplifyStrains p context [] loss → ⊥
 none_strains p context loss s = split_none s.front s.tried s.back s.are
 

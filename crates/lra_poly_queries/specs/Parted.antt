@@ -32,7 +32,7 @@ pub record SomePartStrains (parts : List (LinearSystem ConKind)) (loss : Loss) :
   pub has_part : Contains parts part
   pub strains : FromRowsStrains part.dims (constraints part) loss
 
--- flagged or not, they have all points; where the outcome is exact they have no other; it is flagged only on strain
+-- flagged or not, they have all points; if the outcome is exact they have no other; it is flagged only on strain
 pub record AreMadeOf (parts : List (LinearSystem ConKind)) (made : List Polyhedron) (o : Outcome) : Type 0 where
   pub around : AreAround parts made
   pub exact : IfExact (ArePolyhedraOf parts made) o

@@ -70,7 +70,7 @@ IsNeededOrStrains p context front g back =
     ⊎ ((loss : Loss) × OwnTrialStrains p context front g back loss)
 
 -- Within the context the same points, given by some of p's constraints in their order. Each of these is needed, or its
--- own trial exceeds a limit. Where the outcome is exact, all are needed; it is flagged only if the trial of one
+-- own trial exceeds a limit. If the outcome is exact, all are needed; it is flagged only if the trial of one
 -- exceeds a limit.
 pub record IsSimplified (p context : Polyhedron) (kept : List LinearRow) (o : Outcome) : Type 0 where
   pub same : SameSet p.dims (Meet (Con context.rows) (Con kept)) (Meet (Con context.rows) (Con p.rows))

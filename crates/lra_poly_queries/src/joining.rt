@@ -56,7 +56,7 @@ fn push_moved(
 }
 
 /// The polyhedron whose first coordinates are those of a point of the first, and whose others are those of a point of
-/// the second. Where it is flagged it has at least those points.
+/// the second. If it is flagged, it has at least those points.
 pub fn concatenate(p: &Poly, q: &Poly) -> Result<(Poly, Outcome), AllocError>
     requires { p.now.dims + q.now.dims < too_many_dimensions }
     ensures { IfOk result (λ r. Becomes (p.now.dims + q.now.dims)
@@ -74,7 +74,7 @@ pub fn concatenate(p: &Poly, q: &Poly) -> Result<(Poly, Outcome), AllocError>
 }
 
 /// The points with one further coordinate, the last, that meet the constraint, whose row has the constant, a column for
-/// each old coordinate, and one for the new. Where it is flagged it has at least those points.
+/// each old coordinate, and one for the new. If it is flagged, it has at least those points.
 pub fn extend_with(p: &Poly, row: &Row, kind: ConKind) -> Result<(Poly, Outcome), AllocError>
     requires small { p.now.dims + 1 < too_many_dimensions }
     requires width { length row.now ≡ p.now.dims + 2 }
@@ -103,8 +103,8 @@ fn dims_replaced(alloc: Global, count: usize, dim: usize) -> Result<Vec<usize>, 
 }
 
 /// The points whose coordinate along the dimension is any value that meets the constraint with the old point; all other
-/// coordinates stay. The row has the constant, a column for each old coordinate, and one for the new value. Where it is
-/// flagged it has at least those points.
+/// coordinates stay. The row has the constant, a column for each old coordinate, and one for the new value. If it is
+/// flagged, it has at least those points.
 pub fn image_relation(
     p: &Poly,
     dim: usize,
@@ -126,7 +126,7 @@ pub fn image_relation(
 }
 
 /// The points with one further coordinate, the last: a twin of the one along the dimension, which may be whatever that
-/// one may be beside the others. Where it is flagged it has at least those points.
+/// one may be beside the others. If it is flagged, it has at least those points.
 pub fn expand(p: &Poly, dim: usize) -> Result<(Poly, Outcome), AllocError>
     requires small { p.now.dims + 1 < too_many_dimensions }
     requires dim { dim < p.now.dims }

@@ -62,8 +62,8 @@ fn choose_list(alloc: Global, list: &GenSys, dims: &[usize]) -> Result<GenSys, A
 }
 
 /// The polyhedron whose dimensions are, in turn, these of the given one: in a new order, without some, or with one
-/// that stands twice: `dims` has the old dimension of each new one. Along one that it hasn't the coordinate is 0. Where
-/// it is flagged it has at least those points. Memory runs out from 2^62 dimensions on.
+/// that stands twice: `dims` has the old dimension of each new one. Along one that it hasn't the coordinate is 0. If it
+/// is flagged, it has at least those points. Memory runs out from 2^62 dimensions on.
 pub fn map_dims(p: &Poly, dims: &[usize]) -> Result<(Poly, Outcome), AllocError>
     ensures { IfOk result (λ r. Becomes (length dims.now)
         (Moved p.now.dims dims.now (Con p.now.rows)) (MapDimsStrains dims.now p.now) r.0 r.1) }
@@ -74,7 +74,7 @@ pub fn map_dims(p: &Poly, dims: &[usize]) -> Result<(Poly, Outcome), AllocError>
 }
 
 /// The least closed polyhedron that has the points along the dimensions kept and those along the dimensions folded into
-/// them, each in turn. Where it is flagged it has at least those points.
+/// them, each in turn. If it is flagged, it has at least those points.
 pub fn fold_dims(p: &Poly, kept: &[usize], folded: &[usize]) -> Result<(Poly, Outcome), AllocError>
     requires { length folded.now ≡ length kept.now }
     ensures { IfOk result (λ r. Becomes (length kept.now) (Folded p.now kept.now folded.now)

@@ -25,7 +25,7 @@ fn polyhedra(alloc: Global, parts: &[ConSys]) -> Result<(Vec<Poly>, Outcome), Al
 }
 
 /// A polyhedron for each of the value's parts, in their order. Parts are the lists of constraints that `parts` of the
-/// domain gives: each store of the value meets one of them, so it is in one of the polyhedra. Where it is flagged these
+/// domain gives: each store of the value meets one of them, so it is in one of the polyhedra. If it is flagged, these
 /// have at least the points of the parts.
 pub fn polyhedra_of<D: Domain>(alloc: Global, value: &D) -> Result<(Vec<Poly>, Outcome), AllocError>
     ensures dims { IfOk result (λ r. All (λ p. p.dims ≡ D.abstraction.dims value.now) r.0.items) }

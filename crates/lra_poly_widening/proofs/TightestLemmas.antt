@@ -227,7 +227,7 @@ limited_few : (p q : Polyhedron) (given : List LinearRow) →
     IsWithin p.dims (LimitedWidening p q given) (LimitedWidening p q (tightest (kept_thresholds p q given)))
 limited_few p q given x point l = (l.0, λ g k a b. l.1 g (few_given p q given g k) a b)
 
--- where no product passes, the tightest limit as all do
+-- if no product passes, the tightest limit as all do
 few_limited : (p q : Polyhedron) (given : List LinearRow) → HasPoint p → HasPoint q → kept_thresholds p q given ≡ valid_on p q given
     → IsWithin p.dims (LimitedWidening p q (tightest (kept_thresholds p q given))) (LimitedWidening p q given)
 few_limited p q given h k same x point l = (

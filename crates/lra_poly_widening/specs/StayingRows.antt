@@ -10,6 +10,6 @@ pub record IsOfStaying (p q : Polyhedron) (given : List LinearRow) (r : Polyhedr
   pub outcome : Outcome
   pub tried : IsTried p.dims (with_positivity p.dims []) (tight_on p q ++ kept_thresholds p q given) r outcome
 
--- where it is flagged, unless it isn't known whether P lies in Q
+-- if it is flagged, unless it isn't known whether P lies in Q
 abbrev pub StaysOrIsGivenUp : Polyhedron → Polyhedron → List LinearRow → Polyhedron → Outcome → Type 0
 StaysOrIsGivenUp p q given r o = IfFlagged (λ _. IsGivenUp p q r o ⊎ IsOfStaying p q given r) o

@@ -68,7 +68,7 @@ fn tightest(alloc: Global, list: &ConSys) -> Result<ConSys, AllocError>
 }
 
 /// The standard widening of P by Q, which P lies in, met with each given constraint that is valid on both; the tightest
-/// of them alone are added. Where it is flagged it has at least those points.
+/// of them alone are added. If it is flagged, it has at least those points.
 pub fn limited_by_tightest(
     alloc: Global,
     p: &Poly,

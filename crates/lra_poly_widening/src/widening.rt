@@ -83,7 +83,7 @@ pub fn widen_limited_by(
 }
 
 /// The standard widening of P by Q, which P lies in: the points at which each constraint of Q that is tight on P holds;
-/// Q where P has no point. Where it is flagged it has at least those. Refused with the place of P's first generator
+/// Q where P has no point. If it is flagged, it has at least those. Refused with the place of P's first generator
 /// outside Q; where a product passes before that is known, it is flagged and has all points.
 pub fn standard(alloc: Global, p: &Poly, q: &Poly) -> Result<(Poly, Outcome), WidenError>
     requires { q.now.dims ≡ p.now.dims }
@@ -102,7 +102,7 @@ pub fn standard(alloc: Global, p: &Poly, q: &Poly) -> Result<(Poly, Outcome), Wi
     Ok((made, outcome))
 }
 
-/// The standard widening met with each given constraint that is valid on both. Where it is flagged it has at least
+/// The standard widening met with each given constraint that is valid on both. If it is flagged, it has at least
 /// those points. Refused as the standard one is.
 pub fn limited(
     alloc: Global,

@@ -341,7 +341,7 @@ many_wide {V} {H} m old new ps next mode form same a strains =
     (subst (λ (f : HeadForm V H). NotWhole f) (sym form) tt)
     (inl (subst (λ (f : HeadForm V H). HeadFormStrains m f next.parts mode) (sym form) strains))
 
--- its parts become one where that exceeds a limit, and the head is given up
+-- its parts become one if that exceeds a limit, and the head is given up
 pub many_strains : {V H : Type 0} (m : Abstraction V H) (old new : SetHead V H) (ps : List V) (next : SetContent V) (mode : Mode)
     → mode ≢ Join → old.form ≡ many ps → next.dims ≡ old.dims → HasAll m old new → ¬ PartsIncluded m.included next.parts ps
     → BecomesOne m old.thresholds ps next.parts mode None → HasGrown m old next mode (grew_by Flagged) new

@@ -347,7 +347,7 @@ impl<D: BaseDomain> Domain for PowerSet<D> {
     }
 
     /// In joining it becomes the set's join with next. Otherwise a head that isn't one part becomes one, the join of
-    /// its parts in order, and that part grows by the join of next's parts in order. Where that can't be reported, it
+    /// its parts in order, and that part grows by the join of next's parts in order. If that can't be reported, it
     /// is given up.
     fn grow(head: &mut PowerSetHead<D>, next: &Self, mode: Mode) -> Result<Grown, AllocError> {
         let (_before, _next) = (head.dims(), next.items()); // fact: the head fits, and so does each part of next

@@ -116,7 +116,7 @@ abbrev pub IsOutside : Environment → Element → Type 0
 IsOutside s x = (draws : List ℤ) × (r : ℤ × List ℤ) × (value_of x.index s draws ≡ Some r) ×
     (place_among x.array.length r.0 ≡ None)
 
--- where the variables of the call that evaluates its accesses begin; where it has none, any number would do
+-- where the variables of the call that evaluates its accesses begin; if it has none, any number would do
 abbrev pub base_of : Op → ℕ
 base_of (store_value base x e) = base
 base_of (store_element base x e) = base

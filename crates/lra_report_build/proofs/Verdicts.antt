@@ -298,7 +298,7 @@ told_more ls number site whole so_far more n js j v inside read held pushed is =
     ∙ ap (λ (m : ℕ). so_far ++ listed_verdict ls (record { kind = Access; number = number; site = site; which = n; place = j.0 }) j.1 ∷ all m later) (sym next)
     ∙ ap (λ (xs : List (Place × Bool)). so_far ++ all n xs) (sym (drop_more js n j inside ∙ ap (λ (k : Place × Bool). k ∷ later) (sym read))) ∙ held
 
--- where none is left
+-- if none is left
 pub told_all_of : (ls : List Labelled) (number : ℕ) (site : Site) (whole so_far : List Verdict) (n : ℕ) (js : List (Place × Bool)) → length js ≤ n
     → so_far ++ access_verdicts ls number site n (drop n js) ≡ whole → so_far ≡ whole
 told_all_of ls number site whole so_far n js past held =

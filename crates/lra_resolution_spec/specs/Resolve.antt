@@ -238,7 +238,7 @@ resolve_function F outside n f = record {
   end = n + items_count f.body;
 }
 
--- 0 where it has none
+-- 0 if it has none
 abbrev pub value_or_zero : Option SignedLiteral → ℤ
 value_or_zero None = pos 0
 value_or_zero (Some v) = v.value

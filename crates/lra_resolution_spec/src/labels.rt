@@ -160,7 +160,7 @@ impl Labels {
         Ok(())
     }
 
-    /// The list of all names of a list but the newest; where it has none, that list.
+    /// The list of all names of a list but the newest; if it has none, that list.
     pub fn outer(&self, number: usize) -> usize
         requires { number < length self.now.lists }
         ensures there { result < length self.now.lists }

@@ -143,7 +143,7 @@ fn are_rays(rays: &[Row], want: &[Row]) -> bool {
     rays.len() == want.len()
 }
 
-// Takes the row in, and says whether the rays are those of all pairs; where a line is across, pairs say nothing.
+// Takes the row in, and says whether the rays are those of all pairs; if a line is across, pairs say nothing.
 fn agrees_with_pairs(alloc: Global, cone: &mut Cone, row: &Row) -> Result<bool, Unfit> {
     if row.width() == 0 || row.width() - 1 != cone.dims() {
         return Err(Unfit::Row);

@@ -11,7 +11,7 @@ const STEEP: Constraint = ([0, -1, 1], ConKind::Ge);
 /// x = 1.
 const WALL: Constraint = ([-1, 1, 0], ConKind::Eq);
 
-// The constraints that stay, where the outcome is exact.
+// The constraints that stay, if the outcome is exact.
 fn rest_of(alloc: Global, given: &[Constraint], context: Constraint) -> Result<ConSys, Unfit> {
     let (set, around) = (set_of(alloc, given)?, set_of(alloc, &[context])?);
     let (kept, outcome) = simplify(&set, &around)?;

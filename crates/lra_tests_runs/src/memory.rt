@@ -43,7 +43,7 @@ fn with_text(
 /// How a run over these bytes ends, and what the sink, with room for so many bytes, then holds. The words stand between
 /// single spaces, the program's name first. The read and the write of these numbers, counted from 1, fail.
 ///
-/// Fails if memory runs out for the words or the text. Where the sink holds other bytes than UTF-8, it says so.
+/// Fails if memory runs out for the words or the text. If the sink holds other bytes than UTF-8, it says so.
 pub fn ended_within(
     alloc: Global,
     words: &str,

@@ -1,4 +1,4 @@
--- Where an access is reported to be inside its array, the tree doesn't ask there of one that is outside.
+-- If an access is reported to be inside its array, the tree doesn't ask there of one that is outside.
 use Rattle.std.proofs.Common.{◌≡◌, ◌∙◌, ℕ, List, length, Option, Some, None, Bool, true, refl, sym, ap, subst}
 use Rattle.std.proofs.lemmas.Option.{same_Some, slice_get_read}
 use Rattle.std.specs.{List.Contains, Prelude.slice_get}

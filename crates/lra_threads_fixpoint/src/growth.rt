@@ -26,7 +26,7 @@ fn join(one: Option<Interval>, two: Option<Interval>) -> Option<Interval>
     }
 }
 
-/// The bounds of the first that stay when the second comes in; where the first is none, the second.
+/// The bounds of the first that stay when the second comes in; if the first is none, the second.
 fn widen(one: Option<Interval>, two: Option<Interval>) -> Option<Interval>
     ensures { result ≡ widened_option one two }
 {

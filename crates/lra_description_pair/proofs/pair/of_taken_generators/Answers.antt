@@ -1,5 +1,5 @@
 -- Goals of `of_taken_generators`: the polyhedron of the generators that were added to the cone, some of them
--- points; where a number passes in the canonical ones, or there are too many, that of constraints that hold at each
+-- points; if a number passes in the canonical ones, or there are too many, that of constraints that hold at each
 -- of them.
 use Rattle.std.proofs.Common.{inl}
 use Rattle.lra_systems.specs.LinearSystems.{constraints}

@@ -1,4 +1,4 @@
--- Goals of `join_other`: what runs after the last arm; where no label is `default`, what has no match joins it.
+-- Goals of `join_other`: what runs after the last arm; if no label is `default`, what has no match joins it.
 use Rattle.std.proofs.Common.{sym}
 use Rattle.lra_pass_stack.proofs.SelectFrames.{comes_out_joined, comes_out_same}
 use Rattle.lra_pass_stack.proofs.selections.join_other.Goals as goal

@@ -1,5 +1,5 @@
 -- Goals of `replace_or_forget`: becomes the polyhedron of generators that give no more than what some value of the
--- coordinate x brings into it; where that is flagged, the coordinate x is forgotten.
+-- coordinate x brings into it; if that is flagged, the coordinate x is forgotten.
 use Rattle.std.proofs.Common.{refl, rules, suc, sym, subst}
 use Rattle.lra_linear_spec.specs.{Polyhedra.Polyhedron, Strain.Loss}
 use Rattle.lra_systems.specs.LinearSystems.{generators}

@@ -1,4 +1,4 @@
--- Goals of `Labels::outer`: the list of all names of a list but the newest; where it has none, that list.
+-- Goals of `Labels::outer`: the list of all names of a list but the newest; if it has none, that list.
 use Rattle.std.proofs.Common.{◌≡◌, ◌<◌, ◌-◌, length, subst, sym, take, arith}
 use Rattle.lra_resolution_spec.specs.LabelTable.{LabelLists, list_at}
 use Rattle.lra_resolution_spec.proofs.NameLists.{lists_length, outer_of_entry, outer_of_first, outer_inside}
