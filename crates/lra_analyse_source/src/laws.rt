@@ -30,8 +30,8 @@ pub fn trees_fit()
     ensures numbered { TreesAreNumbered }
 {}
 
-/// What a report says of an analysis over a domain holds in all runs, and the report is one of its source, where the
-/// options name that domain and allow as many parts as the analysis had.
+/// What a report says of an analysis over a domain holds in all runs. The report is one of its source if the options
+/// name that domain and allow as many parts as the analysis had.
 pub fn analyses_are_right<D: Domain>()
     ensures sound { AnalysedAreSound D.abstraction }
     ensures reports { AnalysedAreReports D.abstraction }

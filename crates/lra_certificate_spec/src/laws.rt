@@ -3,8 +3,8 @@
 ghost use Rattle.lra_certificate_spec.specs.Claims.{CertificatesHold, CertificatesAreInductive, JudgedExactly};
 ghost use Rattle.lra_certificate_spec.specs.Claims.{OneCertificate};
 
-/// What a certificate that meets its program says of stores is kept along all paths, and where that holds in all runs
-/// its rows do, nothing reaches its empty points, and none of its listed assertions is false.
+/// What a certificate that meets its program says of stores is kept along all paths. If it holds in all runs, the
+/// certificate's rows do, no run reaches its empty points, and none of its listed assertions is false.
 pub fn certificates_are_inductive()
     ensures { CertificatesAreInductive }
 {}

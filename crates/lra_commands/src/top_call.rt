@@ -169,10 +169,10 @@ pub fn run<S: Source, K: Sink>(
         (K.held sink.new) (K.spare sink.old) }
     ensures nothing { Ends silent result → Keeps (K.held sink.old) (K.held sink.new) }
 
-    // Where the words ask for a report and the status is that of one, the one report that the input
-    // must get and that is written so, in the words' format: it holds in all runs; if nothing is
-    // flagged, it says what the written iteration finds; over polyhedra rows and generators describe the same
-    // points.
+    // If the words ask for a report and the status is that of one: what is written is the one report
+    // that the input must get and that is written so, in the words' format. It holds in all runs. If
+    // nothing is flagged, it says what the written iteration finds. Over polyhedra rows and
+    // generators describe the same points.
     ensures holds { (options : Options) (format : Format) →
         Asks (map string_bytes words.now) (Analyse options format) → Ends reported result →
         WritesReport options (written_report format) HoldsInAllRuns (S.left source.old)
@@ -181,15 +181,15 @@ pub fn run<S: Source, K: Sink>(
         Asks (map string_bytes words.now) (Analyse options format) → Ends reported result →
         WritesReport options (written_report format) (IsWrittenUnlessFlagged options)
         (S.left source.old) (K.held sink.old) (K.held sink.new) }
-    // Where they ask which operations fit: where all that is computed at a point is reported to fit, no
-    // run stops there by a number, and that is reported exactly where it fits by the values at the
+    // If they ask which operations fit: if all that is computed at a point is reported to fit, no
+    // run stops there by a number. It is reported exactly where all fits by the values at the
     // points.
     ensures fits { (options : Options) (format : Format) →
         Asks (map string_bytes words.now) (Analyse options format) → Ends reported result →
         WritesReport options (written_report format) (ReportsFits options) (S.left source.old)
         (K.held sink.old) (K.held sink.new) }
-    // Of each access of an array: where it is reported to be in bounds no run evaluates it outside its
-    // array, and that is reported exactly where it is so by the values at the points, flagged or not.
+    // Of each access of an array: if it is reported to be in bounds, no run evaluates it outside its
+    // array. It is reported exactly if it is so by the values at the points, flagged or not.
     ensures accesses { (options : Options) (format : Format) →
         Asks (map string_bytes words.now) (Analyse options format) → Ends reported result →
         WritesReport options (written_report format) (ReportsAccesses options) (S.left source.old)
@@ -198,37 +198,37 @@ pub fn run<S: Source, K: Sink>(
         Asks (map string_bytes words.now) (Analyse options format) → Ends reported result →
         WritesReport options (written_report format) (ReportsSamePoints options) (S.left source.old)
         (K.held sink.old) (K.held sink.new) }
-    // Where they ask for a sample, what is reported about a report of its source, of which all of this
-    // holds.
+    // If they ask for a sample: what is written sums up a report of its source, and all of this holds
+    // of that report.
     ensures sampled { (seed size : ℕ) → Asks (map string_bytes words.now) (Sample seed size) → Ends reported result →
         WritesSummary seed size (K.held sink.old) (K.held sink.new) }
 
-    // Where they ask to verify and the status is that of a certificate that meets its program, what
-    // then holds in all runs of its source.
+    // If they ask to verify, and the status is that of a certificate that meets its program: what then
+    // holds in all runs of its source.
     ensures verified { Asks (map string_bytes words.now) (Plain Verify) → result ≡ Status.Proved →
         WritesVerified (S.left source.old) (K.held sink.old) (K.held sink.new) }
-    // Where they ask to certify and the status is that of a report, the certificate of a report
-    // that the input must get, which is verified where it isn't too long.
+    // If they ask to certify, and the status is that of a report: the certificate of a report that the
+    // input must get. It is verified if it isn't too long.
     ensures certified { Asks (map string_bytes words.now) (Plain Certify) → Ends reported result →
         WritesCertificate (S.left source.old) (K.held sink.old) (K.held sink.new) result }
-    // Where they ask to go back from an assertion and the status is that of a report, at each point
-    // what has each store from which a run goes on to fail at the assertion, which no run does
-    // where it is proved.
+    // If they ask to go back from an assertion, and the status is that of a report: at each point a
+    // value that has each store from which a run goes on to fail at the assertion. If the assertion
+    // is proved, no run does.
     ensures backs { (number : ℕ) → Asks (map string_bytes words.now) (Back number) →
         Ends reported result →
         WritesBack number (S.left source.old) (K.held sink.old) (K.held sink.new) result }
-    // Where they ask for threads and the status is that of a report, what holds in every
-    // interleaving of the threads' steps, with verdicts that are unknown exactly where the values
-    // that are shown say so; if nothing is flagged, it says what the written rounds find, and
-    // a flag stands at a point of which an operation exceeds a limit, all before it exact.
+    // If they ask for threads, and the status is that of a report: what holds in every interleaving of
+    // the threads' steps. A verdict is unknown exactly where the values that are shown say so. If
+    // nothing is flagged, the report says what the written rounds find. A flag stands at a point of
+    // which an operation exceeds a limit, and all before it is exact.
     ensures threads { (delay narrow : ℕ) →
         Asks (map string_bytes words.now) (Threads delay narrow) → Ends reported result →
         WritesThreads delay narrow (S.left source.old) (K.held sink.old) (K.held sink.new) result }
 
     // With which statuses what the words ask for may end: those of its answer, by what the input
-    // says of its bytes, or of a fault. (Where a flagged set is widened, both answers to a script
-    // may be right: which depends on the set.) Usage: only if they ask for no command: the
-    // command line doesn't take them, or their options conflict.
+    // says of its bytes, or of a fault. (If a flagged set is widened, both answers to a script may be
+    // right: which one is depends on the set.) `Usage` comes only if they ask for no command: the
+    // command line doesn't accept them, or their options conflict.
     ensures ends { (asked : Option Command) → IsAsked (map string_bytes words.now) asked → (among : List _) →
         AllowedStatuses asked (S.left source.old) among → Ends among result ⊎ Ends (faults (asked_limit asked)) result }
     ensures usage { result ≡ Status.Usage →
@@ -239,8 +239,8 @@ pub fn run<S: Source, K: Sink>(
         (result ≢ Status.ReadFault × result ≢ Status.Memory) }
 
     // A fault is the answer only if its count rose; every other answer leaves the counts. If nothing
-    // fails and memory doesn't run out, there is an answer, written whole: so a source
-    // without a cause of refusal gets its report, and a script that runs whole its output. A sink
+    // fails and memory doesn't run out, there is an answer, written whole. So a source without a
+    // cause of refusal gets its report, and a script that runs to its end gets its output. A sink
     // that surely takes each text that is required doesn't fail.
     ensures read_fault { RisesAtFault Status.ReadFault (S.faults source.old) (S.faults source.new) result }
     ensures write_fault { RisesAtFault Status.WriteFault (K.faults sink.old) (K.faults sink.new) result }
