@@ -12,8 +12,8 @@ use Rattle.guzhtarel.specs.Entries.{AllHave, AllHold, join_each, rows_from, tota
 
 -- of an entry: which numbers it has, which other covers it, the join of two, the one that has all numbers, the one that
 -- stands in a value without a store, a number that falls, and its rows of n + 1 columns, of inequalities on a column;
--- and what is known of a form's value. Nothing is proved of the void entry: a join with a value without a store gives
--- `join void e`, which loses nothing if it is e.
+-- and what is known of a form's value. Nothing is proved of the bottom entry: a join with a value without a store gives
+-- `join bottom e`, which loses nothing if it is e.
 pub record EachEntry (E : Type 0) : Type 1 where
   pub gamma : E → ℤ → Type 0
   pub leq : E → E → Bool
