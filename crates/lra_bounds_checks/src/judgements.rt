@@ -6,7 +6,7 @@ ghost use Rattle.lra_analysis_spec.specs.{Accesses.JudgesAccesses, LiveLimit.mos
 ghost use Rattle.lra_overflow_checks.specs.Judged.{AreBelow};
 ghost use Rattle.lra_base.specs.AccessVerdicts.{reported_view};
 
-use crate::accesses::BoundsCheck;
+use crate::access_checks::BoundsCheck;
 use lra_base::Place;
 use lra_domain::Domain;
 use lra_operations::Node;

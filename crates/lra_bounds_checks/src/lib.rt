@@ -3,7 +3,7 @@
 //! any domain.
 #![tactic(auto)]
 
-mod accesses;
+mod access_checks;
 mod bounds;
 mod judgements;
 mod listing;

@@ -1,6 +1,6 @@
 pub mod Blocks
 pub mod Lengths
-pub mod Summaries
+pub mod SummaryLemmas
 mod SampleExamples
 mod SummaryExamples
 -- Sources written lexeme by lexeme; the lines of a sample source and the whole, their tokens and their trees.

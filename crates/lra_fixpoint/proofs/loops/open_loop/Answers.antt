@@ -24,7 +24,7 @@ turn_growing-requires g c =
       set,
       whole,
       c.begin.new.self,
-      here.rely,
+      here.may,
       head_opens (g.F.Interfere.interference others) g.D.Domain.abstraction set c.args.the_loop whole c.args.value c.args.flag
           c.args.memory.now here c.in_ok-growing.growing c.begin.new.self c.begin.ensures.kept begun.started begun.fits
           begun.valued begun.left,
@@ -33,7 +33,7 @@ turn_growing-requires g c =
 pub returns-clause-leads : goal.returns-clause-leads
 returns-clause-leads g c others set whole here =
     let begun = c.in_ok-growing.ensures in
-    c.turn_growing.ensures.leads others set whole c.begin.new.self here.rely
+    c.turn_growing.ensures.leads others set whole c.begin.new.self here.may
     (head_opens (g.F.Interfere.interference others) g.D.Domain.abstraction set c.args.the_loop whole
     c.args.value c.args.flag c.args.memory.now here c.in_ok-growing.growing c.begin.new.self c.begin.ensures.kept
     begun.started begun.fits begun.valued begun.left)

@@ -1,6 +1,6 @@
 -- Goals of `push_sizes`: appends the first three lines.
 use Rattle.std.proofs.lemmas.Result.{on_ok_weaker}
-use Rattle.lra_sample.proofs.Summaries.{sizes_lines}
+use Rattle.lra_sample.proofs.SummaryLemmas.{sizes_lines}
 use Rattle.lra_sample.proofs.summaries.push_sizes.Goals as goal
 
 pub returns : goal.returns

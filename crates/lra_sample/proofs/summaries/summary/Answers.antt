@@ -2,7 +2,7 @@
 use Rattle.std.proofs.{Common.◌≡◌, Common.length, Common.refl, Common.arith, Common.◌∙◌, lemmas.Grind.common_steps}
 use Rattle.std.specs.Vec.{vec_len}
 use Rattle.lra_report.specs.View.{report_of}
-use Rattle.lra_sample.proofs.Summaries.{counted_verdicts, summary_lines}
+use Rattle.lra_sample.proofs.SummaryLemmas.{counted_verdicts, summary_lines}
 use Rattle.lra_sample.proofs.summaries.summary.Goals as goal
 
 pub returns : goal.returns

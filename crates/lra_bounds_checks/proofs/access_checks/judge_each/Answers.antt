@@ -2,7 +2,7 @@
 use Rattle.std.proofs.Common.{◌≤◌, length, map, arith}
 use Rattle.lra_bounds_checks.specs.Listed.{access_view}
 use Rattle.lra_bounds_checks.proofs.BoundsSteps.{all_told, none_told, told_more}
-use Rattle.lra_bounds_checks.proofs.accesses.judge_each.Goals as goal
+use Rattle.lra_bounds_checks.proofs.access_checks.judge_each.Goals as goal
 
 pub accesses-init : goal.accesses-init
 accesses-init g c = none_told g.D.Domain.abstraction c.args.value.now c.args.around.base (map access_view c.args.accesses.now) c.args.told.now.items

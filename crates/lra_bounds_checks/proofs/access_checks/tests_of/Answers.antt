@@ -1,7 +1,7 @@
 -- Goals of `tests_of`: the tests that an index is outside.
 use Rattle.std.proofs.Common.{◌≡◌, length}
 use Rattle.lra_bounds_checks.proofs.BoundsSteps.{outside_wide}
-use Rattle.lra_bounds_checks.proofs.accesses.tests_of.Goals as goal
+use Rattle.lra_bounds_checks.proofs.access_checks.tests_of.Goals as goal
 
 pub returns-in-Some-clause-wide : goal.returns-in-Some-clause-wide
 returns-in-Some-clause-wide c =

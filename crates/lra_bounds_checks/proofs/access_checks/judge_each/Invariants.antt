@@ -1,7 +1,7 @@
 use Rattle.std.proofs.Common.{map, drop}
 use Rattle.lra_bounds_checks.specs.Listed.{access_view}
 use Rattle.lra_bounds_checks.proofs.BoundsSteps.{AreToldSoFar}
-use Rattle.lra_bounds_checks.proofs.accesses.judge_each.Given as goal
+use Rattle.lra_bounds_checks.proofs.access_checks.judge_each.Given as goal
 
 -- what is reported so far
 abbrev pub invariant-accesses : goal.invariant-accesses
