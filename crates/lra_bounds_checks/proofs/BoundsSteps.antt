@@ -5,7 +5,7 @@ use Rattle.std.specs.Prelude.{◌-ℤ◌, pos, IfOk, Result}
 use Rattle.lra_linear_forms.specs.{Form.Form, declared.test.Test.Test}
 use Rattle.lra_base.specs.{Operators.below, declared.operators.Comparison.TheVariants.Below, declared.refusals.Place.Place}
 use Rattle.lra_domain.specs.{Abstraction.Abstraction, Abstraction.worse, declared.Exactness.Exactness, declared.Exactness.TheVariants.Exact, declared.Exactness.TheVariants.Flagged}
-use Rattle.lra_domain.proofs.Worse.{worse_behind}
+use Rattle.lra_domain.proofs.WorseLaws.{worse_behind}
 use Rattle.lra_program.specs.{Program.Element, Value.◌>>=◌}
 use Rattle.lra_bounds_checks.specs.{BoundsChecks.AreWide, BoundsChecks.IsEachTold, Listed.access_view, declared.listing.Access.Access}
 use Rattle.lra_analysis_spec.specs.{Accesses.AccessJudged, Accesses.EachJudged, Accesses.outside, Linear.at_least_zero, Linear.comparison_test, Linear.less_by, Operations.lossy_operations}

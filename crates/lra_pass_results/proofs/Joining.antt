@@ -2,7 +2,7 @@
 use Rattle.std.proofs.Common.{◌≡◌, ℕ, ◌<◌, ◌≤◌, ◌+◌, List, [], ◌∷◌, length, drop, get_or, suc, add-one, drop-cons, refl, sym, ap, subst, ◌∙◌}
 use Rattle.std.proofs.lemmas.List.{drop_all}
 use Rattle.lra_domain.specs.{Abstraction.Abstraction, Abstraction.worse, declared.Exactness.Exactness, declared.Exactness.TheVariants.Exact, declared.Exactness.TheVariants.Flagged}
-use Rattle.lra_domain.proofs.Worse.{worse_behind}
+use Rattle.lra_domain.proofs.WorseLaws.{worse_behind}
 use Rattle.lra_analysis_spec.specs.{Operations.lossy_operations, Pass.AreJoined}
 use Rattle.lra_pass_results.specs.Outcome.{AllHave}
 

@@ -2,7 +2,7 @@
 use Rattle.std.proofs.Common.{◌≡◌, ◌≢◌, ◌⊎◌, ℕ, zero, suc, ◌≤◌, List, [], ◌∷◌, ◌++◌, length, refl, ap, sym, subst, ◌∙◌, inl, inr, arith, append_assoc, append-nil, length-append}
 use Rattle.lra_domain.specs.Abstraction.{Abstraction, TransfersTo, Joins, worse}
 use Rattle.lra_domain.specs.{Actions.Action, Actions.dims_after, Laws.Laws, Laws.BaseLaws, declared.Exactness.Exactness, declared.Exactness.TheVariants.Exact, declared.Exactness.TheVariants.Flagged}
-use Rattle.lra_domain.proofs.Worse.{exact_parts}
+use Rattle.lra_domain.proofs.WorseLaws.{exact_parts}
 use Rattle.lra_powerset.specs.Content.{SetContent, nonempty_parts, with_nonempty, PartFits}
 use Rattle.lra_powerset.specs.{Abstraction.set_abstraction, Joins.CollapsesTo, Joins.CollapseStrains, ListLemmas.each_map, Lists.EachPart, Lists.SomePart, Lists.PartByPart, Outcomes.HaveDims}
 use Rattle.lra_powerset.specs.{Outcomes.IsAppended, Outcomes.IsCollapsed, Outcomes.AreChanged, Reduction.ReducesAfter, Values.PartsIncluded, Values.SetTransferred, Values.SetStrains}

@@ -2,7 +2,7 @@
 use Rattle.std.proofs.Common.{◌≡◌, ◌⊎◌, ℕ, zero, suc, ◌≤◌, ◌<◌, List, [], ◌∷◌, ◌++◌, length, refl, sym, subst, inl, inr, arith}
 use Rattle.lra_domain.specs.Abstraction.{Abstraction, Joins, worse}
 use Rattle.lra_domain.specs.{Laws.BaseLaws, declared.Exactness.Exactness, declared.Exactness.TheVariants.Exact, declared.Exactness.TheVariants.Flagged}
-use Rattle.lra_domain.proofs.Worse.{exact_parts}
+use Rattle.lra_domain.proofs.WorseLaws.{exact_parts}
 use Rattle.lra_powerset.specs.Joins.{JoinsOnStrains, LastTwoJoin, LastTwoStrain, CollapsesTo, CollapseStrains}
 use Rattle.lra_powerset.specs.Outcomes.{IsReduced, IsMerged, LastTwoBecomeJoin, IsCollapsed}
 use Rattle.lra_powerset.specs.{Content.PartFits, ListLemmas.each_map, Lists.EachPart, Lists.SomePart, Reduction.Reduces, Single.join_same, Single.leaves_same, Values.PartsIncluded}
