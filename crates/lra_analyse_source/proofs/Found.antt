@@ -21,7 +21,7 @@ use Rattle.lra_analyse_source.proofs.Handing.{image_of}
 pub place_of : {A : Type 0} (xs : List A) (x : A) → Contains xs x → (i : ℕ) × (slice_get xs i ≡ Some x)
 place_of xs x h = (h.0, slice_get_read xs (length xs) h.0 x refl h.1 (sym h.2))
 
--- what is told is one of what was found
+-- what is reported is one of what was found
 pub found_of : {A : Type 0} (found : List (Finding A)) (q : ℕ) (x : A) → Contains (map answer_of found) (q, x)
     → (j : Finding A) × Contains found j × (j.point ≡ q) × (j.answer ≡ x)
 found_of {A} found q x h =

@@ -34,7 +34,7 @@ image_of f [] k y e = absurd (none-some y e)
 image_of f (x ∷ xs) zero y e = (x, refl, same_Some (f x) y e)
 image_of f (x ∷ xs) (suc k) y e = image_of f xs k y e
 
--- a verdict that is told is one of its kind
+-- a verdict that is reported is one of its kind
 pub one_told : (own : VerdictKind) (vs : List (ℕ × Bool)) (kind : VerdictKind) (n which : ℕ) (b : Bool) →
     Contains (map (reported_verdict own) vs) (kind, n, which, b)
     → (q : ℕ) × (kind ≡ own) × (n ≡ suc q) × Contains vs (q, b)

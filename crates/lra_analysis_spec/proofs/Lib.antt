@@ -1,4 +1,4 @@
--- A derivation without a flag is the written iteration, and the first flag stands where the written iteration strains.
+-- A derivation without a flag is the written iteration, and the first flag stands where the written iteration exceeds a limit.
 pub mod FlagLaws
 pub mod Transfer
 pub mod Unflagged

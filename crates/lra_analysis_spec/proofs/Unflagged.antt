@@ -68,7 +68,7 @@ flagged_strains {V} {H} m laws set P g r q (none, first, e, universal, values, p
     let began = made V H (lossy_operations m) (straining_operations m) (λ e. Unit {0}) (λ f. Unit {0}) any_matters (strained_ones m laws) (first_values 0 P.globals) none e first tt values in
     (r, (none, first, e, universal.0, began, p.1), is)
 
--- among others, too
+-- under interference, too
 pub unflagged_is_written_among : {V H : Type 0} (o : Interference V) (m : Abstraction V H) → Laws m → (set : Plan) (P : Program) (g : Node) (r : PassResult V)
     → LossyIterationUnder o m set P g r → r.flag ≡ None → ExactIterationUnder o m set P g r
 unflagged_is_written_among {V} {H} o m laws set P g r (none, first, e, universal, values, pass) is =
@@ -94,7 +94,7 @@ flagged_strains_among {V} {H} o m laws set P g r q (none, first, e, universal, v
     let began = made V H (lossy_operations m) (straining_operations m) (λ e. Unit {0}) (λ f. Unit {0}) any_matters (strained_ones m laws) (first_values 0 P.globals) none e first tt values in
     (r, (none, first, e, universal.0, began, p.1), is)
 
--- among nobody a pass is one of a program that runs alone
+-- without interference a pass is one of a program that runs alone
 pub same_ones : {V H : Type 0} (ops : Operations V H) → Transfers (λ e. Unit {0}) ops ops
 same_ones ops = record {
   changed = λ step v e w k h. h;

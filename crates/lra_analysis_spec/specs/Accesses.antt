@@ -1,9 +1,9 @@
--- Which accesses of arrays lie inside their arrays, as the values at the points tell it. The accesses of an operation
+-- Which accesses of arrays lie inside their arrays, as the values at the points report it. The accesses of an operation
 -- are judged in the order in which they are evaluated, each by the value that the operation has there: the right side
 -- of `&&` and `||` by what the left side leaves to it. An access is inside where no run comes, or where its index is
 -- linear and two tests have 64 bits, that it is below 0 and that it is at least the array's length, each of which alone
--- leaves nothing of the value. What is told of an access is the place where its array is named, and whether it is
--- inside.
+-- leaves nothing of the value. What is reported about an access is the place where its array is named, and whether it
+-- is inside.
 use Rattle.std.specs.Prelude.{◌≡◌, ◌++◌, ℕ, List, [], ◌∷◌, Option, None, Some, Bool, true, slice_get}
 use Rattle.lra_linear_forms.specs.{Form.Form, declared.test.Test.Test}
 use Rattle.lra_domain.specs.Abstraction.{Abstraction, worse}

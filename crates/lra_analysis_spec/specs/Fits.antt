@@ -1,5 +1,5 @@
--- Which operations can't stop a run by a number, as the values at the points tell it. An operation is asked whether all
--- that it computes fits: each operator and each sign, in the order in which they are computed, an element's index
+-- Which operations can't stop a run by a number, as the values at the points report it. An operation is asked whether
+-- all that it computes fits: each operator and each sign, in the order in which they are computed, an element's index
 -- before what the element gets, and each conversion from 64 bits to 32. Each is asked of the value that its operation
 -- has.
 use Rattle.std.specs.Prelude.{◌≡◌, ◌≢◌, ◌++◌, ℕ, ℤ, pos, negsuc, List, [], ◌∷◌, Option, None, Some, Bool, true, false}

@@ -1,6 +1,6 @@
--- What is judged of a tree's operations at their points, by the values there, whatever it is that is told of them. A
--- declarator's operation is judged behind its new variable; the right side of `&&` and `||` by what the left side
--- leaves to it. What has to be made for that may be flagged.
+-- What is judged of a tree's operations at their points, by the values there, whatever it is that is reported about
+-- them. A declarator's operation is judged after its new variable; the right side of `&&` and `||` by what the left
+-- side leaves to it. What has to be made for that may be flagged.
 use Rattle.std.specs.Prelude.{◌≡◌, ◌↔◌, ◌⊎◌, ◌<◌, ◌++◌, ℕ, List, [], ◌∷◌, map, Option, None, Some, Bool, true, false}
 use Rattle.std.specs.Prelude.{IsTrue, Contains, slice_get}
 use Rattle.lra_domain.specs.Abstraction.{Abstraction, worse}

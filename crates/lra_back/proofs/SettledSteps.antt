@@ -11,7 +11,7 @@ use Rattle.lra_back.proofs.HeadSteps.{get_set_other}
 
 -- flags ----------------------------------------------------------------------------------------------------------------
 
--- what adds no flag adds none behind another
+-- what adds no flag adds none after another
 still_noted : (q p : ℕ) (d e : Exactness) (f : Option ℕ) → noted q d f ≡ f → noted q d (noted p e f) ≡ noted p e f
 still_noted q p Exact e f is = noted_exact q (noted p e f)
 still_noted q p Flagged e (Some r) is = refl

@@ -79,7 +79,7 @@ pub record BackwardAnalysis {V H : Type 0} (ops : BackwardOperations V H) (globa
   pub met : AreBackwardValues ops 0 rounds_flag last forward flag values
 
 -- what is found, flagged or not: without a flag it is what is defined; where the forward values have none, the first
--- flag stands where the definition strains
+-- flag stands where the definition exceeds a limit
 pub record IsBackwardAnalysis {V H : Type 0} (m : Abstraction V H) (b : BackwardAbstraction V)
     (globals : List GlobalVariable) (sites : List Site)
     (g : Node) (forward : List V) (f : Option ℕ) (p : ℕ) (values : List V) (flag : Option ℕ) : Type 0 where

@@ -33,8 +33,8 @@ lossy_back_operations m b = record {
       CapsWithin (λ c. m.capped u c × m.capped v c) (m.capped w);
 }
 
--- one that strains may be flagged, and then gives anything: so what comes before the first flag is as it is defined,
--- and the first flagged operation strains on the operands that the definition has there
+-- one that exceeds a limit may be flagged, and then gives anything: so what comes before the first flag is as it is
+-- defined, and the first flagged operation exceeds a limit on the operands that the definition has there
 abbrev pub straining_back_operations : {V H : Type 0} → Abstraction V H → BackwardAbstraction V → BackwardOperations V H
 straining_back_operations m b = record {
   forward = forward.straining_operations m;

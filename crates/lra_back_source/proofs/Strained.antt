@@ -1,4 +1,4 @@
--- Where nothing is flagged what is shown is what is defined; a flag stands where that strains.
+-- If nothing is flagged what is shown is what is defined; a flag stands where that exceeds a limit.
 use Rattle.std.proofs.Common.{◌≡◌, ◌∙◌, ℕ, suc, List, refl, ap, sym, subst, inl, inr}
 use Rattle.std.proofs.lemmas.Option.{none-some, same_Some}
 use Rattle.std.specs.Prelude.{Option, None, Some, option_map}

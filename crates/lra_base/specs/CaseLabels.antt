@@ -1,5 +1,5 @@
--- The labels of a `switch`, and behind which of them it goes on (ISO/IEC 9899:2011, 6.8.1, 6.8.4.2). Values are
--- compared as whole numbers: none is converted.
+-- The labels of a `switch`, and after which of them it goes on (ISO/IEC 9899:2011, 6.8.1, 6.8.4.2). Values are compared
+-- as whole numbers: none is converted.
 use Rattle.std.specs.Prelude.{ℤ, Bool, true, false, if◌then◌else◌, List}
 use Rattle.std.specs.{List.list_any, Ordering.int_eq}
 use Rattle.lra_base.specs.declared.case_labels.CaseLabel.{CaseLabel}

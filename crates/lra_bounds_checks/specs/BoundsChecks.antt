@@ -1,4 +1,4 @@
--- What is told of accesses behind others, as the definitions have it.
+-- What is reported about accesses after others, as the definitions have it.
 use Rattle.std.specs.Prelude.{◌≡◌, ℕ, List, Bool, Option, None, Some, length, ⊤}
 use Rattle.lra_linear_forms.specs.declared.test.Test.{Test}
 use Rattle.lra_domain.specs.{Abstraction.Abstraction, declared.Exactness.Exactness}

@@ -8,7 +8,7 @@ use Rattle.lra_paths.specs.Paths.{Path}
 use Rattle.lra_multipliers.specs.Multipliers.{Multipliers}
 use Rattle.lra_certificate_spec.specs.Certificates.{Evidence, none, infeasible, implies, ListedAssertion, Certificate}
 
--- each behind a space
+-- each after a space
 abbrev pub numbers_text : List ℤ → List ℕ
 numbers_text zs = flat_map (λ z. codes " " ++ signed_decimal z) zs
 

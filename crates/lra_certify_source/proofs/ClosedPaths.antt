@@ -1,5 +1,5 @@
--- The rows of an iteration that isn't narrowed are closed along paths: what leads to a point at the same divisor leads there among
--- rational points.
+-- The rows of an iteration that isn't narrowed are inductive along paths: what leads to a point at the same divisor
+-- leads there among rational points.
 use Rattle.std.proofs.Common.{◌≡◌, ◌≢◌, ◌∙◌, ◌+◌, ◌-◌, ℕ, zero, suc, ℤ, ◌*ℤ◌, Bool, List, [], ◌∷◌, ◌++◌, length, take, refl, ap, sym, subst, arith}
 use Rattle.std.proofs.lemmas.List.{length-set, length-append, length-take-le}
 use Rattle.std.proofs.{Math.Seq.take-append_seam, lemmas.Option.none-some, lemmas.Option.same_Some, lemmas.Option.slice_get-map}

@@ -1,5 +1,5 @@
--- What is taken of an analysis into a certificate: the rows of each value, none where it has no point, and the points
--- of the assertions that are proved.
+-- What is taken of an analysis into a certificate: the rows of each value, none if it has no point, and the points of
+-- the assertions that are proved.
 use Rattle.std.specs.List.{filter}
 use Rattle.std.specs.Prelude.{ℕ, Bool, List, [], ◌∷◌, map, Option, None, Some, option_map}
 use Rattle.lra_linear_spec.specs.{Descriptions.LinearRow, Polyhedra.Polyhedron, declared.ConKind.ConKind}

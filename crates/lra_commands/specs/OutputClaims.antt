@@ -135,7 +135,7 @@ pub record ReportsFits (o : Options) (bytes : List ℕ) (r : Report) : Type 0 wh
   pub silent : o.fits ≡ false → (verdicts : List (ℕ × Bool)) × (inside : List (ℕ × List (Place × Bool))) ×
       (map reported_of r.verdicts ≡ reported_all verdicts [] inside)
 
--- over polyhedra the rows and the generators of each part tell the same points, flagged or not
+-- over polyhedra the rows and the generators of each part describe the same points, flagged or not
 abbrev pub ReportsSamePoints : Options → List ℕ → Report → Type 0
 ReportsSamePoints o bytes r = o.domain ≡ Poly → AllByRecursion HasSamePointsAt r.points
 
@@ -168,9 +168,9 @@ pub record WritesVerified (left held_old held_new : Option (List ℕ)) : Type 0 
   pub written : Appends held_old held_new
       (verified_text (length (sites_of (resolve is.program.tree))) (length is.certificate.asserted))
 
--- The certificate of a report that the input deserves, in which nothing is narrowed, is written whole: it has the rows,
--- the empty points and the proved assertions of that report, of which all is claimed that is claimed of reports, and
--- the status is that of its assertions alone. It is a certificate that meets its program, so it deserves to be verified
+-- The certificate of a report that the input must get, in which nothing is narrowed, is written whole: it has the rows,
+-- the empty points and the proved assertions of that report, of which all is claimed that is claimed of reports, and the
+-- status is that of its assertions alone. It is a certificate that meets its program, so it must be verified
 -- where it isn't too long.
 pub record WritesCertificate (left held_old held_new : Option (List ℕ)) (status : Status) : Type 0 where
   pub bytes : List ℕ
@@ -192,10 +192,11 @@ pub record WritesCertificate (left held_old held_new : Option (List ℕ)) (statu
 
 -- At each point of the input's program, whose forward analysis is gone back over, what is left of the stores from which
 -- the assertion of this number may fail is written whole. A point's state holds at each store with which a run comes
--- there that goes on to fail at the assertion, flagged or not; rows and generators tell the same points. No run fails
--- where the assertion is proved, and the status says whether it is: exactly where the point to which paths from the
--- start lead is shown as unreachable. Without a flag all that is shown is as it is defined, over the values of the
--- written iteration; the number of a flag is that of a point of which an operation strains, and all before it is exact.
+-- there that goes on to fail at the assertion, flagged or not; rows and generators describe the same points. No run
+-- fails where the assertion is proved, and the status says whether it is: exactly where the point to which paths from
+-- the start lead is shown as unreachable. Without a flag all that is shown is as it is defined, over the values of the
+-- written iteration; the number of a flag is that of a point of which an operation exceeds a limit, and all before it
+-- is exact.
 pub record WritesBack (number : ℕ) (left held_old held_new : Option (List ℕ)) (status : Status) : Type 0 where
   pub bytes : List ℕ
   pub input : IsInput left bytes

@@ -1,4 +1,4 @@
--- What the stages behind the reading answer, as answers of the tree of a source of several threads.
+-- What the stages after the reading answer, as answers of the tree of a source of several threads.
 use Rattle.std.proofs.Common.{◌≡◌, ℕ, zero, suc, ◌+◌, ◌<◌, List, [], ◌∷◌, ◌++◌, length, map, drop, take, get_or, Some, None, Result, sym, ap, ◌∙◌, subst, arith, length-append, add-one}
 use Rattle.std.proofs.{Math.Seq.take-suc, lemmas.List.at_drop_more}
 use Rattle.std.specs.{List.AllByRecursion, List.AllZip, Prelude.flat_map, Prelude.slice_get, Result.IsErrAnd}

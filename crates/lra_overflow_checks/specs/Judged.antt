@@ -50,7 +50,7 @@ module _ {V H : Type 0} (m : Abstraction V H) where
   IsOpJudged op v old e new = HasAnswers (λ bs. OpJudged m (lossy_operations m) op v bs e) old new
 
 module _ {V H : Type 0} (ops : Operations V H) {A : Type 0} where
-  -- what is told of a condition, by what is told of its leaves
+  -- what is reported about a condition, by what is reported about its leaves
   abbrev pub IsCondJudged : (ℕ → Expr → Expr → V → List A → Exactness → Type 0) →
       (ℕ → Expr → V → List A → Exactness → Type 0) →
       ℕ → Cond → V → List A → Exactness → List A → Type 0

@@ -1,5 +1,5 @@
--- What is done on a way leads where its moves lead: a value that goes to a label has that label's value, and one that goes to
--- none has none of them.
+-- What is done on a segment leads where its moves lead: a value that goes to a label has that label's value, and one
+-- that goes to none has none of them.
 use Rattle.std.proofs.Common.{◌≡◌, ℕ, ℤ, List, [], ◌∷◌, length, Bool, true, false, Some, refl, sym, ap, subst, arith}
 use Rattle.std.proofs.lemmas.Int.{ints}
 use Rattle.std.specs.{List.list_any, Ordering.int_eq, Prelude.if◌then◌else◌}

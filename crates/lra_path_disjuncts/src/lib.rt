@@ -1,5 +1,5 @@
-//! The moves of what is done on a way of a tree, in tables in which what stands in several of them stands once, and
-//! their sides: counted before they are written.
+//! The moves of what is done on a segment of a tree, in tables in which what stands in several of them stands once, and
+//! their disjuncts: counted before they are written.
 #![tactic(auto)]
 
 mod changes;

@@ -38,7 +38,7 @@ mark_is_lexeme : (m : Mark) → is_lexeme (mark_text m) ≡ true
 mark_is_lexeme mark.Plus = refl
 mark_is_lexeme _ = refl
 
--- the second byte tells a comment from a division
+-- the second byte distinguishes a comment from a division
 abbrev pub opens_comment : List ℕ → Bool
 opens_comment [] = false
 opens_comment (c ∷ []) = false

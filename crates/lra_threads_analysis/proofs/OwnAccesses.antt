@@ -1,4 +1,5 @@
--- The accesses of a thread's own tree are those of the opened one; flags of accesses stand behind those of the iteration.
+-- The accesses of a thread's own tree are those of the instrumented one; flags of accesses come after those of the
+-- iteration.
 use Rattle.std.proofs.Common.{◌≡◌, ◌∙◌, ◌⊎◌, ℕ, List, Bool, Option, None, Some, refl, ap, sym, subst, inl, inr}
 use Rattle.std.proofs.lemmas.Option.{none-some}
 use Rattle.lra_box.specs.{Abstraction.box_abstraction, Content.BoxContent, Laws.box_laws}

@@ -78,8 +78,8 @@ impl AnnotatedProgram<'_> {
         Ok(next)
     }
 
-    /// How many assertions are listed so far, and where the next line begins, behind the one at a point, if there is
-    /// one and the line that begins here lists it.
+    /// How many assertions are listed so far, and where the next line begins, after the one at a point, if there is one
+    /// and the line that begins here lists it.
     fn take_assertion(
         &self,
         alloc: Global,
