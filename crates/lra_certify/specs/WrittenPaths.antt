@@ -101,7 +101,8 @@ PathsLeft w show rest all now start =
 -- assertions ---------------------------------------------------------------------------------------------------------
 
 abbrev pub IsListed : AnnotatedProgram → ℕ → ListedAssertion → Type 0
-IsListed w q one = (one.number ≡ q) × AllZip (IsEvidenceFor (sites_in w) (states_in w)) (violating_paths w q) one.evidence
+IsListed w q one =
+    (one.number ≡ q) × AllZip (IsEvidenceFor (sites_in w) (states_in w)) (violating_paths w q) one.evidence
 
 abbrev pub AddsListed : AnnotatedProgram → List ℕ → List ℕ → List ℕ → Type 0
 AddsListed w proved old new = AddsEach (IsListed w) (λ q one. listed_text one) proved old new

@@ -169,9 +169,9 @@ pub record WritesVerified (left held_old held_new : Option (List ℕ)) : Type 0 
       (verified_text (length (sites_of (resolve is.program.tree))) (length is.certificate.asserted))
 
 -- The certificate of a report that the input must get, in which nothing is narrowed, is written whole: it has the rows,
--- the empty points and the proved assertions of that report, of which all is claimed that is claimed of reports, and the
--- status is that of its assertions alone. It is a certificate that meets its program, so it must be verified
--- where it isn't too long.
+-- the empty points and the proved assertions of that report, of which all is claimed that is claimed of reports, and
+-- the status is that of its assertions alone. It is a certificate that meets its program, so it must be verified if it
+-- isn't too long.
 pub record WritesCertificate (left held_old held_new : Option (List ℕ)) (status : Status) : Type 0 where
   pub bytes : List ℕ
   pub input : IsInput left bytes
