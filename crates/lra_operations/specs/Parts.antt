@@ -13,7 +13,7 @@ whole_arm_of (arm_parts.Tree g) = arm.Tree g
 abbrev pub whole_of : Parts → Node
 whole_of parts.Empty = tree.Empty
 whole_of (parts.Point q) = tree.Point q
-whole_of (parts.Aside q what) = tree.Probe q what
+whole_of (parts.Probe q what) = tree.Probe q what
 whole_of (parts.Act q o) = tree.Act q o
 whole_of (parts.Check q base c) = tree.Check q base c
 whole_of (parts.Seq gs last) = tree.Seq gs last

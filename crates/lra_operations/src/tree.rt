@@ -95,7 +95,7 @@ pub enum Arm {
 pub enum Parts {
     Empty,
     Point(usize),
-    Aside(usize, Probe),
+    Probe(usize, Probe),
     Act(usize, Op),
     Check(usize, usize, Cond),
     Seq(Vec<Node>, Box<Node>),
@@ -169,7 +169,7 @@ impl Node {
         match self {
             Node::Empty => Parts::Empty,
             Node::Point(point) => Parts::Point(point),
-            Node::Probe(point, what) => Parts::Aside(point, what),
+            Node::Probe(point, what) => Parts::Probe(point, what),
             Node::Act(point, op) => Parts::Act(point, op),
             Node::Check(point, base, condition) => Parts::Check(point, base, condition),
             Node::Seq(trees, last) => Parts::Seq(trees, last),

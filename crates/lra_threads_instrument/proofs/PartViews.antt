@@ -14,7 +14,7 @@ use Rattle.lra_threads_instrument.proofs.Sums.{same_wholes}
 abbrev pub parts_view : Parts → graph.Node
 parts_view parts.Empty = graph.empty
 parts_view (parts.Point q) = graph.point q
-parts_view (parts.Aside q what) = graph.probe q what
+parts_view (parts.Probe q what) = graph.probe q what
 parts_view (parts.Act q o) = graph.act q (op_view o)
 parts_view (parts.Check q base c) = graph.check q base (cond_view c)
 parts_view (parts.Seq gs last) = row (map node_view gs.items) (node_view last.value)
@@ -27,7 +27,7 @@ parts_view (parts.Select q base e arms) = graph.select q base (expr_view e) (arm
 pub view_of : (p : Parts) → node_view (whole_of p) ≡ parts_view p
 view_of parts.Empty = search (rules, node_lemmas)
 view_of (parts.Point q) = search (rules, node_lemmas)
-view_of (parts.Aside q what) = search (rules, node_lemmas)
+view_of (parts.Probe q what) = search (rules, node_lemmas)
 view_of (parts.Act q o) = search (rules, node_lemmas)
 view_of (parts.Check q base c) = search (rules, node_lemmas)
 view_of (parts.Seq gs last) = search (rules, node_lemmas)
@@ -40,7 +40,7 @@ view_of (parts.Select q base e arms) = search (rules, node_lemmas)
 abbrev pub parts_size : Parts → ℕ
 parts_size parts.Empty = 1
 parts_size (parts.Point q) = 1
-parts_size (parts.Aside q what) = 1
+parts_size (parts.Probe q what) = 1
 parts_size (parts.Act q o) = 1
 parts_size (parts.Check q base c) = 1
 parts_size (parts.Seq gs last) = 2 + (sum_by whole_size gs.items + whole_size last.value)
@@ -57,7 +57,7 @@ whole_of_seq gs b = search (rules, node_lemmas)
 size_of : (p : Parts) → whole_size (whole_of p) ≡ parts_size p
 size_of parts.Empty = search (rules, node_lemmas)
 size_of (parts.Point q) = search (rules, node_lemmas)
-size_of (parts.Aside q what) = search (rules, node_lemmas)
+size_of (parts.Probe q what) = search (rules, node_lemmas)
 size_of (parts.Act q o) = search (rules, node_lemmas)
 size_of (parts.Check q base c) = search (rules, node_lemmas)
 size_of (parts.Seq gs last) = whole_of_seq gs last ∙ ap (λ k. 2 + (k + whole_size last.value)) (same_wholes gs.items)
@@ -77,7 +77,7 @@ left_of p g is = ap tree_left (sym is) ∙ ap (λ k. 2 * k) (size_of p)
 more_than_one : (p : Parts) → 1 < 2 * parts_size p
 more_than_one parts.Empty = omega arith
 more_than_one (parts.Point q) = omega arith
-more_than_one (parts.Aside q what) = omega arith
+more_than_one (parts.Probe q what) = omega arith
 more_than_one (parts.Act q o) = omega arith
 more_than_one (parts.Check q base c) = omega arith
 more_than_one (parts.Seq gs last) = omega arith

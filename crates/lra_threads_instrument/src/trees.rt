@@ -217,7 +217,7 @@ fn open_parts(
             let entered = enter(alloc, point, Node::Point(point))?;
             Ok(Next::Gives(entered))
         }
-        Parts::Aside(point, what) => Ok(Next::Gives(Node::Probe(point, what))),
+        Parts::Probe(point, what) => Ok(Next::Gives(Node::Probe(point, what))),
         Parts::Act(point, op) => {
             let noted = record_write(alloc, globals, point, op)?;
             Ok(Next::Gives(noted))

@@ -15,7 +15,7 @@ returns-in-Empty c = leaf_leads c.args.globals c.args.places.now.items parts.Emp
 
 pub returns-in-Probe : goal.returns-in-Probe
 returns-in-Probe c =
-    let p = parts.Aside c.in-Probe.point c.in-Probe.what in
+    let p = parts.Probe c.in-Probe.point c.in-Probe.what in
     leaf_leads c.args.globals c.args.places.now.items p c.args.tree (whole_of p) (ap whole_of (sym c.in-Probe.is) ∙ c.into_parts.ensures) (view_of p)
 
 pub returns-in-Check : goal.returns-in-Check
