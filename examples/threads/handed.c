@@ -24,7 +24,7 @@ void t2(void) {
     if (own >= 0) total = buffer[own];
     /* Unknown, and rightly: between the test and the statement that uses the index it may be taken back. */
     if (ready >= 0) total = buffer[ready];
-    /* In bounds: tested and used in one step. */
+    /* In bounds, since a statement is one step here. A machine reads `ready` twice: do not write it so. */
     if (ready >= 0 && buffer[ready] > total) total = 0;
   }
 }
