@@ -162,12 +162,15 @@ def spans(page: str) -> Iterator[tuple[str, int, str]]:
 
 
 def is_known(name: str, names: set[str]) -> bool:
-    """Whether a name is one of the tree: a path, or each word of it declared. `..` at the end stands for any rest."""
+    """Whether a name is one of the tree: a path, or each word of it declared. `..` at the end stands for any rest,
+    and a name that begins with `_` for the end of others."""
     name = name.removeprefix('./')
     if name.endswith('..') and any(other.startswith(name[:-2]) for other in tails()):
         return True
     if name.rstrip('/') in tails() or name in names or re.fullmatch(r'[A-Z][A-Z_]+', name):
         return True
+    if name.startswith('_'):
+        return any(other.endswith(name) for other in names)
     if '/' in name:
         return '/out/' in f'/{name}/' or bool(re.search(r'\b[A-Z]{3,}\b', name))
     parts = [part for part in re.split(r'::|[.:-]', name) if part]
@@ -242,8 +245,9 @@ def file_for(path: str, crate: str) -> str:
 def citations() -> Iterator[Citation]:
     """The files with lines that pages cite. What stands in backticks just before, with a comma, is the name."""
     for page in pages():
+        lines = text_of(page).split('\n')
         headings = {k: set(re.findall(r'`(?:\w+::)?(\w+)`', line))
-                    for k, line in enumerate(text_of(page).split('\n'), 1) if re.match(r'##+ ', line)}
+                    for k, line in enumerate(lines, 1) if re.match(r'##+ ', line)}
         before: list[tuple[str, int, str]] = []
         for text, line, between in spans(page):
             match = CITED.fullmatch(text)
@@ -257,7 +261,8 @@ def citations() -> Iterator[Citation]:
                         name, owners = before[-2][0], {before[-1][0]}
                 if not owners:
                     owners = {word for words in above for word in words}
-                    owners |= {word.split('::')[-1] for word, at, _ in before if line - at < 6}
+                    start = next(k for k in range(line, 0, -1) if k == 1 or re.match(r'\s*- |\s*$', lines[k - 1]))
+                    owners |= {word.split('::')[-1] for word, at, _ in before if at >= start}
                 yield Citation(page, line, text, file_for(match[1], crate), int(match[2]), name, owners)
             before.append((text, line, between))
 
