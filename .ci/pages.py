@@ -15,7 +15,7 @@ LEFT_OUT = ('docs/renames.txt', 'CHANGELOG.md')
 # What a shell, the toolchain and other tools call theirs.
 OUTSIDE = set('awk bash cat cc clang cmp code cp curl cut diff echo env gcc git grep head jq kill less ls make mypy '
               'nice nproc ocaml perf printf python python3 rm rt rattle sed sh sort strace strings tail taskset tee '
-              'time ulimit uniq valgrind wc xdg-open -O2 -O3 .vscode/tasks.json'.split())
+              'time ulimit uniq valgrind wc xdg-open -O2 -O3 --allow-holes .vscode/tasks.json'.split())
 # Words of C and of Rattle that aren't declared.
 KEYWORDS = set('auto bool break case char const continue default do double else enum extern float for goto if int long '
                'main register return short signed sizeof static struct switch typedef union unsigned void volatile '
@@ -162,8 +162,7 @@ def spans(page: str) -> Iterator[tuple[str, int, str]]:
 
 
 def is_known(name: str, names: set[str]) -> bool:
-    """Whether a name is one of the tree: a path, or each word of it declared. `..` at the end stands for any rest,
-    and a name that begins with `_` for the end of others."""
+    """Whether a name is one of the tree: a path, or each word of it declared; `x..` and `_x` stand for longer names."""
     name = name.removeprefix('./')
     if name.endswith('..') and any(other.startswith(name[:-2]) for other in tails()):
         return True
@@ -191,12 +190,25 @@ def name_faults() -> list[str]:
     for page in pages():
         names, before = known()[page in LOOSE], ''
         for text, line, between in spans(page):
-            if NAME.fullmatch(text) and not CITED.fullmatch(text) and not is_known(text, names):
-                found.append(f'{page}:{line}: {text} is nowhere in the tree')
-            part, whole = re.split(r'::|[./]', before)[-1], words_of(text) if between.strip() == 'of' else set()
-            if whole and WORD.fullmatch(part) and part not in whole:
+            whole = [text] if NAME.fullmatch(text) and not CITED.fullmatch(text) else []
+            for name in whole or re.findall(r'(?<!\S)--[a-z][\w-]*', text):
+                if not is_known(name, names):
+                    found.append(f'{page}:{line}: {name} is nowhere in the tree')
+            part, words = re.split(r'::|[./]', before)[-1], words_of(text) if between.strip() == 'of' else set()
+            if words and WORD.fullmatch(part) and part not in words:
                 found.append(f'{page}:{line}: {before} is nowhere in {text}')
             before = text
+    return found
+
+
+def link_faults() -> list[str]:
+    """Links on pages to files that aren't there."""
+    found = []
+    for page in pages():
+        text = shape(text_of(page))
+        for link in re.finditer(r'\]\(([^)#:\s]+)(?:#[^)]*)?\)', text):
+            if not os.path.exists(os.path.join(TOP, os.path.dirname(page), link[1])):
+                found.append(f'{page}:{text.count(chr(10), 0, link.start()) + 1}: {link[1]} is nowhere in the tree')
     return found
 
 
@@ -340,5 +352,6 @@ def count_faults() -> list[str]:
             section = section[:section.find('\n## ', 1)] if '\n## ' in section[1:] else section
             if not number[2] and page not in MEASURED and not DATE.search(section):
                 line = text.count('\n', 0, number.start()) + 1
-                found.append(f'{page}:{line}: {number[0]}: neither marked as counted nor dated')
+                found.append(f'{page}:{line}: {number[0]}: a mark is missing after the number, as <!-- mutants -->, '
+                             'or its date')
     return found
