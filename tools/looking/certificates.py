@@ -82,12 +82,12 @@ def read_state(line: str, now: int, places: tuple[Place, ...], rows: Rows) -> No
     elif state is not None and (numbers := NUMBERS.fullmatch(line)):
         form = tuple(int(word) for word in numbers['numbers'].split())
         if len(form) != len(places[now - 1].names) + 1:
-            raise Fault(f'{len(form)} numbers, where 1 and {" ".join(places[now - 1].names)} are to have one each')
+            raise Fault(f'{len(form)} numbers, but 1 and {" ".join(places[now - 1].names)} must have one each')
         state.append(Row(numbers['sign'] == '=', form))
     elif state is not None and line.startswith('  row ') and ROW_TEXT.fullmatch(line[6:]):
         state.append(named(line[6:], places[now - 1]))
     else:
-        raise Fault('this is no row of a point')
+        raise Fault('this is not a row of a point')
 
 
 def named(text: str, place: Place) -> Row:

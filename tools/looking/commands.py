@@ -30,16 +30,16 @@ def words_of(name: str, text: str, with_report: bool = True) -> Words:
         prog=f'tools/{name}', description=text, formatter_class=argparse.RawDescriptionHelpFormatter, allow_abbrev=False
     )
     words.add_argument(
-        '--lra', metavar='PROGRAM', default=PROGRAM, help='the program (crates/lra/out/lra, if not said)'
+        '--lra', metavar='PROGRAM', default=PROGRAM, help='the program (default: crates/lra/out/lra)'
     )
     if with_report:
         words.add_argument(
             '--report', metavar='FILE', help='a report as JSON of the one source, instead of a run; - is standard input'
         )
     for option in VALUED:
-        words.add_argument(f'--{option}', metavar='WORD', help='handed on to lra')
+        words.add_argument(f'--{option}', metavar='WORD', help='passed on to lra')
     for option in FLAGS:
-        words.add_argument(f'--{option}', action='store_true', help='handed on to lra')
+        words.add_argument(f'--{option}', action='store_true', help='passed on to lra')
     return words
 
 
@@ -82,7 +82,7 @@ def read_answer(source: Source, asked: argparse.Namespace) -> Answer:
 def read_answers(names: list[str], asked: argparse.Namespace) -> list[tuple[Source, Answer]]:
     """The sources, each with what is said of it."""
     if getattr(asked, 'report', None) is not None and len(names) != 1:
-        raise Fault('--report stands beside one source')
+        raise Fault('--report needs exactly one source')
     found = []
     for name in names:
         source = read_source(name)

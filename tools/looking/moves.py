@@ -141,13 +141,13 @@ class Scope:
         """The place of the variable with this name."""
         place = self.meaning(name)
         if place is None:
-            raise Fault(f'{name} is an array, and stands without an index')
+            raise Fault(f'{name} is an array, but has no index')
         return place
 
     def look_at(self, element: Element) -> None:
         """That there is such an element: nothing else is known of it."""
         if self.meaning(element.name) is not None:
-            raise Fault(f'{element.name} is no array, and stands with an index')
+            raise Fault(f'{element.name} is not an array, but has an index')
         self.form(element.index)
 
     def form(self, read: Expression) -> Form | None:

@@ -321,7 +321,7 @@ class Writer:
     def jump(self, done: Jump, ends: Ends) -> Ends:
         out = self.frame.breaks if done.word == 'break' else self.frame.continues
         if out is None:
-            raise Fault(f'a {done.word} stands outside of a loop')
+            raise Fault(f'a {done.word} is outside a loop')
         out.ends.extend(onward(ends, kept(self.live, out.live)))
         return []
 

@@ -348,7 +348,7 @@ def read_report(data: bytes, source: Source) -> Report:
     try:
         told = json.loads(data.decode('utf-8'))
     except (ValueError, RecursionError):
-        raise Fault('no JSON, or one that was cut off') from None
+        raise Fault('not JSON, or cut off') from None
     expect(
         isinstance(told, dict) and isinstance(told.get('analysis'), dict) and isinstance(told.get('points'), list),
         'a JSON that is no report',
@@ -397,7 +397,7 @@ def analyse(source: Source, program: str, words: list[str]) -> Answer:
             [program, 'analyse', '--json', *words], input=source.data, capture_output=True, check=False
         )
     except OSError:
-        raise Fault(f'{program} is no program that runs; ./prove builds it, --lra names another one') from None
+        raise Fault(f'{program} is not a program that runs; ./prove builds it, --lra names another one') from None
     if run.returncode == 2 and (refusal := read_refusal(run.stdout.decode('utf-8', 'replace'), source)):
         return refusal
     if run.returncode not in (0, 1):
