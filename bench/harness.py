@@ -136,7 +136,8 @@ def spent_by(words: Iterable[str], path: str) -> float:
                                    stderr=subprocess.DEVNULL)
     _, _, used = os.wait4(started.pid, 0)
     started.returncode = 0  # It has been waited for.
-    return (used.ru_utime + used.ru_stime) * 1000
+    milliseconds: float = (used.ru_utime + used.ru_stime) * 1000
+    return milliseconds
 
 
 def answer_of(words: Iterable[str], path: str) -> str | None:
