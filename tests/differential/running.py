@@ -6,9 +6,10 @@ that a global gets, and how it ends. At each point others may go on in between: 
 """
 import os
 import sys
-from collections.abc import Callable
+from collections.abc import Callable, Generator, Iterable, Sequence
 from dataclasses import dataclass
 from functools import lru_cache
+from typing import Protocol
 
 sys.path.append(os.path.join(os.path.dirname(os.path.realpath(__file__)), '../../tools'))
 
@@ -22,9 +23,11 @@ from looking.programs import (  # noqa: E402
     Called,
     Chosen,
     Compared,
+    Condition,
     Declared,
     DeclaredArray,
     Element,
+    Expression,
     Input,
     Jump,
     Label,
@@ -33,17 +36,23 @@ from looking.programs import (  # noqa: E402
     Negated,
     Not,
     Nothing,
+    Program,
     Read,
     Return,
+    Statement,
     Switch,
+    Value,
     Written,
 )
+from looking.sources import Source  # noqa: E402
 
+Steps = Generator[None, None, None]
+Left = Generator[None, None, str]
 LEAST = {'int': -(2**31), 'long': -(2**63)}
 # How a run ends: behind its last statement, at a false condition, at a number that its type doesn't have or that has
 # no value, at an index outside its array; and where it is cut off.
 END, FAILED, ASSUMED, NUMBER, INDEX, CUT = 'end', 'assertion', 'assumption', 'number', 'index', 'cut'
-COMPARES = {
+COMPARES: dict[str, Callable[[int, int], bool]] = {
     '<': lambda left, right: left < right,
     '<=': lambda left, right: left <= right,
     '>': lambda left, right: left > right,
@@ -51,35 +60,40 @@ COMPARES = {
     '==': lambda left, right: left == right,
     '!=': lambda left, right: left != right,
 }
-names_of = lru_cache(maxsize=4096)(lambda names: printed(list(names)))
+
+
+@lru_cache(maxsize=4096)
+def names_of(names: tuple[str, ...]) -> tuple[str, ...]:
+    """The names as reports print them."""
+    return printed(list(names))
 
 
 class Ended(Exception):
     """The run ends before its last statement."""
 
-    def __init__(self, how):
+    def __init__(self, how: str) -> None:
         super().__init__(how)
         self.how = how
 
 
-def fits(kind, number):
+def fits(kind: str, number: int) -> bool:
     """Whether the type has the number."""
     return LEAST[kind] <= number < -LEAST[kind]
 
 
-def checked(kind, number):
+def checked(kind: str, number: int) -> int:
     """The number, where the type has it; else the run ends."""
     if not fits(kind, number):
         raise Ended(NUMBER)
     return number
 
 
-def quotient(left, right):
+def quotient(left: int, right: int) -> int:
     """Towards 0."""
     return abs(left) // abs(right) * (1 if (left < 0) == (right < 0) else -1)
 
 
-def computed(kind, operator, left, right):
+def computed(kind: str, operator: str, left: int, right: int) -> int:
     """In this type."""
     if operator in '/%' and right == 0:
         raise Ended(NUMBER)
@@ -117,11 +131,11 @@ class Receiver:
     kinds: tuple[str, ...]
     put: Callable[[int], None] | None = None
 
-    def behind(self, result):
+    def behind(self, result: str) -> Receiver:
         """A function's result goes there."""
         return self if result == 'void' else Receiver((result, *self.kinds), self.put)
 
-    def give(self, number):
+    def give(self, number: int) -> None:
         """Each type on the way has to have the number."""
         for kind in self.kinds:
             checked(kind, number)
@@ -132,13 +146,29 @@ class Receiver:
 NOBODY = Receiver(())
 
 
+class Watching(Protocol):
+    """What watches a run."""
+
+    def come(self, path: str, at: int, names: Sequence[str], values: Sequence[int]) -> None:
+        """The run is at a point."""
+
+    def access(self, path: str, on: int, at: int, is_inside: bool) -> None:
+        """An element is read or gets a value."""
+
+    def gave(self, path: str, name: str, number: int) -> None:
+        """A global got a value."""
+
+    def ended(self, path: str, on: int, how: str) -> None:
+        """The run has ended."""
+
+
 class Globals:
     """The globals with their first values, and the global arrays, which hold zeros."""
 
-    def __init__(self, program):
+    def __init__(self, program: Program) -> None:
         self.cells = [Cell(variable.name, variable.type, value) for variable, value in program.variables]
         arrays = {array.name: Cells(array.type, [0] * array.length) for array in program.arrays}
-        self.named = {cell.name: cell for cell in self.cells} | arrays
+        self.named: dict[str, Cell | Cells] = {cell.name: cell for cell in self.cells} | arrays
 
 
 class Run:
@@ -146,7 +176,8 @@ class Run:
     the run has `come(path, at, names, values)`, `access(path, on, at, is_inside)`, `gave(path, name, number)` and
     `ended(path, on, how)`: a path of calls, and offsets in the source."""
 
-    def __init__(self, source, program, draw, watcher, shared=None, begins='main', most_points=2000):
+    def __init__(self, source: Source, program: Program, draw: Callable[[str], int], watcher: Watching,
+                 shared: Globals | None = None, begins: str = 'main', most_points: int = 2000) -> None:
         shared = shared or Globals(program)
         self.source = source
         self.program = program
@@ -161,13 +192,13 @@ class Run:
         self.receiver = NOBODY
         self.how = ''
 
-    def run(self):
+    def run(self) -> str:
         """From the start to the end, and how it ends."""
         for _ in self.steps():
             self.look()
         return self.how
 
-    def steps(self):
+    def steps(self) -> Steps:
         """The same, from point to point."""
         function = self.program.functions[self.path]
         try:
@@ -178,43 +209,50 @@ class Run:
             self.how = ended.how
         self.watcher.ended(self.path, self.on, self.how)
 
-    def come(self, at):
+    def come(self, at: int) -> None:
         """The point is on top."""
         self.on = at
         if self.left == 0:
             raise Ended(CUT)
         self.left -= 1
 
-    def look(self):
+    def look(self) -> None:
         """Tells of the point on top, and of the store there."""
         names = names_of(tuple(cell.name for cell in self.store))
         self.watcher.come(self.path, self.on, names, [cell.value for cell in self.store])
 
-    def into(self, cell):
+    def into(self, cell: Cell) -> Receiver:
         """A variable's receiver."""
         return Receiver((cell.kind,), lambda number: self.put(cell, number))
 
-    def put(self, cell, number):
+    def put(self, cell: Cell, number: int) -> None:
         """The variable gets the number."""
         cell.value = number
         if self.globals.get(cell.name) is cell:
             self.watcher.gave(self.path, cell.name, number)
 
-    def appear(self, name, kind, value):
+    def appear(self, name: str, kind: str, value: int) -> Cell:
         """A new variable."""
         cell = Cell(name, kind, value)
         self.store.append(cell)
         return cell
 
+    def cell(self, name: str) -> Cell:
+        """The variable that the name means."""
+        found = self.scope[name]
+        assert isinstance(found, Cell)
+        return found
+
     # expressions: values with their types ---------------------------------------------------------------------------
 
-    def value(self, read):
+    def value(self, read: Expression) -> tuple[int, str]:
         """Its value and its type."""
         match read:
             case Literal():
                 return read.value, read.type
             case Read():
-                return self.scope[read.name].value, self.scope[read.name].kind
+                cell = self.cell(read.name)
+                return cell.value, cell.kind
             case Element():
                 cells, place = self.place(read)
                 return cells.values[place], cells.kind
@@ -228,17 +266,18 @@ class Run:
         kind = 'long' if 'long' in (one, other) else 'int'
         return computed(kind, read.operator, left, right), kind
 
-    def place(self, element):
+    def place(self, element: Element) -> tuple[Cells, int]:
         """An element's array and index, which lies inside."""
         index, _ = self.value(element.index)
         cells = self.scope[element.name]
+        assert isinstance(cells, Cells)
         is_inside = 0 <= index < len(cells.values)
         self.watcher.access(self.path, self.on, element.at, is_inside)
         if not is_inside:
             raise Ended(INDEX)
         return cells, index
 
-    def holds(self, condition):
+    def holds(self, condition: Condition) -> bool:
         """Whether the condition is true; `&&` and `||` stop early."""
         match condition:
             case Compared():
@@ -252,7 +291,7 @@ class Run:
 
     # statements: each says how it is left, '' where the run goes on behind it -----------------------------------------
 
-    def statement(self, done):
+    def statement(self, done: Statement) -> Left:
         """Makes one statement, a declarator among them."""
         match done:
             case Block():
@@ -270,7 +309,7 @@ class Run:
                 array = done.array
                 self.scope[array.name] = Cells(array.type, [self.draw(array.type) for _ in range(array.length)])
             case Assigned():
-                yield from self.gives(self.into(self.scope[done.name]), done.value)
+                yield from self.gives(self.into(self.cell(done.name)), done.value)
             case Written():
                 yield from self.written(done)
             case Called():
@@ -288,25 +327,25 @@ class Run:
                 return (yield from self.switch(done))
         return ''
 
-    def asked(self, done):
+    def asked(self, done: Asked) -> None:
         """An assertion or an assumption."""
         if not self.holds(done.condition):
             raise Ended(FAILED if done.word == 'assert' else ASSUMED)
 
-    def gives(self, receiver, value):
+    def gives(self, receiver: Receiver, value: Value | None) -> Steps:
         """The receiver gets the value, where there is one."""
         if isinstance(value, Call):
             yield from self.call(value, receiver)
         elif value:
             receiver.give(self.value(value)[0])
 
-    def written(self, done):
+    def written(self, done: Written) -> Steps:
         """The index comes first, and waits for the value."""
         cells, place = self.place(done.element)
         receiver = Receiver((cells.kind,), lambda number: cells.values.__setitem__(place, number))
         yield from self.gives(receiver, done.value)
 
-    def items(self, items):
+    def items(self, items: Iterable[Statement]) -> Left:
         """One behind the other, until one is left."""
         for item in items:
             left = yield from self.statement(item)
@@ -314,7 +353,7 @@ class Run:
                 return left
         return ''
 
-    def block(self, body):
+    def block(self, body: Block) -> Left:
         """A scope of its own; at its end its variables still live."""
         scope, live = self.scope, len(self.store)
         self.scope = dict(scope)
@@ -323,7 +362,7 @@ class Run:
         del self.store[live:]
         return left
 
-    def body(self, body):
+    def body(self, body: Block) -> Left:
         """The items of a block, and its end."""
         left = yield from self.items(body.items)
         if not left:
@@ -331,7 +370,7 @@ class Run:
             yield
         return left
 
-    def loop(self, done):
+    def loop(self, done: Loop) -> Left:
         """A `for` with its beginning, or a `while`."""
         scope, before = self.scope, len(self.store)
         self.scope = dict(scope)
@@ -350,7 +389,7 @@ class Run:
         del self.store[before:]
         return left if left == 'return' else ''
 
-    def switch(self, done):
+    def switch(self, done: Switch) -> Left:
         """Behind the label that names the value, else behind `default`."""
         number, live = self.value(done.value)[0], len(self.store)
         labels = [part.value if isinstance(part, Label) else () for part in done.parts]
@@ -363,7 +402,7 @@ class Run:
 
     # calls ----------------------------------------------------------------------------------------------------------
 
-    def call(self, call, receiver):
+    def call(self, call: Call, receiver: Receiver) -> Steps:
         """The callee's body, with the arguments' values in its parameters; then the caller goes on where it stood."""
         function = self.program.functions[call.name]
         numbers = [
@@ -380,7 +419,7 @@ class Run:
         self.scope, self.path, self.receiver = before
         del self.store[live:]
 
-    def returned(self, done):
+    def returned(self, done: Return) -> Left:
         """The value, or any, goes to who asked for it."""
         if done.value:
             yield from self.gives(self.receiver, done.value)
@@ -388,7 +427,7 @@ class Run:
             self.give_any()
         return 'return'
 
-    def give_any(self):
+    def give_any(self) -> None:
         """The receiver gets a draw that all types on its way have."""
         if self.receiver.put:
             self.receiver.give(self.draw('int' if 'int' in self.receiver.kinds else 'long'))

@@ -18,12 +18,13 @@ import argparse
 import os
 import subprocess
 import sys
+from collections.abc import Callable, Iterable, Iterator, Sequence
 
 from beside import Told, compare_threads
 from drawing import Draws, program_of, threads_of
 from known import BACKS, ENDS, REPORTS, THREADS
 from running import FAILED, NUMBER, Run
-from told import Back, Report, Wrong
+from told import Back, Report, Trail, Wrong
 
 from looking.programs import read_program
 from looking.sources import Source
@@ -32,6 +33,7 @@ HERE = os.path.dirname(os.path.realpath(__file__))
 PROGRAM = os.path.join(HERE, '../../crates/lra/out/lra')
 WAYS = ('--domain box --fits', '--domain oct --fits', '--fits', '--best --fits', '--domain box --parts 4 --fits')
 BESIDE = ('', '--delay 0 --narrow 0', '--delay 3 --narrow 2')
+Failing = dict[tuple[str, int], list[Trail]]
 # What ends a run is broken by a verdict of this kind.
 BROKEN = {FAILED: 'assert', NUMBER: 'fit'}
 
@@ -40,14 +42,14 @@ class Checker:
     """Watches runs, and holds them against reports of the program; what each failing run met is kept by where it
     failed."""
 
-    def __init__(self, reports):
+    def __init__(self, reports: Sequence[Report]) -> None:
         self.reports = reports
-        self.seen = set()
-        self.report = None
-        self.trail = []
-        self.failing = {}
+        self.seen: set[tuple[str | int, ...]] = set()
+        self.report: Report | None = None
+        self.trail: Trail = []
+        self.failing: Failing = {}
 
-    def come(self, path, at, names, values):
+    def come(self, path: str, at: int, names: Sequence[str], values: Sequence[int]) -> None:
         """The rows of the point hold."""
         state = dict(zip(names, values))
         self.trail.append((path, at, state))
@@ -57,15 +59,15 @@ class Checker:
         for self.report in self.reports:
             self.report.point(path, at).check(state)
 
-    def access(self, path, on, at, is_inside):
+    def access(self, path: str, on: int, at: int, is_inside: bool) -> None:
         """An access is listed, and lies inside where it is marked so."""
         for self.report in self.reports:
             self.report.expect('access', (path, on), (path, at), not is_inside)
 
-    def gave(self, path, name, number):
+    def gave(self, path: str, name: str, number: int) -> None:
         """Nothing is told of what a global gets where a program runs alone."""
 
-    def ended(self, path, on, how):
+    def ended(self, path: str, on: int, how: str) -> None:
         """What ends the run there isn't excluded."""
         for self.report in self.reports:
             if how in BROKEN:
@@ -75,7 +77,7 @@ class Checker:
         self.trail = []
 
 
-def told(source, checker, run, draws, wrong):
+def told(source: Source, checker: Checker, run: Run, draws: Draws, wrong: Wrong) -> str:
     """All that whoever looks for the fault needs."""
     line, column = source.place(run.on)
     words = checker.report.words if checker.report else ''
@@ -84,7 +86,7 @@ def told(source, checker, run, draws, wrong):
             f'draws {" ".join(map(str, draws.drawn))}\n{source.data.decode()}')
 
 
-def compare(source, reports, runs):
+def compare(source: Source, reports: Sequence[Report], runs: Iterable[Draws]) -> tuple[str, list[str], Failing]:
     """Runs the program; what doesn't hold of the reports, or nothing, how the runs ended, and what failing ones met."""
     program, checker, ends = read_program(source), Checker(reports), []
     for draws in runs:
@@ -96,17 +98,17 @@ def compare(source, reports, runs):
     return '', ends, checker.failing
 
 
-def seeded(count):
+def seeded(count: int) -> list[Draws]:
     """The draws of so many runs."""
     return [Draws(seed) for seed in range(count)]
 
 
-def guided(count, numbers):
+def guided(count: int, numbers: Sequence[int]) -> list[Draws]:
     """The same, half of them numbers of this list."""
     return [Draws(seed, numbers) for seed in range(count)]
 
 
-def answered(lra, source, words, refusal=None):
+def answered(lra: str, source: Source, words: str, refusal: str | None = None) -> str:
     """What is written of a program that is taken; nothing where the text of a refusal begins so."""
     ended = subprocess.run([lra, *words.split()], input=source.data, capture_output=True, check=False)
     text = ended.stdout.decode()
@@ -117,23 +119,23 @@ def answered(lra, source, words, refusal=None):
     return text
 
 
-def analysed(lra, source, words):
+def analysed(lra: str, source: Source, words: str) -> Report:
     """The report of a program."""
     return Report(words, answered(lra, source, f'analyse {words}'), source)
 
 
-def told_of_threads(lra, source, words):
+def told_of_threads(lra: str, source: Source, words: str) -> Told:
     """What is told of a program of several threads."""
     return Told(words, answered(lra, source, f'threads {words}'), source)
 
 
-def gone_back(lra, source, number):
+def gone_back(lra: str, source: Source, number: int) -> Back | None:
     """What going back from an assertion of the program leaves; nothing where too many paths lead from a point."""
     text = answered(lra, source, f'back --point {number}', 'refused paths at point ')
     return Back(number, text, source) if text else None
 
 
-def held_back(source, back, trails):
+def held_back(source: Source, back: Back, trails: Iterable[Trail]) -> str:
     """What of these runs, which fail at its assertion, the text doesn't have."""
     for trail in trails:
         try:
@@ -143,12 +145,12 @@ def held_back(source, back, trails):
     return ''
 
 
-def is_of_threads(source):
+def is_of_threads(source: Source) -> bool:
     """Whether it has no `main`."""
     return 'main' not in [name for name, *_ in source.functions]
 
 
-def checked(lra, source, runs):
+def checked(lra: str, source: Source, runs: int) -> Iterator[str]:
     """What doesn't hold of a program's reports, and of what is left by going back from each assertion that fails; or of
     what is told of its threads."""
     if is_of_threads(source):
@@ -162,7 +164,7 @@ def checked(lra, source, runs):
         yield held_back(source, back, trails) if back else ''
 
 
-def counted(lra, source, runs):
+def counted(lra: str, source: Source, runs: int) -> Iterator[str]:
     """Of each assertion that stays unknown: how many runs fail there, by chance and with numbers of its generators."""
     report = analysed(lra, source, '')
     for number in report.unknown_assertions():
@@ -180,7 +182,7 @@ def counted(lra, source, runs):
               f'of {runs} guided ones {counts[1]}')
 
 
-def known_reports():
+def known_reports() -> Iterator[str]:
     """Reports written by hand, and what each becomes when a part is replaced: whether this is noticed."""
     for name, text, report, changes in REPORTS:
         source = Source(name, text.encode())
@@ -193,7 +195,7 @@ def known_reports():
                 yield f'{name}: `{new}` in place of `{old}` is not noticed' if old else noticed
 
 
-def known_backs():
+def known_backs() -> Iterator[str]:
     """The same of what is left by going back; some runs fail, all of them there."""
     for name, text, number, left, changes in BACKS:
         source = Source(name, text.encode())
@@ -212,7 +214,7 @@ def known_backs():
                 yield f'{name}: `{new}` in place of `{old}` is not noticed' if old else noticed
 
 
-def known_threads():
+def known_threads() -> Iterator[str]:
     """The same of what is told of threads."""
     for name, text, told_so, changes in THREADS:
         source = Source(name, text.encode())
@@ -228,7 +230,7 @@ def known_threads():
                 yield f'{name}: `{new}` in place of `{old}` is not noticed' if old else noticed
 
 
-def known_ends():
+def known_ends() -> Iterator[str]:
     """Programs whose end is known."""
     for text, wanted in ENDS:
         source = Source('a known end', text.encode())
@@ -237,18 +239,18 @@ def known_ends():
             yield f'`{text}` ends otherwise: {ends}'
 
 
-def drawn(first, count, written):
+def drawn(first: int, count: int, written: Callable[[int], str]) -> list[Source]:
     """The sources of so many seeds, written so."""
     return [Source(f'seed {seed}', written(seed).encode()) for seed in range(first, first + count)]
 
 
-def read(name):
+def read(name: str) -> Source:
     """A source from a file."""
     with open(name, 'rb') as file:
         return Source(name, file.read())
 
 
-def command():
+def command() -> int:
     """Tries what is known, then compares the programs; the exit status."""
     words = argparse.ArgumentParser(description=__doc__, formatter_class=argparse.RawDescriptionHelpFormatter)
     words.add_argument('program', metavar='PROGRAM', nargs='?', default=PROGRAM)

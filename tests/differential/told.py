@@ -3,7 +3,11 @@ from an assertion."""
 import re
 from dataclasses import dataclass, field
 
-from looking.rows import ROW_TEXT, read_row
+from looking.rows import ROW_TEXT, Row, State, read_row
+from looking.sources import Source
+
+# The places of a run, each with what its variables held there.
+Trail = list[tuple[str, int, State]]
 
 PLACE = r'(?P<number>\d+) (?P<path>\S+) (?P<line>\d+):(?P<column>\d+)'
 POINT = re.compile(rf'point {PLACE}')
@@ -23,9 +27,9 @@ class Point:
     """Its number, and its parts with their rows; none where no run is to come there."""
 
     number: int
-    parts: list = field(default_factory=lambda: [[]])
+    parts: list[list[Row]] = field(default_factory=lambda: [[]])
 
-    def check(self, state):
+    def check(self, state: State) -> None:
         """All rows of some part hold."""
         try:
             holds = any(all(row.holds(state) for row in part) for part in self.parts)
@@ -38,29 +42,38 @@ class Point:
 class Told:
     """The points that are told of, line by line."""
 
-    def __init__(self, words, text, source):
+    def __init__(self, words: str, text: str, source: Source) -> None:
         self.words = words
         self.source = source
-        self.points = {}
-        self.last = None
+        self.points: dict[tuple[str, int | None], Point] = {}
+        self.last: Point | None = None
         for line in text.splitlines():
             self.read(line, source)
 
-    def read(self, line, source):
+    def read(self, line: str, source: Source) -> None:
         """Takes in one line."""
         if found := POINT.fullmatch(line):
             self.last = Point(int(found['number']))
             self.points[found['path'], source.offset(int(found['line']), int(found['column']))] = self.last
         elif line == '  unreachable':
-            self.last.parts = []
+            self.latest().parts = []
         elif line == '  or':
-            self.last.parts.append([])
+            self.latest().parts.append([])
         elif line.startswith('  row ') and ROW_TEXT.fullmatch(line[6:]):
-            self.last.parts[-1].append(read_row(line[6:]))
+            self.latest().parts[-1].append(read_row(line[6:]))
         elif not self.read_further(line, source) and not PASSED.fullmatch(line):
             raise Wrong(f'a line that is not told of a program: {line}')
 
-    def point(self, path, at):
+    def read_further(self, line: str, source: Source) -> bool:
+        """Takes in a line that only one kind of text has; whether it is one."""
+        return False
+
+    def latest(self) -> Point:
+        """The point that was told of last."""
+        assert self.last, 'no point is told of yet'
+        return self.last
+
+    def point(self, path: str, at: int) -> Point:
         """The point that stands there."""
         if (path, at) not in self.points:
             raise Wrong('there is no such point')
@@ -70,12 +83,12 @@ class Told:
 class Report(Told):
     """A report: also whether a verdict is the known one."""
 
-    def __init__(self, words, text, source):
-        self.verdicts = {}
+    def __init__(self, words: str, text: str, source: Source) -> None:
+        self.verdicts: dict[tuple[str, str, int | None], tuple[int, bool]] = {}
         self.listed = {'assert', 'access'}
         super().__init__(words, text, source)
 
-    def read_further(self, line, source):
+    def read_further(self, line: str, source: Source) -> bool:
         """A line that only a report has."""
         if found := VERDICT.fullmatch(line):
             at = found['path'], source.offset(int(found['line']), int(found['column']))
@@ -84,9 +97,9 @@ class Report(Told):
             self.listed.add(found['kind'])
         elif line.startswith('analysis ') and ' fits yes' in line:
             self.listed.add('fit')
-        return found or line.startswith(('analysis ', 'verdicts ', '  gen '))
+        return bool(found) or line.startswith(('analysis ', 'verdicts ', '  gen '))
 
-    def expect(self, kind, on, at, is_broken):
+    def expect(self, kind: str, on: tuple[str, int], at: tuple[str, int], is_broken: bool) -> None:
         """What a run does at a point is listed there, where such lines are, and no verdict on it is broken."""
         number, is_known = self.verdicts.get((kind, *at), (0, False))
         if kind in self.listed and number != self.points[on].number:
@@ -94,7 +107,7 @@ class Report(Told):
         if is_broken and is_known:
             raise Wrong(f'it is marked as {KNOWN[kind]}')
 
-    def unknown_assertions(self):
+    def unknown_assertions(self) -> list[int]:
         """The numbers of the points whose assertions stay unknown."""
         asserted = [told for (kind, *_), told in self.verdicts.items() if kind == 'assert']
         return sorted(number for number, is_known in asserted if not is_known)
@@ -103,15 +116,15 @@ class Report(Told):
 class Back(Told):
     """What going back from an assertion leaves: also its verdict, and the whole numbers of the points that are listed."""
 
-    def __init__(self, number, text, source):
-        self.is_proved = None
-        self.numbers = []
+    def __init__(self, number: int, text: str, source: Source) -> None:
+        self.is_proved: bool | None = None
+        self.numbers: list[int] = []
         self.assertion = number
         super().__init__(f'back --point {number}', text, source)
         if self.is_proved is None or text.splitlines()[0] != f'back point {number}':
             raise Wrong(f'it tells of another assertion than {number}')
 
-    def read_further(self, line, source):
+    def read_further(self, line: str, source: Source) -> bool:
         """A line that only such a text has."""
         if found := GONE_BACK.fullmatch(line):
             self.is_proved = found['verdict'] == 'proved'
@@ -120,7 +133,7 @@ class Back(Told):
             self.numbers += [number for number in map(int, WHOLE.findall(line)) if number not in self.numbers]
         return line.startswith(('back point ', '  gen '))
 
-    def check(self, trail):
+    def check(self, trail: Trail) -> None:
         """Each store of a run that fails at the assertion lies in the value of its point; the verdict tells what is
         left at the run's first point."""
         path, at, _ = trail[0]

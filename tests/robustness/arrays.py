@@ -6,6 +6,7 @@
 `large` runs the last row, too, whose report has hundreds of megabytes. Wants `cc` for the rows before it.
 """
 import sys
+from collections.abc import Iterator
 from itertools import islice, product
 from string import ascii_letters, digits
 
@@ -17,19 +18,19 @@ GIVEN = 'int main(void){ long a[2], x; '
 BEGUN = len(GIVEN)
 
 
-def nest(depth):
+def nest(depth: int) -> str:
     """An element whose index is an element, so deep."""
     return 'a[' * depth + '0' + ']' * depth
 
 
-def short_names(count):
+def short_names(count: int) -> Iterator[str]:
     """So many names, the shortest there are."""
     words = (''.join((first, *rest)) for length in range(3) for first in ascii_letters + '_'
              for rest in product(ascii_letters + digits + '_', repeat=length))
     return islice((word for word in words if word not in ('if', 'do', 'for', 'int')), count)
 
 
-def told(inside, outside):
+def told(inside: int, outside: int) -> list[str]:
     """The last line where so many accesses are in bounds, and so many unknown."""
     return [f'verdicts proved {inside} unknown {outside}\n']
 
@@ -95,7 +96,7 @@ for words, source, status in [(BOX, GIVEN + 'x=' + '+'.join(['a[0]'] * 13000) + 
     refuse_each(words, source, status, [], 0)
 
 
-def large():
+def large() -> None:
     """12,000 accesses in a function that is called 680 times: a line for each, or want of memory and nothing written."""
     source = 'long a[1],x;void f(void){x=' + '+'.join(['a[0]'] * 12000) + ';}int main(void){' + 'f();' * 680 + '}'
     status, size, last = streamed(BOX, source)

@@ -6,6 +6,8 @@ numbers past the range; words.
 
 Wants `cc` for the last rows.
 """
+from collections.abc import Iterable
+
 from levels import BLOCK, FOR, IF, IF_BLOCK, SWITCH, WHILE, nested, stacked
 from memory import refuse_each
 from trial import case, ended, refused
@@ -17,29 +19,30 @@ LIMIT = 10
 NAMES = [f'v{k}' for k in range(32)]
 
 
-def left(name, point, source, is_proved, lines, flag='0', limit=1.0):
+def left(name: str, point: int, source: str, is_proved: bool, lines: Iterable[str], flag: str = '0',
+         limit: float = 1.0) -> None:
     """What is left by going back from a point: these lines, and the verdict."""
     verdict = f'assert {point} {"proved" if is_proved else "unknown"}\n'
     case(f'{name}, from {point}', f'back --point {point}', source, 0 if is_proved else 1,
          begins=f'back point {point}\nflagged {flag}\n', holds=[*lines, verdict], limit=limit)
 
 
-def refused_at(name, point, source, text, limit=1.0):
+def refused_at(name: str, point: int, source: str, text: str, limit: float = 1.0) -> None:
     """A source that isn't gone back over from this point."""
     refused(f'{name}, from {point}', source, text, words=f'back --point {point}', limit=limit)
 
 
-def asserted(condition):
+def asserted(condition: str) -> str:
     """A variable of any value, of which this is asserted."""
     return f'{GIVEN}assert({condition}); }}'
 
 
-def assumed(condition):
+def assumed(condition: str) -> str:
     """A variable of which this is assumed, and then that it is below 0."""
     return f'{GIVEN}assume({condition}); assert(x<0); }}'
 
 
-def joined(mark, count, sign):
+def joined(mark: str, count: int, sign: str) -> str:
     """So many comparisons."""
     return mark.join(f'x{sign}{k}' for k in range(count))
 

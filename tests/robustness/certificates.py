@@ -12,19 +12,19 @@ GREATEST = 2 ** 127 - 1
 SOURCE = 'int main(void){ long x; x = 3; assert(x >= 3); }'
 
 
-def headed(source):
+def headed(source: str) -> str:
     return f'certificate bytes {len(source)}\n{source}\n'
 
 
-def verified(name, text, points, proved, limit=1.0):
+def verified(name: str, text: str, points: int, proved: int, limit: float = 1.0) -> None:
     case(name, 'verify', text, 0, whole=f'verified points {points} proved {proved}\n', limit=limit)
 
 
-def refused(name, text, told, limit=1.0):
+def refused(name: str, text: str, told: str, limit: float = 1.0) -> None:
     case(name, 'verify', text, 2, whole=f'refused {told}\n', limit=limit)
 
 
-def certified(name, source, points, limit=1.0):
+def certified(name: str, source: str, points: int, limit: float = 1.0) -> None:
     """A certificate is written, and verified."""
     ended_with, text, seconds = answer('certify', source)
     agrees = ended_with == 0 and text.startswith(headed(source)) and text.endswith('\nend\n')
@@ -32,17 +32,17 @@ def certified(name, source, points, limit=1.0):
     verified(name, text, points, text.count('\nassert '), limit)
 
 
-def uncertified(name, source, told, limit=1.0):
+def uncertified(name: str, source: str, told: str, limit: float = 1.0) -> None:
     """None is written."""
     case(f'{name} uncertified', 'certify', source, 2, whole=f'refused {told}\n', limit=limit)
 
 
-def assumed(condition):
+def assumed(condition: str) -> str:
     """A certificate without rows, up to the paths of this condition."""
     return headed(f'int main(void){{ long a; assume({condition}); }}') + 'point 1\npoint 2\npoint 3\nedge 0 1\nedge 1 2\n'
 
 
-def alternating(count):
+def alternating(count: int) -> str:
     """So many signs, `||` and `&&` in turn."""
     condition = 'a<0'
     for k in range(1, count + 1):
@@ -58,8 +58,8 @@ WHOLE = HEAD + LINES
 # every front lacks the line in which it ends
 verified('the whole', WHOLE, 4, 1)
 for length in range(len(WHOLE)):
-    line = WHOLE.count('\n', len(HEAD), length) + 1 if length >= len(HEAD) else 0
-    refused(f'its first {length} bytes', WHOLE[:length], f'line {line} BadLine')
+    place = WHOLE.count('\n', len(HEAD), length) + 1 if length >= len(HEAD) else 0
+    refused(f'its first {length} bytes', WHOLE[:length], f'line {place} BadLine')
 
 # the most bytes that are taken, and one more
 refused('spaces behind it up to the limit', WHOLE.ljust(MOST), 'line 18 BadLine', limit=5.0)

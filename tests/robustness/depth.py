@@ -6,6 +6,8 @@
 Each run has a stack of 1 MB and ten seconds of processor time. A function nests 63 levels in its body; 32 calls may stand
 on a path, 2,048 points in a program, 32 variables live at a point. Wants `cc` for its last row.
 """
+from collections.abc import Iterable
+
 from levels import BLOCK, COUNTING, DECLARED, IF, IF_BLOCK, MIXED, SINGLE, WHILE, WHILE_BLOCK
 from levels import nested, points_of, stacked
 from memory import refuse_each
@@ -15,19 +17,19 @@ DOMAINS = ('box', 'oct', 'poly')
 WAYS = [f'analyse --domain {domain}{more}' for domain in DOMAINS for more in ('', ' --parts 16 --delay 8')]
 LIMIT = 10
 
-def answered(name, source, points, lacks=('unreachable',)):
+def answered(name: str, source: str, points: int, lacks: Iterable[str] = ('unreachable',)) -> None:
     """A row in each way: nothing is flagged, and each of the points has its line."""
     for words in WAYS:
         case(f'{name}, {words}', words, source, 0, holds=['\nflagged 0\n', f'\npoint {points} main '],
              lacks=(f'\npoint {points + 1} ', *lacks), limit=LIMIT)
 
 
-def both(depth):
+def both(depth: int) -> str:
     """A choice in both branches of a choice, down one side and then down the other: two branches a level."""
     return 'if(input()) ' * depth + ';' + ' else ;' * depth
 
 
-def place_of(source, word, count=1):
+def place_of(source: str, word: str, count: int = 1) -> str:
     """Line and column of an occurrence of the word, as a refusal writes them."""
     at = -1
     for _ in range(count):

@@ -8,6 +8,7 @@ Wants `cc`, and Linux's /dev/full.
 import os
 import subprocess
 import tempfile
+from typing import IO
 
 from shim import made
 from trial import PROGRAM, answer, bounded, ended, tell
@@ -30,17 +31,17 @@ verdicts proved 1 unknown 0
 '''
 
 
-def fail(read, write):
+def fail(read: int, write: int) -> tuple[int | None, str]:
     """The status and what is written where this read and this write fail."""
     return answer(WORDS, SOURCE, {'LD_PRELOAD': LIBRARY, 'FAILED_READ': str(read), 'FAILED_WRITE': str(write)})[:2]
 
 
-def run_over(source, sink):
+def run_over(source: int | IO[bytes], sink: int | IO[bytes]) -> int:
     """The status of a run over these files."""
     return subprocess.run([PROGRAM] + WORDS.split(), stdin=source, stdout=sink, preexec_fn=bounded).returncode
 
 
-def expect(name, seen, wanted):
+def expect(name: str, seen: object, wanted: object) -> None:
     """Prints the line of a case."""
     tell(name, seen == wanted, seen)
 

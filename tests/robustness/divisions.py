@@ -8,7 +8,7 @@ from trial import case, ended
 GREATEST = 2 ** 63 - 1
 
 
-def judged(name, source, proved):
+def judged(name: str, source: str, proved: int) -> None:
     """So many assertions of the source, one or none, are proved over boxes."""
     case(name, 'analyse --domain box', f'int main(void){{ {source} }}', 0 if proved else 1,
          holds=[f'verdicts proved {proved} unknown {1 - proved}\n'], lacks=['flagged at'])

@@ -7,6 +7,7 @@ reports.
 `large` runs the last row, too, whose report has 1.4 GB.
 """
 import sys
+from collections.abc import Iterable
 
 from levels import ELSE, FOR, IF, IF_BLOCK, WHILE, nested, points_of, stacked
 from trial import answer, case, ended, refused, streamed, tell
@@ -18,7 +19,7 @@ LIMIT = 10
 GIVEN = 'int main(void){ int x=1,y=%s; }'
 
 
-def fits(name, source, lines, limit=1.0):
+def fits(name: str, source: str, lines: Iterable[str], limit: float = 1.0) -> None:
     """A row in each domain: nothing is flagged, and these lines stand in the report."""
     for words in WAYS:
         case(f'{name}, {words}', words, source, 0, holds=['\nflagged 0\n', *lines], limit=limit)
@@ -85,7 +86,7 @@ tell(f'2,048 points with 8 ints ({seconds:.2f} s, {len(text)} bytes)',
      (status, text[:60], counts, 'limit 60 s'))
 
 
-def large():
+def large() -> None:
     """The same with 12 of them: a report of 1.4 GB, or want of memory and nothing written."""
     source = MANY.replace('h; ', 'h,i,j,k,l; ').replace('assume(a*b);', '', 4)
     status, size, last = streamed('analyse --fits --json', source)

@@ -2,6 +2,7 @@
 
 # What opens a level, how many points it has, what closes it, and where the token stands that opens the level, from the
 # end of what opens it.
+Level = tuple[str, int, str, int]
 WHILE = ('while(input()) ', 1, '', 1)
 IF = ('if(input()) ', 1, '', 1)
 FOR = ('for(;input();) ', 1, '', 1)
@@ -16,12 +17,12 @@ SWITCH = ('switch(input()){ case 1: ', 1, '}', -9)
 SINGLE = {'while': WHILE, 'if': IF, 'for': FOR, 'blocks': BLOCK, 'else': ELSE, 'switch': SWITCH}
 
 
-def nested(level, depth, inside=';'):
+def nested(level: Level, depth: int, inside: str = ';') -> str:
     """So many levels, one in the other."""
     return level[0] * depth + inside + level[2] * depth
 
 
-def stacked(level, depth, functions, begins='', inside=';'):
+def stacked(level: Level, depth: int, functions: int, begins: str = '', inside: str = ';') -> str:
     """Functions each of which nests so many levels round a call of the one before it; `main` is the last."""
     lines = []
     for number in range(functions):
@@ -31,6 +32,6 @@ def stacked(level, depth, functions, begins='', inside=';'):
     return '\n'.join(lines)
 
 
-def points_of(level, depth, functions):
+def points_of(level: Level, depth: int, functions: int) -> int:
     """The points of `stacked`: those of the levels, and in each function that of what stands inside, and its end."""
     return functions * (level[1] * depth + 2)

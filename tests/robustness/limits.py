@@ -9,13 +9,13 @@ BOX = 'analyse --domain box'
 NAMES = ['v%d' % k for k in range(1, 34)]
 
 
-def chain(last):
+def chain(last: int) -> str:
     """`main` calls the last function, and each the one before it, down to `a0`."""
     lines = ['void a0(void){}'] + [f'void a{k}(void){{ a{k - 1}(); }}' for k in range(1, last + 1)]
     return '\n'.join(lines + [f'int main(void){{ a{last}(); }}'])
 
 
-def called(body, calls):
+def called(body: str, calls: int) -> str:
     """`main` calls a function with this body so many times."""
     return 'void f(void){' + body + '} int main(void){' + 'f();' * calls + '}'
 

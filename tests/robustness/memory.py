@@ -7,6 +7,7 @@ Wants `cc`. Prints for each run how many allocations it has, and how often each 
 """
 import os
 import subprocess
+from collections.abc import Iterable
 
 from shim import made
 from trial import PROGRAM, answer, bounded, ended, tell
@@ -63,14 +64,14 @@ RUNS = [
 ]
 
 
-def count_allocations(words, source):
+def count_allocations(words: str, source: str) -> int:
     """How many allocations the run has."""
     run = subprocess.run([PROGRAM] + words.split(), input=source.encode(), capture_output=True, preexec_fn=bounded,
                          env=dict(os.environ, LD_PRELOAD=LIBRARY, COUNTED='1'))
     return int(run.stderr.split()[-3])
 
 
-def refuse_each(words, source, status, told, most=None):
+def refuse_each(words: str, source: str, status: int, told: Iterable[str], most: int | None = None) -> None:
     """Refuses each allocation in turn, and prints the line of the run; of more than `most` a hundred, spread over all."""
     name = f'{words}: {source[:40]!r}'
     ended_with, text, _ = answer(words, source)

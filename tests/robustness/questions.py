@@ -18,19 +18,19 @@ PROGRAM = os.path.abspath(sys.argv[1] if len(sys.argv) > 1 else BUILT)
 LIBRARY = made()
 
 
-def ended(test, **added):
+def ended(test: str, **added: str) -> tuple[int, str]:
     """How a run of the test ended: its status, negative where a signal ended it, and what it said on standard error."""
     run = subprocess.run([PROGRAM, test], capture_output=True, timeout=120,
                          env=dict(os.environ, LD_PRELOAD=LIBRARY, **added))
     return run.returncode, run.stderr.decode()
 
 
-def is_refused(status, said):
+def is_refused(status: int, said: str) -> bool:
     """Whether an assertion of the test ended the run."""
     return status == -6 and 'assertion failed: ' in said
 
 
-def main():
+def main() -> int:
     disagreed = 0
     listed = subprocess.run([PROGRAM, '--list'], capture_output=True, text=True, check=True).stdout
     for test in [line[:-len(': test')] for line in listed.split('\n') if line.endswith(': test')]:

@@ -58,7 +58,7 @@ __attribute__((destructor)) static void tell(void) {
 '''
 
 
-def made():
+def made() -> str:
     """Compiles the library, and gives its path; it goes when the script ends."""
     folder = tempfile.mkdtemp()
     atexit.register(shutil.rmtree, folder)

@@ -5,6 +5,7 @@
 
 Where nothing else is said a run has one second of processor time.
 """
+from collections.abc import Iterator
 from itertools import chain, islice
 
 from trial import case, ended, refused
@@ -13,13 +14,13 @@ BOX = 'analyse --domain box'
 M = 2 ** 127 - 1
 
 
-def doubled(times):
+def doubled(times: int) -> str:
     """Each function calls the one before it twice: two to the `times` calls of `f0`."""
     lines = ['void f0(void){;}'] + [f'void f{k}(void){{ f{k - 1}(); f{k - 1}(); }}' for k in range(1, times + 1)]
     return '\n'.join(lines + [f'int main(void){{ f{times}(); }}'])
 
 
-def called_points(number):
+def called_points(number: int) -> Iterator[tuple[int, int]]:
     """The places of the points of a call of the function of that number in `doubled`."""
     line = number + 1
     if number == 0:
@@ -33,13 +34,13 @@ def called_points(number):
     yield line, first + 2 * width
 
 
-def point_past(times):
+def point_past(times: int) -> str:
     """The place of point 2,049 of `doubled`, as the refusal writes it: the first point is the call in `main`."""
     points = chain([(times + 2, len('int main(void){ ') + 1)], called_points(times))
     return '%d:%d' % next(islice(points, 2048, None))
 
 
-def doubled_in_loop(parts):
+def doubled_in_loop(parts: int) -> str:
     """The report of 127 doublings in a loop: nothing is known from the loop on."""
     lost = '  row true\n  gen point x=0\n  gen line x=1\n'
     places = [27] + [43 + 7 * k for k in range(127)] + [932, 934]
@@ -48,41 +49,41 @@ def doubled_in_loop(parts):
             f'point 1 main 1:22\n  row true\n  gen point\n{points}verdicts proved 0 unknown 0\n')
 
 
-def nest(depth):
+def nest(depth: int) -> str:
     """Loops in loops, left at any time."""
     return 'int main(void){ ' + 'while(input()){ ' * depth + '}' * depth + ' }'
 
 
-def counters(depth):
+def counters(depth: int) -> str:
     """Counters to ten, one in the other."""
     heads = ''.join(f'long i{k}=0; while(i{k}<10){{ ' for k in range(depth))
     return 'int main(void){ ' + heads + ''.join(f'i{k}=i{k}+1; }}' for k in reversed(range(depth))) + ' }'
 
 
-def alternations(count):
+def alternations(count: int) -> str:
     """So many comparisons, by turns before `||` and `&&`."""
     return ''.join(f'a<{k} {"&&" if k % 2 else "||"} ' for k in range(count)) + 'b<1'
 
 
-def grouped(count):
+def grouped(count: int) -> str:
     """As many alternations, one inside the other: what holds is 0 < x."""
     return '(0<x||(x<9&&' * (count // 2) + '0<x' + '))' * (count // 2)
 
 
-def cross_polytope(dims):
+def cross_polytope(dims: int) -> str:
     """The hull of the points that have 1 or -1 on one axis has two to the `dims` inequalities; is the origin in it?"""
     points = [[sign if column == axis else 0 for column in range(dims)] for axis in range(dims) for sign in (1, -1)]
     listed = ' ; '.join('point 1 ' + ' '.join(map(str, point)) for point in points)
     return f'dims {dims}\ngen P {listed}\nholds P 1' + ' 0' * dims + '\n'
 
 
-def cube(names):
+def cube(names: str) -> str:
     """Each of the variables may be from 0 to 1: two to their number of points."""
     lines = (f'long {name}=input(); assume({name}>=0&&{name}<=1);' for name in names)
     return 'int main(void){ ' + ' '.join(lines) + ' }'
 
 
-def unknown(names):
+def unknown(names: str) -> str:
     """Each of the variables is an `int` that may have any value: two to their number of points."""
     return 'int main(void){ int ' + ', '.join(names) + '; }'
 

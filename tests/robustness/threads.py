@@ -6,6 +6,8 @@ threads, as many rounds as there are bounds to lose, deep threads, numbers past 
 
 Wants `cc` for its last rows, in which each allocation of a run is refused, and a hundred of those of others.
 """
+from collections.abc import Iterable
+
 from levels import BLOCK, IF, IF_BLOCK, SWITCH, WHILE, WHILE_BLOCK, nested
 from memory import refuse_each
 from trial import case, ended, refused
@@ -15,27 +17,28 @@ LIMIT = 10
 HEAD = 'threads box count {} delay 1 narrow 1\nflagged 0\n'
 
 
-def beside(*bodies):
+def beside(*bodies: str) -> str:
     """A thread for each of these bodies."""
     return ' '.join(f'void t{number}(void){{{body}}}' for number, body in enumerate(bodies, 1))
 
 
-def names(letter, count):
+def names(letter: str, count: int) -> str:
     """So many names."""
     return ','.join(f'{letter}{number}' for number in range(count))
 
 
-def taken(name, source, count, holds=(), lacks=(), status=0):
+def taken(name: str, source: str, count: int, holds: Iterable[str] = (), lacks: Iterable[str] = (),
+          status: int = 0) -> None:
     """A program of so many threads, of which nothing is flagged."""
     case(name, THREADS, source, status, begins=HEAD.format(count), holds=holds, lacks=lacks, limit=LIMIT)
 
 
-def denied(name, source, text):
+def denied(name: str, source: str, text: str) -> None:
     """A program that is refused."""
     refused(name, source, text, words=THREADS, limit=LIMIT)
 
 
-def at_end(cause, source):
+def at_end(cause: str, source: str) -> str:
     """The refusal at the last byte of a line."""
     return f'refused {cause} at 1:{len(source)}'
 
@@ -95,7 +98,7 @@ denied('threads that call each other', beside('t2();', 't1();'), 'refused 11 Rec
 denied('a thread that calls itself', beside('', 't2();'), 'refused 11 Recursive at 1:31')
 
 
-def handing(count, ends):
+def handing(count: int, ends: str) -> str:
     """Two threads that hand a number on, each global to the next, so in each round one more bound goes: first all upper
     ones; where the last number is large, the first one falls, and all lower bounds go."""
     bodies = ['while(input()) g0=g0+1;' + ends, '']

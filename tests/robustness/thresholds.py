@@ -11,7 +11,7 @@ LINE = 'analysis poly parts %d delay 1 narrow 1 limited no thresholds yes\nflagg
 USAGE = 'refused usage\n'
 
 
-def wide(variables, constants):
+def wide(variables: int, constants: int) -> str:
     """Three loops deep, each with a counter that stops at one of so many constants, which the variables get before."""
     names = [f'v{k}' for k in range(variables)]
     given = ''.join(f' {names[k % variables]}={100 + k};' for k in range(constants))
@@ -20,7 +20,7 @@ def wide(variables, constants):
             ' while(input()) { if(v2<140) v2=v2+1; } } } assert(v0<=100); assert(v1<=120); assert(v2<=140); }')
 
 
-def compared(comparisons):
+def compared(comparisons: int) -> str:
     """One loop with so many comparisons, of which the tightest that x reaches is the last."""
     tests = ''.join(f' if(x<{k + 1}) x=x+1;' for k in range(comparisons))
     return 'int main(void){ long x=0; while(input()) {' + tests + f' }} assert(x<={comparisons}); }}'
@@ -39,7 +39,7 @@ case('a bound of 2^31 + 1', ONE, 'int main(void){ long x=0; while(input()) if(x<
      begins=LINE % 1, holds=['verdicts proved 0 unknown 1\n'])
 
 # more literals than constants are taken
-def literals(before):
+def literals(before: int) -> str:
     """So many literals from 1,000 on, and then a counter whose bound is told by its comparison alone."""
     return ('int main(void){ long y=0; ' + ''.join(f'y={1000 + k}; ' for k in range(before))
             + 'long x=0; while(input()){ x=x+1; if(x==50+50) x=0; } assert(x<=99); }')

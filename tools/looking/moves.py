@@ -1,6 +1,6 @@
 """Moves: what a statement does to linear forms of its variables, and the sides of a condition. Outside of what is
 proved; `docs/CERTIFICATES.md` tells it under Paths."""
-from collections.abc import Iterable
+from collections.abc import Callable, Iterable
 from dataclasses import dataclass
 
 from looking.programs import And, Binary, Compared, Condition, Element, Expression, Input, Literal, Negated, Not, Read
@@ -205,6 +205,7 @@ def subtracted(left: Seen, right: Seen) -> Seen:
     if left is None or right is None or (isinstance(left, Divided) and isinstance(right, Divided)):
         return None
     if isinstance(left, Divided):
+        assert not isinstance(right, Divided)
         form = combined('-', left.form, right + (0, 0))
         return None if form is None else Divided(left.division, form)
     if isinstance(right, Divided):
@@ -217,12 +218,13 @@ def test_of(sign: str, form: Form) -> Test | None:
     """The test of a difference that is compared with 0, where it has 64 bits."""
     if sign == '==':
         return Test(True, form)
-    tested = {
+    ways: dict[str, Callable[[], Form | None]] = {
         '<': lambda: opposite(form),
         '<=': lambda: fitting(-number for number in form),
         '>': lambda: fitting((form[0] - 1,) + form[1:]),
         '>=': lambda: form,
-    }[sign]()
+    }
+    tested = ways[sign]()
     return None if tested is None else Test(False, tested)
 
 

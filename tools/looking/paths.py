@@ -345,7 +345,8 @@ class Writer:
         """Behind each label what falls through to it comes first."""
         seen, asked = self.here().seen(done.value), ends
         values = [part.value for part in done.parts if isinstance(part, Label) and part.value is not None]
-        breaks, inside = Exit(self.live), []
+        breaks = Exit(self.live)
+        inside: Ends = []
         with self.framed(replace(self.frame, breaks=breaks)):
             for part in done.parts:
                 if isinstance(part, Label):

@@ -510,14 +510,14 @@ class Reader:
 
     def number(self, read: Expression | Condition) -> Expression:
         """What is read, where it is an expression."""
-        if isinstance(read, Condition):
+        if isinstance(read, (Compared, Not, And, Or)):
             raise self.fault()
         return read
 
     @staticmethod
     def truth(read: Expression | Condition) -> Condition:
         """What is read as a condition; a bare expression is one that isn't 0."""
-        return read if isinstance(read, Condition) else Compared('!=', read, Literal(0, 'int'))
+        return read if isinstance(read, (Compared, Not, And, Or)) else Compared('!=', read, Literal(0, 'int'))
 
     def either(self) -> Expression | Condition:
         left = self.both()
