@@ -131,7 +131,7 @@ class Receiver:
     kinds: tuple[str, ...]
     put: Callable[[int], None] | None = None
 
-    def behind(self, result: str) -> Receiver:
+    def behind(self, result: str) -> 'Receiver':
         """A function's result goes there."""
         return self if result == 'void' else Receiver((result, *self.kinds), self.put)
 
