@@ -91,10 +91,14 @@ class Case:
 
 @dataclass(frozen=True)
 class Series:
-    """Inputs of one kind, in series of sizes; `beside` names for a column the one that it is compared with."""
+    """Inputs of one kind, in series of sizes; `beside` names for a column the one that it is compared with.
+
+    Of many programs the sizes are their names: the table has their sum, the dearest, and the greatest ratio.
+    """
     name: str
     cases: list[Case]
     beside: dict[str, str] = field(default_factory=dict)
+    many: bool = False
 
 
 @dataclass(frozen=True)
@@ -205,6 +209,7 @@ class Row:
     each: list[float]
     ratios: list[float]
     growth: float | None
+    many: bool
 
 
 def growth_of(sizes: list[int | str], medians: list[float]) -> float | None:
@@ -233,7 +238,7 @@ def row_of(series: Series, column: str, by_column: dict[str, list[Times]]) -> Ro
     sizes = [case.size for case in series.cases]
     each = [median * 1000 / case.parts for median, case in zip(medians, series.cases) if case.parts]
     return Row(series.name, column, sizes, times, each, [a / b for a, b in zip(medians, other) if b > 0],
-               growth_of(sizes, medians))
+               growth_of(sizes, medians), series.many)
 
 
 def rows_of(bench: Bench, repeats: int) -> Iterator[Row]:
@@ -281,8 +286,25 @@ def notes_of(row: Row) -> str:
     return '; '.join(note if len(at) == len(row.sizes) else f'{note} at {", ".join(at)}' for note, at in sizes.items())
 
 
+def dearest(names: list[int | str], values: list[float], form: Callable[[float], str]) -> str:
+    """The greatest value, with its name."""
+    value, name = max(zip(values, map(str, names)), default=(0.0, ''))
+    return f'{form(value)} at most (`{name}`)'
+
+
+def cells_of_many(row: Row) -> list[str]:
+    """The cells of a row of many programs."""
+    medians = [times.median for times in row.times]
+    mean = f'{statistics.fmean(row.ratios):.2f} in the mean, ' if row.ratios else ''
+    ratios = mean and mean + dearest(row.sizes, row.ratios, '{:.2f}'.format)
+    return [row.series, row.column, f'{len(medians)}', f'{number(sum(medians))}, {dearest(row.sizes, medians, number)}',
+            f'{statistics.median(times.spread for times in row.times):.0%}', '', ratios, '', '']
+
+
 def cells_of(row: Row) -> list[str]:
     """The cells of a row."""
+    if row.many:
+        return cells_of_many(row)
     return [
         row.series, row.column, ', '.join(f'{size:,}' if isinstance(size, int) else size for size in row.sizes),
         ', '.join(number(times.median) if times.runs else '-' for times in row.times),
