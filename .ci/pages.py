@@ -142,7 +142,8 @@ def tails() -> dict[str, list[str]]:
 def shape(text: str) -> str:
     """The page with its code blocks, and the cells of other tools' columns, left blank; lines stay."""
     text = re.sub(r'(?ms)^```.*?^```', lambda block: '\n' * block[0].count('\n'), text)
-    lines, foreign = [], set()
+    lines: list[str] = []
+    foreign: set[int] = set()
     for line in text.split('\n'):
         if line.startswith('|'):
             cells = re.split(r'(?<!\\)\|', line)
