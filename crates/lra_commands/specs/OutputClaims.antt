@@ -62,10 +62,10 @@ pub record HoldsInAllRuns (bytes : List ℕ) (r : Report) : Type 0 where
   pub sound : IsSound (resolve tree) r
   pub unreached : AllByRecursion (IsNeverReached (resolve tree)) r.points
 
--- the report shows what the written iteration finds, whose loops have these constants as thresholds where the options
--- ask for such: at each point the state that shows its value there, whose rows
--- mean the value, on each assertion its verdict, if it is asked for at each point at which something is computed
--- whether all of it fits, and of each access whether it lies inside its array
+-- the report shows what the written iteration finds, whose loops have these constants as thresholds if the options ask
+-- for such: at each point the state that shows its value there, whose rows mean the value; on each assertion its
+-- verdict; of each access whether it lies inside its array; and, if the options ask for it, at each point at which
+-- something is computed whether all of it fits
 pub record ReportsWritten {V H : Type 0} (m : Abstraction V H) (shown : V → Invariant) (o : Options)
     (constants : List ℤ)
     (P : Program) (r : Report) : Type 0 where
@@ -139,7 +139,8 @@ pub record ReportsFits (o : Options) (bytes : List ℕ) (r : Report) : Type 0 wh
 abbrev pub ReportsSamePoints : Options → List ℕ → Report → Type 0
 ReportsSamePoints o bytes r = o.domain ≡ Poly → AllByRecursion HasSamePointsAt r.points
 
--- what is reported about a report of the sample is written whole, and all of this is claimed of that report
+-- the summary of a report of the sample's source is written whole. That report holds in all runs; unless it is flagged
+-- it is the written iteration's; rows and generators have the same points
 abbrev pub WritesSummary : ℕ → ℕ → Option (List ℕ) → Option (List ℕ) → Type 0
 WritesSummary seed size held_old held_new = WritesReport default_options (summary_text seed size)
     (λ source r. HoldsInAllRuns source r × IsWrittenUnlessFlagged default_options source r

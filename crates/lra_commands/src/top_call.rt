@@ -198,8 +198,8 @@ pub fn run<S: Source, K: Sink>(
         Asks (map string_bytes words.now) (Analyse options format) → Ends reported result →
         WritesReport options (written_report format) (ReportsSamePoints options) (S.left source.old)
         (K.held sink.old) (K.held sink.new) }
-    // If they ask for a sample: what is written sums up a report of its source, and all of this holds
-    // of that report.
+    // If they ask for a sample: what is written sums up a report of its source. That report holds in all
+    // runs. Unless it is flagged, it is the written iteration's. Rows and generators have the same points.
     ensures sampled { (seed size : ℕ) → Asks (map string_bytes words.now) (Sample seed size) → Ends reported result →
         WritesSummary seed size (K.held sink.old) (K.held sink.new) }
 
