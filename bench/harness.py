@@ -320,7 +320,8 @@ def table(heads: list[str], lines: list[list[str]]) -> str:
     """A table of a page, without columns that are empty."""
     kept = [k for k in range(len(heads)) if any(line[k] for line in lines)]
     chosen = [[line[k] for k in kept] for line in (heads, ['---'] * len(heads), *lines)]
-    return '\n'.join(f'|{"|".join(cells)}|' if cells[0] == '---' else f'| {" | ".join(cells)} |' for cells in chosen)
+    marked = [[re.sub(r'(?<!\\)\|', r'\\|', cell) for cell in cells] for cells in chosen]
+    return '\n'.join(f'|{"|".join(cells)}|' if cells[0] == '---' else f'| {" | ".join(cells)} |' for cells in marked)
 
 
 def print_section(title: str, aim: str, bound: str, how: str, shown: str) -> None:
