@@ -11,7 +11,7 @@ use std::marker::Model;
 /// How often in a row an interrupted call is made again.
 const RETRIES: u32 = 8;
 
-/// A source over a reader of std. It doesn't report its bytes.
+/// A source over a reader of std. Its bytes are known to contracts if the reader's are.
 ///
 /// A read that is interrupted is tried again up to eight times in a row, then it is a fault.
 #[derive(Drop)]
@@ -48,7 +48,7 @@ impl<R: Read> RealSource<R> {
 }
 
 impl<R: Read> Source for RealSource<R> {
-    ghost left = { λ _. None };
+    ghost left = { λ s. R.remaining s.device };
 
     ghost faults = { λ s. s.faults };
 
@@ -58,7 +58,7 @@ impl<R: Read> Source for RealSource<R> {
 
     fn read(&mut self, into: &mut [u8]) -> Result<usize, Failed>
         ensures bound { ReadsAtMost result into.new }
-        ensures device { ReadConsumes (R.remaining self.old.device) (R.remaining self.new.device) result into.new }
+        ensures bytes { ReadConsumes (R.remaining self.old.device) (R.remaining self.new.device) result into.new }
         ensures cause { HasCause self.old.faults self.new.faults result }
         ensures success { OnOk result (GoesOn self.old self.new) }
         ensures fault { OnErr result (Stops self.old self.new) }
@@ -80,7 +80,7 @@ impl<R: Read> Source for RealSource<R> {
     }
 }
 
-/// A sink over a writer of std. It doesn't report its bytes.
+/// A sink over a writer of std. Its bytes are known to contracts if the writer's are.
 ///
 /// A write that is interrupted is tried again up to eight times in a row, then it is a fault; so is a write that takes
 /// nothing of a piece that is not empty.
@@ -108,7 +108,7 @@ impl<W: Write> RealSink<W> {
 }
 
 impl<W: Write> Sink for RealSink<W> {
-    ghost held = { λ _. None };
+    ghost held = { λ s. W.contents s.device };
 
     ghost faults = { λ s. s.faults };
 
@@ -121,7 +121,7 @@ impl<W: Write> Sink for RealSink<W> {
     fn write(&mut self, piece: &[u8]) -> Result<usize, Failed>
         ensures bound { WritesAtMost result piece.now }
         ensures some { IfOk result (λ count. 0 < length piece.now → 0 < count) }
-        ensures device { WriteAppends (W.contents self.old.device) (W.contents self.new.device) result piece.now }
+        ensures bytes { WriteAppends (W.contents self.old.device) (W.contents self.new.device) result piece.now }
         ensures cause { HasCause self.old.faults self.new.faults result }
         ensures success { OnOk result (GoesOn self.old self.new) }
         ensures fault { OnErr result (Stops self.old self.new) }
