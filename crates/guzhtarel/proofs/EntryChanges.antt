@@ -1,7 +1,7 @@
 -- What changes and joins keep of contents with an entry for each dimension, and how their ranks fall.
 use Rattle.std.proofs.Common.{◌≡◌, ℕ, zero, suc, ◌*◌, ◌^◌, ◌<◌, ◌≤◌, ℤ, Bool, true, false, List, [], ◌∷◌, ◌++◌, length, replicate, take, refl, ap, arith}
-use Rattle.std.specs.{Cmp.Lexicographic.pointwise, Prelude.slice_set}
 use Rattle.std.proofs.lemmas.Bool.{and_parts}
+use Rattle.std.specs.{Cmp.Lexicographic.pointwise, Prelude.slice_set}
 use Rattle.guzhtarel.specs.Entries.{AllHave, join_each, total}
 
 -- ---- changes

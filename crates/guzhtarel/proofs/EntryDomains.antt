@@ -3,7 +3,7 @@ use Rattle.std.proofs.Common.{◌≡◌, ℕ, suc, ◌+◌, ◌-◌, ◌<◌, �
 use Rattle.std.proofs.{Math.Bool.or-not_self, lemmas.List.length-replicate}
 use Rattle.std.specs.{Cmp.Derive.both_true, Cmp.Lexicographic.pointwise}
 use Rattle.lra_linear_forms.specs.Form.{form_value}
-use Rattle.lra_linear_spec.specs.{Vectors.entry, declared.ConKind.TheVariants.Ge}
+use Rattle.guzhtarel.specs.Crates.{lra_linear_spec.Vectors.entry, lra_linear_spec.declared.ConKind.TheVariants.Ge}
 use Rattle.lra_domain.specs.Actions.{Action, ActionFits, Leads, assign, forget, test, embed, remove_last}
 use Rattle.lra_domain.specs.{ExactDomains.Facts, ExactDomains.abstraction_of, Laws.PartsAreExact, Parts.SomePartHolds, Rank.RankBelow, Rank.RankFits}
 use Rattle.guzhtarel.specs.Entries.{AllHave, AllHold, join_each, rows_from, total}

@@ -1,7 +1,8 @@
 -- Calls on the polyhedra of two sets, reported of the sets. (That sets which are the same have the same polyhedron is
 -- `same_polyhedron`.)
 use Rattle.std.proofs.Common.{◌≡◌, ℕ, subst}
-use Rattle.lra_linear_spec.specs.{Descriptions.Con, Points.PointSet, Points.IsWithin, Polyhedra.Polyhedron, Polyhedra.IsPolyhedronOf, SetOperations.Meet, SetOperations.Union, SetOperations.Hull}
+use Rattle.guzhtarel.specs.Crates.{lra_linear_spec.Descriptions.Con, lra_linear_spec.Points.PointSet, lra_linear_spec.Points.IsWithin, lra_linear_spec.Polyhedra.Polyhedron}
+use Rattle.guzhtarel.specs.Crates.{lra_linear_spec.Polyhedra.IsPolyhedronOf, lra_linear_spec.SetOperations.Meet, lra_linear_spec.SetOperations.Union, lra_linear_spec.SetOperations.Hull}
 use Rattle.lra_poly.specs.{Outcomes.IfExact, declared.outcome.Outcome.Outcome, declared.outcome.Outcome.TheVariants.Exact, declared.outcome.Outcome.TheVariants.Flagged}
 pub use Rattle.lra_poly.proofs.PolyLemmas.{same_polyhedron}
 use Rattle.guzhtarel.proofs.SameSets.{within_trans, meet_within, union_within, in_hull, meet_same, union_same, hull_same}

@@ -1,10 +1,9 @@
 -- What an operation makes of sets that are the same, or one within the other, is so too.
 use Rattle.std.proofs.Common.{ℕ, suc, ◌+◌, ◌<◌, ℤ, pos, ◌<ℤ◌, List, take, inl, inr, subst, sym, ◌∙◌, arith}
 use Rattle.std.proofs.lemmas.List.{length-set, length-take-le}
-use Rattle.lra_linear_spec.specs.SetOperations.{Meet, Union, Hull, Image, Preimage, Forget, Embed, RemoveLast, OnTheWay, TimeElapse, assigned}
-use Rattle.lra_linear_spec.specs.{Points.IsPoint, Points.PointSet, Points.IsWithin, Points.SameSet, Vectors.product}
-use Rattle.lra_linear_spec.proofs.Products.{entry_set_other}
-use Rattle.lra_mapped_systems.proofs.ListLemmas.{short_divisor}
+use Rattle.guzhtarel.specs.Crates.lra_linear_spec.SetOperations.{Meet, Union, Hull, Image, Preimage, Forget, Embed, RemoveLast, OnTheWay, TimeElapse, assigned}
+use Rattle.guzhtarel.specs.Crates.{lra_linear_spec.Points.IsPoint, lra_linear_spec.Points.PointSet, lra_linear_spec.Points.IsWithin, lra_linear_spec.Points.SameSet, lra_linear_spec.Vectors.product}
+use Rattle.guzhtarel.proofs.Crates.{lra_linear_spec.Products.entry_set_other, lra_mapped_systems.ListLemmas.short_divisor}
 
 -- ---- by themselves
 pub within_refl : (n : ℕ) (P : PointSet) → IsWithin n P P

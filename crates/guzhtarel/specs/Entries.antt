@@ -1,7 +1,8 @@
 -- Lists with an entry for each dimension: what is said of a store number by number, a join entry by entry, rows column
 -- by column. (That each entry is covered by its partner is `pointwise` of std.)
 use Rattle.std.specs.Prelude.{ℕ, suc, ◌+◌, ℤ, List, [], ◌∷◌, ◌++◌}
-use Rattle.lra_linear_spec.specs.{Descriptions.Holds, Kinds.is_equality, declared.ConKind.ConKind}
+use Rattle.guzhtarel.specs.Crates.lra_linear_spec.Kinds.{is_equality}
+use Rattle.guzhtarel.specs.Crates.{lra_linear_spec.Descriptions.Holds, lra_linear_spec.declared.ConKind.ConKind}
 
 -- as many entries as numbers, and each entry has its number
 abbrev pub AllHave : {E : Type 0} → (E → ℤ → Type 0) → List E → List ℤ → Type 0

@@ -4,7 +4,8 @@ use Rattle.std.specs.Cmp.Lexicographic.{pointwise}
 use Rattle.std.specs.Prelude.{◌≡◌, ◌≤◌, ◌<◌, ◌^◌, ◌↔◌, ℕ, ◌+◌, ◌-◌, ℤ, pos, Bool, true, false, not, ◌&&◌, ◌||◌, List}
 use Rattle.std.specs.Prelude.{[], ◌∷◌, ◌++◌, length, replicate, slice_set, take, IsTrue}
 use Rattle.lra_linear_forms.specs.Form.{Form, form_value}
-use Rattle.lra_linear_spec.specs.{Vectors.entry, declared.ConKind.ConKind, declared.ConKind.TheVariants.Ge}
+use Rattle.guzhtarel.specs.Crates.lra_linear_spec.declared.ConKind.{ConKind}
+use Rattle.guzhtarel.specs.Crates.{lra_linear_spec.Vectors.entry, lra_linear_spec.declared.ConKind.TheVariants.Ge}
 use Rattle.lra_systems.specs.LinearSystems.{LinearSystem}
 use Rattle.lra_domain.specs.Actions.{Action, assign, forget, test, embed, remove_last}
 use Rattle.lra_domain.specs.ExactDomains.{ExactDomain}

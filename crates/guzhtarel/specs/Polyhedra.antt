@@ -1,23 +1,23 @@
 -- Closed polyhedra: what a value shows, what its operations report, widenings, and where they exceed a limit.
-pub use Rattle.lra_linear_spec.specs.Polyhedra
-pub use Rattle.lra_linear_spec.specs.Representable
-pub use Rattle.lra_linear_spec.specs.Widening
-pub use Rattle.lra_linear_spec.specs.Strain
-pub use Rattle.lra_linear_spec.specs.OperationStrain
-pub use Rattle.lra_description_pair.specs.KeptRows
-pub use Rattle.lra_duality.specs.Rows as TestRows
+pub use Rattle.guzhtarel.specs.Crates.lra_linear_spec.Polyhedra
+pub use Rattle.guzhtarel.specs.Crates.lra_linear_spec.Representable
+pub use Rattle.guzhtarel.specs.Crates.lra_linear_spec.Widening
+pub use Rattle.guzhtarel.specs.Crates.lra_linear_spec.Strain
+pub use Rattle.guzhtarel.specs.Crates.lra_linear_spec.OperationStrain
+pub use Rattle.guzhtarel.specs.Crates.lra_description_pair.KeptRows
+pub use Rattle.guzhtarel.specs.Crates.lra_duality.Rows as TestRows
 pub use Rattle.lra_poly.specs.Outcomes
 pub use Rattle.lra_poly.specs.Equality
 pub use Rattle.lra_poly.specs.Restricted
 pub use Rattle.lra_poly.specs.United
 pub use Rattle.lra_poly.specs.StrainsAfter
-pub use Rattle.lra_duality.specs.Inclusions
-pub use Rattle.lra_duality.specs.Maxima
-pub use Rattle.lra_duality.specs.Saturations
-pub use Rattle.lra_duality.specs.Incremental
+pub use Rattle.guzhtarel.specs.Crates.lra_duality.Inclusions
+pub use Rattle.guzhtarel.specs.Crates.lra_duality.Maxima
+pub use Rattle.guzhtarel.specs.Crates.lra_duality.Saturations
+pub use Rattle.guzhtarel.specs.Crates.lra_duality.Incremental
 pub use Rattle.lra_poly.specs.declared.outcome.Outcome
-pub use Rattle.lra_duality.specs.declared.inclusion.Inclusion
-pub use Rattle.lra_duality.specs.declared.maximum.Maximum
+pub use Rattle.guzhtarel.specs.Crates.lra_duality.declared.inclusion.Inclusion
+pub use Rattle.guzhtarel.specs.Crates.lra_duality.declared.maximum.Maximum
 pub use Rattle.lra_poly_queries.specs.Minima
 pub use Rattle.lra_poly_queries.specs.Tightened
 pub use Rattle.lra_poly_queries.specs.Moved
@@ -34,7 +34,7 @@ pub use Rattle.lra_poly_queries.specs.declared.minimum.Minimum
 pub use Rattle.lra_poly_queries.specs.declared.relation.Relation
 pub use Rattle.lra_poly_queries.specs.declared.boxes.Extent
 pub use Rattle.lra_poly_queries.specs.declared.boxes.Fraction
-pub use Rattle.lra_mapped_systems.specs.Moving
+pub use Rattle.guzhtarel.specs.Crates.lra_mapped_systems.Moving
 pub use Rattle.lra_poly_images.specs.Forgetting
 pub use Rattle.lra_poly_images.specs.FormedPreimages
 pub use Rattle.lra_poly_widening.specs.Rank as WideningRank

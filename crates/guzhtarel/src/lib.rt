@@ -15,7 +15,6 @@ pub use lra_domain::{
     Backward, BaseDomain, Change, Domain, ExactParts, Exactness, Grown, Included, Mode, Rank,
     change_all, worse,
 };
-pub use lra_duality::{Inclusion, Maximum};
 pub use lra_linear_forms as forms;
 pub use lra_linear_forms::{LinExpr, Test};
 pub use lra_octagon as octagons;
@@ -23,7 +22,7 @@ pub use lra_octagon::Octagon;
 pub use lra_poly as poly;
 pub use lra_poly::{Outcome, Poly};
 pub use lra_poly_domain as polyhedra;
-pub use lra_poly_domain::Polyhedron;
+pub use lra_poly_domain::{Inclusion, Maximum, Polyhedron};
 pub use lra_poly_images as maps;
 pub use lra_poly_images::{embed, forget, image, preimage, remove_last, time_elapse};
 pub use lra_poly_queries as queries;

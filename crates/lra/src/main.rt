@@ -2,8 +2,7 @@
 //! standard output. What goes wrong with words or files is reported on standard error.
 #![tactic(auto)]
 
-use lra_command_line::{Request, read_request};
-use lra_commands::{Status, run};
+use lra_commands::{Request, Status, read_request, run};
 use lra_io::{RealSink, RealSource, write_whole};
 use std::env;
 use std::fs::File;

@@ -3,18 +3,16 @@
 use Rattle.std.proofs.Common.{◌≡◌, ◌∙◌, ◌<◌, ◌++◌, ℕ, zero, suc, List, [], ◌∷◌, length, map, Option, Some, None, Bool, true, false, cond, refl, sym, ap, ap₂, subst, arith, eq-eqb}
 use Rattle.std.proofs.{lemmas.Bool.eqb-true, lemmas.List.append-nil, lemmas.List.map-append, lemmas.Option.none-some, lemmas.Option.same_Some}
 use Rattle.std.specs.{List.Contains, List.flat_map, Prelude.IsTrue, Prelude.nat_eq, Prelude.nat_lt, Prelude.slice_get}
-use Rattle.lra_linear_spec.proofs.Membership.{contains_tail}
-use Rattle.lra_base.specs.declared.refusals.Place.{Place}
-use Rattle.lra_domain.specs.{Abstraction.Abstraction, declared.Exactness.Exactness}
-use Rattle.lra_program.specs.Accesses.{expr_accesses, cond_accesses, arguments_accesses, aim_accesses, op_accesses, op_accesses_any}
-use Rattle.lra_program.specs.Step.{Op, append, fill, store_value, store_element, havoc, push, push_for, truncate_to, test}
-use Rattle.lra_program.specs.{Program.Element, Program.Cond, Program.compare, Program.nonzero, Program.opposite, Program.both_of, Program.either_of, Sites.Site}
-use Rattle.lra_operations.specs.{CheckedOperations.OpAtPoint, CheckedOperations.accessing_ops, CheckedOperations.AreOncePerPoint, Tree.Node}
-use Rattle.lra_analysis_spec.specs.{Accesses.EachJudged, Accesses.CondInside, Accesses.OpInside, Accesses.InsideAtPoint, Accesses.JudgesAccesses, Operations.Operations}
+use Rattle.lra_analyse_source.proofs.Crates.{lra_linear_spec.ListPlaces.contains_at, lra_linear_spec.ListPlaces.there_within, lra_linear_spec.Membership.contains_tail}
+use Rattle.lra_analyse_source.specs.Crates.lra_analysis_spec.Accesses.{EachJudged, CondInside, OpInside, InsideAtPoint, JudgesAccesses}
+use Rattle.lra_analyse_source.specs.Crates.lra_operations.CheckedOperations.{OpAtPoint, accessing_ops, AreOncePerPoint}
+use Rattle.lra_analyse_source.specs.Crates.lra_program.Accesses.{expr_accesses, cond_accesses, arguments_accesses, aim_accesses, op_accesses, op_accesses_any}
+use Rattle.lra_analyse_source.specs.Crates.lra_program.Program.{Element, Cond, compare, nonzero, opposite, both_of, either_of}
+use Rattle.lra_analyse_source.specs.Crates.lra_program.Step.{Op, append, fill, store_value, store_element, havoc, push, push_for, truncate_to, test}
+use Rattle.lra_analyse_source.specs.Crates.{lra_analysis_spec.Operations.Operations, lra_base.declared.refusals.Place.Place, lra_domain.Abstraction.Abstraction}
+use Rattle.lra_analyse_source.specs.Crates.{lra_domain.declared.Exactness.Exactness, lra_operations.Tree.Node, lra_program.Sites.Site, lra_report.Listing.accesses_at}
 use Rattle.lra_fixpoint.specs.Numbers.{AreBelow}
-use Rattle.lra_report.specs.Listing.{accesses_at}
 use Rattle.lra_report_build.specs.AnalysisResults.{AreAccessVerdicts, IsAccessing}
-use Rattle.lra_linear_spec.proofs.ListPlaces.{contains_at, there_within}
 use Rattle.lra_analyse_source.proofs.{Found.place_of, Found.found_of, Found.asked_one, Found.found_on}
 
 -- places -----------------------------------------------------------------------------------------------------------------

@@ -1,12 +1,13 @@
 -- If an access is judged to be inside its array, no run evaluates it outside.
 use Rattle.std.proofs.Common.{◌≡◌, ◌∙◌, ℕ, List, Option, Some, Bool, true, refl, sym, ap, subst}
 use Rattle.std.specs.{List.Contains, Prelude.slice_get}
-use Rattle.lra_base.specs.declared.refusals.Place.{Place}
-use Rattle.lra_domain.specs.{Abstraction.Abstraction, Laws.Laws}
-use Rattle.lra_program.specs.{Accesses.op_accesses_any, Accesses.OpOutOfBounds, Accesses.AccessesOutOfBounds, Program.Program, Sites.Site, Sites.sites_of, WellFormed.AreGoodGlobals}
-use Rattle.lra_operations.specs.{Agree.point_of, Agree.Agrees, CheckedOperations.OpAtPoint, CheckedOperations.AgreesOnAccesses, Tree.Node}
-use Rattle.lra_analysis_spec.specs.{Accesses.InsideAtPoint, Accesses.JudgesAccesses, Analysis.LossyIteration, Analysis.IsSolution, Operations.lossy_operations, Pass.PassResult, Plan.Plan}
-use Rattle.lra_analysis_spec.proofs.AccessesSound.{inside_never_stray}
+use Rattle.lra_analyse_source.specs.Crates.lra_program.Accesses.{op_accesses_any, OpOutOfBounds, AccessesOutOfBounds}
+use Rattle.lra_analyse_source.specs.Crates.{lra_analysis_spec.Accesses.InsideAtPoint, lra_analysis_spec.Accesses.JudgesAccesses, lra_analysis_spec.Analysis.LossyIteration}
+use Rattle.lra_analyse_source.specs.Crates.{lra_analysis_spec.Analysis.IsSolution, lra_analysis_spec.Operations.lossy_operations, lra_analysis_spec.Pass.PassResult, lra_analysis_spec.Plan.Plan}
+use Rattle.lra_analyse_source.specs.Crates.{lra_base.declared.refusals.Place.Place, lra_domain.Abstraction.Abstraction, lra_domain.Laws.Laws, lra_operations.Agree.point_of}
+use Rattle.lra_analyse_source.specs.Crates.{lra_operations.Agree.Agrees, lra_operations.CheckedOperations.OpAtPoint, lra_operations.CheckedOperations.AgreesOnAccesses, lra_operations.Tree.Node}
+use Rattle.lra_analyse_source.specs.Crates.{lra_program.Program.Program, lra_program.Sites.Site, lra_program.Sites.sites_of, lra_program.WellFormed.AreGoodGlobals}
+use Rattle.lra_analyse_source.proofs.Crates.lra_analysis_spec.AccessesSound.{inside_never_stray}
 use Rattle.lra_analyse_source.specs.Soundness.{AccessesAreSound}
 use Rattle.lra_analyse_source.proofs.{Found.found_of, Found.one_asked_there, Sound.held_there}
 

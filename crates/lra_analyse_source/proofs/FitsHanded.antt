@@ -2,12 +2,11 @@
 use Rattle.std.proofs.Common.{◌≡◌, ◌∙◌, ◌<◌, ℕ, List, length, Option, None, Bool, true, false, sym, ap, subst, eq-eqb}
 use Rattle.std.proofs.{lemmas.Bool.eqb-true, lemmas.List.Folds.Any-from_list_any, lemmas.List.Folds.list_any_at}
 use Rattle.std.specs.{List.Contains, List.list_any, Prelude.IsTrue, Prelude.nat_eq}
-use Rattle.lra_domain.specs.Abstraction.{Abstraction}
-use Rattle.lra_program.specs.Sites.{Site}
-use Rattle.lra_operations.specs.{CheckedOperations.OpAtPoint, CheckedOperations.computing_ops, Tree.Node}
-use Rattle.lra_analysis_spec.specs.{Fits.OpFits, Fits.Judges, Fits.JudgesIf, Operations.Operations}
+use Rattle.lra_analyse_source.specs.Crates.lra_analysis_spec.Fits.{OpFits, Judges, JudgesIf}
+use Rattle.lra_analyse_source.specs.Crates.lra_operations.CheckedOperations.{OpAtPoint, computing_ops}
+use Rattle.lra_analyse_source.specs.Crates.{lra_analysis_spec.Operations.Operations, lra_domain.Abstraction.Abstraction, lra_operations.Tree.Node, lra_program.Sites.Site}
 use Rattle.lra_report_build.specs.AnalysisResults.{AreVerdictsOn, IsComputing}
-use Rattle.lra_linear_spec.proofs.ListPlaces.{there_within}
+use Rattle.lra_analyse_source.proofs.Crates.lra_linear_spec.ListPlaces.{there_within}
 use Rattle.lra_analyse_source.proofs.Found.{found_on, none_before}
 
 -- a tree computes where it asks, and asks where it computes

@@ -1,11 +1,12 @@
 -- Where all that is computed at a point is judged to fit, no run stops there by a number.
 use Rattle.std.proofs.Common.{◌≡◌, ◌∙◌, ℕ, List, Option, Some, Bool, true, refl, sym, ap, subst}
 use Rattle.std.specs.{List.Contains, Prelude.slice_get}
-use Rattle.lra_domain.specs.{Abstraction.Abstraction, Laws.Laws}
-use Rattle.lra_program.specs.{Overflow.op_computes, Overflow.OpOverflows, Overflow.Overflows, Program.Program, Sites.Site, Sites.sites_of, WellFormed.AreGoodGlobals}
-use Rattle.lra_operations.specs.{Agree.point_of, Agree.Agrees, CheckedOperations.OpAtPoint, CheckedOperations.AgreesOnOverflows, Tree.Node}
-use Rattle.lra_analysis_spec.specs.{Analysis.LossyIteration, Analysis.IsSolution, Fits.JudgedAtPoint, Fits.Judges, Operations.lossy_operations, Pass.PassResult, Plan.Plan}
-use Rattle.lra_analysis_spec.proofs.FitsSound.{fitting_never_overflows}
+use Rattle.lra_analyse_source.specs.Crates.{lra_analysis_spec.Analysis.LossyIteration, lra_analysis_spec.Analysis.IsSolution, lra_analysis_spec.Fits.JudgedAtPoint, lra_analysis_spec.Fits.Judges}
+use Rattle.lra_analyse_source.specs.Crates.{lra_analysis_spec.Operations.lossy_operations, lra_analysis_spec.Pass.PassResult, lra_analysis_spec.Plan.Plan, lra_domain.Abstraction.Abstraction}
+use Rattle.lra_analyse_source.specs.Crates.{lra_domain.Laws.Laws, lra_operations.Agree.point_of, lra_operations.Agree.Agrees, lra_operations.CheckedOperations.OpAtPoint}
+use Rattle.lra_analyse_source.specs.Crates.{lra_operations.CheckedOperations.AgreesOnOverflows, lra_operations.Tree.Node, lra_program.Overflow.op_computes, lra_program.Overflow.OpOverflows}
+use Rattle.lra_analyse_source.specs.Crates.{lra_program.Overflow.Overflows, lra_program.Program.Program, lra_program.Sites.Site, lra_program.Sites.sites_of, lra_program.WellFormed.AreGoodGlobals}
+use Rattle.lra_analyse_source.proofs.Crates.lra_analysis_spec.FitsSound.{fitting_never_overflows}
 use Rattle.lra_analyse_source.specs.Soundness.{FittingIsSound}
 use Rattle.lra_analyse_source.proofs.{Found.found_of, Found.one_asked_there, Sound.held_there}
 

@@ -3,25 +3,26 @@ use Rattle.std.proofs.Common.{◌≡◌, ◌≢◌, ℕ, suc, ◌+◌, ◌-◌, 
 use Rattle.std.proofs.lemmas.Option.{none-some, same_Some}
 use Rattle.std.specs.{List.AllByRecursion, List.Contains, Prelude.slice_get}
 use Rattle.lra_front_end.proofs.Faultless.{at_place}
-use Rattle.lra_linear_spec.proofs.Membership.{contains_none, contains_cases}
-use Rattle.lra_program.specs.Program.{Slot, global, local, Expr, Cond, Call, Rvalue, Stmt, Cases, BlockItems, Program}
-use Rattle.lra_program.specs.Step.{Op, append, store_value, fill, store_element, havoc, truncate_to, test, ReturnFrame, arguments_for}
-use Rattle.lra_program.specs.WellFormed.{IsLive, IsGoodRvalue, IsGoodGiven, IsGoodStmt, AreGoodCases, AreGoodItems, IsGoodFunction, IsWellFormed, Jumps, no_jumps, in_loop as in_loop_jumps, in_switch}
-use Rattle.lra_program.specs.{Receivers.variable_at, Receivers.result_receiver, Sites.Site, Sites.sites_of, Value.index_of, Value.Argument, declared.receivers.Cell.Cell}
-use Rattle.lra_program.specs.{declared.receivers.Cell.TheVariants.Variable, declared.receivers.Cell.TheVariants.Waiting, declared.receivers.Receiver.Receiver, declared.receivers.Target.Target}
-use Rattle.lra_base.specs.{Limits.greatest_live, declared.case_labels.CaseLabel.CaseLabel, declared.number_types.NumberType.NumberType}
-use Rattle.lra_operations.specs.Agree.{IsInlinedTree}
-use Rattle.lra_operations.specs.Inlined.{Frame, InlineState, callee, InlineStmt, InlineItems, InlineDeclarator, InlineLoop, InlineRvalue, InlineCall, as_nothing, as_block, as_absent, as_assign}
-use Rattle.lra_operations.specs.Inlined.{as_call, as_if, as_loop, as_for, as_break, as_continue, as_array, as_write, as_write_call, as_return, as_return_value, as_return_call, as_end, as_end_value}
-use Rattle.lra_operations.specs.Inlined.{as_end_call, as_assert, as_assume, as_none, as_declaration, as_statement, as_fresh, as_given, is_loop, as_value, as_result, is_call, callee_node, loop_node}
-use Rattle.lra_operations.specs.Inlined.{return_node, main_frame, InlineCases, as_switch, as_no_cases, as_labelled, as_stated, switch_node}
-use Rattle.lra_operations.specs.Tree.{Exit, broken, continued, returned, Node, empty, point, act, check, seq, choose, catch, leave, Arms, no_arms, entry, arm}
-use Rattle.lra_program.specs.Sites as sites
-use Rattle.lra_inline_sound.proofs.Lengths.{grows_all}
-use Rattle.lra_analysis_spec.specs.{Live.live_after_op, Live.live_after, LiveLimit.most_live}
-use Rattle.lra_transfer.specs.Changes.{CellFits, PlaceFits, OpFitsDims}
-use Rattle.lra_program.proofs.GivenArguments.{given_width}
-use Rattle.lra_pass_results.specs.Dimensions.{ArmsFit, ArmsJumpWith, JumpsWith, TreeFits}
+use Rattle.lra_analyse_source.proofs.Crates.lra_linear_spec.Membership.{contains_none, contains_cases}
+use Rattle.lra_analyse_source.proofs.Crates.{lra_inline_sound.Lengths.grows_all, lra_program.GivenArguments.given_width}
+use Rattle.lra_analyse_source.specs.Crates.lra_operations.Inlined.{Frame, InlineState, callee, InlineStmt, InlineItems, InlineDeclarator, InlineLoop, InlineRvalue, InlineCall, as_nothing, as_block}
+use Rattle.lra_analyse_source.specs.Crates.lra_operations.Inlined.{as_absent, as_assign, as_call, as_if, as_loop, as_for, as_break, as_continue, as_array, as_write, as_write_call, as_return}
+use Rattle.lra_analyse_source.specs.Crates.lra_operations.Inlined.{as_return_value, as_return_call, as_end, as_end_value, as_end_call, as_assert, as_assume, as_none, as_declaration, as_statement}
+use Rattle.lra_analyse_source.specs.Crates.lra_operations.Inlined.{as_fresh, as_given, is_loop, as_value, as_result, is_call, callee_node, loop_node, return_node, main_frame, InlineCases, as_switch}
+use Rattle.lra_analyse_source.specs.Crates.lra_operations.Inlined.{as_no_cases, as_labelled, as_stated, switch_node}
+use Rattle.lra_analyse_source.specs.Crates.lra_operations.Tree.{Exit, broken, continued, returned, Node, empty, point, act, check, seq, choose, catch, leave, Arms, no_arms, entry, arm}
+use Rattle.lra_analyse_source.specs.Crates.lra_pass_results.Dimensions.{ArmsFit, ArmsJumpWith, JumpsWith, TreeFits}
+use Rattle.lra_analyse_source.specs.Crates.lra_program.Program.{Slot, global, local, Expr, Cond, Call, Rvalue, Stmt, Cases, BlockItems, Program}
+use Rattle.lra_analyse_source.specs.Crates.lra_program.Step.{Op, append, store_value, fill, store_element, havoc, truncate_to, test, ReturnFrame, arguments_for}
+use Rattle.lra_analyse_source.specs.Crates.lra_program.WellFormed.{IsLive, IsGoodRvalue, IsGoodGiven, IsGoodStmt, AreGoodCases, AreGoodItems, IsGoodFunction, IsWellFormed, Jumps, no_jumps}
+use Rattle.lra_analyse_source.specs.Crates.lra_program.WellFormed.{in_loop as in_loop_jumps, in_switch}
+use Rattle.lra_analyse_source.specs.Crates.lra_transfer.Changes.{CellFits, PlaceFits, OpFitsDims}
+use Rattle.lra_analyse_source.specs.Crates.{lra_analysis_spec.Live.live_after_op, lra_analysis_spec.Live.live_after, lra_analysis_spec.LiveLimit.most_live, lra_base.Limits.greatest_live}
+use Rattle.lra_analyse_source.specs.Crates.{lra_base.declared.case_labels.CaseLabel.CaseLabel, lra_base.declared.number_types.NumberType.NumberType, lra_operations.Agree.IsInlinedTree}
+use Rattle.lra_analyse_source.specs.Crates.{lra_program.Receivers.variable_at, lra_program.Receivers.result_receiver, lra_program.Sites.Site, lra_program.Sites.sites_of, lra_program.Value.index_of}
+use Rattle.lra_analyse_source.specs.Crates.{lra_program.Value.Argument, lra_program.declared.receivers.Cell.Cell, lra_program.declared.receivers.Cell.TheVariants.Variable}
+use Rattle.lra_analyse_source.specs.Crates.{lra_program.declared.receivers.Cell.TheVariants.Waiting, lra_program.declared.receivers.Receiver.Receiver, lra_program.declared.receivers.Target.Target}
+use Rattle.lra_analyse_source.specs.Crates.lra_program.Sites as sites
 
 -- how many live where a jump leads
 abbrev JumpFits : Frame → Exit → ℕ → Type 0

@@ -2,19 +2,20 @@
 use Rattle.std.proofs.Common.{◌≡◌, ℕ, zero, suc, ◌-◌, ◌<◌, List, [], ◌∷◌, length, Option, Some, None, Bool, sym, subst}
 use Rattle.std.proofs.lemmas.Option.{slice_get_within}
 use Rattle.std.specs.Prelude.{⊤}
-use Rattle.lra_domain.specs.{declared.Exactness.Exactness, declared.Exactness.TheVariants.Exact, declared.Exactness.TheVariants.Flagged}
-use Rattle.lra_program.specs.Program.{Expr, Cond, Call, Rvalue, Stmt, Cases, BlockItems, Program}
-use Rattle.lra_program.specs.{Sites.Site, Sites.sites_of, Step.Op, Value.Argument, declared.receivers.Receiver.Receiver}
-use Rattle.lra_base.specs.declared.number_types.NumberType.{NumberType}
-use Rattle.lra_operations.specs.Inlined.{InlineState, move, IsSiteWith, InlineStmt, InlineItems, InlineDeclarator, InlineLoop, InlineRvalue, as_nothing, as_block, as_absent, as_assign, as_call, as_if}
-use Rattle.lra_operations.specs.Inlined.{as_loop, as_for, as_break, as_continue, as_return, as_return_value, as_return_call, as_end, as_end_value, as_end_call, as_assert, as_assume, as_none}
-use Rattle.lra_operations.specs.Inlined.{as_declaration, as_statement, as_fresh, as_given, is_loop, as_value, as_result, is_call, InlineCall, as_array, as_write, as_write_call, InlineCases, as_switch}
-use Rattle.lra_operations.specs.Inlined.{as_no_cases, as_labelled, as_stated}
-use Rattle.lra_operations.specs.Tree.{Node, empty, probe, point, act, check, seq, choose, iterate, catch, leave, select, Arms, no_arms, entry, arm}
-use Rattle.lra_operations.specs.{Agree.IsInlinedTree, declared.probes.Probe.TheVariants.InterferencePoint, declared.probes.Probe.TheVariants.RecordWrite}
-use Rattle.lra_analysis_spec.specs.Pass.{Absorption, nothing_absorbed, PassResult, noted, Transformer, LoopRoundFrom, AscendingIteration, DescendingIteration, PassUnder}
-use Rattle.lra_analysis_spec.specs.{Analysis.Iteration, Operations.Operations, Pass.ArmsPassUnder, Plan.Plan, Plan.Widening, UnderInterference.IterationUnder}
-use Rattle.lra_analysis_spec.proofs.Transfer.{jump_flag, behind_flag}
+use Rattle.lra_analyse_source.specs.Crates.lra_analysis_spec.Pass.{Absorption, nothing_absorbed, PassResult, noted, Transformer, LoopRoundFrom, AscendingIteration, DescendingIteration, PassUnder}
+use Rattle.lra_analyse_source.specs.Crates.lra_analysis_spec.Pass.{ArmsPassUnder}
+use Rattle.lra_analyse_source.specs.Crates.lra_operations.Inlined.{InlineState, move, IsSiteWith, InlineStmt, InlineItems, InlineDeclarator, InlineLoop, InlineRvalue, as_nothing, as_block, as_absent}
+use Rattle.lra_analyse_source.specs.Crates.lra_operations.Inlined.{as_assign, as_call, as_if, as_loop, as_for, as_break, as_continue, as_return, as_return_value, as_return_call, as_end, as_end_value}
+use Rattle.lra_analyse_source.specs.Crates.lra_operations.Inlined.{as_end_call, as_assert, as_assume, as_none, as_declaration, as_statement, as_fresh, as_given, is_loop, as_value, as_result, is_call}
+use Rattle.lra_analyse_source.specs.Crates.lra_operations.Inlined.{InlineCall, as_array, as_write, as_write_call, InlineCases, as_switch, as_no_cases, as_labelled, as_stated}
+use Rattle.lra_analyse_source.specs.Crates.lra_operations.Tree.{Node, empty, probe, point, act, check, seq, choose, iterate, catch, leave, select, Arms, no_arms, entry, arm}
+use Rattle.lra_analyse_source.specs.Crates.lra_operations.declared.probes.Probe.TheVariants.{InterferencePoint, RecordWrite}
+use Rattle.lra_analyse_source.specs.Crates.lra_program.Program.{Expr, Cond, Call, Rvalue, Stmt, Cases, BlockItems, Program}
+use Rattle.lra_analyse_source.specs.Crates.{lra_analysis_spec.Analysis.Iteration, lra_analysis_spec.Operations.Operations, lra_analysis_spec.Plan.Plan, lra_analysis_spec.Plan.Widening}
+use Rattle.lra_analyse_source.specs.Crates.{lra_analysis_spec.UnderInterference.IterationUnder, lra_base.declared.number_types.NumberType.NumberType, lra_domain.declared.Exactness.Exactness}
+use Rattle.lra_analyse_source.specs.Crates.{lra_domain.declared.Exactness.TheVariants.Exact, lra_domain.declared.Exactness.TheVariants.Flagged, lra_operations.Agree.IsInlinedTree}
+use Rattle.lra_analyse_source.specs.Crates.{lra_program.Sites.Site, lra_program.Sites.sites_of, lra_program.Step.Op, lra_program.Value.Argument, lra_program.declared.receivers.Receiver.Receiver}
+use Rattle.lra_analyse_source.proofs.Crates.lra_analysis_spec.Transfer.{jump_flag, behind_flag}
 use Rattle.lra_fixpoint.specs.Numbers.{ArmsAreBelow, AreBelow}
 
 -- the first flagged point, if there is one, is below n

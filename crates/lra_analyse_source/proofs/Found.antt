@@ -3,14 +3,14 @@
 use Rattle.std.proofs.Common.{◌≡◌, ◌∙◌, ◌<◌, ◌++◌, ℕ, List, [], ◌∷◌, length, map, Option, Some, None, Bool, true, false, refl, sym, ap, subst, arith, inl, inr}
 use Rattle.std.proofs.{lemmas.List.Elements.Contains-append_cases, lemmas.Option.slice_get_within, lemmas.Option.slice_get_read, lemmas.Option.same_Some}
 use Rattle.std.specs.{List.Contains, Prelude.IsTrue, Prelude.slice_get, Prelude.if◌then◌else◌}
-use Rattle.lra_pass_results.proofs.Again.{none_noted}
-use Rattle.lra_linear_spec.proofs.Membership.{contains_cases, contains_none, contains_head, contains_tail, map_from, map_has}
-use Rattle.lra_domain.specs.{declared.Exactness.Exactness, declared.Exactness.TheVariants.Exact, declared.Exactness.TheVariants.Flagged}
-use Rattle.lra_base.specs.declared.number_types.NumberType.{NumberType}
-use Rattle.lra_program.specs.{Program.Program, Receivers.nobody, Step.State, Step.Op, Step.store_value, Step.test}
-use Rattle.lra_operations.specs.CheckedOperations.{OpAtPoint, AgreesOnOps, op_where, ops_where, ops_where_in_arms, fresh_after}
-use Rattle.lra_operations.specs.Tree.{Node, empty, probe, point, act, check, seq, choose, iterate, catch, leave, select, Arms, no_arms, entry, arm}
-use Rattle.lra_analysis_spec.specs.{Judging.Finding, Judging.answer_of, Judging.first_flagged, Judging.Finds, Operations.Operations, Pass.noted}
+use Rattle.lra_analyse_source.proofs.Crates.lra_linear_spec.Membership.{contains_cases, contains_none, contains_head, contains_tail, map_from, map_has}
+use Rattle.lra_analyse_source.proofs.Crates.lra_pass_results.Again.{none_noted}
+use Rattle.lra_analyse_source.specs.Crates.lra_analysis_spec.Judging.{Finding, answer_of, first_flagged, Finds}
+use Rattle.lra_analyse_source.specs.Crates.lra_operations.CheckedOperations.{OpAtPoint, AgreesOnOps, op_where, ops_where, ops_where_in_arms, fresh_after}
+use Rattle.lra_analyse_source.specs.Crates.lra_operations.Tree.{Node, empty, probe, point, act, check, seq, choose, iterate, catch, leave, select, Arms, no_arms, entry, arm}
+use Rattle.lra_analyse_source.specs.Crates.{lra_analysis_spec.Operations.Operations, lra_analysis_spec.Pass.noted, lra_base.declared.number_types.NumberType.NumberType}
+use Rattle.lra_analyse_source.specs.Crates.{lra_domain.declared.Exactness.Exactness, lra_domain.declared.Exactness.TheVariants.Exact, lra_domain.declared.Exactness.TheVariants.Flagged}
+use Rattle.lra_analyse_source.specs.Crates.{lra_program.Program.Program, lra_program.Receivers.nobody, lra_program.Step.State, lra_program.Step.Op, lra_program.Step.store_value, lra_program.Step.test}
 use Rattle.lra_fixpoint.specs.Numbers.{ArmsAreBelow, AreBelow}
 use Rattle.lra_report_build.specs.AnalysisResults.{AreVerdictsOn}
 use Rattle.lra_analyse_source.proofs.Handing.{image_of}

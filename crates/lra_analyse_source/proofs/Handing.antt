@@ -4,18 +4,16 @@ use Rattle.std.proofs.Common.{◌≡◌, ℕ, zero, suc, ◌≤◌, ◌<◌, Lis
 use Rattle.std.proofs.{lemmas.List.length-map, lemmas.List.Elements.Contains-append_cases, lemmas.Option.none-some, lemmas.Option.same_Some}
 use Rattle.std.specs.{List.AllByRecursion, List.Contains, List.flat_map, Prelude.slice_get, Prelude.IsTrue}
 use Rattle.lra_front_end.proofs.Faultless.{at_place}
-use Rattle.lra_linear_spec.proofs.Membership.{contains_cases, contains_head, contains_none, contains_tail, map_from}
-use Rattle.lra_linear_spec.proofs.ListPlaces.{contains_at}
-use Rattle.lra_base.specs.declared.refusals.Place.{Place}
-use Rattle.lra_domain.specs.{Abstraction.Abstraction, Laws.Laws}
-use Rattle.lra_program.specs.{Program.Program, Sites.Site, Sites.sites_of}
-use Rattle.lra_operations.specs.{Agree.IsInlinedTree, Tree.Node}
+use Rattle.lra_analyse_source.proofs.Crates.lra_linear_spec.ListPlaces.{contains_at}
+use Rattle.lra_analyse_source.proofs.Crates.lra_linear_spec.Membership.{contains_cases, contains_head, contains_none, contains_tail, map_from}
+use Rattle.lra_analyse_source.specs.Crates.lra_analysis_spec.Analysis.{LossyIteration, IsSolution}
+use Rattle.lra_analyse_source.specs.Crates.{lra_analysis_spec.Operations.lossy_operations, lra_analysis_spec.Pass.PassResult, lra_analysis_spec.Plan.Plan, lra_base.declared.refusals.Place.Place}
+use Rattle.lra_analyse_source.specs.Crates.{lra_domain.Abstraction.Abstraction, lra_domain.Laws.Laws, lra_operations.Agree.IsInlinedTree, lra_operations.Tree.Node, lra_program.Assertions.IsAssertion}
+use Rattle.lra_analyse_source.specs.Crates.{lra_program.Program.Program, lra_program.Sites.Site, lra_program.Sites.sites_of, lra_report.Listing.HasWidth, lra_report.Report.Invariant}
+use Rattle.lra_analyse_source.specs.Crates.{lra_report.declared.verdict_kinds.VerdictKind.VerdictKind, lra_report.declared.verdict_kinds.VerdictKind.TheVariants.Access}
 use Rattle.lra_options.specs.declared.options.Domain.{Domain}
-use Rattle.lra_report.specs.{Listing.HasWidth, Report.Invariant, declared.verdict_kinds.VerdictKind.VerdictKind, declared.verdict_kinds.VerdictKind.TheVariants.Access}
-use Rattle.lra_analysis_spec.specs.{Analysis.LossyIteration, Analysis.IsSolution, Operations.lossy_operations, Pass.PassResult, Plan.Plan}
 use Rattle.lra_fixpoint.specs.Numbers.{values_in, checks_in, asserts_of, IsNumbered}
 use Rattle.lra_fixpoint.proofs.{Counting.Found, Counting.iteration_found, Counting.value_counted, Counting.failing_counted, Counting.counted_value, Counting.counted_failing, Widths.values_wide}
-use Rattle.lra_program.specs.Assertions.{IsAssertion}
 use Rattle.lra_report_build.specs.AnalysisResults.{ReportedVerdict, reported_verdict, reported_from, reported_accesses}
 use Rattle.lra_report_build.specs.{Canonical.AreCanonicallyShown, Canonical.IsCanonicalState, Shown.AreShown}
 use Rattle.lra_analyse_source.proofs.{Flags.IsBelow, Flags.graph_below, Flags.iteration_below, Numbering.numbered, Widths.graph_lives}

@@ -1,7 +1,6 @@
 -- What an iteration finds holds in all runs.
 use Rattle.std.proofs.Common.{true, refl}
-use Rattle.lra_domain.specs.{Abstraction.Abstraction, Laws.Laws}
-use Rattle.lra_analysis_spec.specs.Operations.{lossy_operations}
+use Rattle.lra_analyse_source.specs.Crates.{lra_analysis_spec.Operations.lossy_operations, lra_domain.Abstraction.Abstraction, lra_domain.Laws.Laws}
 use Rattle.lra_fixpoint.proofs.Counting.{iteration_fails_once}
 use Rattle.lra_analyse_source.specs.Soundness.{SolvedAreSound}
 use Rattle.lra_analyse_source.proofs.{Numbering.numbered, Sound.value_there, Sound.proved_holds, Sound.none_comes}

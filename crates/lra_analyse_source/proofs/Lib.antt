@@ -17,3 +17,5 @@ pub mod ReportSteps
 pub mod Holding
 pub mod Sayings
 pub mod OneReport
+-- The crates below
+pub mod Crates

@@ -2,14 +2,15 @@
 use Rattle.std.proofs.Common.{◌≡◌, ℕ, zero, suc, ◌+◌, ◌≤◌, ◌<◌, List, [], ◌∷◌, length, Option, Some, None, Bool, true, false, inl, inr, refl, sym, ap, ◌∙◌, subst, arith}
 use Rattle.std.proofs.{lemmas.Bool.cases_lt, lemmas.Option.none-some, lemmas.Option.slice_get_within}
 use Rattle.std.specs.Prelude.{slice_get, cond}
-use Rattle.lra_program.specs.Program.{Call, Rvalue, Stmt, Cases, BlockItems, Program}
-use Rattle.lra_program.specs.{Receivers.result_receiver, Sites.Site, Sites.sites_of, Step.Op, Value.Argument, declared.receivers.Receiver.Receiver}
-use Rattle.lra_base.specs.declared.number_types.NumberType.{NumberType}
-use Rattle.lra_operations.specs.Inlined.{InlineState, spot_of, move, callee, IsSiteAt, IsSiteWith, InlineStmt, InlineItems, InlineDeclarator, InlineLoop, InlineRvalue, as_nothing, as_block, as_absent}
-use Rattle.lra_operations.specs.Inlined.{as_assign, as_call, as_if, as_loop, as_for, as_break, InlineCases, as_switch, as_no_cases, as_labelled, as_stated, as_continue, as_return, as_return_value}
-use Rattle.lra_operations.specs.Inlined.{as_return_call, as_end, as_end_value, as_end_call, as_assert, as_assume, as_none, as_declaration, as_statement, as_fresh, as_given, is_loop, as_value}
-use Rattle.lra_operations.specs.Inlined.{as_result, is_call, InlineCall, as_array, as_write, as_write_call, main_inline_state}
-use Rattle.lra_operations.specs.{Agree.IsInlinedTree, Tree.Node, Tree.Arms, Tree.seq, Tree.point}
+use Rattle.lra_analyse_source.specs.Crates.lra_operations.Inlined.{InlineState, spot_of, move, callee, IsSiteAt, IsSiteWith, InlineStmt, InlineItems, InlineDeclarator, InlineLoop, InlineRvalue}
+use Rattle.lra_analyse_source.specs.Crates.lra_operations.Inlined.{as_nothing, as_block, as_absent, as_assign, as_call, as_if, as_loop, as_for, as_break, InlineCases, as_switch, as_no_cases}
+use Rattle.lra_analyse_source.specs.Crates.lra_operations.Inlined.{as_labelled, as_stated, as_continue, as_return, as_return_value, as_return_call, as_end, as_end_value, as_end_call, as_assert}
+use Rattle.lra_analyse_source.specs.Crates.lra_operations.Inlined.{as_assume, as_none, as_declaration, as_statement, as_fresh, as_given, is_loop, as_value, as_result, is_call, InlineCall, as_array}
+use Rattle.lra_analyse_source.specs.Crates.lra_operations.Inlined.{as_write, as_write_call, main_inline_state}
+use Rattle.lra_analyse_source.specs.Crates.lra_operations.Tree.{Node, Arms, seq, point}
+use Rattle.lra_analyse_source.specs.Crates.lra_program.Program.{Call, Rvalue, Stmt, Cases, BlockItems, Program}
+use Rattle.lra_analyse_source.specs.Crates.{lra_base.declared.number_types.NumberType.NumberType, lra_operations.Agree.IsInlinedTree, lra_program.Receivers.result_receiver, lra_program.Sites.Site}
+use Rattle.lra_analyse_source.specs.Crates.{lra_program.Sites.sites_of, lra_program.Step.Op, lra_program.Value.Argument, lra_program.declared.receivers.Receiver.Receiver}
 use Rattle.lra_fixpoint.specs.Numbers.{one_if, values_in, values_in_arms, checks_in, checks_in_arms, asserts_of, IsNumbered}
 use Rattle.lra_fixpoint.proofs.Counting.{one_same, one_other}
 

@@ -2,29 +2,28 @@
 use Rattle.std.proofs.Common.{◌≡◌, ◌∙◌, ◌++◌, ℕ, zero, suc, ℤ, List, [], ◌∷◌, map, Option, None, Some, Bool, true, false, arith, refl, sym, ap, subst, inl, inr}
 use Rattle.std.proofs.{lemmas.List.Elements.Contains-append_cases, lemmas.Option.none-some, lemmas.Option.same_Some}
 use Rattle.std.specs.{List.Contains, List.flat_map, Prelude.◌⊎◌, Prelude.option_map, Prelude.slice_get}
-use Rattle.lra_linear_spec.proofs.Membership.{contains_head, contains_tail, contains_none}
-use Rattle.lra_domain.specs.{Abstraction.Abstraction, Laws.SingleLaws, Laws.BaseLaws, declared.Exactness.Exactness}
-use Rattle.lra_box.specs.Laws.{box_single, box_base}
-use Rattle.lra_octagon.specs.{Laws.octagon_base, Single.octagon_single}
+use Rattle.lra_analyse_source.proofs.Crates.lra_analysis_spec.OneAccess.{one_asked_inside}
+use Rattle.lra_analyse_source.proofs.Crates.lra_linear_spec.Membership.{contains_head, contains_tail, contains_none}
+use Rattle.lra_analyse_source.proofs.Crates.{lra_analysis_spec.OneIteration.defined_single, lra_analysis_spec.OneJudgement.one_asked, lra_analysis_spec.OneTree.one_tree, lra_report.OneText.report_by}
+use Rattle.lra_analyse_source.specs.Crates.lra_operations.CheckedOperations.{OpAtPoint, AgreesOnOps, AgreesOnOverflows, AgreesOnAccesses, accessing_ops, ops_where}
+use Rattle.lra_analyse_source.specs.Crates.lra_report.Listing.{AreListed, Subject, subjects, AreJudged, Lists, listed_point, listed_verdict}
+use Rattle.lra_analyse_source.specs.Crates.lra_report.Report.{Invariant, PointReport, Report, Verdict}
+use Rattle.lra_analyse_source.specs.Crates.lra_report.declared.verdict_kinds.VerdictKind.TheVariants.{Assertion, Fit, Access}
+use Rattle.lra_analyse_source.specs.Crates.{lra_analysis_spec.Accesses.OpInside, lra_analysis_spec.Accesses.JudgesAccesses, lra_analysis_spec.Analysis.ExactIteration, lra_analysis_spec.Fits.OpFits}
+use Rattle.lra_analyse_source.specs.Crates.{lra_analysis_spec.Fits.JudgesIf, lra_analysis_spec.Judging.AnswerAtPoint, lra_analysis_spec.Judging.Finds, lra_analysis_spec.Operations.exact_operations}
+use Rattle.lra_analyse_source.specs.Crates.{lra_analysis_spec.Operations.lossy_operations, lra_analysis_spec.Plan.plan_of, lra_base.declared.refusals.Place.Place, lra_box.Laws.box_single}
+use Rattle.lra_analyse_source.specs.Crates.{lra_box.Laws.box_base, lra_domain.Abstraction.Abstraction, lra_domain.Laws.SingleLaws, lra_domain.Laws.BaseLaws, lra_domain.declared.Exactness.Exactness}
+use Rattle.lra_analyse_source.specs.Crates.{lra_octagon.Laws.octagon_base, lra_octagon.Single.octagon_single, lra_operations.Tree.Node, lra_powerset.Abstraction.set_abstraction}
+use Rattle.lra_analyse_source.specs.Crates.{lra_powerset.Content.SetContent, lra_powerset.Content.SetHead, lra_powerset.Single.set_single, lra_program.Accesses.op_accesses_any}
+use Rattle.lra_analyse_source.specs.Crates.{lra_program.Accesses.OpOutOfBounds, lra_program.Overflow.op_computes, lra_program.Overflow.OpOverflows, lra_program.Program.Program, lra_program.Sites.Site}
+use Rattle.lra_analyse_source.specs.Crates.{lra_program.Sites.sites_of, lra_program.Step.Op, lra_program.Step.State, lra_report.declared.verdict_kinds.VerdictKind.VerdictKind}
+use Rattle.lra_analyse_source.specs.Crates.{lra_resolution_spec.LiveNames.globals_named, lra_resolution_spec.Refuse.OneAnswer, lra_resolution_spec.Resolve.resolve, lra_syntax.Grammar.Spells}
+use Rattle.lra_analyse_source.specs.Crates.{lra_syntax.Labels.Labelled, lra_syntax.Labels.labels_of, lra_syntax.Trees.FileTree}
 use Rattle.lra_poly_domain.specs.Laws.{polyhedron_single, polyhedron_base}
-use Rattle.lra_powerset.specs.{Abstraction.set_abstraction, Content.SetContent, Content.SetHead, Single.set_single}
 use Rattle.lra_report_build.specs.AnalysisResults.{ReportedVerdict, reported_verdict, reported_accesses, reported_all, reported_of, state_of}
 use Rattle.lra_report_build.specs.Sets.{shown_set}
-use Rattle.lra_resolution_spec.specs.{LiveNames.globals_named, Refuse.OneAnswer, Resolve.resolve}
 use Rattle.lra_options.specs.declared.options.Domain.TheVariants.{Poly, Box, Oct}
 use Rattle.lra_options.specs.{declared.options.Domain.Domain, declared.options.Options.Options}
-use Rattle.lra_base.specs.declared.refusals.Place.{Place}
-use Rattle.lra_syntax.specs.{Grammar.Spells, Labels.Labelled, Labels.labels_of, Trees.FileTree}
-use Rattle.lra_program.specs.{Accesses.op_accesses_any, Accesses.OpOutOfBounds, Overflow.op_computes, Overflow.OpOverflows, Program.Program, Sites.Site, Sites.sites_of, Step.Op, Step.State}
-use Rattle.lra_report.specs.Listing.{AreListed, Subject, subjects, AreJudged, Lists, listed_point, listed_verdict}
-use Rattle.lra_report.specs.declared.verdict_kinds.VerdictKind.TheVariants.{Assertion, Fit, Access}
-use Rattle.lra_report.specs.{Report.Invariant, Report.PointReport, Report.Report, Report.Verdict, declared.verdict_kinds.VerdictKind.VerdictKind}
-use Rattle.lra_report.proofs.OneText.{report_by}
-use Rattle.lra_operations.specs.CheckedOperations.{OpAtPoint, AgreesOnOps, AgreesOnOverflows, AgreesOnAccesses, accessing_ops, ops_where}
-use Rattle.lra_operations.specs.Tree.{Node}
-use Rattle.lra_analysis_spec.specs.Operations.{exact_operations, lossy_operations}
-use Rattle.lra_analysis_spec.specs.{Accesses.OpInside, Accesses.JudgesAccesses, Analysis.ExactIteration, Fits.OpFits, Fits.JudgesIf, Judging.AnswerAtPoint, Judging.Finds, Plan.plan_of}
-use Rattle.lra_analysis_spec.proofs.{OneAccess.one_asked_inside, OneIteration.defined_single, OneJudgement.one_asked, OneTree.one_tree}
 use Rattle.lra_analyse_source.proofs.{FitsHanded.unflagged_before, Found.found_of, Found.none_before, Found.one_asked_there, Handing.one_access, Handing.one_told, Numbering.numbered}
 use Rattle.lra_front_end.specs.Stages.{OneConstants}
 use Rattle.lra_fixpoint.proofs.OneSolution.{one_solution}

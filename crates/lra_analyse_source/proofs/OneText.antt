@@ -1,7 +1,6 @@
 -- Two answers to one source that have the same text are the same report.
-use Rattle.lra_syntax.specs.Grammar.{Spells}
-use Rattle.lra_resolution_spec.specs.Refuse.{OneAnswer}
-use Rattle.lra_report.proofs.SourceTexts.{one_source}
+use Rattle.lra_analyse_source.specs.Crates.{lra_resolution_spec.Refuse.OneAnswer, lra_syntax.Grammar.Spells}
+use Rattle.lra_analyse_source.proofs.Crates.lra_report.SourceTexts.{one_source}
 use Rattle.lra_analyse_source.specs.Claims.{OneAnsweredText}
 
 pub one_text : OneAnswer Spells → OneAnsweredText

@@ -2,11 +2,11 @@
 -- its text.
 use Rattle.std.proofs.Common.{◌≡◌, ℕ, suc, ◌<◌, List, [], ◌∷◌, length, map, Option, Some, None, refl, sym, ap, ◌∙◌, subst, arith}
 use Rattle.std.specs.{List.AllByRecursion, Prelude.slice_get, Prelude.option_map}
-use Rattle.lra_syntax.specs.{Labels.Labelled, Labels.labels_of, Trees.FileTree}
-use Rattle.lra_resolution_spec.specs.{LiveNames.live_names, LiveNames.globals_named, Resolve.resolve, ShownNames.shown_names}
-use Rattle.lra_program.specs.Sites.{Site, sites_of}
-use Rattle.lra_report.specs.Spelled.{IsSpelledPart, IsReadablePart, IsReadablePoint, IsSmallFlag, IsReadable}
-use Rattle.lra_report.specs.{Listing.HasWidth, Listing.AreListed, Listing.Lists, Report.Invariant, Report.PointReport, Report.Report}
+use Rattle.lra_analyse_source.specs.Crates.lra_report.Report.{Invariant, PointReport, Report}
+use Rattle.lra_analyse_source.specs.Crates.lra_report.Spelled.{IsSpelledPart, IsReadablePart, IsReadablePoint, IsSmallFlag, IsReadable}
+use Rattle.lra_analyse_source.specs.Crates.{lra_program.Sites.Site, lra_program.Sites.sites_of, lra_report.Listing.HasWidth, lra_report.Listing.AreListed, lra_report.Listing.Lists}
+use Rattle.lra_analyse_source.specs.Crates.{lra_resolution_spec.LiveNames.live_names, lra_resolution_spec.LiveNames.globals_named, lra_resolution_spec.Resolve.resolve}
+use Rattle.lra_analyse_source.specs.Crates.{lra_resolution_spec.ShownNames.shown_names, lra_syntax.Labels.Labelled, lra_syntax.Labels.labels_of, lra_syntax.Trees.FileTree}
 use Rattle.lra_front_end.proofs.Named.{shown_as_many}
 use Rattle.lra_options.specs.{declared.options.Domain.Domain, declared.options.Options.Options}
 use Rattle.lra_report_build.specs.Canonical.{IsCanonicalState}

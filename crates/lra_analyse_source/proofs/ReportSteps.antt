@@ -1,20 +1,21 @@
 -- From the tree of operations of a source to its report: what the iteration and the listing ask, and what they give.
-use Rattle.lra_program.specs.{Accesses.op_accesses_any, Overflow.op_computes, Program.Program, ProgramViews.program_view, Sites.Site, Sites.Event, Sites.comes, Sites.one_call_more, Sites.events_of}
-use Rattle.lra_program.specs.{Sites.event_sites, Sites.sites_of, Step.Op, WellFormed.AreGoodGlobals, declared.program.GlobalVariable.GlobalVariable}
+use Rattle.lra_analyse_source.specs.Crates.lra_analysis_spec.Accesses.{OpInside, JudgesAccesses}
+use Rattle.lra_analyse_source.specs.Crates.lra_analysis_spec.Operations.{exact_operations, lossy_operations, straining_operations}
+use Rattle.lra_analyse_source.specs.Crates.lra_operations.CheckedOperations.{AgreesOnAccesses, accessing_ops, computing_ops, ops_where}
+use Rattle.lra_analyse_source.specs.Crates.lra_program.Sites.{Site, Event, comes, one_call_more, events_of, event_sites, sites_of}
+use Rattle.lra_analyse_source.specs.Crates.lra_resolution_spec.Refuse.{greatest_live, greatest_points, limit_fault}
+use Rattle.lra_analyse_source.specs.Crates.{lra_analysis_spec.Fits.OpFits, lra_analysis_spec.Fits.JudgesIf, lra_analysis_spec.LiveLimit.most_live, lra_analysis_spec.Plan.Plan}
+use Rattle.lra_analyse_source.specs.Crates.{lra_analysis_spec.Plan.plan_of, lra_base.declared.refusals.Place.Place, lra_base.declared.refusals.Refusal.Refusal, lra_domain.Abstraction.Abstraction}
+use Rattle.lra_analyse_source.specs.Crates.{lra_domain.Laws.Laws, lra_operations.Agree.IsInlinedTree, lra_operations.Tree.Node, lra_overflow_checks.Judged.AreBelow}
+use Rattle.lra_analyse_source.specs.Crates.{lra_pass_results.Dimensions.TreeFits, lra_program.Accesses.op_accesses_any, lra_program.Overflow.op_computes, lra_program.Program.Program}
+use Rattle.lra_analyse_source.specs.Crates.{lra_program.ProgramViews.program_view, lra_program.Step.Op, lra_program.WellFormed.AreGoodGlobals}
+use Rattle.lra_analyse_source.specs.Crates.{lra_program.declared.program.GlobalVariable.GlobalVariable, lra_report.Listing.Lists, lra_report.Report.Invariant, lra_report.Report.Report}
+use Rattle.lra_analyse_source.specs.Crates.{lra_report.Spelled.IsSpelledPart, lra_resolution_spec.Resolve.resolve, lra_syntax.Labels.Labelled, lra_syntax.Labels.labels_of, lra_syntax.Trees.FileTree}
 use Rattle.std.proofs.Common.{◌≡◌, ◌≤◌, ◌<◌, ◌+◌, ℕ, suc, ℤ, List, [], ◌∷◌, length, map, Bool, true, false, Option, Some, None, refl, sym, ap, ap₂, ◌∙◌, subst, arith}
 use Rattle.std.proofs.{lemmas.Bool.Decides.nat_tests, lemmas.Option.slice_get-get_or}
 use Rattle.std.specs.{List.AllByRecursion, Prelude.option_map, Prelude.nat_lt, Prelude.if◌then◌else◌, Prelude.slice_get, Prelude.All, Prelude.get_or}
-use Rattle.lra_base.specs.{declared.refusals.Place.Place, declared.refusals.Refusal.Refusal}
-use Rattle.lra_program.specs.declared.program.Program as declared
-use Rattle.lra_syntax.specs.{Labels.Labelled, Labels.labels_of, Trees.FileTree}
-use Rattle.lra_operations.specs.{Agree.IsInlinedTree, CheckedOperations.AgreesOnAccesses, CheckedOperations.accessing_ops, CheckedOperations.computing_ops, CheckedOperations.ops_where, Tree.Node}
-use Rattle.lra_resolution_spec.specs.{Refuse.greatest_live, Refuse.greatest_points, Refuse.limit_fault, Resolve.resolve}
+use Rattle.lra_analyse_source.specs.Crates.lra_program.declared.program.Program as declared
 use Rattle.lra_options.specs.{declared.options.Domain.Domain, declared.options.Options.Options}
-use Rattle.lra_report.specs.{Listing.Lists, Report.Invariant, Report.Report, Spelled.IsSpelledPart}
-use Rattle.lra_domain.specs.{Abstraction.Abstraction, Laws.Laws}
-use Rattle.lra_analysis_spec.specs.Operations.{exact_operations, lossy_operations, straining_operations}
-use Rattle.lra_analysis_spec.specs.{Accesses.OpInside, Accesses.JudgesAccesses, Fits.OpFits, Fits.JudgesIf, LiveLimit.most_live, Plan.Plan, Plan.plan_of}
-use Rattle.lra_pass_results.specs.Dimensions.{TreeFits}
 use Rattle.lra_fixpoint.specs.{Numbers.IsNumbered, Solved.IsSolved}
 use Rattle.lra_fixpoint.specs.Numbers as numbers
 use Rattle.lra_report_build.specs.AnalysisResults.{AreInvariants, AreVerdicts, AreFitting, AreAccessVerdicts, ReportedVerdict, state_of, reported_of, reported_all}
@@ -23,11 +24,10 @@ use Rattle.lra_front_end.specs.Stages.{HasInlinedTree}
 use Rattle.lra_analyse_source.specs.Stages.{IsReportOfTree, ReportsSolution}
 use Rattle.lra_analyse_source.proofs.Handing.{as_many, value_dims, states_as_many, of_assertions, of_all, states_canonical, states_wide, flag_there}
 use Rattle.lra_analyse_source.proofs.{AccessesHanded.inside_on, FitsHanded.fitting_on, FitsHanded.unflagged_before, Fitting.tree_fits, Fitting.few_globals, Flags.graph_below, Found.asked_one}
-use Rattle.lra_linear_spec.proofs.ListPlaces.{there_within}
+use Rattle.lra_analyse_source.proofs.Crates.{lra_analysis_spec.OneAccess.accesses_written, lra_analysis_spec.OneAccess.accesses_strained, lra_analysis_spec.OneJudgement.judged_written}
+use Rattle.lra_analyse_source.proofs.Crates.{lra_analysis_spec.OneJudgement.judged_strained, lra_analysis_spec.OneTree.one_tree, lra_inline_sound.CheckedOperations.trees_agree_on_accesses}
+use Rattle.lra_analyse_source.proofs.Crates.{lra_inline_sound.CheckedOperations.trees_agree_on_overflows, lra_inline_sound.DistinctSites.distinct_sites, lra_linear_spec.ListPlaces.there_within}
 use Rattle.lra_analyse_source.proofs.{Found.flagged_below, Found.none_before, Numbering.numbered, Readable.canonical, Readable.readable}
-use Rattle.lra_analysis_spec.proofs.{OneAccess.accesses_written, OneAccess.accesses_strained, OneJudgement.judged_written, OneJudgement.judged_strained, OneTree.one_tree}
-use Rattle.lra_overflow_checks.specs.Judged.{AreBelow}
-use Rattle.lra_inline_sound.proofs.{CheckedOperations.trees_agree_on_accesses, CheckedOperations.trees_agree_on_overflows, DistinctSites.distinct_sites}
 
 -- what the iteration asks --------------------------------------------------------------------------------------------
 

@@ -3,29 +3,26 @@
 use Rattle.std.proofs.Common.{◌≡◌, ℕ, zero, suc, ℤ, ◌≤◌, ◌<◌, List, [], ◌∷◌, length, Option, Some, None, Bool, true, false, ◌++◌, map, inl, inr, refl, sym, ap, ◌∙◌, subst, arith}
 use Rattle.std.proofs.{lemmas.List.Elements.Contains-append_cases, lemmas.Option.none-some, lemmas.Option.same_Some, lemmas.Option.slice_get-map}
 use Rattle.std.specs.{List.AllByRecursion, List.Contains, List.flat_map, Prelude.slice_get, Prelude.option_map, Prelude.IsTrue}
-use Rattle.lra_linear_spec.proofs.Membership.{contains_none}
-use Rattle.lra_syntax.specs.{Grammar.Spells, Labels.Labelled, Labels.labels_of, Trees.FileTree}
-use Rattle.lra_base.specs.declared.refusals.Place.{Place}
-use Rattle.lra_program.specs.{Accesses.AccessesOutOfBounds, Assertions.assertions_from, Overflow.Overflows, Run.At, Run.Fails, Sites.Site, Sites.sites_of}
-use Rattle.lra_resolution_spec.specs.{LiveNames.globals_named, Refuse.Accepts, Resolve.resolve}
-use Rattle.lra_operations.specs.{Agree.point_of, Agree.Agrees, CheckedOperations.computing_ops, CheckedOperations.accessing_ops}
+use Rattle.lra_analyse_source.proofs.Crates.{lra_analysis_spec.Caps.solved_capped, lra_linear_spec.ListPlaces.contains_at, lra_linear_spec.Membership.contains_none}
+use Rattle.lra_analyse_source.specs.Crates.lra_report.Listing.{AreListed, Subject, subject, subjects_of, fits_asked, computes_at, computing_from, accesses_at, accesses_from, subjects, Lists, IsFlag}
+use Rattle.lra_analyse_source.specs.Crates.lra_report.Listing.{AreParts, IsReportOf}
+use Rattle.lra_analyse_source.specs.Crates.lra_report.Report.{Invariant, InvariantHolds, PointReport, Verdict, Report, IsInvariant, IsRight, IsSound}
+use Rattle.lra_analyse_source.specs.Crates.lra_report.declared.verdict_kinds.VerdictKind.TheVariants.{Assertion, Fit}
+use Rattle.lra_analyse_source.specs.Crates.{lra_analysis_spec.Accesses.OpInside, lra_analysis_spec.Fits.OpFits, lra_analysis_spec.Fits.JudgesIf, lra_analysis_spec.Operations.lossy_operations}
+use Rattle.lra_analyse_source.specs.Crates.{lra_analysis_spec.Plan.plan_of, lra_base.declared.refusals.Place.Place, lra_domain.Abstraction.Abstraction, lra_domain.Laws.Laws}
+use Rattle.lra_analyse_source.specs.Crates.{lra_operations.Agree.point_of, lra_operations.Agree.Agrees, lra_operations.CheckedOperations.computing_ops, lra_operations.CheckedOperations.accessing_ops}
+use Rattle.lra_analyse_source.specs.Crates.{lra_program.Accesses.AccessesOutOfBounds, lra_program.Assertions.assertions_from, lra_program.Overflow.Overflows, lra_program.Run.At, lra_program.Run.Fails}
+use Rattle.lra_analyse_source.specs.Crates.{lra_program.Sites.Site, lra_program.Sites.sites_of, lra_report.Parts.ShowsPart, lra_report.VerdictKinds.Breaks}
+use Rattle.lra_analyse_source.specs.Crates.{lra_report.declared.verdict_kinds.VerdictKind.VerdictKind, lra_resolution_spec.LiveNames.globals_named, lra_resolution_spec.Refuse.Accepts}
+use Rattle.lra_analyse_source.specs.Crates.{lra_resolution_spec.Resolve.resolve, lra_syntax.Grammar.Spells, lra_syntax.Labels.Labelled, lra_syntax.Labels.labels_of, lra_syntax.Trees.FileTree}
 use Rattle.lra_options.specs.{declared.options.Domain.Domain, declared.options.Options.Options}
-use Rattle.lra_report.specs.Listing.{AreListed, Subject, subject, subjects_of, fits_asked, computes_at, computing_from, accesses_at, accesses_from, subjects, Lists, IsFlag, AreParts, IsReportOf}
-use Rattle.lra_report.specs.Report.{Invariant, InvariantHolds, PointReport, Verdict, Report, IsInvariant, IsRight, IsSound}
-use Rattle.lra_report.specs.declared.verdict_kinds.VerdictKind.TheVariants.{Assertion, Fit}
-use Rattle.lra_report.specs.{Parts.ShowsPart, VerdictKinds.Breaks, declared.verdict_kinds.VerdictKind.VerdictKind}
-use Rattle.lra_analysis_spec.specs.{Accesses.OpInside, Fits.OpFits, Fits.JudgesIf, Operations.lossy_operations, Plan.plan_of}
-use Rattle.lra_domain.specs.{Abstraction.Abstraction, Laws.Laws}
-use Rattle.lra_analysis_spec.proofs.Caps.{solved_capped}
 use Rattle.lra_report_build.specs.AnalysisResults.{ReportedVerdict, reported_verdict, reported_accesses, reported_all, reported_of}
 use Rattle.lra_analyse_source.specs.AnalysisReport.{ReportsIteration}
-use Rattle.lra_linear_spec.proofs.ListPlaces.{contains_at}
 use Rattle.lra_analyse_source.proofs.Handing.{as_many, one_access, one_told, value_dims}
 use Rattle.lra_analyse_source.proofs.Sound.{value_there, proved_holds, IsListed, listed_all, IsOn, judged_all, SiteAt, assertion_site, computing_site, access_site, get_either}
 use Rattle.lra_analyse_source.proofs.{AccessesHold.inside_holds, FitsHold.fitting_holds, Flags.IsBelow, Flags.graph_below, Flags.iteration_below, Found.flagged_below, Numbering.numbered}
 use Rattle.lra_fixpoint.proofs.Counting.{iteration_fails_once}
-use Rattle.lra_front_end.proofs.Named.{shown_as_many}
-use Rattle.lra_front_end.proofs.OneAnswer.{heads, tails}
+use Rattle.lra_front_end.proofs.{Named.shown_as_many, OneAnswer.heads, OneAnswer.tails}
 
 -- lists --------------------------------------------------------------------------------------------------------------
 

@@ -2,15 +2,11 @@
 use Rattle.std.proofs.Common.{◌≡◌, ℕ, zero, suc, ℤ, ◌≤◌, ◌<◌, List, sym, subst, arith}
 use Rattle.lra_options.specs.declared.options.Domain.TheVariants.{Poly, Box, Oct}
 use Rattle.lra_options.specs.{declared.options.Domain.Domain, declared.options.Options.Options}
-use Rattle.lra_domain.specs.Abstraction.{Abstraction}
-use Rattle.lra_report.specs.Report.{Invariant, Report}
-use Rattle.lra_resolution_spec.specs.Resolve.{resolve}
-use Rattle.lra_program.specs.Program.{Program}
-use Rattle.lra_box.specs.Abstraction.{box_abstraction}
-use Rattle.lra_octagon.specs.Abstraction.{octagon_abstraction}
+use Rattle.lra_analyse_source.specs.Crates.{lra_box.Abstraction.box_abstraction, lra_domain.Abstraction.Abstraction, lra_octagon.Abstraction.octagon_abstraction}
+use Rattle.lra_analyse_source.specs.Crates.{lra_powerset.Abstraction.set_abstraction, lra_powerset.Content.SetContent, lra_powerset.Content.SetHead, lra_program.Program.Program}
+use Rattle.lra_analyse_source.specs.Crates.{lra_report.Report.Invariant, lra_report.Report.Report, lra_resolution_spec.Resolve.resolve}
 use Rattle.lra_poly_domain.specs.Abstraction.{polyhedron_abstraction}
 use Rattle.lra_report_build.specs.{Polyhedra.shown_polyhedron, Sets.shown_set, Shown.shown_state}
-use Rattle.lra_powerset.specs.{Abstraction.set_abstraction, Content.SetContent, Content.SetHead}
 use Rattle.lra_analyse_source.specs.AnalysisReport.{ReportsIteration}
 use Rattle.lra_analyse_source.specs.SourceReports.{DomainProperty, WithParts, ForDomain, ForOptions, IsAnalysisReportOver, ReportsAnalysis, IsAnalysisReport}
 

@@ -2,14 +2,14 @@
 use Rattle.std.proofs.Common.{◌≡◌, ℕ, zero, suc, ◌+◌, ◌++◌, ◌∷◌, [], List, inl, inr, length, Option, Some, Bool, true, false, refl, sym, ap, ◌∙◌, subst, arith}
 use Rattle.std.proofs.lemmas.Option.{none-some, same_Some}
 use Rattle.std.specs.{List.AllByRecursion, List.Contains, Prelude.ℤ, Prelude.◌⊎◌, Prelude.slice_get, Prelude.IsTrue, Prelude.cond}
-use Rattle.lra_domain.specs.{Abstraction.Abstraction, Laws.Laws}
-use Rattle.lra_program.specs.{Assertions.assertions_from, Program.Element, Program.Program, Run.begun, Run.At, Run.Fails, Sites.Site, Sites.sites_of, WellFormed.AreGoodGlobals}
-use Rattle.lra_operations.specs.{Agree.point_of, Agree.Agrees, Tree.Node}
-use Rattle.lra_report.specs.{Listing.Subject, Listing.access_subjects, Listing.accesses_from, Listing.computing_from, Listing.AreListed, Listing.AreJudged, Report.PointReport, Report.Verdict}
-use Rattle.lra_syntax.specs.Labels.{Labelled}
-use Rattle.lra_resolution_spec.specs.{LiveNames.live_names, ShownNames.shown_names}
-use Rattle.lra_analysis_spec.specs.{Analysis.LossyIteration, Analysis.IsSolution, Analysis.IsUnreachable, Pass.failing, Pass.PassResult, Plan.Plan}
-use Rattle.lra_analysis_spec.proofs.Covers.{Covers, Has}
+use Rattle.lra_analyse_source.specs.Crates.lra_analysis_spec.Analysis.{LossyIteration, IsSolution, IsUnreachable}
+use Rattle.lra_analyse_source.specs.Crates.lra_report.Listing.{Subject, access_subjects, accesses_from, computing_from, AreListed, AreJudged}
+use Rattle.lra_analyse_source.specs.Crates.lra_report.Report.{PointReport, Verdict}
+use Rattle.lra_analyse_source.specs.Crates.{lra_analysis_spec.Pass.failing, lra_analysis_spec.Pass.PassResult, lra_analysis_spec.Plan.Plan, lra_domain.Abstraction.Abstraction, lra_domain.Laws.Laws}
+use Rattle.lra_analyse_source.specs.Crates.{lra_operations.Agree.point_of, lra_operations.Agree.Agrees, lra_operations.Tree.Node, lra_program.Assertions.assertions_from, lra_program.Program.Element}
+use Rattle.lra_analyse_source.specs.Crates.{lra_program.Program.Program, lra_program.Run.begun, lra_program.Run.At, lra_program.Run.Fails, lra_program.Sites.Site, lra_program.Sites.sites_of}
+use Rattle.lra_analyse_source.specs.Crates.{lra_program.WellFormed.AreGoodGlobals, lra_resolution_spec.LiveNames.live_names, lra_resolution_spec.ShownNames.shown_names, lra_syntax.Labels.Labelled}
+use Rattle.lra_analyse_source.proofs.Crates.lra_analysis_spec.Covers.{Covers, Has}
 use Rattle.lra_fixpoint.proofs.Covering.{begun_covers}
 
 -- runs -----------------------------------------------------------------------------------------------------------------

@@ -1,10 +1,8 @@
 -- What a tree's report is reported to be, as the answer of its source.
 use Rattle.std.proofs.Common.{ℕ, ℤ, ◌≤◌, List, refl, arith}
-use Rattle.lra_syntax.specs.{Grammar.Spells, Trees.FileTree}
+use Rattle.lra_analyse_source.specs.Crates.lra_report.Report.{Invariant, Report}
+use Rattle.lra_analyse_source.specs.Crates.{lra_domain.Abstraction.Abstraction, lra_domain.Laws.Laws, lra_resolution_spec.Refuse.Accepts, lra_syntax.Grammar.Spells, lra_syntax.Trees.FileTree}
 use Rattle.lra_options.specs.declared.options.Options.{Options}
-use Rattle.lra_report.specs.Report.{Invariant, Report}
-use Rattle.lra_resolution_spec.specs.Refuse.{Accepts}
-use Rattle.lra_domain.specs.{Abstraction.Abstraction, Laws.Laws}
 use Rattle.lra_front_end.specs.Stages.{HasConstants, HasTree}
 use Rattle.lra_front_end.proofs.StageSteps.{accepted}
 use Rattle.lra_analyse_source.specs.{SourceReports.IsAnalysisReportOver, Stages.IsReportOfTree}

@@ -1,17 +1,19 @@
 -- A program's tree reaches each point with as many variables as live there.
 use Rattle.std.proofs.Common.{◌≡◌, ℕ, suc, ◌+◌, ◌-◌, ◌≤◌, List, length, Option, Bool, true, refl, sym, ap, ◌∙◌, subst, arith}
 use Rattle.std.proofs.lemmas.Option.{same_Some}
-use Rattle.lra_program.specs.{Program.Cond, Program.Call, Program.Rvalue, Program.Stmt, Program.Cases, Program.BlockItems, Program.Program, Receivers.result_receiver, Sites.Site, Sites.sites_of}
-use Rattle.lra_program.specs.{Step.Op, Step.append, Step.store_value, Step.havoc, Step.truncate_to, Step.test, Step.arguments_for, Value.Argument, declared.receivers.Receiver.Receiver}
-use Rattle.lra_program.specs.Step as step
-use Rattle.lra_base.specs.declared.number_types.NumberType.{NumberType}
-use Rattle.lra_program.proofs.GivenArguments.{given_width}
-use Rattle.lra_operations.specs.Inlined.{InlineState, spot_of, move, callee, IsSiteWith, InlineStmt, InlineItems, InlineDeclarator, InlineLoop, InlineRvalue, as_nothing, as_block, as_absent}
-use Rattle.lra_operations.specs.Inlined.{as_assign, as_call, as_if, as_loop, as_for, as_break, InlineCases, as_switch, as_no_cases, as_labelled, as_stated, as_continue, as_return, as_return_value}
-use Rattle.lra_operations.specs.Inlined.{as_return_call, as_end, as_end_value, as_end_call, as_assert, as_assume, as_none, as_declaration, as_statement, as_fresh, as_given, is_loop, as_value}
-use Rattle.lra_operations.specs.Inlined.{as_result, is_call, InlineCall, as_array, as_write, as_write_call, loop_node, return_node, main_inline_state}
-use Rattle.lra_operations.specs.{Agree.IsInlinedTree, Tree.Exit, Tree.broken, Tree.continued, Tree.returned, Tree.Node, Tree.Arms, Tree.point, Tree.act, Tree.seq, Tree.catch, Tree.leave}
-use Rattle.lra_analysis_spec.specs.Live.{live_after_op, live_after}
+use Rattle.lra_analyse_source.specs.Crates.lra_analysis_spec.Live.{live_after_op, live_after}
+use Rattle.lra_analyse_source.specs.Crates.lra_operations.Inlined.{InlineState, spot_of, move, callee, IsSiteWith, InlineStmt, InlineItems, InlineDeclarator, InlineLoop, InlineRvalue, as_nothing}
+use Rattle.lra_analyse_source.specs.Crates.lra_operations.Inlined.{as_block, as_absent, as_assign, as_call, as_if, as_loop, as_for, as_break, InlineCases, as_switch, as_no_cases, as_labelled}
+use Rattle.lra_analyse_source.specs.Crates.lra_operations.Inlined.{as_stated, as_continue, as_return, as_return_value, as_return_call, as_end, as_end_value, as_end_call, as_assert, as_assume, as_none}
+use Rattle.lra_analyse_source.specs.Crates.lra_operations.Inlined.{as_declaration, as_statement, as_fresh, as_given, is_loop, as_value, as_result, is_call, InlineCall, as_array, as_write}
+use Rattle.lra_analyse_source.specs.Crates.lra_operations.Inlined.{as_write_call, loop_node, return_node, main_inline_state}
+use Rattle.lra_analyse_source.specs.Crates.lra_operations.Tree.{Exit, broken, continued, returned, Node, Arms, point, act, seq, catch, leave}
+use Rattle.lra_analyse_source.specs.Crates.lra_program.Program.{Cond, Call, Rvalue, Stmt, Cases, BlockItems, Program}
+use Rattle.lra_analyse_source.specs.Crates.lra_program.Step.{Op, append, store_value, havoc, truncate_to, test, arguments_for}
+use Rattle.lra_analyse_source.specs.Crates.{lra_base.declared.number_types.NumberType.NumberType, lra_operations.Agree.IsInlinedTree, lra_program.Receivers.result_receiver, lra_program.Sites.Site}
+use Rattle.lra_analyse_source.specs.Crates.{lra_program.Sites.sites_of, lra_program.Value.Argument, lra_program.declared.receivers.Receiver.Receiver}
+use Rattle.lra_analyse_source.specs.Crates.lra_program.Step as step
+use Rattle.lra_analyse_source.proofs.Crates.lra_program.GivenArguments.{given_width}
 use Rattle.lra_fixpoint.specs.Lives.{ArmsHave, LiveAt, PointsHave}
 
 -- trees --------------------------------------------------------------------------------------------------------------

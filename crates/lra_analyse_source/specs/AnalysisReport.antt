@@ -1,16 +1,18 @@
 -- What a report says of the iteration over a program: what is shown of each point's value, the verdicts, the first
 -- flagged point.
 use Rattle.std.specs.Prelude.{◌≡◌, ℕ, suc, ℤ, List, map, Bool, Option, None, Some, option_map}
-use Rattle.lra_base.specs.declared.refusals.Place.{Place}
-use Rattle.lra_domain.specs.Abstraction.{Abstraction}
-use Rattle.lra_program.specs.{Program.Program, WellFormed.AreGoodGlobals}
-use Rattle.lra_operations.specs.CheckedOperations.{AgreesOnOverflows, AgreesOnAccesses}
-use Rattle.lra_operations.specs.{Agree.IsInlinedTree, Tree.Node}
-use Rattle.lra_report.specs.Report.{Invariant, PointReport, Report}
+use Rattle.lra_analyse_source.specs.Crates.lra_analysis_spec.Analysis.{ExactIteration, LossyIteration, StrainsAtPoint}
+use Rattle.lra_analyse_source.specs.Crates.lra_analysis_spec.Analysis.{IsSolution}
+use Rattle.lra_analyse_source.specs.Crates.lra_analysis_spec.Operations.{exact_operations, lossy_operations}
+use Rattle.lra_analyse_source.specs.Crates.lra_analysis_spec.Operations.{straining_operations}
+use Rattle.lra_analyse_source.specs.Crates.lra_operations.CheckedOperations.{AgreesOnOverflows, AgreesOnAccesses}
+use Rattle.lra_analyse_source.specs.Crates.lra_report.Report.{Invariant, PointReport, Report}
+use Rattle.lra_analyse_source.specs.Crates.{lra_analysis_spec.Accesses.JudgesAccesses, lra_analysis_spec.Fits.JudgesIf}
+use Rattle.lra_analyse_source.specs.Crates.{lra_analysis_spec.Pass.PassResult, lra_analysis_spec.Plan.plan_of}
+use Rattle.lra_analyse_source.specs.Crates.{lra_base.declared.refusals.Place.Place, lra_domain.Abstraction.Abstraction}
+use Rattle.lra_analyse_source.specs.Crates.{lra_operations.Agree.IsInlinedTree, lra_operations.Tree.Node}
+use Rattle.lra_analyse_source.specs.Crates.{lra_program.Program.Program, lra_program.WellFormed.AreGoodGlobals}
 use Rattle.lra_options.specs.declared.options.Options.{Options}
-use Rattle.lra_analysis_spec.specs.Analysis.{ExactIteration, LossyIteration, StrainsAtPoint, IsSolution}
-use Rattle.lra_analysis_spec.specs.Operations.{exact_operations, lossy_operations, straining_operations}
-use Rattle.lra_analysis_spec.specs.{Accesses.JudgesAccesses, Fits.JudgesIf, Pass.PassResult, Plan.plan_of}
 use Rattle.lra_report_build.specs.{AnalysisResults.reported_all, AnalysisResults.reported_of, Shown.AreShown}
 
 -- `shown` is what the domain shows of a value; the program has these constants

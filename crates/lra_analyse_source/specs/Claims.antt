@@ -1,15 +1,16 @@
 -- What follows of the tree of a well-formed program, and of a report that states an analysis.
 use Rattle.std.specs.Prelude.{◌≡◌, ◌≤◌, ℕ, ℤ, List, length, None}
-use Rattle.lra_syntax.specs.{Grammar.Spells, Trees.FileTree}
-use Rattle.lra_program.specs.{Program.Program, Sites.sites_of, WellFormed.IsWellFormed}
-use Rattle.lra_operations.specs.{Agree.IsInlinedTree, Agree.Agrees, Tree.Node}
+use Rattle.lra_analyse_source.specs.Crates.lra_operations.Agree.{IsInlinedTree, Agrees}
+use Rattle.lra_analyse_source.specs.Crates.lra_program.WellFormed.{IsWellFormed}
+use Rattle.lra_analyse_source.specs.Crates.lra_report.Listing.{Lists, IsReportOf}
+use Rattle.lra_analyse_source.specs.Crates.lra_report.Report.{Invariant, Report, IsSound}
+use Rattle.lra_analyse_source.specs.Crates.{lra_domain.Abstraction.Abstraction, lra_operations.Tree.Node}
+use Rattle.lra_analyse_source.specs.Crates.{lra_pass_results.Dimensions.TreeFits, lra_program.Program.Program}
+use Rattle.lra_analyse_source.specs.Crates.{lra_program.Sites.sites_of, lra_report.ReportText.report_text}
+use Rattle.lra_analyse_source.specs.Crates.{lra_resolution_spec.Refuse.Accepts, lra_resolution_spec.Resolve.resolve}
+use Rattle.lra_analyse_source.specs.Crates.{lra_syntax.Grammar.Spells, lra_syntax.Trees.FileTree}
 use Rattle.lra_options.specs.declared.options.Options.{Options}
-use Rattle.lra_report.specs.Report.{Invariant, Report, IsSound}
-use Rattle.lra_report.specs.{Listing.Lists, Listing.IsReportOf, ReportText.report_text}
-use Rattle.lra_resolution_spec.specs.{Refuse.Accepts, Resolve.resolve}
-use Rattle.lra_pass_results.specs.Dimensions.{TreeFits}
 use Rattle.lra_fixpoint.specs.Numbers.{AreBelow, IsNumbered}
-use Rattle.lra_domain.specs.Abstraction.{Abstraction}
 use Rattle.lra_front_end.specs.Claims.{AreFew}
 use Rattle.lra_analyse_source.specs.{AnalysisReport.ReportsIteration, SourceReports.IsAnalysisReport}
 

@@ -1,14 +1,16 @@
 -- Soundness, over any domain: what an iteration finds holds in all runs.
 use Rattle.std.specs.List.{Contains}
 use Rattle.std.specs.Prelude.{◌≡◌, ℕ, ℤ, List, length, Bool, true, Option, Some, slice_get}
-use Rattle.lra_base.specs.declared.refusals.Place.{Place}
-use Rattle.lra_domain.specs.Abstraction.{Abstraction}
-use Rattle.lra_program.specs.{Accesses.AccessesOutOfBounds, Overflow.Overflows, Program.Program, Run.At, Run.Fails}
-use Rattle.lra_program.specs.{Sites.Site, Sites.sites_of, WellFormed.AreGoodGlobals}
-use Rattle.lra_operations.specs.CheckedOperations.{AgreesOnOverflows, AgreesOnAccesses}
-use Rattle.lra_operations.specs.{Agree.IsInlinedTree, Agree.point_of, Agree.Agrees, Tree.Node}
-use Rattle.lra_analysis_spec.specs.Operations.{lossy_operations}
-use Rattle.lra_analysis_spec.specs.{Accesses.JudgesAccesses, Analysis.IsUnreachable, Fits.Judges, Plan.Plan}
+use Rattle.lra_analyse_source.specs.Crates.lra_operations.Agree.{IsInlinedTree, point_of, Agrees}
+use Rattle.lra_analyse_source.specs.Crates.lra_operations.CheckedOperations.{AgreesOnOverflows, AgreesOnAccesses}
+use Rattle.lra_analyse_source.specs.Crates.{lra_analysis_spec.Accesses.JudgesAccesses}
+use Rattle.lra_analyse_source.specs.Crates.{lra_analysis_spec.Analysis.IsUnreachable, lra_analysis_spec.Fits.Judges}
+use Rattle.lra_analyse_source.specs.Crates.{lra_analysis_spec.Operations.lossy_operations, lra_analysis_spec.Plan.Plan}
+use Rattle.lra_analyse_source.specs.Crates.{lra_base.declared.refusals.Place.Place, lra_domain.Abstraction.Abstraction}
+use Rattle.lra_analyse_source.specs.Crates.{lra_operations.Tree.Node, lra_program.Accesses.AccessesOutOfBounds}
+use Rattle.lra_analyse_source.specs.Crates.{lra_program.Overflow.Overflows, lra_program.Program.Program}
+use Rattle.lra_analyse_source.specs.Crates.{lra_program.Run.At, lra_program.Run.Fails, lra_program.Sites.Site}
+use Rattle.lra_analyse_source.specs.Crates.{lra_program.Sites.sites_of, lra_program.WellFormed.AreGoodGlobals}
 use Rattle.lra_fixpoint.specs.Solved.{IsSolved}
 
 -- the value at a point has each store that a run brings there, no assertion that is proved fails, and no run comes

@@ -2,16 +2,14 @@
 use Rattle.std.specs.{List.AllByRecursion, Prelude.ℕ, Prelude.suc, Prelude.ℤ, Prelude.List, Prelude.length}
 use Rattle.lra_options.specs.declared.options.Domain.TheVariants.{Poly, Box, Oct}
 use Rattle.lra_options.specs.{declared.options.Domain.Domain, declared.options.Options.Options}
-use Rattle.lra_report.specs.Report.{Invariant, PointReport, Report}
-use Rattle.lra_report.specs.{Listing.IsReportOf, Spelled.IsReadable}
-use Rattle.lra_resolution_spec.specs.Resolve.{resolve}
-use Rattle.lra_program.specs.Program.{Program}
-use Rattle.lra_syntax.specs.Grammar.{Spells}
-use Rattle.lra_domain.specs.Abstraction.{Abstraction}
-use Rattle.lra_box.specs.Abstraction.{box_abstraction}
-use Rattle.lra_octagon.specs.Abstraction.{octagon_abstraction}
+use Rattle.lra_analyse_source.specs.Crates.lra_octagon.Abstraction.{octagon_abstraction}
+use Rattle.lra_analyse_source.specs.Crates.lra_powerset.Content.{SetContent, SetHead}
+use Rattle.lra_analyse_source.specs.Crates.lra_report.Report.{Invariant, PointReport, Report}
+use Rattle.lra_analyse_source.specs.Crates.{lra_box.Abstraction.box_abstraction, lra_domain.Abstraction.Abstraction}
+use Rattle.lra_analyse_source.specs.Crates.{lra_powerset.Abstraction.set_abstraction, lra_program.Program.Program}
+use Rattle.lra_analyse_source.specs.Crates.{lra_report.Listing.IsReportOf, lra_report.Spelled.IsReadable}
+use Rattle.lra_analyse_source.specs.Crates.{lra_resolution_spec.Resolve.resolve, lra_syntax.Grammar.Spells}
 use Rattle.lra_poly_domain.specs.Abstraction.{polyhedron_abstraction}
-use Rattle.lra_powerset.specs.{Abstraction.set_abstraction, Content.SetContent, Content.SetHead}
 use Rattle.lra_report_build.specs.Polyhedra.{shown_polyhedron}
 use Rattle.lra_report_build.specs.{Canonical.IsCanonicalState, Sets.shown_set, Shown.shown_state}
 use Rattle.lra_front_end.specs.Stages.{HasConstants}

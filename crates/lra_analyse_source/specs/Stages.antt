@@ -1,14 +1,15 @@
 -- What is known of a report before it is one of its source.
 use Rattle.std.specs.Prelude.{◌≡◌, ℕ, ℤ, List, [], map, Bool, false, None}
-use Rattle.lra_base.specs.declared.refusals.Place.{Place}
-use Rattle.lra_syntax.specs.{Labels.labels_of, Reach.NotRecursive, Trees.FileTree}
-use Rattle.lra_resolution_spec.specs.{NameFaults.name_faults, Refuse.limit_fault, Resolve.resolve}
-use Rattle.lra_program.specs.Sites.{events_of}
-use Rattle.lra_operations.specs.Agree.{Agrees}
+use Rattle.lra_analyse_source.specs.Crates.lra_report.Report.{Invariant, PointReport, Report}
+use Rattle.lra_analyse_source.specs.Crates.lra_syntax.Reach.{NotRecursive}
+use Rattle.lra_analyse_source.specs.Crates.{lra_base.declared.refusals.Place.Place, lra_domain.Abstraction.Abstraction}
+use Rattle.lra_analyse_source.specs.Crates.{lra_operations.Agree.Agrees, lra_program.Sites.events_of}
+use Rattle.lra_analyse_source.specs.Crates.{lra_report.Listing.Lists, lra_report.Spelled.IsReadable}
+use Rattle.lra_analyse_source.specs.Crates.{lra_resolution_spec.NameFaults.name_faults}
+use Rattle.lra_analyse_source.specs.Crates.{lra_resolution_spec.Refuse.limit_fault, lra_resolution_spec.Resolve.resolve}
+use Rattle.lra_analyse_source.specs.Crates.{lra_syntax.Labels.labels_of, lra_syntax.Trees.FileTree}
 use Rattle.lra_options.specs.declared.options.Options.{Options}
-use Rattle.lra_report.specs.{Listing.Lists, Report.Invariant, Report.PointReport, Report.Report, Spelled.IsReadable}
 use Rattle.lra_report_build.specs.AnalysisResults.{reported_all, reported_of}
-use Rattle.lra_domain.specs.Abstraction.{Abstraction}
 use Rattle.lra_analyse_source.specs.{AnalysisReport.ReportsIteration, SourceReports.AreCanonical}
 
 -- a report that lists the points of an accepted source's tree, says what an analysis of its program found, by

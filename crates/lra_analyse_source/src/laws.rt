@@ -1,13 +1,14 @@
 //! Laws: each of these does nothing, and its contract is the theorem.
 
-ghost use Rattle.lra_analysis_spec.specs.Linear.{FormsAreRight, TestsAreRight, DiffersIsRight};
-ghost use Rattle.lra_analysis_spec.specs.Linearization.{LinearizationIsRight};
+ghost use Rattle.lra_analyse_source.specs.Crates.lra_analysis_spec.Linear.{FormsAreRight, TestsAreRight};
+ghost use Rattle.lra_analyse_source.specs.Crates.lra_analysis_spec.Linear.{DiffersIsRight};
+ghost use Rattle.lra_analyse_source.specs.Crates.lra_analysis_spec.Linearization.{LinearizationIsRight};
 ghost use Rattle.lra_analyse_source.specs.Claims.{OneAnsweredText, TreesFit, TreesAreNumbered, AnalysedAreSound};
 ghost use Rattle.lra_analyse_source.specs.Claims.{AnalysedAreReports, OneUnflaggedReport};
 ghost use Rattle.lra_analyse_source.specs.Soundness.{SolvedAreSound, FittingIsSound, AccessesAreSound};
 
-use lra_domain::Domain;
 use lra_front_end::{one_answer, one_constants};
+use lra_poly_domain::Domain;
 
 /// Two reports that answer one source under one list of options and have the same text are the same report.
 pub fn one_answered_text()

@@ -1,29 +1,27 @@
 //! What an iteration finds of what is read of a source, and its report.
 
 ghost use Rattle.std.specs.Prelude.{◌≡◌, ◌≤◌, ◌<◌, None, length, map, All, IfOk};
-ghost use Rattle.lra_syntax.specs.{Labels.labels_of, Views.tree_view};
-ghost use Rattle.lra_resolution_spec.specs.Resolve.{resolve};
-ghost use Rattle.lra_program.specs.ProgramViews.{program_view};
-ghost use Rattle.lra_operations.specs.CheckedOperations.{accessing_ops, computing_ops};
-ghost use Rattle.lra_operations.specs.TreeViews.{node_view, site_view};
-ghost use Rattle.lra_analysis_spec.specs.Operations.{lossy_operations};
-ghost use Rattle.lra_analysis_spec.specs.{Accesses.JudgesAccesses, Fits.JudgesIf, LiveLimit.most_live, Plan.plan_of};
-ghost use Rattle.lra_overflow_checks.specs.Judged.{AreBelow};
+ghost use Rattle.lra_analyse_source.specs.Crates.lra_analysis_spec.Accesses.{JudgesAccesses};
+ghost use Rattle.lra_analyse_source.specs.Crates.lra_analysis_spec.Operations.{lossy_operations};
+ghost use Rattle.lra_analyse_source.specs.Crates.lra_base.AccessVerdicts.{reported_view};
+ghost use Rattle.lra_analyse_source.specs.Crates.lra_operations.CheckedOperations.{accessing_ops, computing_ops};
+ghost use Rattle.lra_analyse_source.specs.Crates.lra_operations.TreeViews.{node_view, site_view};
+ghost use Rattle.lra_analyse_source.specs.Crates.lra_program.ProgramViews.{program_view};
+ghost use Rattle.lra_analyse_source.specs.Crates.{lra_analysis_spec.Fits.JudgesIf};
+ghost use Rattle.lra_analyse_source.specs.Crates.{lra_analysis_spec.LiveLimit.most_live};
+ghost use Rattle.lra_analyse_source.specs.Crates.{lra_analysis_spec.Plan.plan_of, lra_overflow_checks.Judged.AreBelow};
+ghost use Rattle.lra_analyse_source.specs.Crates.{lra_report.View.report_of, lra_resolution_spec.Resolve.resolve};
+ghost use Rattle.lra_analyse_source.specs.Crates.{lra_syntax.Labels.labels_of, lra_syntax.Views.tree_view};
 ghost use Rattle.lra_fixpoint.specs.Solved.{IsSolved};
-ghost use Rattle.lra_base.specs.AccessVerdicts.{reported_view};
-ghost use Rattle.lra_report.specs.View.{report_of};
 ghost use Rattle.lra_front_end.specs.Stages.{HasInlinedTree};
 ghost use Rattle.lra_analyse_source.specs.Stages.{IsReportOfTree, ReportsSolution};
 
-use lra_bounds_checks::{BoundsVerdicts, judge_accesses};
-use lra_domain::Domain as AbstractDomain;
+use lra_bounds_checks::{BoundsVerdicts, Node, OverflowVerdicts, judge, judge_accesses};
 use lra_fixpoint::{Plan, Solution, analyse};
 use lra_front_end::AcceptedSource;
-use lra_operations::Node;
 use lra_options::Options;
-use lra_overflow_checks::{OverflowVerdicts, judge};
-use lra_report::Report;
-use lra_report_build::{Findings, Outline, Show, list, states_of};
+use lra_poly_domain::Domain as AbstractDomain;
+use lra_report_build::{Findings, Outline, Report, Show, list, states_of};
 use std::alloc::{AllocError, Global};
 
 /// Which operations of a tree fit, if it is asked for; else nothing is reported, and nothing done.

@@ -1,29 +1,22 @@
 //! From the bytes of a source to its report, or to its one refusal.
 
 ghost use Rattle.std.specs.Prelude.{◌≡◌, ◌≤◌, ◌<◌, ◌+◌, ◌^◌, length, map, IfOk};
-ghost use Rattle.lra_base.specs.Refused.{IfRefused};
-ghost use Rattle.lra_syntax.specs.{Grammar.Spells, Labels.labels_of, Views.tree_view};
-ghost use Rattle.lra_program.specs.ProgramViews.{program_view};
-ghost use Rattle.lra_operations.specs.TreeViews.{node_view, site_view};
-ghost use Rattle.lra_analysis_spec.specs.Plan.{plan_of};
-ghost use Rattle.lra_resolution_spec.specs.{Refuse.Refuse, Resolve.resolve};
-ghost use Rattle.lra_report.specs.View.{report_of};
+ghost use Rattle.lra_analyse_source.specs.Crates.lra_operations.TreeViews.{node_view, site_view};
+ghost use Rattle.lra_analyse_source.specs.Crates.lra_program.ProgramViews.{program_view};
+ghost use Rattle.lra_analyse_source.specs.Crates.{lra_analysis_spec.Plan.plan_of, lra_base.Refused.IfRefused};
+ghost use Rattle.lra_analyse_source.specs.Crates.{lra_report.View.report_of, lra_resolution_spec.Refuse.Refuse};
+ghost use Rattle.lra_analyse_source.specs.Crates.{lra_resolution_spec.Resolve.resolve, lra_syntax.Grammar.Spells};
+ghost use Rattle.lra_analyse_source.specs.Crates.{lra_syntax.Labels.labels_of, lra_syntax.Views.tree_view};
 ghost use Rattle.lra_analyse_source.specs.SourceReports.{IsAnalysisReportOver, WithParts, IsAnalysisReport};
 ghost use Rattle.lra_analyse_source.specs.Stages.{IsReportOfTree};
 ghost use Rattle.lra_front_end.specs.Stages.{HasInlinedTree};
 
 use crate::reporting::{report_solution, solve_front};
-use lra_base::SourceError;
-use lra_box::Boxes;
-use lra_domain::BaseDomain;
 use lra_fixpoint::Plan;
-use lra_front_end::{AcceptedSource, read_source};
-use lra_octagon::Octagon;
+use lra_front_end::{AcceptedSource, SourceError, read_source};
 use lra_options::{Domain, Options};
-use lra_poly_domain::Polyhedron;
-use lra_powerset::PowerSet;
-use lra_report::Report;
-use lra_report_build::Show;
+use lra_poly_domain::{BaseDomain, Polyhedron};
+use lra_report_build::{Boxes, Octagon, PowerSet, Report, Show};
 use std::alloc::{AllocError, Global};
 
 /// The report of the iteration over the tree of operations of what is read of a source.

@@ -1,12 +1,12 @@
 -- Which accesses are judged to be inside: the tests of an index, the order of answers, and flags. Which slip an example
 -- would catch stands beside it.
 use Rattle.std.proofs.Common.{◌≡◌, ℕ, ℤ, pos, negsuc, List, [], ◌∷◌, Some, None, Bool, true, false, refl, inl, inr}
-use Rattle.lra_linear_spec.specs.declared.ConKind.TheVariants.{Ge}
-use Rattle.lra_linear_forms.specs.{Form.Form, declared.test.Test.Test}
+use Rattle.lra_analysis_spec.specs.Crates.lra_base.declared.number_types.NumberType.TheVariants.{Int, Long}
+use Rattle.lra_analysis_spec.specs.Crates.lra_program.Program.{Expr, literal, input, element, Element, nonzero, both_of, either_of}
+use Rattle.lra_analysis_spec.specs.Crates.lra_program.Step.{Op, store_element}
+use Rattle.lra_analysis_spec.specs.Crates.{lra_base.declared.refusals.Place.Place, lra_linear_forms.Form.Form, lra_linear_forms.declared.test.Test.Test}
+use Rattle.lra_analysis_spec.specs.Crates.{lra_linear_spec.declared.ConKind.TheVariants.Ge, lra_program.Accesses.expr_accesses, lra_program.declared.arrays.Array.Array}
 use Rattle.lra_domain.specs.{Abstraction.Abstraction, Abstraction.worse, declared.Exactness.Exactness, declared.Exactness.TheVariants.Exact, declared.Exactness.TheVariants.Flagged}
-use Rattle.lra_base.specs.{declared.number_types.NumberType.TheVariants.Int, declared.number_types.NumberType.TheVariants.Long, declared.refusals.Place.Place}
-use Rattle.lra_program.specs.Program.{Expr, literal, input, element, Element, nonzero, both_of, either_of}
-use Rattle.lra_program.specs.{Accesses.expr_accesses, Step.Op, Step.store_element, declared.arrays.Array.Array}
 use Rattle.lra_analysis_spec.specs.Accesses.{outside, outside_of, IndexJudged, AccessJudged, EachJudged, CondInside, OpInside}
 use Rattle.lra_analysis_spec.specs.{Judging.Finding, Judging.first_flagged, MovesOf.test_action, Operations.Operations, Pass.Filters}
 

@@ -2,14 +2,16 @@
 use Rattle.std.proofs.Common.{◌≡◌, ℕ, zero, suc, ◌+◌, ◌<◌, ◌++◌, ℤ, pos, negsuc, List, [], ◌∷◌, Option, Some, None, Bool, true, false, length, refl, sym, ap, subst, ◌∙◌, arith, inl, inr}
 use Rattle.std.proofs.{Common.length-append, lemmas.Bool.ltb-false, lemmas.Int.ints, lemmas.Option.same_Some, lemmas.Option.slice_get_within, lemmas.Option.slice_get-get_or}
 use Rattle.std.specs.Prelude.{◌-ℤ◌, ◌≤ℤ◌, ◌⊎◌, nat_lt, if◌then◌else◌, slice_get, get_or}
-use Rattle.lra_linear_forms.specs.{Form.Form, Form.form_value, Form.opposite_form, declared.test.Test.Test}
+use Rattle.lra_analysis_spec.specs.Crates.lra_linear_forms.Form.{Form, form_value, opposite_form}
+use Rattle.lra_analysis_spec.specs.Crates.lra_program.Accesses.{expr_accesses, cond_accesses, arguments_accesses, aim_accesses, ExprOutOfBounds, ArgumentsOutOfBounds, CondOutOfBounds, OpOutOfBounds}
+use Rattle.lra_analysis_spec.specs.Crates.lra_program.Accesses.{IsOutside}
+use Rattle.lra_analysis_spec.specs.Crates.lra_program.Program.{Element, Cond, compare, nonzero, opposite, both_of, either_of}
+use Rattle.lra_analysis_spec.specs.Crates.lra_program.Step.{State, environment_at, Op, append, fill, store_value, store_element, havoc, push, push_for, truncate_to, test}
+use Rattle.lra_analysis_spec.specs.Crates.{lra_base.Operators.below, lra_base.declared.number_types.NumberType.NumberType, lra_base.declared.refusals.Place.Place}
+use Rattle.lra_analysis_spec.specs.Crates.{lra_linear_forms.declared.test.Test.Test, lra_program.Arrays.place_among, lra_program.Value.◌>>=◌, lra_program.Value.Environment}
 use Rattle.lra_domain.specs.{Abstraction.Abstraction, Laws.Laws, Moves.make, declared.Exactness.Exactness}
-use Rattle.lra_base.specs.{Operators.below, declared.number_types.NumberType.NumberType, declared.refusals.Place.Place}
-use Rattle.lra_program.specs.Accesses.{expr_accesses, cond_accesses, arguments_accesses, aim_accesses, ExprOutOfBounds, ArgumentsOutOfBounds, CondOutOfBounds, OpOutOfBounds, IsOutside}
-use Rattle.lra_program.specs.Step.{State, environment_at, Op, append, fill, store_value, store_element, havoc, push, push_for, truncate_to, test}
-use Rattle.lra_program.specs.{Arrays.place_among, Program.Element, Program.Cond, Program.compare, Program.nonzero, Program.opposite, Program.both_of, Program.either_of, Value.◌>>=◌, Value.Environment}
-use Rattle.lra_program.proofs.AccessLaws.{HasOutside, get_left, get_right, expr_outside, cond_outside, arguments_outside, aimed_outside}
-use Rattle.lra_program.proofs.TypeLaws.{bind_some}
+use Rattle.lra_analysis_spec.proofs.Crates.lra_program.AccessLaws.{HasOutside, get_left, get_right, expr_outside, cond_outside, arguments_outside, aimed_outside}
+use Rattle.lra_analysis_spec.proofs.Crates.lra_program.TypeLaws.{bind_some}
 use Rattle.lra_operations.specs.CheckedOperations.{HoldsWithFresh}
 use Rattle.lra_analysis_spec.specs.Accesses.{outside, outside_of, IndexJudged, AccessJudged, EachJudged, CondInside, OpInside, InsideIsSound}
 use Rattle.lra_analysis_spec.specs.Linear.{form_of, fitting, at_least_zero, less_by, comparison_test, TestHolds}

@@ -2,13 +2,12 @@
 use Rattle.std.proofs.Common.{◌≡◌, ℕ, zero, suc, ℤ, ◌-◌, ◌≤◌, ◌++◌, List, [], ◌∷◌, length, Option, None, Some, Bool, true, false, inl, inr, refl, sym, subst}
 use Rattle.std.proofs.lemmas.Option.{slice_get_read}
 use Rattle.std.specs.List.{AllByRecursion, Contains}
-use Rattle.lra_linear_spec.proofs.Membership.{contains_none, contains_cases}
-use Rattle.lra_systems.specs.LinearSystems.{LinearSystem}
-use Rattle.lra_linear_spec.specs.declared.ConKind.{ConKind}
+use Rattle.lra_analysis_spec.proofs.Crates.lra_linear_spec.Membership.{contains_none, contains_cases}
+use Rattle.lra_analysis_spec.specs.Crates.lra_base.declared.case_labels.CaseLabel.TheVariants.{Case, Default}
+use Rattle.lra_analysis_spec.specs.Crates.lra_program.Program.{Expr, Cond, Program}
+use Rattle.lra_analysis_spec.specs.Crates.{lra_base.declared.case_labels.CaseLabel.CaseLabel, lra_linear_spec.declared.ConKind.ConKind, lra_systems.LinearSystems.LinearSystem}
 use Rattle.lra_domain.specs.Moves.{Moves, stay, make, first_then, join_of}
 use Rattle.lra_domain.specs.{Abstraction.Abstraction, Actions.Action, Interference.Interference, Laws.Laws, declared.Exactness.Exactness, declared.Mode.Mode}
-use Rattle.lra_base.specs.{declared.case_labels.CaseLabel.CaseLabel, declared.case_labels.CaseLabel.TheVariants.Case, declared.case_labels.CaseLabel.TheVariants.Default}
-use Rattle.lra_program.specs.Program.{Expr, Cond, Program}
 use Rattle.lra_operations.specs.Tree.{Exit, broken, continued, returned, Node, empty, point, probe, act, check, seq, choose, iterate, catch, leave, select, Arms, no_arms, entry, arm, entries_of}
 use Rattle.lra_operations.specs.declared.probes.Probe.TheVariants.{InterferencePoint, RecordWrite}
 use Rattle.lra_analysis_spec.specs.Pass.{PassEntry, value, failing, recorded, PassResult, noted, goes_on, jumps, in_turn, first_of_call, values_behind, jumps_caught, AreJoined, Filters, Transformer}

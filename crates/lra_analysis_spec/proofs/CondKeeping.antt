@@ -1,19 +1,17 @@
 -- The moves of a condition leave each store at which the condition is as wanted.
 use Rattle.std.proofs.Common.{◌≡◌, zero, suc, ℤ, pos, negsuc, List, Option, Some, None, Bool, true, false, length, refl, ap, subst, ◌∙◌, arith, inl, inr}
-use Rattle.std.proofs.lemmas.Int.{ints}
+use Rattle.std.proofs.{lemmas.Bool.not-false, lemmas.Int.ints}
 use Rattle.std.specs.Prelude.{not, if◌then◌else◌, IsTrue, ◌⊎◌, int_le, ◌-ℤ◌}
-use Rattle.std.proofs.lemmas.Bool.{not-false}
-use Rattle.lra_base.specs.Operators.{Comparison, below, at_most, above, at_least, equal, differs}
-use Rattle.lra_base.specs.declared.number_types.NumberType.TheVariants.{Int}
-use Rattle.lra_program.specs.Program.{Expr, literal, Cond, compare, nonzero, opposite, both_of, either_of}
-use Rattle.lra_program.specs.Value.{Environment, Drawn, is_zero, compares, value_of, truth_of}
-use Rattle.lra_linear_forms.specs.declared.test.Test.{Test}
+use Rattle.lra_analysis_spec.specs.Crates.lra_base.Operators.{Comparison, below, at_most, above, at_least, equal, differs}
+use Rattle.lra_analysis_spec.specs.Crates.lra_program.Program.{Expr, literal, Cond, compare, nonzero, opposite, both_of, either_of}
+use Rattle.lra_analysis_spec.specs.Crates.lra_program.Value.{Environment, Drawn, is_zero, compares, value_of, truth_of}
+use Rattle.lra_analysis_spec.specs.Crates.{lra_base.declared.number_types.NumberType.TheVariants.Int, lra_linear_forms.declared.test.Test.Test}
 use Rattle.lra_analysis_spec.specs.Linearization.{Divides, with_both, linearized, subtracted, linearized_difference}
 use Rattle.lra_analysis_spec.specs.MovesOf.{opposite_comparison, comparison_as, test_action, test_moves, case_moves, linearized_moves, split_moves, comparison_moves, guard, value_moves}
 use Rattle.lra_analysis_spec.specs.declared.linearization.Linearized.TheVariants.{Linear, Divided, Unseen}
 use Rattle.lra_analysis_spec.specs.{Linear.TestHolds, Linear.constant_form, Linear.comparison_test, declared.linearization.Division.Division, declared.linearization.Linearized.Linearized}
 use Rattle.lra_domain.specs.Moves.{MayLead}
-use Rattle.lra_program.proofs.TypeLaws.{bind_some}
+use Rattle.lra_analysis_spec.proofs.Crates.lra_program.TypeLaws.{bind_some}
 use Rattle.lra_analysis_spec.proofs.DivisionLemmas.{constant_form_wide, SeenIs, seen_tested, subtracted_is, seen_right}
 use Rattle.lra_analysis_spec.proofs.FormLemmas.{constant_form_value, some_first, lt_decides, gt_decides, ne_decides, test_is_right, compared}
 

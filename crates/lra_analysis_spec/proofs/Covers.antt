@@ -1,7 +1,7 @@
 -- What a pass with drops must guarantee: its values have all stores of the tree's runs.
 use Rattle.std.specs.{List.Contains, Prelude.◌≡◌, Prelude.ℕ, Prelude.ℤ, Prelude.List, Prelude.Some, Prelude.Bool}
-use Rattle.lra_base.specs.{Operators.equal, declared.case_labels.CaseLabel.CaseLabel}
-use Rattle.lra_program.specs.{Program.Expr, Step.State, Step.environment_at, Step.Op, Step.run_op, Value.value_of, Value.compares}
+use Rattle.lra_analysis_spec.specs.Crates.{lra_base.Operators.equal, lra_base.declared.case_labels.CaseLabel.CaseLabel, lra_program.Program.Expr, lra_program.Step.State}
+use Rattle.lra_analysis_spec.specs.Crates.{lra_program.Step.environment_at, lra_program.Step.Op, lra_program.Step.run_op, lra_program.Value.value_of, lra_program.Value.compares}
 use Rattle.lra_domain.specs.{Abstraction.Abstraction, Actions.Within, Laws.Laws, declared.Exactness.Exactness, declared.Mode.Mode}
 use Rattle.lra_operations.specs.Tree.{Exit, normal, jump, Node, Completes, ReachesPoint, FailsAt, Arms, ArmsComplete, ArmsReachPoint, ArmsFail}
 use Rattle.lra_analysis_spec.specs.{Operations.lossy_operations, Pass.value, Pass.failing, Pass.PassResult, Pass.OpTransfer, Pass.ValueIs, Pass.jumps_of}

@@ -1,12 +1,12 @@
 -- Divisions as an analysis sees them, and their moves. Which slip an example would catch stands beside it.
 use Rattle.std.proofs.Common.{◌≡◌, ℤ, pos, negsuc, List, [], ◌∷◌, Some, None, true, false, refl, inr}
 use Rattle.std.specs.Int.Signed.{le_z_yes}
-use Rattle.lra_base.specs.Operators.{plus, minus, times, over, modulo, equal, differs}
-use Rattle.lra_base.specs.declared.number_types.NumberType.TheVariants.{Int, Long}
-use Rattle.lra_program.proofs.RunExamples.{long_variable}
-use Rattle.lra_program.specs.{Program.local, Program.Expr, Program.literal, Program.read, Program.negate, Program.binary, Program.compare, Program.nonzero, Receivers.variable_at, Step.store_value}
-use Rattle.lra_linear_spec.specs.declared.ConKind.TheVariants.{Ge, Eq}
-use Rattle.lra_linear_forms.specs.Form.{Form}
+use Rattle.lra_analysis_spec.specs.Crates.lra_base.Operators.{plus, minus, times, over, modulo, equal, differs}
+use Rattle.lra_analysis_spec.specs.Crates.lra_program.Program.{local, Expr, literal, read, negate, binary, compare, nonzero}
+use Rattle.lra_analysis_spec.specs.Crates.lra_program.Step.{store_value}
+use Rattle.lra_analysis_spec.specs.Crates.{lra_base.declared.number_types.NumberType.TheVariants.Int, lra_base.declared.number_types.NumberType.TheVariants.Long, lra_linear_forms.Form.Form}
+use Rattle.lra_analysis_spec.specs.Crates.{lra_linear_spec.declared.ConKind.TheVariants.Ge, lra_linear_spec.declared.ConKind.TheVariants.Eq, lra_program.Receivers.variable_at}
+use Rattle.lra_analysis_spec.proofs.Crates.lra_program.RunExamples.{long_variable}
 use Rattle.lra_domain.specs.Actions.{Action, assign, test, embed, remove_last}
 use Rattle.lra_domain.specs.Moves.{stay, make, first_then, join_of, dims_moved, cases, MayLead}
 use Rattle.lra_analysis_spec.specs.declared.linearization.Linearized.TheVariants.{Divided, Unseen}

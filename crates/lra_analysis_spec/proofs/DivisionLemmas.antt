@@ -1,25 +1,24 @@
 -- What an analysis sees of a number is right: in each run one of a division's two cases leads where the run does, by A = k*(A / k) + A % k
 -- and the sign of what is left.
 use Rattle.std.proofs.Common.{◌≡◌, ℕ, zero, suc, ◌+◌, ◌-◌, ◌≤◌, ◌^◌, ℤ, pos, negsuc, ◌+ℤ◌, ◌*ℤ◌, List, [], ◌∷◌, ◌++◌, Option, Some, None, Bool, true, false, length, take, refl, sym, ap, subst, ◌∙◌}
+use Rattle.std.proofs.lemmas.List.{length-set}
 use Rattle.std.proofs.{Common.arith, Common.inl, Common.inr, Common.length-append, lemmas.Bool.and_parts, lemmas.Int.ints, lemmas.Int.quot-rem, lemmas.Int.rem_below}
 use Rattle.std.specs.Prelude.{◌-ℤ◌, ◌≤ℤ◌, ◌⊎◌, ◌&&◌, if◌then◌else◌, neg_ℤ, slice_set, int_div, int_rem, int_le}
-use Rattle.lra_linear_spec.specs.Vectors.{product}
-use Rattle.lra_linear_spec.proofs.Ring.{ring, v, ⊖, ◌⊕◌, ◌⊗◌}
-use Rattle.lra_linear_forms.specs.Form.{Form, form_value, opposite_form}
-use Rattle.lra_linear_forms.proofs.FormLemmas.{product_negated}
-use Rattle.lra_base.specs.{NumberTypes.wider, Operators.Operator, Operators.plus, Operators.minus, Operators.times, Operators.over, Operators.modulo, declared.number_types.NumberType.NumberType}
-use Rattle.lra_program.specs.Program.{Expr, literal, read, input, negate, binary, element, type_of}
-use Rattle.lra_program.specs.Value.{◌>>=◌, number, is_zero, Environment, quotient, apply, value_of}
-use Rattle.lra_program.proofs.TypeLaws.{bind_some}
+use Rattle.lra_analysis_spec.specs.Crates.lra_base.Operators.{Operator, plus, minus, times, over, modulo}
+use Rattle.lra_analysis_spec.specs.Crates.lra_linear_forms.Form.{Form, form_value, opposite_form}
+use Rattle.lra_analysis_spec.specs.Crates.lra_program.Program.{Expr, literal, read, input, negate, binary, element, type_of}
+use Rattle.lra_analysis_spec.specs.Crates.lra_program.Value.{◌>>=◌, number, is_zero, Environment, quotient, apply, value_of}
+use Rattle.lra_analysis_spec.specs.Crates.{lra_base.NumberTypes.wider, lra_base.declared.number_types.NumberType.NumberType, lra_linear_spec.Vectors.product}
+use Rattle.lra_analysis_spec.proofs.Crates.lra_linear_spec.Ring.{ring, v, ⊖, ◌⊕◌, ◌⊗◌}
+use Rattle.lra_analysis_spec.proofs.Crates.{lra_linear_forms.FormLemmas.product_negated, lra_program.TypeLaws.bind_some}
 use Rattle.lra_domain.specs.{Actions.Action, Actions.assign, Actions.Leads, Moves.MayLead}
 use Rattle.lra_analysis_spec.specs.Linear.{fitting, combined_forms, is_constant, constant_form, form_of}
 use Rattle.lra_analysis_spec.specs.Linearization.{Divides, LinearizedFits, with_both, HasValue, LinearizationIsRight, extended, behind_form, quotient_form, remainder_form, form_plus_one, division}
 use Rattle.lra_analysis_spec.specs.Linearization.{left_over, share_form, share_of, linearized_from, linearized, linear_if, divided_if, subtracted}
 use Rattle.lra_analysis_spec.specs.declared.linearization.Linearized.TheVariants.{Linear, Divided, Unseen}
 use Rattle.lra_analysis_spec.specs.{LiveLimit.most_live, MovesOf.in_cases, MovesOf.set_to, declared.linearization.Division.Division, declared.linearization.Linearized.Linearized}
-use Rattle.std.proofs.lemmas.List.{length-set}
-use Rattle.lra_analysis_spec.proofs.FormLemmas.{some_first, fitting_same, number_same, Wide, combined_wide, map_length, copies_length, form_wide, constant_form_value, constant_value}
-use Rattle.lra_analysis_spec.proofs.FormLemmas.{difference_value, forms_are_right}
+use Rattle.lra_analysis_spec.proofs.FormLemmas.{some_first, fitting_same, number_same, Wide, combined_wide, map_length, copies_length, form_wide, constant_form_value, constant_value, difference_value}
+use Rattle.lra_analysis_spec.proofs.FormLemmas.{forms_are_right}
 
 -- the quotient and what it leaves ---------------------------------------------------------------------------------------
 

@@ -1,9 +1,10 @@
 -- What is asked of operations, on small ones, over any value.
 use Rattle.std.proofs.Common.{◌≡◌, ℕ, pos, negsuc, List, [], ◌∷◌, ◌++◌, Some, None, Bool, true, false, refl, inl, inr}
-use Rattle.lra_linear_forms.specs.Form.{Form}
+use Rattle.lra_analysis_spec.specs.Crates.lra_base.Operators.{plus, times}
+use Rattle.lra_analysis_spec.specs.Crates.lra_program.Program.{Expr, literal, input, negate, binary}
+use Rattle.lra_analysis_spec.specs.Crates.lra_program.Receivers.{variable_at, result_receiver, nobody, converts_to}
+use Rattle.lra_analysis_spec.specs.Crates.{lra_base.declared.number_types.NumberType.TheVariants.Int, lra_base.declared.number_types.NumberType.TheVariants.Long, lra_linear_forms.Form.Form}
 use Rattle.lra_domain.specs.{Abstraction.Abstraction, Laws.Laws, declared.Exactness.TheVariants.Exact, declared.Exactness.TheVariants.Flagged}
-use Rattle.lra_base.specs.{Operators.plus, Operators.times, declared.number_types.NumberType.TheVariants.Int, declared.number_types.NumberType.TheVariants.Long}
-use Rattle.lra_program.specs.{Program.Expr, Program.literal, Program.input, Program.negate, Program.binary, Receivers.variable_at, Receivers.result_receiver, Receivers.nobody, Receivers.converts_to}
 use Rattle.lra_analysis_spec.specs.{Fits.IsDivisor, Fits.LiesIn, Fits.ExprJudged, Fits.GivenJudged, Judging.Finding, Judging.first_flagged, Judging.AnswersUnlessUnreachable, Linear.constant_form}
 
 -- flags ----------------------------------------------------------------------------------------------------------------

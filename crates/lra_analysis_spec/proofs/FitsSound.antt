@@ -2,19 +2,20 @@
 use Rattle.std.proofs.Common.{◌≡◌, ◌≢◌, ℕ, zero, suc, ◌*◌, ◌≤◌, ◌++◌, ℤ, pos, negsuc, List, [], ◌∷◌, Option, Some, None, Bool, true, false, length, refl, sym, ap, subst, ◌∙◌, arith, inl, inr}
 use Rattle.std.proofs.{Math.Nat.div-le_self, Math.Nat.div-mul-le_self, Math.Nat.mul-le-mul, Math.Nat.mod-le, lemmas.Bool.and_parts, lemmas.Int.ints, lemmas.Option.same_Some}
 use Rattle.std.specs.{Cmp.Derive.both_true, List.list_all, Prelude.◌-ℤ◌, Prelude.◌≤ℤ◌, Prelude.◌/◌, Prelude.unsigned_abs, Prelude.int_div, Prelude.int_rem, Prelude.if◌then◌else◌}
-use Rattle.lra_linear_forms.specs.Form.{Form, form_value}
+use Rattle.lra_analysis_spec.specs.Crates.lra_base.Operators.{Operator, plus, minus, times, over, modulo}
+use Rattle.lra_analysis_spec.specs.Crates.lra_base.declared.number_types.NumberType.TheVariants.{Int, Long}
+use Rattle.lra_analysis_spec.specs.Crates.lra_program.Overflow.{ExprOverflows, EitherOverflows, CondOverflows, GivenOverflows, ArgumentsOverflow, OpOverflows}
+use Rattle.lra_analysis_spec.specs.Crates.lra_program.Program.{Expr, literal, read, input, negate, binary, element, type_of, Element, Cond, compare, nonzero, opposite, both_of, either_of}
+use Rattle.lra_analysis_spec.specs.Crates.lra_program.Receivers.{waiting_in, lets_through, parameter_of, converts_to, target_accepts, accepts}
+use Rattle.lra_analysis_spec.specs.Crates.lra_program.Step.{State, environment_at, Op, append, fill, store_value, store_element, havoc, push, push_for, truncate_to, test, aim}
+use Rattle.lra_analysis_spec.specs.Crates.lra_program.Value.{◌>>=◌, number, is_zero, quotient, apply, Environment, value_of, truth_of, Argument}
+use Rattle.lra_analysis_spec.specs.Crates.lra_program.declared.receivers.ConversionChain.TheVariants.{Wide, Short, Shortened}
+use Rattle.lra_analysis_spec.specs.Crates.{lra_base.NumberTypes.fits, lra_base.NumberTypes.wider, lra_base.declared.number_types.NumberType.NumberType, lra_linear_forms.Form.Form}
+use Rattle.lra_analysis_spec.specs.Crates.{lra_linear_forms.Form.form_value, lra_program.declared.receivers.ConversionChain.ConversionChain, lra_program.declared.receivers.Receiver.Receiver}
+use Rattle.lra_analysis_spec.specs.Crates.{lra_program.declared.receivers.Target.Target}
 use Rattle.lra_domain.specs.{Abstraction.Abstraction, Laws.Laws, Moves.MayLead, declared.Exactness.Exactness}
-use Rattle.lra_base.specs.{NumberTypes.fits, NumberTypes.wider, Operators.Operator, Operators.plus, Operators.minus, Operators.times, Operators.over, Operators.modulo}
-use Rattle.lra_base.specs.{declared.number_types.NumberType.NumberType, declared.number_types.NumberType.TheVariants.Int, declared.number_types.NumberType.TheVariants.Long}
-use Rattle.lra_base.proofs.TypeLimits.{limits_of, fits_between, int_is_long, fits_long, fits_wider}
-use Rattle.lra_program.specs.Overflow.{ExprOverflows, EitherOverflows, CondOverflows, GivenOverflows, ArgumentsOverflow, OpOverflows}
-use Rattle.lra_program.specs.Program.{Expr, literal, read, input, negate, binary, element, type_of, Element, Cond, compare, nonzero, opposite, both_of, either_of}
-use Rattle.lra_program.specs.Receivers.{waiting_in, lets_through, parameter_of, converts_to, target_accepts, accepts}
-use Rattle.lra_program.specs.Step.{State, environment_at, Op, append, fill, store_value, store_element, havoc, push, push_for, truncate_to, test, aim}
-use Rattle.lra_program.specs.Value.{◌>>=◌, number, is_zero, quotient, apply, Environment, value_of, truth_of, Argument}
-use Rattle.lra_program.specs.declared.receivers.ConversionChain.TheVariants.{Wide, Short, Shortened}
-use Rattle.lra_program.specs.{declared.receivers.ConversionChain.ConversionChain, declared.receivers.Receiver.Receiver, declared.receivers.Target.Target}
-use Rattle.lra_program.proofs.{StepLaws.aim_keeps, TypeLaws.bind_some, TypeLaws.value_has_its_type, TypeLaws.refused_converts}
+use Rattle.lra_analysis_spec.proofs.Crates.lra_base.TypeLimits.{limits_of, fits_between, int_is_long, fits_long, fits_wider}
+use Rattle.lra_analysis_spec.proofs.Crates.{lra_program.StepLaws.aim_keeps, lra_program.TypeLaws.bind_some, lra_program.TypeLaws.value_has_its_type, lra_program.TypeLaws.refused_converts}
 use Rattle.lra_operations.specs.CheckedOperations.{FreshOverflows}
 use Rattle.lra_analysis_spec.specs.Fits.{LiesIn, IsDivisor, OperatorFits, ExprJudged, ConversionJudged, GivenJudged, ArgumentsJudged, CondJudged, OpJudged, FittingNeverOverflow}
 use Rattle.lra_analysis_spec.specs.Linear.{scaled, operator_form, form_of, form_in, exactly}

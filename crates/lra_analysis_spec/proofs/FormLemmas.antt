@@ -1,20 +1,17 @@
 -- The linear form of an expression has the expression's value wherever there is one, and the test of a comparison passes exactly where
 -- the comparison is true.
 use Rattle.std.proofs.Common.{◌≡◌, ℕ, zero, suc, ℤ, pos, negsuc, ◌+ℤ◌, ◌*ℤ◌, List, [], ◌∷◌, Option, Some, None, Bool, true, false, length, refl, sym, ap, subst, ◌∙◌, arith, inl, inr}
-use Rattle.std.proofs.lemmas.Int.{ints}
+use Rattle.std.proofs.{lemmas.Bool.and_parts, lemmas.Int.ints, lemmas.List.length-set}
 use Rattle.std.specs.List.{list_all}
 use Rattle.std.specs.Prelude.{◌-ℤ◌, ◌≤ℤ◌, map, replicate, slice_set, slice_get, if◌then◌else◌, ◌&&◌, IsTrue, ◌↔◌, ◌⊎◌, int_lt, int_le, nat_lt, not, neg_ℤ}
-use Rattle.std.proofs.lemmas.Bool.{and_parts}
-use Rattle.std.proofs.lemmas.List.{length-set}
-use Rattle.lra_linear_spec.specs.{Vectors.product, declared.ConKind.TheVariants.Ge, declared.ConKind.TheVariants.Eq}
-use Rattle.lra_linear_spec.proofs.{Products.product_none, Ring.ring, Ring.v, Ring.⊖, Ring.◌⊕◌, Ring.◌⊗◌}
-use Rattle.lra_linear_forms.specs.{Form.Form, Form.form_value, Form.opposite_form, declared.test.Test.Test}
-use Rattle.lra_linear_forms.proofs.FormLemmas.{product_negated}
-use Rattle.lra_base.specs.Operators.{Operator, plus, minus, times, over, modulo, Comparison, below, at_most, above, at_least, equal, differs}
-use Rattle.lra_base.specs.{NumberTypes.fits, NumberTypes.wider, declared.number_types.NumberType.NumberType}
-use Rattle.lra_program.specs.Program.{Expr, literal, read, input, negate, binary, element, type_of, compare}
-use Rattle.lra_program.specs.Value.{◌>>=◌, number, is_word, is_zero, index_of, Environment, apply, compares, value_of, truth_of}
-use Rattle.lra_program.proofs.TypeLaws.{bind_some}
+use Rattle.lra_analysis_spec.specs.Crates.lra_base.Operators.{Operator, plus, minus, times, over, modulo, Comparison, below, at_most, above, at_least, equal, differs}
+use Rattle.lra_analysis_spec.specs.Crates.lra_linear_forms.Form.{Form, form_value, opposite_form}
+use Rattle.lra_analysis_spec.specs.Crates.lra_program.Program.{Expr, literal, read, input, negate, binary, element, type_of, compare}
+use Rattle.lra_analysis_spec.specs.Crates.lra_program.Value.{◌>>=◌, number, is_word, is_zero, index_of, Environment, apply, compares, value_of, truth_of}
+use Rattle.lra_analysis_spec.specs.Crates.{lra_base.NumberTypes.fits, lra_base.NumberTypes.wider, lra_base.declared.number_types.NumberType.NumberType, lra_linear_forms.declared.test.Test.Test}
+use Rattle.lra_analysis_spec.specs.Crates.{lra_linear_spec.Vectors.product, lra_linear_spec.declared.ConKind.TheVariants.Ge, lra_linear_spec.declared.ConKind.TheVariants.Eq}
+use Rattle.lra_analysis_spec.proofs.Crates.lra_linear_spec.Ring.{ring, v, ⊖, ◌⊕◌, ◌⊗◌}
+use Rattle.lra_analysis_spec.proofs.Crates.{lra_linear_forms.FormLemmas.product_negated, lra_linear_spec.Products.product_none, lra_program.TypeLaws.bind_some}
 use Rattle.lra_analysis_spec.specs.Linear.{fitting, entrywise, combined_forms, scaled, is_constant, operator_form, constant_form, live_form, variable_form, form_of, form_in, exactly}
 use Rattle.lra_analysis_spec.specs.Linear.{OperatorFormsAreExact, FormsAreRight, TestHolds, negated_form, less_by, less_one, at_least_zero, comparison_test, difference_in, TestsAreRight}
 use Rattle.lra_analysis_spec.specs.Linear.{DiffersIsRight}

@@ -1,27 +1,27 @@
 -- The moves of a least change of a program lead where the change leads.
 use Rattle.std.proofs.Common.{◌≡◌, ℕ, zero, suc, ◌+◌, ◌-◌, ◌≤◌, ◌++◌, ℤ, pos, List, [], ◌∷◌, Option, Some, None, Bool, true, false, length, take, refl, sym, ap, subst, ◌∙◌, arith, inl, inr}
+use Rattle.std.proofs.{lemmas.List.length-set, lemmas.Option.same_Some}
 use Rattle.std.proofs.{Common.append_assoc, Common.append-nil, Common.length-append, lemmas.Bool.and_parts, lemmas.Int.ints}
 use Rattle.std.specs.Prelude.{map, ◌-ℤ◌, ◌+ℤ◌, ◌*ℤ◌, ◌≤ℤ◌, negsuc, ◌⊎◌, replicate, slice_set, slice_get}
 use Rattle.lra_domain.specs.{Actions.embed, Moves.Moves, Moves.make, Moves.MayLead}
-use Rattle.lra_linear_forms.specs.Form.{Form, form_value}
-use Rattle.lra_base.specs.NumberTypes.{fits, wider, least_of}
-use Rattle.lra_base.specs.{declared.number_types.NumberType.NumberType, declared.number_types.NumberType.TheVariants.Int, declared.number_types.NumberType.TheVariants.Long}
-use Rattle.lra_base.proofs.TypeLimits.{limits_of}
-use Rattle.lra_program.specs.Program.{Expr, literal, read, input, negate, binary, element, type_of, Cond}
-use Rattle.lra_program.specs.Step.{State, Op, append, fill, store_value, store_element, havoc, push, push_for, truncate_to, put, put_in, put_waiting, receive, kept_if, drawn_for, pushed, filled, aim}
-use Rattle.lra_program.specs.Value.{◌>>=◌, number, index_of, Environment, apply, Argument, Drawn, first_draw, draws_of, value_of, values_of, truth_of}
-use Rattle.lra_program.specs.{Arrays.elements_of, Arrays.place_among, Receivers.waiting_in, Receivers.lets_through, Receivers.target_accepts, Receivers.accepts, Step.environment_at, Step.run_op}
-use Rattle.lra_program.specs.{WellFormed.AreGoodGlobals, declared.arrays.Array.Array, declared.program.GlobalVariable.GlobalVariable, declared.receivers.Cell.Cell}
-use Rattle.lra_program.specs.{declared.receivers.Cell.TheVariants.Variable, declared.receivers.Cell.TheVariants.Waiting, declared.receivers.Receiver.Receiver, declared.receivers.Target.Target}
-use Rattle.lra_program.proofs.{StepLaws.aim_keeps, StepLaws.store_waiting, TypeLaws.bind_some, TypeLaws.number_fits}
-use Rattle.lra_program.specs.Step as step
+use Rattle.lra_analysis_spec.specs.Crates.lra_base.declared.number_types.NumberType.TheVariants.{Int, Long}
+use Rattle.lra_analysis_spec.specs.Crates.lra_program.Program.{Expr, literal, read, input, negate, binary, element, type_of, Cond}
+use Rattle.lra_analysis_spec.specs.Crates.lra_program.Receivers.{waiting_in, lets_through, target_accepts, accepts}
+use Rattle.lra_analysis_spec.specs.Crates.lra_program.Step.{State, Op, append, fill, store_value, store_element, havoc, push, push_for, truncate_to, put, put_in, put_waiting, receive, kept_if}
+use Rattle.lra_analysis_spec.specs.Crates.lra_program.Step.{drawn_for, pushed, filled, aim, environment_at, run_op}
+use Rattle.lra_analysis_spec.specs.Crates.lra_program.Value.{◌>>=◌, number, index_of, Environment, apply, Argument, Drawn, first_draw, draws_of, value_of, values_of, truth_of}
+use Rattle.lra_analysis_spec.specs.Crates.lra_program.declared.receivers.Cell.TheVariants.{Variable, Waiting}
+use Rattle.lra_analysis_spec.specs.Crates.{lra_base.NumberTypes.fits, lra_base.NumberTypes.wider, lra_base.NumberTypes.least_of, lra_base.declared.number_types.NumberType.NumberType}
+use Rattle.lra_analysis_spec.specs.Crates.{lra_linear_forms.Form.Form, lra_linear_forms.Form.form_value, lra_program.Arrays.elements_of, lra_program.Arrays.place_among}
+use Rattle.lra_analysis_spec.specs.Crates.{lra_program.WellFormed.AreGoodGlobals, lra_program.declared.arrays.Array.Array, lra_program.declared.program.GlobalVariable.GlobalVariable}
+use Rattle.lra_analysis_spec.specs.Crates.{lra_program.declared.receivers.Cell.Cell, lra_program.declared.receivers.Receiver.Receiver, lra_program.declared.receivers.Target.Target}
+use Rattle.lra_analysis_spec.proofs.Crates.{lra_base.TypeLimits.limits_of, lra_linear_spec.Ring.ring, lra_linear_spec.Ring.v, lra_linear_spec.Ring.◌⊗◌, lra_program.StepLaws.aim_keeps}
+use Rattle.lra_analysis_spec.proofs.Crates.{lra_program.StepLaws.store_waiting, lra_program.TypeLaws.bind_some, lra_program.TypeLaws.number_fits}
+use Rattle.lra_analysis_spec.specs.Crates.lra_program.Step as step
 use Rattle.lra_analysis_spec.specs.Linear as linear
 use Rattle.lra_analysis_spec.specs.MovesOf.{above_least, below_greatest, within_type, set_to, append_set, push_all, set_target, drop_last, moves_of, set_cell, first_values, guard}
 use Rattle.lra_analysis_spec.specs.declared.linearization.Linearized.TheVariants.{Linear, Unseen}
 use Rattle.lra_analysis_spec.specs.{Linearization.linearized, declared.linearization.Linearized.Linearized}
-use Rattle.lra_linear_spec.proofs.Ring.{ring, v, ◌⊗◌}
-use Rattle.std.proofs.lemmas.List.{length-set}
-use Rattle.std.proofs.lemmas.Option.{same_Some}
 use Rattle.lra_analysis_spec.proofs.FormLemmas.{number_same, pair_first, product_at, product_out, minus_is, constant_form_value}
 use Rattle.lra_analysis_spec.proofs.{CondKeeping.cond_leads, DivisionLemmas.seen_set, DivisionLemmas.seen_right}
 

@@ -1,7 +1,7 @@
 -- A pass with drops covers the runs of its tree: moves with drops keep each store to which they may lead.
 use Rattle.std.proofs.Common.{ℕ, ℤ, List, Option, sym, subst, inl, inr}
 use Rattle.lra_domain.specs.{Abstraction.Abstraction, Laws.Laws, Moves.Moves, Moves.stay, Moves.make, Moves.first_then, Moves.join_of, Moves.MayLead, declared.Exactness.Exactness}
-use Rattle.lra_program.specs.Step.{State, environment_at}
+use Rattle.lra_analysis_spec.specs.Crates.lra_program.Step.{State, environment_at}
 use Rattle.lra_operations.specs.Tree.{Node}
 use Rattle.lra_analysis_spec.specs.{Moves.AreMade, MovesOf.moves_of, MovesOf.value_moves, Operations.lossy_operations, Pass.PassResult, Pass.Pass, Plan.Plan}
 use Rattle.lra_analysis_spec.proofs.{CondKeeping.value_leads, Covers.ChangesKeep, Covers.ValuesKeep, Covers.Covers, Covers.Has, Covers.covered_has, Keeping.op_leads, Sound.covers}

@@ -35,3 +35,5 @@ pub mod OneIteration
 pub mod OneJudging
 pub mod OneJudgement
 pub mod OneAccess
+-- The crates below
+pub mod Crates

@@ -1,13 +1,11 @@
 -- Linear forms, tests and widening thresholds. Which slip an example would catch stands beside it.
 use Rattle.std.proofs.Common.{◌≡◌, ℤ, pos, negsuc, List, [], ◌∷◌, Some, None, true, refl}
 use Rattle.std.specs.Int.Signed.{le_z_yes}
-use Rattle.lra_base.specs.Operators.{plus, minus, times, over, below, above, at_least, differs}
-use Rattle.lra_base.specs.declared.number_types.NumberType.TheVariants.{Int, Long}
-use Rattle.lra_program.proofs.RunExamples.{long_variable}
-use Rattle.lra_program.specs.Program.{local, Expr, literal, read, input, binary, compare, nonzero, opposite, both_of, either_of}
-use Rattle.lra_program.specs.Value.{Environment, value_of, truth_of}
-use Rattle.lra_linear_spec.specs.declared.ConKind.TheVariants.{Ge}
-use Rattle.lra_linear_forms.specs.Form.{Form}
+use Rattle.lra_analysis_spec.specs.Crates.lra_base.Operators.{plus, minus, times, over, below, above, at_least, differs}
+use Rattle.lra_analysis_spec.specs.Crates.lra_program.Program.{local, Expr, literal, read, input, binary, compare, nonzero, opposite, both_of, either_of}
+use Rattle.lra_analysis_spec.specs.Crates.{lra_base.declared.number_types.NumberType.TheVariants.Int, lra_base.declared.number_types.NumberType.TheVariants.Long, lra_linear_forms.Form.Form}
+use Rattle.lra_analysis_spec.specs.Crates.{lra_linear_spec.declared.ConKind.TheVariants.Ge, lra_program.Value.Environment, lra_program.Value.value_of, lra_program.Value.truth_of}
+use Rattle.lra_analysis_spec.proofs.Crates.lra_program.RunExamples.{long_variable}
 use Rattle.lra_analysis_spec.specs.{GuardThresholds.guard_thresholds, Linear.TestHolds, Linear.form_of, Linear.comparison_test}
 
 -- two live variables

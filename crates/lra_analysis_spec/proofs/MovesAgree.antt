@@ -3,16 +3,17 @@
 -- loop's condition gives. Both say the same, so a pass by the ones is a pass by the others.
 use Rattle.std.proofs.Common.{◌≡◌, ℕ, zero, suc, ◌-◌, ℤ, List, [], ◌∷◌, ◌++◌, Option, None, Some, Bool, true, false, refl, sym, ap, subst, ◌∙◌}
 use Rattle.std.specs.Prelude.{◌↔◌, not}
-use Rattle.lra_base.specs.Operators.{Comparison, below, at_most, above, at_least, equal, differs}
-use Rattle.lra_base.specs.{declared.number_types.NumberType.NumberType, declared.number_types.NumberType.TheVariants.Int, declared.number_types.NumberType.TheVariants.Long}
+use Rattle.lra_analysis_spec.specs.Crates.lra_base.Operators.{Comparison, below, at_most, above, at_least, equal, differs}
+use Rattle.lra_analysis_spec.specs.Crates.lra_base.declared.number_types.NumberType.TheVariants.{Int, Long}
+use Rattle.lra_analysis_spec.specs.Crates.lra_program.Program.{Expr, literal, Cond, compare, nonzero, opposite, both_of, either_of}
+use Rattle.lra_analysis_spec.specs.Crates.lra_program.Step.{Op, append, fill, store_value, store_element, havoc, push, push_for, truncate_to, test}
+use Rattle.lra_analysis_spec.specs.Crates.lra_program.declared.program.GlobalVariable.{GlobalVariable}
+use Rattle.lra_analysis_spec.specs.Crates.lra_program.declared.receivers.Cell.TheVariants.{Variable, Waiting}
+use Rattle.lra_analysis_spec.specs.Crates.{lra_base.declared.number_types.NumberType.NumberType, lra_linear_forms.declared.test.Test.Test, lra_linear_spec.declared.ConKind.TheVariants.Ge}
+use Rattle.lra_analysis_spec.specs.Crates.{lra_program.Value.Argument, lra_program.declared.receivers.Cell.Cell, lra_program.declared.receivers.Target.Target}
 use Rattle.lra_domain.specs.Actions as action
 use Rattle.lra_domain.specs.Actions.{Action, assign, forget, embed, remove_last}
 use Rattle.lra_domain.specs.{Abstraction.worse, Moves.Moves, Moves.stay, Moves.make, Moves.first_then, Moves.join_of, declared.Exactness.Exactness, declared.Exactness.TheVariants.Exact}
-use Rattle.lra_linear_forms.specs.declared.test.Test.{Test}
-use Rattle.lra_linear_spec.specs.declared.ConKind.TheVariants.{Ge}
-use Rattle.lra_program.specs.{Program.Expr, Program.literal, Program.Cond, Program.compare, Program.nonzero, Program.opposite, Program.both_of, Program.either_of, Step.Op, Step.append, Step.fill}
-use Rattle.lra_program.specs.{Step.store_value, Step.store_element, Step.havoc, Step.push, Step.push_for, Step.truncate_to, Step.test, Value.Argument, declared.program.GlobalVariable.GlobalVariable}
-use Rattle.lra_program.specs.{declared.receivers.Cell.Cell, declared.receivers.Cell.TheVariants.Variable, declared.receivers.Cell.TheVariants.Waiting, declared.receivers.Target.Target}
 use Rattle.lra_analysis_spec.specs.Linear as linear
 use Rattle.lra_analysis_spec.specs.GuardThresholds.{comparison_rows, inequalities, guard_thresholds, guard_rows}
 use Rattle.lra_analysis_spec.specs.MovesOf.{opposite_comparison, comparison_as, test_action, first_case, second_case, in_case, in_cases, test_moves, case_moves, linearized_moves, split_moves}

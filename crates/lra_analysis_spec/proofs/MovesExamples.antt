@@ -1,9 +1,9 @@
 -- Moves of conditions. Which slip an example would catch stands beside it.
 use Rattle.std.proofs.Common.{◌≡◌, ℤ, pos, negsuc, [], ◌∷◌, true, false, refl, inr}
-use Rattle.lra_program.proofs.RunExamples.{long_variable}
-use Rattle.lra_program.specs.Program.{local, Expr, literal, read, input, negate, binary, compare, nonzero, opposite, both_of, either_of}
-use Rattle.lra_base.specs.{Operators.modulo, Operators.below, Operators.equal, Operators.differs, declared.number_types.NumberType.TheVariants.Int}
-use Rattle.lra_linear_spec.specs.declared.ConKind.TheVariants.{Ge, Eq}
+use Rattle.lra_analysis_spec.proofs.Crates.lra_program.RunExamples.{long_variable}
+use Rattle.lra_analysis_spec.specs.Crates.lra_base.Operators.{modulo, below, equal, differs}
+use Rattle.lra_analysis_spec.specs.Crates.lra_program.Program.{local, Expr, literal, read, input, negate, binary, compare, nonzero, opposite, both_of, either_of}
+use Rattle.lra_analysis_spec.specs.Crates.{lra_base.declared.number_types.NumberType.TheVariants.Int, lra_linear_spec.declared.ConKind.TheVariants.Ge, lra_linear_spec.declared.ConKind.TheVariants.Eq}
 use Rattle.lra_domain.specs.{Actions.Action, Actions.test, Actions.embed, Actions.forget, Moves.stay, Moves.make, Moves.first_then, Moves.join_of, Moves.MayLead, Moves.cases, Moves.dims_moved}
 use Rattle.lra_analysis_spec.specs.MovesOf.{guard, value_moves}
 

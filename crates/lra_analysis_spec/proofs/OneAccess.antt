@@ -1,11 +1,10 @@
 -- Where each operation has one result, the same values report one thing of accesses; and what is judged of them with
 -- drops is what is defined, as far as nothing is flagged.
 use Rattle.std.proofs.Common.{◌≡◌, ◌∙◌, ℕ, List, [], ◌∷◌, ◌++◌, Option, Some, None, Bool, refl, sym, subst}
-use Rattle.lra_linear_forms.specs.declared.test.Test.{Test}
+use Rattle.lra_analysis_spec.specs.Crates.lra_program.Accesses.{expr_accesses, arguments_accesses, aim_accesses}
+use Rattle.lra_analysis_spec.specs.Crates.lra_program.Step.{Op, append, fill, store_value, store_element, havoc, push, push_for, truncate_to, test}
+use Rattle.lra_analysis_spec.specs.Crates.{lra_base.declared.refusals.Place.Place, lra_linear_forms.declared.test.Test.Test, lra_program.Program.Expr, lra_program.Program.Element}
 use Rattle.lra_domain.specs.{Abstraction.Abstraction, Laws.Laws, declared.Exactness.Exactness, declared.Exactness.TheVariants.Exact}
-use Rattle.lra_base.specs.declared.refusals.Place.{Place}
-use Rattle.lra_program.specs.Step.{Op, append, fill, store_value, store_element, havoc, push, push_for, truncate_to, test}
-use Rattle.lra_program.specs.{Accesses.expr_accesses, Accesses.arguments_accesses, Accesses.aim_accesses, Program.Expr, Program.Element}
 use Rattle.lra_operations.specs.{CheckedOperations.OpAtPoint, CheckedOperations.accessing_ops, Tree.Node}
 use Rattle.lra_analysis_spec.specs.Accesses.{outside_of, IndexJudged, EachJudged, BothInside, OneInside, OpInside, InsideAtPoint, JudgesAccesses}
 use Rattle.lra_analysis_spec.specs.Operations.{Operations, exact_operations, lossy_operations, straining_operations}

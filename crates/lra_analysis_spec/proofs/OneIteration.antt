@@ -1,11 +1,10 @@
 -- The written iteration finds one value at each point: where each operation has one result, so has a pass.
 use Rattle.std.proofs.Common.{◌≡◌, ◌∙◌, ℕ, zero, suc, ℤ, ◌-◌, List, [], ◌∷◌, Option, None, Some, Bool, true, false, refl, sym, subst}
-use Rattle.lra_systems.specs.LinearSystems.{LinearSystem}
-use Rattle.lra_linear_spec.specs.declared.ConKind.{ConKind}
+use Rattle.lra_analysis_spec.specs.Crates.lra_base.declared.case_labels.CaseLabel.TheVariants.{Case, Default}
+use Rattle.lra_analysis_spec.specs.Crates.lra_program.Program.{Expr, Cond, Program}
+use Rattle.lra_analysis_spec.specs.Crates.{lra_base.declared.case_labels.CaseLabel.CaseLabel, lra_linear_spec.declared.ConKind.ConKind, lra_systems.LinearSystems.LinearSystem}
 use Rattle.lra_domain.specs.Moves.{Moves, stay, make, first_then, join_of}
 use Rattle.lra_domain.specs.{Abstraction.Abstraction, Actions.Action, Laws.SingleLaws, declared.Exactness.Exactness, declared.Mode.Mode}
-use Rattle.lra_base.specs.{declared.case_labels.CaseLabel.CaseLabel, declared.case_labels.CaseLabel.TheVariants.Case, declared.case_labels.CaseLabel.TheVariants.Default}
-use Rattle.lra_program.specs.Program.{Expr, Cond, Program}
 use Rattle.lra_operations.specs.Tree.{Node, empty, point, probe, act, check, seq, choose, iterate, catch, leave, select, Arms, no_arms, entry, arm, entries_of}
 use Rattle.lra_operations.specs.declared.probes.Probe.TheVariants.{InterferencePoint, RecordWrite}
 use Rattle.lra_analysis_spec.specs.Pass.{PassResult, noted, values_behind, AreJoined, Filters, Transformer, LoopRoundFrom, LoopRoundFromHead, AscendingIteration, DescendingIteration, Pass, ArmsPass}

@@ -3,9 +3,10 @@
 use Rattle.std.proofs.Common.{◌≡◌, ◌∙◌, ℕ, List, [], ◌∷◌, Option, None, Bool, true, false, refl, sym, ap}
 use Rattle.std.specs.{List.list_all, Prelude.◌↔◌, Prelude.IsTrue}
 use Rattle.lra_domain.specs.{Abstraction.Abstraction, Laws.Laws, declared.Exactness.Exactness, declared.Exactness.TheVariants.Exact}
-use Rattle.lra_program.specs.Program.{Expr, literal, read, input, negate, binary, element, type_of}
-use Rattle.lra_program.specs.Step.{Op, append, fill, store_value, store_element, havoc, push, push_for, truncate_to, test}
-use Rattle.lra_program.specs.{Receivers.waiting_in, Receivers.parameter_of, Receivers.converts_to, Value.Argument, declared.receivers.Receiver.Receiver}
+use Rattle.lra_analysis_spec.specs.Crates.lra_program.Program.{Expr, literal, read, input, negate, binary, element, type_of}
+use Rattle.lra_analysis_spec.specs.Crates.lra_program.Receivers.{waiting_in, parameter_of, converts_to}
+use Rattle.lra_analysis_spec.specs.Crates.lra_program.Step.{Op, append, fill, store_value, store_element, havoc, push, push_for, truncate_to, test}
+use Rattle.lra_analysis_spec.specs.Crates.{lra_program.Value.Argument, lra_program.declared.receivers.Receiver.Receiver}
 use Rattle.lra_operations.specs.{CheckedOperations.OpAtPoint, CheckedOperations.computing_ops, Tree.Node}
 use Rattle.lra_analysis_spec.specs.Fits.{ExprJudged, ConversionJudged, GivenJudged, ArgumentsJudged, BothJudged, OneJudged, OpJudged, OpFits, JudgedAtPoint, Judges, JudgesIf}
 use Rattle.lra_analysis_spec.specs.{Judging.AnswersUnlessUnreachable, Operations.Operations, Operations.exact_operations, Operations.lossy_operations, Operations.straining_operations}

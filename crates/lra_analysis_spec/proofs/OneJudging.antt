@@ -4,10 +4,10 @@
 use Rattle.std.proofs.Common.{◌≡◌, ◌∙◌, ℕ, List, [], ◌∷◌, Option, Some, None, Bool, true, false, refl, sym, subst, inl, inr}
 use Rattle.std.proofs.lemmas.Option.{same_Some}
 use Rattle.std.specs.Prelude.{Contains}
-use Rattle.lra_linear_spec.proofs.Membership.{contains_cases, contains_none}
+use Rattle.lra_analysis_spec.proofs.Crates.lra_linear_spec.Membership.{contains_cases, contains_none}
 use Rattle.lra_domain.specs.{Abstraction.Abstraction, Abstraction.worse, declared.Exactness.Exactness}
-use Rattle.lra_base.specs.declared.number_types.NumberType.{NumberType}
-use Rattle.lra_program.specs.{Program.Expr, Program.Cond, Program.compare, Program.nonzero, Program.opposite, Program.both_of, Program.either_of, Step.Op, Step.append}
+use Rattle.lra_analysis_spec.specs.Crates.lra_program.Program.{Expr, Cond, compare, nonzero, opposite, both_of, either_of}
+use Rattle.lra_analysis_spec.specs.Crates.{lra_base.declared.number_types.NumberType.NumberType, lra_program.Step.Op, lra_program.Step.append}
 use Rattle.lra_operations.specs.CheckedOperations.{OpAtPoint}
 use Rattle.lra_analysis_spec.specs.Judging.{Finding, first_flagged, CondAnswers, Declares, AnswerAtPoint, Finds}
 use Rattle.lra_analysis_spec.specs.{MovesOf.moves_of, Operations.Operations, Operations.lossy_operations, Pass.noted, Pass.Filters}

@@ -1,9 +1,10 @@
 -- A program has one tree of operations: the statement, where it stands and the points after it leave no choice.
 use Rattle.std.proofs.Common.{◌≡◌, ◌∙◌, ℕ, suc, List, length, Option, Some, None, refl, sym, ap, subst}
 use Rattle.std.proofs.lemmas.Option.{same_Some, none-some}
-use Rattle.lra_base.specs.declared.number_types.NumberType.{NumberType}
-use Rattle.lra_program.specs.{Program.Call, Program.Rvalue, Program.Stmt, Program.Cases, Program.BlockItems, Program.Function, Program.Program, Receivers.variable_at, Receivers.result_receiver}
-use Rattle.lra_program.specs.{Sites.Site, Sites.sites_of, Step.ReturnFrame, Step.Op, Step.push, Step.push_for, Value.Argument, Value.index_of, declared.receivers.Receiver.Receiver}
+use Rattle.lra_analysis_spec.specs.Crates.lra_program.Program.{Call, Rvalue, Stmt, Cases, BlockItems, Function, Program}
+use Rattle.lra_analysis_spec.specs.Crates.lra_program.Step.{ReturnFrame, Op, push, push_for}
+use Rattle.lra_analysis_spec.specs.Crates.{lra_base.declared.number_types.NumberType.NumberType, lra_program.Receivers.variable_at, lra_program.Receivers.result_receiver, lra_program.Sites.Site}
+use Rattle.lra_analysis_spec.specs.Crates.{lra_program.Sites.sites_of, lra_program.Value.Argument, lra_program.Value.index_of, lra_program.declared.receivers.Receiver.Receiver}
 use Rattle.lra_operations.specs.Inlined.{InlineState, move, at_point, within, among_cases, into_callee, InlineStmt, InlineCases, InlineItems, InlineDeclarator, InlineLoop, InlineRvalue, InlineCall}
 use Rattle.lra_operations.specs.Inlined.{as_nothing, as_block, as_absent, as_assign, as_write, as_write_call, as_call, as_if, as_loop, as_for, as_break, as_continue, as_return, as_return_value}
 use Rattle.lra_operations.specs.Inlined.{as_return_call, as_end, as_end_value, as_end_call, as_assert, as_assume, as_switch, as_no_cases, as_labelled, as_stated, as_none, as_declaration, as_array}

@@ -1,15 +1,15 @@
 -- Single definitions of the iteration on small operands.
 use Rattle.std.proofs.Common.{◌≡◌, ℕ, ℤ, pos, negsuc, List, [], ◌∷◌, None, Some, refl}
-use Rattle.lra_linear_forms.specs.Form.{Form}
+use Rattle.lra_analysis_spec.specs.Crates.lra_program.Program.{local, Expr, literal, read, input, binary, compare, opposite, either_of}
+use Rattle.lra_analysis_spec.specs.Crates.lra_program.Receivers.{variable_at, nobody}
+use Rattle.lra_analysis_spec.specs.Crates.lra_program.Step.{append, store_value, push, truncate_to}
+use Rattle.lra_analysis_spec.specs.Crates.{lra_base.Operators.plus, lra_base.Operators.below, lra_base.Operators.equal, lra_base.declared.number_types.NumberType.NumberType}
+use Rattle.lra_analysis_spec.specs.Crates.{lra_base.declared.number_types.NumberType.TheVariants.Int, lra_base.declared.number_types.NumberType.TheVariants.Long, lra_linear_forms.Form.Form}
+use Rattle.lra_analysis_spec.specs.Crates.{lra_linear_spec.declared.ConKind.TheVariants.Ge, lra_program.Value.Argument, lra_program.declared.program.GlobalVariable.GlobalVariable}
 use Rattle.lra_domain.specs.Actions.{assign, forget, embed, remove_last, test}
 use Rattle.lra_domain.specs.declared.Mode.TheVariants.{Join, Widen, Limited, Tightest}
 use Rattle.lra_domain.specs.{Moves.Moves, Moves.stay, Moves.make, Moves.first_then, declared.Exactness.TheVariants.Flagged}
-use Rattle.lra_base.specs.Operators.{plus, below, equal}
-use Rattle.lra_base.specs.{declared.number_types.NumberType.NumberType, declared.number_types.NumberType.TheVariants.Int, declared.number_types.NumberType.TheVariants.Long}
-use Rattle.lra_program.proofs.RunExamples.{long_variable}
-use Rattle.lra_program.specs.Program.{local, Expr, literal, read, input, binary, compare, opposite, either_of}
-use Rattle.lra_program.specs.{Receivers.variable_at, Receivers.nobody, Step.append, Step.store_value, Step.push, Step.truncate_to, Value.Argument, declared.program.GlobalVariable.GlobalVariable}
-use Rattle.lra_linear_spec.specs.declared.ConKind.TheVariants.{Ge}
+use Rattle.lra_analysis_spec.proofs.Crates.lra_program.RunExamples.{long_variable}
 use Rattle.lra_operations.specs.Tree.{broken, returned}
 use Rattle.lra_analysis_spec.specs.Plan.{standard, limited, by_thresholds, mode_at}
 use Rattle.lra_analysis_spec.specs.{GuardThresholds.guard_thresholds, MovesOf.moves_of, MovesOf.first_values, Pass.PassResult, Pass.noted, Pass.values_behind}

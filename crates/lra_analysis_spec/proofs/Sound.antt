@@ -1,13 +1,14 @@
 -- A pass with drops covers the runs of its tree, where each least change keeps its stores.
 use Rattle.std.proofs.Common.{◌≡◌, ◌≢◌, inl, inr, ℕ, zero, suc, ◌-◌, ◌++◌, ℤ, List, [], ◌∷◌, Option, None, Some, Bool, true, false, refl, subst, sym, ◌∙◌, ap, arith}
+use Rattle.std.proofs.lemmas.Bool.{or_parts, or_from}
 use Rattle.std.proofs.{lemmas.Bool.Decides.Decides-int_eq, lemmas.Int.ints, lemmas.List.Elements.Contains-append_left, lemmas.List.Elements.Contains-append_right}
 use Rattle.std.specs.{List.Contains, List.list_any, Ordering.int_eq, Prelude.◌||◌, Prelude.if◌then◌else◌}
-use Rattle.std.proofs.lemmas.Bool.{or_parts, or_from}
-use Rattle.lra_linear_spec.proofs.Membership.{contains_cases, contains_head, contains_tail}
+use Rattle.lra_analysis_spec.proofs.Crates.lra_linear_spec.Membership.{contains_cases, contains_head, contains_tail}
 use Rattle.lra_domain.specs.{Abstraction.Abstraction, Actions.Within, Laws.Laws, declared.Exactness.Exactness}
-use Rattle.lra_program.specs.{Program.Expr, Program.Cond, Step.State, Step.environment_at, Step.run_op, Step.test, Value.value_of, Value.compares}
-use Rattle.lra_base.specs.CaseLabels.{is_same_case, goal_of}
-use Rattle.lra_base.specs.{Operators.equal, declared.case_labels.CaseLabel.CaseLabel, declared.case_labels.CaseLabel.TheVariants.Case, declared.case_labels.CaseLabel.TheVariants.Default}
+use Rattle.lra_analysis_spec.specs.Crates.lra_base.declared.case_labels.CaseLabel.TheVariants.{Case, Default}
+use Rattle.lra_analysis_spec.specs.Crates.lra_program.Step.{State, environment_at, run_op, test}
+use Rattle.lra_analysis_spec.specs.Crates.{lra_base.CaseLabels.is_same_case, lra_base.CaseLabels.goal_of, lra_base.Operators.equal, lra_base.declared.case_labels.CaseLabel.CaseLabel}
+use Rattle.lra_analysis_spec.specs.Crates.{lra_program.Program.Expr, lra_program.Program.Cond, lra_program.Value.value_of, lra_program.Value.compares}
 use Rattle.lra_operations.specs.Tree.{Exit, broken, continued, returned, normal, Node, empty, point, probe, act, check, seq, choose, iterate, catch, leave, LoopRounds, Completes, select, Arms}
 use Rattle.lra_operations.specs.{Tree.no_arms, Tree.entry, Tree.arm, Tree.entries_of, Tree.Selects, declared.probes.Probe.TheVariants.InterferencePoint, declared.probes.Probe.TheVariants.RecordWrite}
 use Rattle.lra_analysis_spec.specs.Pass.{PassEntry, value, failing, PassResult, noted, jumps_of, first_of_call, values_behind, in_turn, jumps_caught, jumps, AreJoined, LoopRoundFrom}

@@ -1,11 +1,11 @@
 -- Rows that thresholds give, on small loops. Which slip an example would catch stands beside it.
 use Rattle.std.proofs.Common.{◌≡◌, ℕ, ℤ, pos, negsuc, List, [], ◌∷◌, ◌++◌, true, refl}
-use Rattle.lra_base.specs.Operators.{minus, plus, below, above, equal}
-use Rattle.lra_base.specs.declared.number_types.NumberType.TheVariants.{Int, Long}
+use Rattle.lra_analysis_spec.specs.Crates.lra_base.Operators.{minus, plus, below, above, equal}
+use Rattle.lra_analysis_spec.specs.Crates.lra_program.Program.{local, Expr, literal, read, input, binary, Cond, compare, nonzero, opposite, either_of}
+use Rattle.lra_analysis_spec.specs.Crates.lra_program.Step.{store_value, truncate_to, push, test}
+use Rattle.lra_analysis_spec.specs.Crates.{lra_base.declared.number_types.NumberType.TheVariants.Int, lra_base.declared.number_types.NumberType.TheVariants.Long, lra_program.Receivers.variable_at}
 use Rattle.lra_options.specs.OptionRows.{best_options, default_options}
-use Rattle.lra_program.proofs.RunExamples.{long_variable}
-use Rattle.lra_program.specs.Program.{local, Expr, literal, read, input, binary, Cond, compare, nonzero, opposite, either_of}
-use Rattle.lra_program.specs.{Receivers.variable_at, Step.store_value, Step.truncate_to, Step.push, Step.test}
+use Rattle.lra_analysis_spec.proofs.Crates.lra_program.RunExamples.{long_variable}
 use Rattle.lra_operations.specs.Tree.{Node, continued, returned, empty, point, act, check, seq, choose, iterate, catch}
 use Rattle.lra_analysis_spec.specs.Thresholds.{all_threshold_rows, condition_rows, constant_rows, loop_thresholds, rows_in, rows_once}
 use Rattle.lra_analysis_spec.specs.{GuardThresholds.guard_thresholds, Plan.standard, Plan.limited, Plan.by_thresholds, Plan.plan_of}

@@ -1,10 +1,9 @@
 -- From an iteration by some operations to one by others, where each answer of the first that matters is one of the second.
 use Rattle.std.proofs.Common.{◌≡◌, ℕ, zero, suc, ℤ, ◌-◌, List, [], ◌∷◌, Option, None, Some, Bool, true, false, refl, subst}
-use Rattle.lra_systems.specs.LinearSystems.{LinearSystem}
-use Rattle.lra_linear_spec.specs.declared.ConKind.{ConKind}
+use Rattle.lra_analysis_spec.specs.Crates.lra_base.declared.case_labels.CaseLabel.TheVariants.{Case, Default}
+use Rattle.lra_analysis_spec.specs.Crates.lra_systems.LinearSystems.{LinearSystem}
+use Rattle.lra_analysis_spec.specs.Crates.{lra_base.declared.case_labels.CaseLabel.CaseLabel, lra_linear_spec.declared.ConKind.ConKind, lra_program.Program.Expr, lra_program.Program.Cond}
 use Rattle.lra_domain.specs.{Abstraction.worse, Actions.Action, Moves.Moves, Moves.stay, Moves.make, Moves.first_then, Moves.join_of, declared.Exactness.Exactness, declared.Mode.Mode}
-use Rattle.lra_base.specs.{declared.case_labels.CaseLabel.CaseLabel, declared.case_labels.CaseLabel.TheVariants.Case, declared.case_labels.CaseLabel.TheVariants.Default}
-use Rattle.lra_program.specs.Program.{Expr, Cond}
 use Rattle.lra_operations.specs.Tree.{Exit, broken, continued, returned, Node, empty, point, probe, act, check, seq, choose, iterate, catch, leave, select, Arms, no_arms, entry, arm, entries_of}
 use Rattle.lra_operations.specs.declared.probes.Probe.TheVariants.{InterferencePoint, RecordWrite}
 use Rattle.lra_analysis_spec.specs.Pass.{PassResult, noted, jumps, values_behind, jumps_caught, AreJoined, Filters, Transformer, LoopRoundFrom, LoopRoundFromHead, AscendingIteration}

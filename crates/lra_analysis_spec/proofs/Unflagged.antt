@@ -3,7 +3,7 @@ use Rattle.std.proofs.Common.{◌≡◌, ℕ, Option, None, Some, refl, inl, inr
 use Rattle.lra_domain.specs.Interference.{Interference, no_interference}
 use Rattle.lra_domain.specs.{Abstraction.Abstraction, Laws.Laws, declared.Exactness.Exactness, declared.Exactness.TheVariants.Exact, declared.Exactness.TheVariants.Flagged}
 use Rattle.lra_domain.proofs.WorseLaws.{exact_parts}
-use Rattle.lra_program.specs.Program.{Program}
+use Rattle.lra_analysis_spec.specs.Crates.lra_program.Program.{Program}
 use Rattle.lra_operations.specs.Tree.{Node}
 use Rattle.lra_analysis_spec.specs.UnderInterference.{absorbed, absorbed_exactly, absorbed_straining, ExactIterationUnder, LossyIterationUnder, StrainsUnder}
 use Rattle.lra_analysis_spec.specs.{Analysis.ExactIteration, Analysis.LossyIteration, Analysis.StrainsAtPoint, MovesOf.first_values, Operations.Operations, Operations.exact_operations}

@@ -5,13 +5,16 @@
 -- leaves nothing of the value. What is reported about an access is the place where its array is named, and whether it
 -- is inside.
 use Rattle.std.specs.Prelude.{◌≡◌, ◌++◌, ℕ, List, [], ◌∷◌, Option, None, Some, Bool, true, slice_get}
-use Rattle.lra_linear_forms.specs.{Form.Form, declared.test.Test.Test}
+use Rattle.lra_analysis_spec.specs.Crates.lra_program.Accesses.{expr_accesses, arguments_accesses, aim_accesses}
+use Rattle.lra_analysis_spec.specs.Crates.lra_program.Accesses.{OpOutOfBounds}
+use Rattle.lra_analysis_spec.specs.Crates.lra_program.Program.{Expr, Cond, Element}
+use Rattle.lra_analysis_spec.specs.Crates.lra_program.Step.{State, Op, append, fill, store_value, store_element, havoc}
+use Rattle.lra_analysis_spec.specs.Crates.lra_program.Step.{push, push_for, truncate_to, test}
+use Rattle.lra_analysis_spec.specs.Crates.lra_program.Value.{◌>>=◌}
+use Rattle.lra_analysis_spec.specs.Crates.{lra_base.Operators.below, lra_base.declared.refusals.Place.Place}
+use Rattle.lra_analysis_spec.specs.Crates.{lra_linear_forms.Form.Form, lra_linear_forms.declared.test.Test.Test}
 use Rattle.lra_domain.specs.Abstraction.{Abstraction, worse}
 use Rattle.lra_domain.specs.{declared.Exactness.Exactness, declared.Exactness.TheVariants.Exact}
-use Rattle.lra_base.specs.{Operators.below, declared.refusals.Place.Place}
-use Rattle.lra_program.specs.Accesses.{expr_accesses, arguments_accesses, aim_accesses, OpOutOfBounds}
-use Rattle.lra_program.specs.Step.{State, Op, append, fill, store_value, store_element, havoc, push, push_for}
-use Rattle.lra_program.specs.{Program.Expr, Program.Cond, Program.Element, Step.truncate_to, Step.test, Value.◌>>=◌}
 use Rattle.lra_operations.specs.CheckedOperations.{OpAtPoint, accessing_ops, HoldsAtPoint}
 use Rattle.lra_operations.specs.Tree.{Node}
 use Rattle.lra_analysis_spec.specs.Judging.{AnswersUnlessUnreachable, CondAnswers, AnswerAtPoint, Finds}

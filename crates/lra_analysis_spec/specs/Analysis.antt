@@ -2,7 +2,7 @@
 -- are one more.
 use Rattle.std.specs.Prelude.{◌≡◌, ◌↔◌, ◌<◌, ℕ, List, [], Option, None, Some, Bool, IsTrue, Contains, slice_get}
 use Rattle.lra_domain.specs.{Abstraction.Abstraction, declared.Exactness.Exactness}
-use Rattle.lra_program.specs.Program.{Program}
+use Rattle.lra_analysis_spec.specs.Crates.lra_program.Program.{Program}
 use Rattle.lra_operations.specs.Tree.{Node}
 use Rattle.lra_analysis_spec.specs.Operations.{Operations, exact_operations, lossy_operations, straining_operations}
 use Rattle.lra_analysis_spec.specs.Pass.{value, failing, PassResult, noted, Pass}

@@ -4,16 +4,19 @@
 -- has.
 use Rattle.std.specs.Prelude.{◌≡◌, ◌≢◌, ◌++◌, ℕ, ℤ, pos, negsuc, List, [], ◌∷◌, Option, None, Some, Bool, true, false}
 use Rattle.std.specs.{List.list_all, Prelude.IsTrue, Prelude.slice_get}
-use Rattle.lra_linear_forms.specs.Form.{Form}
+use Rattle.lra_analysis_spec.specs.Crates.lra_base.NumberTypes.{fits, wider}
+use Rattle.lra_analysis_spec.specs.Crates.lra_base.Operators.{Operator, plus, minus, times, over, modulo}
+use Rattle.lra_analysis_spec.specs.Crates.lra_base.declared.number_types.NumberType.{NumberType}
+use Rattle.lra_analysis_spec.specs.Crates.lra_program.Program.{Expr, literal, read, input, negate, binary, element}
+use Rattle.lra_analysis_spec.specs.Crates.lra_program.Program.{type_of, Cond}
+use Rattle.lra_analysis_spec.specs.Crates.lra_program.Receivers.{waiting_in, parameter_of, converts_to}
+use Rattle.lra_analysis_spec.specs.Crates.lra_program.Step.{State, Op, append, fill, store_value, store_element, havoc}
+use Rattle.lra_analysis_spec.specs.Crates.lra_program.Step.{push, push_for, truncate_to, test}
+use Rattle.lra_analysis_spec.specs.Crates.lra_program.declared.receivers.Receiver.{Receiver}
+use Rattle.lra_analysis_spec.specs.Crates.{lra_base.declared.number_types.NumberType.TheVariants.Int}
+use Rattle.lra_analysis_spec.specs.Crates.{lra_linear_forms.Form.Form, lra_program.Value.Argument}
 use Rattle.lra_domain.specs.Abstraction.{Abstraction}
 use Rattle.lra_domain.specs.{declared.Exactness.Exactness, declared.Exactness.TheVariants.Exact}
-use Rattle.lra_base.specs.Operators.{Operator, plus, minus, times, over, modulo}
-use Rattle.lra_base.specs.{NumberTypes.fits, NumberTypes.wider, declared.number_types.NumberType.NumberType}
-use Rattle.lra_base.specs.{declared.number_types.NumberType.TheVariants.Int}
-use Rattle.lra_program.specs.Program.{Expr, literal, read, input, negate, binary, element, type_of, Cond}
-use Rattle.lra_program.specs.Receivers.{waiting_in, parameter_of, converts_to}
-use Rattle.lra_program.specs.Step.{State, Op, append, fill, store_value, store_element, havoc, push, push_for}
-use Rattle.lra_program.specs.{Step.truncate_to, Step.test, Value.Argument, declared.receivers.Receiver.Receiver}
 use Rattle.lra_operations.specs.CheckedOperations.{OpAtPoint, computing_ops, OverflowsAtPoint}
 use Rattle.lra_operations.specs.Tree.{Node}
 use Rattle.lra_analysis_spec.specs.Judging.{AnswersUnlessUnreachable, CondAnswers, AnswerAtPoint, Finds}

@@ -1,11 +1,13 @@
 -- The rows that a loop's condition gives to its head: from its comparisons in text order, `!` pushed to them.
 use Rattle.std.specs.Prelude.{ℕ, ℤ, pos, neg_ℤ, ◌+ℤ◌, List, [], ◌∷◌, ◌++◌, map, Option, None, Some, Bool, true, not}
-use Rattle.lra_systems.specs.LinearSystems.{LinearSystem}
-use Rattle.lra_linear_spec.specs.{declared.ConKind.ConKind, declared.ConKind.TheVariants.Ge}
-use Rattle.lra_base.specs.Operators.{Comparison, equal, differs}
-use Rattle.lra_base.specs.declared.number_types.NumberType.TheVariants.{Int}
-use Rattle.lra_program.specs.Program.{literal, Cond, compare, nonzero, opposite, both_of, either_of}
-use Rattle.lra_linear_forms.specs.{Form.Form, declared.test.Test.Test}
+use Rattle.lra_analysis_spec.specs.Crates.lra_base.Operators.{Comparison, equal, differs}
+use Rattle.lra_analysis_spec.specs.Crates.lra_linear_forms.declared.test.Test.{Test}
+use Rattle.lra_analysis_spec.specs.Crates.lra_linear_spec.declared.ConKind.{ConKind}
+use Rattle.lra_analysis_spec.specs.Crates.lra_program.Program.{literal, Cond, compare, nonzero, opposite, both_of}
+use Rattle.lra_analysis_spec.specs.Crates.lra_program.Program.{either_of}
+use Rattle.lra_analysis_spec.specs.Crates.lra_systems.LinearSystems.{LinearSystem}
+use Rattle.lra_analysis_spec.specs.Crates.{lra_base.declared.number_types.NumberType.TheVariants.Int}
+use Rattle.lra_analysis_spec.specs.Crates.{lra_linear_forms.Form.Form, lra_linear_spec.declared.ConKind.TheVariants.Ge}
 use Rattle.lra_analysis_spec.specs.{Linear.comparison_test, Linear.difference_form, MovesOf.comparison_as}
 
 -- the row `form + more >= 0`

@@ -1,8 +1,10 @@
 -- A program's tree as it is passed among others: where they may act, and where a variable's new value is noted. And
 -- what the program's runs give to variables.
 use Rattle.std.specs.Prelude.{◌≡◌, ℕ, Option, None, Some, Bool, true, false, nat_lt, if◌then◌else◌, ◌||◌, ◌⊎◌}
-use Rattle.lra_base.specs.{CaseLabels.is_same_case, declared.case_labels.CaseLabel.CaseLabel}
-use Rattle.lra_program.specs.{Step.State, Step.test, Traces.Trace, WrittenVariables.written_variable}
+use Rattle.lra_analysis_spec.specs.Crates.lra_base.CaseLabels.{is_same_case}
+use Rattle.lra_analysis_spec.specs.Crates.lra_program.Step.{State, test}
+use Rattle.lra_analysis_spec.specs.Crates.lra_program.WrittenVariables.{written_variable}
+use Rattle.lra_analysis_spec.specs.Crates.{lra_base.declared.case_labels.CaseLabel.CaseLabel, lra_program.Traces.Trace}
 use Rattle.lra_operations.specs.Traces.{to_end, TrailRounds, Performs, Finds, VisitsAndTests, RunsUpTo}
 use Rattle.lra_operations.specs.Tree.{Node, empty, point, probe, act, check, seq, choose, iterate, catch, leave, select}
 use Rattle.lra_operations.specs.Tree.{Arms, no_arms, entry, arm}

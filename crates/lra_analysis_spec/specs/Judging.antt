@@ -5,9 +5,9 @@ use Rattle.std.specs.Prelude.{◌≡◌, ◌↔◌, ◌⊎◌, ◌<◌, ◌++◌
 use Rattle.std.specs.Prelude.{IsTrue, Contains, slice_get}
 use Rattle.lra_domain.specs.Abstraction.{Abstraction, worse}
 use Rattle.lra_domain.specs.{declared.Exactness.Exactness, declared.Exactness.TheVariants.Exact}
-use Rattle.lra_base.specs.declared.number_types.NumberType.{NumberType}
-use Rattle.lra_program.specs.Program.{Expr, Cond, compare, nonzero, opposite, both_of, either_of}
-use Rattle.lra_program.specs.Step.{Op, append}
+use Rattle.lra_analysis_spec.specs.Crates.lra_program.Program.{Expr, Cond, compare, nonzero, opposite, both_of}
+use Rattle.lra_analysis_spec.specs.Crates.{lra_base.declared.number_types.NumberType.NumberType}
+use Rattle.lra_analysis_spec.specs.Crates.{lra_program.Program.either_of, lra_program.Step.Op, lra_program.Step.append}
 use Rattle.lra_operations.specs.CheckedOperations.{OpAtPoint}
 use Rattle.lra_analysis_spec.specs.Pass.{noted, Filters, OpTransfer}
 use Rattle.lra_analysis_spec.specs.{Analysis.IsUnreachable, Operations.Operations}

@@ -20,3 +20,5 @@ pub mod Judging
 pub mod Fits
 -- Which accesses of arrays can stray.
 pub mod Accesses
+-- The crates below
+pub mod Crates

@@ -3,13 +3,15 @@
 use Rattle.std.specs.List.{list_all}
 use Rattle.std.specs.Prelude.{◌≡◌, ℕ, ℤ, pos, ◌+ℤ◌, ◌-ℤ◌, ◌*ℤ◌, Bool, ◌&&◌, if◌then◌else◌, List, [], ◌∷◌, map}
 use Rattle.std.specs.Prelude.{replicate, slice_set, Option, Some, None, nat_lt, negsuc, length, IsTrue, ◌↔◌, ◌⊎◌}
-use Rattle.lra_linear_spec.specs.declared.ConKind.TheVariants.{Ge, Eq}
-use Rattle.lra_linear_forms.specs.Form.{Form, form_value, opposite_form, HoldsAt}
-use Rattle.lra_linear_forms.specs.declared.test.Test.{Test}
-use Rattle.lra_base.specs.Operators.{Operator, plus, minus, times, over, modulo, Comparison, below, at_most, above}
-use Rattle.lra_base.specs.Operators.{at_least, equal, differs}
-use Rattle.lra_program.specs.Program.{Expr, literal, read, input, negate, binary, element, compare}
-use Rattle.lra_program.specs.Value.{◌>>=◌, is_word, is_zero, index_of, Environment, value_of, truth_of}
+use Rattle.lra_analysis_spec.specs.Crates.lra_base.Operators.{Operator, plus, minus, times, over, modulo, Comparison}
+use Rattle.lra_analysis_spec.specs.Crates.lra_base.Operators.{below, at_most, above, at_least, equal, differs}
+use Rattle.lra_analysis_spec.specs.Crates.lra_linear_forms.Form.{Form, form_value, opposite_form, HoldsAt}
+use Rattle.lra_analysis_spec.specs.Crates.lra_linear_forms.declared.test.Test.{Test}
+use Rattle.lra_analysis_spec.specs.Crates.lra_linear_spec.declared.ConKind.TheVariants.{Ge, Eq}
+use Rattle.lra_analysis_spec.specs.Crates.lra_program.Program.{Expr, literal, read, input, negate, binary, element}
+use Rattle.lra_analysis_spec.specs.Crates.lra_program.Program.{compare}
+use Rattle.lra_analysis_spec.specs.Crates.lra_program.Value.{◌>>=◌, is_word, is_zero, index_of, Environment, value_of}
+use Rattle.lra_analysis_spec.specs.Crates.lra_program.Value.{truth_of}
 
 -- the form, where the constant and all coefficients have 64 bits
 abbrev pub fitting : Form → Option Form

@@ -4,10 +4,10 @@
 -- taken as two variables after the live ones, first t, then r, and what is seen is a linear form over all of them.
 use Rattle.std.specs.Prelude.{◌≡◌, ◌≤ℤ◌, ⊤, ℕ, ◌+◌, ℤ, pos, negsuc, neg_ℤ, ◌-ℤ◌, ◌&&◌, if◌then◌else◌, List, [], ◌∷◌}
 use Rattle.std.specs.Prelude.{◌++◌, length, Option, Some, None, int_le, int_div, int_rem}
-use Rattle.lra_linear_forms.specs.Form.{Form, form_value, opposite_form}
-use Rattle.lra_base.specs.Operators.{Operator, plus, minus, times, over, modulo}
-use Rattle.lra_program.specs.Program.{Expr, literal, read, input, negate, binary, element}
-use Rattle.lra_program.specs.Value.{◌>>=◌, Environment, value_of}
+use Rattle.lra_analysis_spec.specs.Crates.lra_base.Operators.{Operator, plus, minus, times, over, modulo}
+use Rattle.lra_analysis_spec.specs.Crates.lra_linear_forms.Form.{Form, form_value, opposite_form}
+use Rattle.lra_analysis_spec.specs.Crates.lra_program.Program.{Expr, literal, read, input, negate, binary, element}
+use Rattle.lra_analysis_spec.specs.Crates.lra_program.Value.{◌>>=◌, Environment, value_of}
 use Rattle.lra_analysis_spec.specs.Linear.{fitting, combined_forms, is_constant, constant_form, form_of}
 use Rattle.lra_analysis_spec.specs.declared.linearization.Division.{Division}
 use Rattle.lra_analysis_spec.specs.declared.linearization.Linearized.{Linearized}

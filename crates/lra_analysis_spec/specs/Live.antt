@@ -1,7 +1,7 @@
 -- How many variables live after a least change, and after a tree of operations.
 use Rattle.std.specs.Prelude.{ℕ, suc, ◌+◌, ◌-◌, length}
-use Rattle.lra_program.specs.Step.{Op, append, fill, store_value, store_element, havoc, push, push_for, truncate_to}
-use Rattle.lra_program.specs.Step.{test}
+use Rattle.lra_analysis_spec.specs.Crates.lra_program.Step.{Op, append, fill, store_value, store_element, havoc, push}
+use Rattle.lra_analysis_spec.specs.Crates.lra_program.Step.{push_for, truncate_to, test}
 use Rattle.lra_operations.specs.Tree.{Node, empty, probe, point, act, check, seq, choose, iterate, catch, leave, select}
 
 -- how many variables live after the change of a store with so many

@@ -8,18 +8,23 @@
 -- where the left one is false.
 use Rattle.std.specs.Prelude.{ℕ, zero, suc, ◌-◌, ℤ, pos, negsuc, neg_ℤ, ◌-ℤ◌, List, [], ◌∷◌, Bool, true, false, not}
 use Rattle.std.specs.Prelude.{Option, None, Some, replicate, slice_set}
-use Rattle.lra_linear_spec.specs.declared.ConKind.TheVariants.{Ge, Eq}
-use Rattle.lra_base.specs.NumberTypes.{least_of, greatest_of}
-use Rattle.lra_base.specs.Operators.{Comparison, below, at_most, above, at_least, equal, differs}
-use Rattle.lra_base.specs.declared.number_types.NumberType.{NumberType}
-use Rattle.lra_base.specs.declared.number_types.NumberType.TheVariants.{Int, Long}
-use Rattle.lra_program.specs.Program.{Expr, literal, Cond, compare, nonzero, opposite, both_of, either_of}
-use Rattle.lra_program.specs.Step.{Op, append, fill, store_value, store_element, havoc, push, push_for, truncate_to}
-use Rattle.lra_program.specs.declared.program.GlobalVariable.{GlobalVariable}
-use Rattle.lra_program.specs.declared.receivers.Cell.TheVariants.{Variable, Waiting}
-use Rattle.lra_program.specs.{Value.Argument, declared.receivers.Cell.Cell, declared.receivers.Target.Target}
-use Rattle.lra_program.specs.Step as step
-use Rattle.lra_linear_forms.specs.{Form.Form, declared.test.Test.Test}
+use Rattle.lra_analysis_spec.specs.Crates.lra_base.NumberTypes.{least_of, greatest_of}
+use Rattle.lra_analysis_spec.specs.Crates.lra_base.Operators.{Comparison, below, at_most, above, at_least, equal}
+use Rattle.lra_analysis_spec.specs.Crates.lra_base.Operators.{differs}
+use Rattle.lra_analysis_spec.specs.Crates.lra_base.declared.number_types.NumberType.{NumberType}
+use Rattle.lra_analysis_spec.specs.Crates.lra_base.declared.number_types.NumberType.TheVariants.{Int, Long}
+use Rattle.lra_analysis_spec.specs.Crates.lra_linear_spec.declared.ConKind.TheVariants.{Ge, Eq}
+use Rattle.lra_analysis_spec.specs.Crates.lra_program.Program.{Expr, literal, Cond, compare, nonzero, opposite, both_of}
+use Rattle.lra_analysis_spec.specs.Crates.lra_program.Program.{either_of}
+use Rattle.lra_analysis_spec.specs.Crates.lra_program.Step.{Op, append, fill, store_value, store_element, havoc, push}
+use Rattle.lra_analysis_spec.specs.Crates.lra_program.Step.{push_for, truncate_to}
+use Rattle.lra_analysis_spec.specs.Crates.lra_program.Value.{Argument}
+use Rattle.lra_analysis_spec.specs.Crates.lra_program.declared.program.GlobalVariable.{GlobalVariable}
+use Rattle.lra_analysis_spec.specs.Crates.lra_program.declared.receivers.Cell.{Cell}
+use Rattle.lra_analysis_spec.specs.Crates.lra_program.declared.receivers.Cell.TheVariants.{Variable, Waiting}
+use Rattle.lra_analysis_spec.specs.Crates.lra_program.declared.receivers.Target.{Target}
+use Rattle.lra_analysis_spec.specs.Crates.{lra_linear_forms.Form.Form, lra_linear_forms.declared.test.Test.Test}
+use Rattle.lra_analysis_spec.specs.Crates.lra_program.Step as step
 use Rattle.lra_domain.specs.Actions.{Action, assign, forget, embed, remove_last}
 use Rattle.lra_domain.specs.Moves.{Moves, stay, make, first_then, join_of}
 use Rattle.lra_domain.specs.Actions as action

@@ -2,8 +2,8 @@
 -- that one definition of the iteration serves for the written one, for one in which operations may be flagged, and for
 -- where one exceeds a limit.
 use Rattle.std.specs.Prelude.{◌≡◌, ℕ}
-use Rattle.lra_systems.specs.LinearSystems.{LinearSystem}
-use Rattle.lra_linear_spec.specs.declared.ConKind.{ConKind}
+use Rattle.lra_analysis_spec.specs.Crates.lra_linear_spec.declared.ConKind.{ConKind}
+use Rattle.lra_analysis_spec.specs.Crates.lra_systems.LinearSystems.{LinearSystem}
 use Rattle.lra_domain.specs.Abstraction.{Abstraction, TransfersTo, Joins, Starts, GrowthStrains, Grew, Values}
 use Rattle.lra_domain.specs.declared.Exactness.TheVariants.{Exact, Flagged}
 use Rattle.lra_domain.specs.{Actions.Action, Actions.dims_after, Parts.CapsWithin, declared.Exactness.Exactness}

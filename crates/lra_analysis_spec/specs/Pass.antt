@@ -3,11 +3,12 @@
 -- operation.
 use Rattle.std.specs.List.{list_any}
 use Rattle.std.specs.Prelude.{◌≡◌, ℕ, zero, suc, ◌-◌, ℤ, List, [], ◌∷◌, ◌++◌, Option, None, Some, Bool, true, false}
-use Rattle.lra_base.specs.declared.case_labels.CaseLabel.TheVariants.{Case, Default}
-use Rattle.lra_base.specs.{CaseLabels.is_same_case, declared.case_labels.CaseLabel.CaseLabel}
+use Rattle.lra_analysis_spec.specs.Crates.lra_base.CaseLabels.{is_same_case}
+use Rattle.lra_analysis_spec.specs.Crates.lra_base.declared.case_labels.CaseLabel.TheVariants.{Case, Default}
+use Rattle.lra_analysis_spec.specs.Crates.lra_program.Program.{Expr, Cond}
+use Rattle.lra_analysis_spec.specs.Crates.{lra_base.declared.case_labels.CaseLabel.CaseLabel, lra_program.Step.Op}
 use Rattle.lra_domain.specs.declared.Exactness.TheVariants.{Exact, Flagged}
 use Rattle.lra_domain.specs.{Abstraction.worse, declared.Exactness.Exactness}
-use Rattle.lra_program.specs.{Program.Expr, Program.Cond, Step.Op}
 use Rattle.lra_operations.specs.Tree.{Exit, broken, continued, returned, Node, empty, point, probe, act, check, seq}
 use Rattle.lra_operations.specs.Tree.{choose, iterate, catch, leave, select, Arms, no_arms, entry, arm, entries_of}
 use Rattle.lra_operations.specs.declared.probes.Probe.TheVariants.{InterferencePoint, RecordWrite}

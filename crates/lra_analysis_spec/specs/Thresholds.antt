@@ -4,15 +4,14 @@ use Rattle.std.specs.List.{filter, flat_map, list_all, list_any}
 use Rattle.std.specs.Prelude.{ℕ, zero, suc, ℤ, pos, negsuc, neg_ℤ, ◌+ℤ◌, ◌^◌, ◌&&◌, Bool, not, List, [], ◌∷◌, ◌++◌, map}
 use Rattle.std.specs.Prelude.{fold, Option, None, Some, nat_le, unsigned_abs, if◌then◌else◌}
 use Rattle.std.specs.{Cmp.Lexicographic.pointwise, Ordering.int_eq}
-use Rattle.lra_systems.specs.LinearSystems.{LinearSystem}
-use Rattle.lra_linear_spec.specs.declared.ConKind.{ConKind}
-use Rattle.lra_base.specs.declared.number_types.NumberType.TheVariants.{Int}
-use Rattle.lra_program.specs.Program.{literal, Cond, compare, nonzero, opposite, both_of, either_of}
-use Rattle.lra_program.specs.Step.{Op, append, fill, store_value, store_element, havoc, push, push_for, truncate_to}
-use Rattle.lra_program.specs.Step.{test}
+use Rattle.lra_analysis_spec.specs.Crates.lra_program.Program.{literal, Cond, compare, nonzero, opposite, both_of}
+use Rattle.lra_analysis_spec.specs.Crates.lra_program.Step.{Op, append, fill, store_value, store_element, havoc, push}
+use Rattle.lra_analysis_spec.specs.Crates.lra_program.Step.{push_for, truncate_to, test}
+use Rattle.lra_analysis_spec.specs.Crates.{lra_base.declared.number_types.NumberType.TheVariants.Int}
+use Rattle.lra_analysis_spec.specs.Crates.{lra_linear_forms.Form.Form, lra_linear_spec.declared.ConKind.ConKind}
+use Rattle.lra_analysis_spec.specs.Crates.{lra_program.Program.either_of, lra_systems.LinearSystems.LinearSystem}
 use Rattle.lra_operations.specs.Tree.{Node, empty, probe, point, act, check, seq, choose, iterate, catch, leave, select}
 use Rattle.lra_operations.specs.Tree.{Arms, no_arms, entry, arm}
-use Rattle.lra_linear_forms.specs.Form.{Form}
 use Rattle.lra_analysis_spec.specs.GuardThresholds.{guard_thresholds, inequalities, row_of}
 use Rattle.lra_analysis_spec.specs.Linear.{difference_form, variable_form}
 use Rattle.lra_analysis_spec.specs.Plan.{Widening, standard, limited, by_thresholds}

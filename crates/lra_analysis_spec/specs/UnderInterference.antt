@@ -3,7 +3,7 @@ use Rattle.std.specs.Prelude.{◌≡◌, ℕ, None, Some}
 use Rattle.lra_domain.specs.Interference.{Interference, Absorbs}
 use Rattle.lra_domain.specs.declared.Exactness.TheVariants.{Exact, Flagged}
 use Rattle.lra_domain.specs.{Abstraction.Abstraction, Parts.CapsWithin, declared.Exactness.Exactness}
-use Rattle.lra_program.specs.Program.{Program}
+use Rattle.lra_analysis_spec.specs.Crates.lra_program.Program.{Program}
 use Rattle.lra_operations.specs.Tree.{Node}
 use Rattle.lra_analysis_spec.specs.Operations.{Operations, exact_operations, lossy_operations, straining_operations}
 use Rattle.lra_analysis_spec.specs.Pass.{Absorption, PassResult, noted, PassUnder, Transformer}

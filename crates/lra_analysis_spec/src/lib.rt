@@ -8,3 +8,8 @@
 mod linearization;
 
 pub use linearization::{Division, Linearized};
+pub use lra_domain::{
+    Change, ConKind, ConSys, Domain, Exactness, Grown, Interfere, LinExpr, Mode, NoInterference,
+    Row, Test, worse,
+};
+pub use lra_operations::{Arm, Cond, Expr, Node, Op, Operation, Slot};

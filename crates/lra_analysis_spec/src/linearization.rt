@@ -2,7 +2,7 @@
 
 ghost use Rattle.std.specs.Prelude.{◌≡◌, IfOk};
 
-use lra_linear_forms::LinExpr;
+use lra_domain::LinExpr;
 use std::alloc::{AllocError, Global};
 
 /// A linear form that a number above 0 divides.

@@ -1,14 +1,12 @@
 -- From the parts of going back to what it gives.
-use Rattle.std.proofs.Common.{◌≡◌, ◌≢◌, ◌≤◌, ◌<◌, ◌^◌, ◌↔◌, ℕ, suc, List, [], length, Option, None, Some, Bool, true, Contains, Result, Ok, Err, IsErrAnd, refl, sym, ap, subst, ◌∙◌, arith}
-use Rattle.std.proofs.Common.{slice_get}
+use Rattle.std.proofs.Common.{◌≡◌, ◌≢◌, ◌≤◌, ◌<◌, ◌^◌, ◌↔◌, ℕ, suc, List, [], length, Option, None, Some, Bool, true, Contains, Result, Ok, Err, IsErrAnd, refl, sym, ap, subst, ◌∙◌, arith, slice_get}
+use Rattle.std.proofs.lemmas.Option.{same_Some}
 use Rattle.lra_domain.specs.{Abstraction.Abstraction, Actions.Action, Backward.BackwardAbstraction, Changes.AllCanBeMade, Changes.dims_after_actions, declared.Exactness.Exactness}
 use Rattle.lra_program.specs.{Program.Cond, Sites.Site, declared.program.GlobalVariable.GlobalVariable}
 use Rattle.lra_operations.specs.Tree.{Node}
-use Rattle.lra_analysis_spec.specs.{Analysis.IsUnreachable, LiveLimit.most_live, Pass.noted}
-use Rattle.std.proofs.lemmas.Option.{same_Some}
-use Rattle.lra_linear_spec.proofs.ListPlaces.{there_within, also_there}
-use Rattle.lra_path_segments.specs.{Segments.Goal, Segments.comes_to, TreeSegments.TreeSegment}
-use Rattle.lra_path_disjuncts.specs.{Disjuncts.greatest_paths, Tables.IsTable}
+use Rattle.lra_back.specs.Crates.{lra_analysis_spec.Analysis.IsUnreachable, lra_analysis_spec.LiveLimit.most_live, lra_analysis_spec.Pass.noted, lra_path_disjuncts.Disjuncts.greatest_paths}
+use Rattle.lra_back.specs.Crates.{lra_path_disjuncts.Tables.IsTable, lra_path_segments.Segments.Goal, lra_path_segments.Segments.comes_to, lra_path_segments.TreeSegments.TreeSegment}
+use Rattle.lra_back.proofs.Crates.lra_linear_spec.ListPlaces.{there_within, also_there}
 use Rattle.lra_paths.specs.{Paths.AreFewIn, Paths.actions_between_in, Sources.to_goal, declared.paths.PathsFailure.PathsFailure, declared.sources.Source.Source}
 use Rattle.lra_program.specs.Assertions.{IsAssertion}
 use Rattle.lra_back.specs.BackwardAnalysis.{AreAsserted, BackwardAnalysis, IsAsserted, NothingLeftAtStart, task_of}

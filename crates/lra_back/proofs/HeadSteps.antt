@@ -1,7 +1,7 @@
 -- Heads of points: how they start, and one that is set.
 use Rattle.std.proofs.Common.{◌≡◌, ◌≢◌, ◌≤◌, ◌<◌, ℕ, zero, suc, List, [], ◌∷◌, ◌++◌, length, take, Some, refl, sym, ap, subst, ◌∙◌, arith, slice_get, slice_set}
 use Rattle.std.proofs.{lemmas.List.take_all, lemmas.Option.slice_get_within, lemmas.Option.none-some}
-use Rattle.lra_path_disjuncts.proofs.SideLists.{take_next}
+use Rattle.lra_back.proofs.Crates.lra_path_disjuncts.SideLists.{take_next}
 use Rattle.lra_domain.specs.{Abstraction.Abstraction, Rank.RankFits}
 use Rattle.lra_back.specs.{BackwardCalls.AreHeads, Operations.BackwardOperations, Rounds.AreStarted, Rounds.no_rows}
 

@@ -2,8 +2,8 @@
 use Rattle.std.proofs.Common.{◌≡◌, ◌≤◌, ℕ, suc, List, [], ◌∷◌, length, drop, Option, None, Some, refl, sym, ap, subst, ◌∙◌, slice_get}
 use Rattle.std.proofs.lemmas.List.{drop_all}
 use Rattle.lra_domain.specs.{Abstraction.worse, Actions.Action, declared.Exactness.Exactness, declared.Exactness.TheVariants.Exact}
-use Rattle.lra_analysis_spec.specs.Pass.{JoinsRunning, RunsFrom}
-use Rattle.lra_analysis_spec.proofs.Takes.{worse_exact, worse_worse}
+use Rattle.lra_back.specs.Crates.lra_analysis_spec.Pass.{JoinsRunning, RunsFrom}
+use Rattle.lra_back.proofs.Crates.lra_analysis_spec.Takes.{worse_exact, worse_worse}
 use Rattle.lra_back.specs.{Operations.BackwardOperations, Preconditions.PreOfPaths, Preconditions.PreOfPath, Preconditions.PreOfAllPoints, Preconditions.IsNext, Preconditions.JoinsSeed}
 use Rattle.lra_back.proofs.PathSteps.{drop_at}
 

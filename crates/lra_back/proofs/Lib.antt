@@ -11,3 +11,5 @@ pub mod SeedSteps
 pub mod BackSteps
 pub mod WideSteps
 pub mod SettledSteps
+-- The crates below
+pub mod Crates

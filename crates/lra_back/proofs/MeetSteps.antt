@@ -2,7 +2,7 @@
 use Rattle.std.proofs.Common.{◌≡◌, ◌≤◌, ◌+◌, ℕ, zero, suc, List, [], ◌∷◌, ◌++◌, length, drop, Option, Some, refl, sym, ap, subst, ◌∙◌, arith, append_assoc, slice_get, length-append}
 use Rattle.std.proofs.{lemmas.List.append-nil, lemmas.List.drop_all, lemmas.Option.none-some}
 use Rattle.lra_domain.specs.{Abstraction.worse, declared.Exactness.Exactness}
-use Rattle.lra_analysis_spec.specs.Pass.{noted}
+use Rattle.lra_back.specs.Crates.lra_analysis_spec.Pass.{noted}
 use Rattle.lra_back.specs.{Operations.BackwardOperations, Rounds.AreBackwardValues}
 use Rattle.lra_back.proofs.PathSteps.{drop_at}
 

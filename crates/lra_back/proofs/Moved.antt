@@ -6,8 +6,8 @@ use Rattle.lra_domain.specs.Actions.{Action, assign, forget, test, embed, remove
 use Rattle.lra_domain.specs.{Abstraction.worse, declared.Exactness.Exactness, declared.Mode.Mode, declared.Mode.TheVariants.Join, declared.Mode.TheVariants.Widen}
 use Rattle.lra_program.specs.{Sites.Site, declared.program.GlobalVariable.GlobalVariable}
 use Rattle.lra_operations.specs.Tree.{Node}
-use Rattle.lra_analysis_spec.specs.Pass.{JoinsRunning, RunsFrom, noted}
-use Rattle.lra_analysis_spec.proofs.Transfer.{Matters, Transfers, aligned, leaves}
+use Rattle.lra_back.specs.Crates.lra_analysis_spec.Pass.{JoinsRunning, RunsFrom, noted}
+use Rattle.lra_back.proofs.Crates.lra_analysis_spec.Transfer.{Matters, Transfers, aligned, leaves}
 use Rattle.lra_back.specs.Preconditions.{PreAlong, PreOfPath, PreOfPaths, PreOfAllPoints, JoinsSeed, IsNext}
 use Rattle.lra_back.specs.Rounds.{Task, seed_at, no_rows, AreStarted, StaysOrGrows, IsUpdated, Round, Widens, Rounds, AreBackwardValues}
 use Rattle.lra_back.specs.{BackwardAnalysis.BackwardAnalysis, BackwardAnalysis.task_of, Operations.BackwardOperations, Operations.PreOfAction}

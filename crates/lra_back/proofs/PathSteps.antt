@@ -4,7 +4,7 @@ use Rattle.std.proofs.lemmas.Option.{slice_get_within, slice_get_read, slice_get
 use Rattle.std.proofs.{Math.Seq.drop-cons, lemmas.List.length-map}
 use Rattle.lra_domain.specs.Actions.{Action, assign, forget, test, embed, remove_last, dims_after}
 use Rattle.lra_domain.specs.{Abstraction.worse, Changes.AllCanBeMade, Changes.CanBeMade, Changes.dims_after_actions, declared.Exactness.Exactness}
-use Rattle.lra_analysis_spec.proofs.Takes.{worse_worse}
+use Rattle.lra_back.proofs.Crates.lra_analysis_spec.Takes.{worse_worse}
 use Rattle.lra_back.specs.Operations.{BackwardOperations, PreOfAction}
 use Rattle.lra_back.specs.{BackwardCalls.PreAlongMet, BackwardCalls.Fits, BackwardCalls.reversed, Preconditions.PreOfPath, Preconditions.PreAlong}
 

@@ -3,9 +3,10 @@ use Rattle.std.proofs.Common.{◌≡◌, ℕ, suc, List, [], ◌∷◌, ◌++◌
 use Rattle.std.proofs.{lemmas.Grind.flat_map-append, lemmas.List.append-nil, lemmas.List.map-append, lemmas.List.take-append-drop, lemmas.List.Elements.filter-append}
 use Rattle.lra_program.specs.{Program.Cond, Step.test}
 use Rattle.lra_operations.specs.Tree.{Node}
-use Rattle.lra_path_segments.specs.Segments.{SegmentStep, does, Segment, violates}
-use Rattle.lra_path_segments.specs.TreeSegments.{AreSegmentsOf, End, exits, reaches, TreeSegment, met, segments_at}
-use Rattle.lra_path_segments.specs.{TreeSegmentViews.move_view, TreeSegmentViews.seen, TreeSegmentViews.tree_segment_view, declared.segments.TreeSegment.TreeSegment as DeclaredStretch}
+use Rattle.lra_back.specs.Crates.lra_path_segments.Segments.{SegmentStep, does, Segment, violates}
+use Rattle.lra_back.specs.Crates.lra_path_segments.TreeSegmentViews.{move_view, seen, tree_segment_view}
+use Rattle.lra_back.specs.Crates.lra_path_segments.TreeSegments.{AreSegmentsOf, End, exits, reaches, TreeSegment, met, segments_at}
+use Rattle.lra_back.specs.Crates.lra_path_segments.declared.segments.TreeSegment.{TreeSegment as DeclaredStretch}
 use Rattle.lra_paths.specs.Paths.{same_goal}
 use Rattle.lra_back.specs.{BackwardAnalysis.IsAsserted, BackwardAnalysis.violation_segment, BackwardCalls.violates_at, BackwardCalls.is_violation, BackwardCalls.is_source}
 use Rattle.lra_back.proofs.PathSteps.{drop_at}

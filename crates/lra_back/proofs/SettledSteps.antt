@@ -3,8 +3,8 @@ use Rattle.std.proofs.Common.{◌≡◌, ◌≢◌, ◌+◌, ℕ, zero, suc, Lis
 use Rattle.std.proofs.{lemmas.List.set-get_or, lemmas.Option.get_or_from_slice_get}
 use Rattle.lra_domain.specs.declared.Exactness.TheVariants.{Exact, Flagged}
 use Rattle.lra_domain.specs.{Actions.Action, declared.Exactness.Exactness, declared.Mode.Mode, declared.Mode.TheVariants.Widen}
-use Rattle.lra_analysis_spec.specs.Pass.{noted}
-use Rattle.lra_analysis_spec.proofs.FlagLaws.{noted_exact}
+use Rattle.lra_back.specs.Crates.lra_analysis_spec.Pass.{noted}
+use Rattle.lra_back.proofs.Crates.lra_analysis_spec.FlagLaws.{noted_exact}
 use Rattle.lra_back.specs.Preconditions.{PreOfPaths, PreOfAllPoints, IsNext}
 use Rattle.lra_back.specs.{Operations.BackwardOperations, Rounds.IsUpdated, Rounds.Task, Rounds.seed_at, Settled.AreSettled, Settled.IsSettled, Settled.Settles}
 use Rattle.lra_back.proofs.HeadSteps.{get_set_other}

@@ -4,7 +4,7 @@ use Rattle.std.proofs.Common.{◌≡◌, ℕ, List, Option, None}
 use Rattle.lra_domain.specs.{Abstraction.Abstraction, Backward.BackwardAbstraction, Laws.Laws, declared.Exactness.TheVariants.Exact}
 use Rattle.lra_program.specs.{Sites.Site, declared.program.GlobalVariable.GlobalVariable}
 use Rattle.lra_operations.specs.Tree.{Node}
-use Rattle.lra_analysis_spec.proofs.Unflagged.{none_flagged, any_matters, exact_ones, strained_ones}
+use Rattle.lra_back.proofs.Crates.lra_analysis_spec.Unflagged.{none_flagged, any_matters, exact_ones, strained_ones}
 use Rattle.lra_back.specs.BackwardAnalysis.{BackwardAnalysis, IsBackwardAnalysis}
 use Rattle.lra_back.specs.Operations.{exact_back_operations, lossy_back_operations, straining_back_operations}
 use Rattle.lra_back.proofs.Moved.{TransfersBack, backs}

@@ -2,11 +2,10 @@
 use Rattle.std.proofs.Common.{◌≡◌, ◌≤◌, ◌<◌, ◌^◌, ℕ, List, length, Some, sym, subst, ◌∙◌, arith, slice_get}
 use Rattle.std.proofs.lemmas.Option.{slice_get_within}
 use Rattle.lra_domain.specs.Abstraction.{Abstraction}
-use Rattle.lra_program.specs.Sites.{Site}
-use Rattle.lra_analysis_spec.specs.LiveLimit.{most_live}
-use Rattle.lra_program.specs.Assertions.{IsAssertion}
+use Rattle.lra_program.specs.{Assertions.IsAssertion, Sites.Site}
+use Rattle.lra_back.specs.Crates.lra_analysis_spec.LiveLimit.{most_live}
 use Rattle.lra_back.specs.BackwardAnalysis.{AreWide}
-use Rattle.lra_linear_spec.proofs.ListPlaces.{also_there}
+use Rattle.lra_back.proofs.Crates.lra_linear_spec.ListPlaces.{also_there}
 
 few_enough : (n : ℕ) → n ≤ most_live → n ≤ 2 ^ 30
 few_enough n few = omega arith

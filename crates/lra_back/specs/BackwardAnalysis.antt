@@ -1,14 +1,15 @@
 -- Going back from an assertion of a program: what is found, and what is claimed of it.
-use Rattle.std.specs.Prelude.{◌≡◌, ◌≢◌, ◌≤◌, ℕ, suc, ℤ, List, [], ◌∷◌, length, Option, Some, None, false}
-use Rattle.std.specs.Prelude.{Contains, slice_get}
+use Rattle.std.specs.Prelude.{◌≡◌, ◌≢◌, ◌≤◌, ℕ, suc, ℤ, List, [], ◌∷◌, length, Option, Some, None, false, Contains}
+use Rattle.std.specs.Prelude.{slice_get}
 use Rattle.lra_domain.specs.{Abstraction.Abstraction, Actions.Action, Backward.BackwardAbstraction}
 use Rattle.lra_domain.specs.{Changes.AllCanBeMade, Changes.dims_after_actions, declared.Exactness.Exactness}
-use Rattle.lra_analysis_spec.specs.{Analysis.IsUnreachable, LiveLimit.most_live, Pass.Filters, Pass.noted}
+use Rattle.lra_back.specs.Crates.lra_analysis_spec.Pass.{Filters, noted}
+use Rattle.lra_back.specs.Crates.lra_path_segments.Segments.{Segment, comes_to, violates, does}
+use Rattle.lra_back.specs.Crates.{lra_analysis_spec.Analysis.IsUnreachable, lra_analysis_spec.LiveLimit.most_live}
 use Rattle.lra_program.specs.Assertions.{IsAssertion}
 use Rattle.lra_program.specs.{Program.Program, Program.Cond, Run.Point, Run.IsOn, Run.IsFailing, Run.Reaches, Run.Steps}
 use Rattle.lra_program.specs.{Sites.Site, Step.Config, Step.test, declared.program.GlobalVariable.GlobalVariable}
 use Rattle.lra_operations.specs.Tree.{Node}
-use Rattle.lra_path_segments.specs.Segments.{Segment, comes_to, violates, does}
 use Rattle.lra_paths.specs.Paths.{actions_between_in, next_segments}
 use Rattle.lra_back.specs.Operations.{BackwardOperations, exact_back_operations, lossy_back_operations}
 use Rattle.lra_back.specs.Operations.{straining_back_operations}

@@ -2,21 +2,19 @@
 use Rattle.std.specs.Prelude.{◌≡◌, ◌≤◌, ◌^◌, ℕ, List, [], length, Option, None, Some, Contains, slice_get, Bool, false}
 use Rattle.std.specs.{List.sum_by, Prelude.◌&&◌, Prelude.suc, Prelude.nat_eq}
 use Rattle.lra_domain.specs.Actions.{Action, assign, forget, test, embed, remove_last}
-use Rattle.lra_domain.specs.Backward.{BackwardAbstraction}
-use Rattle.lra_domain.specs.Changes.{AllCanBeMade, dims_after_actions}
+use Rattle.lra_domain.specs.{Backward.BackwardAbstraction, Changes.AllCanBeMade, Changes.dims_after_actions}
 use Rattle.lra_domain.specs.{Abstraction.Abstraction, Abstraction.worse, Rank.RankFits, declared.Exactness.Exactness}
 use Rattle.lra_domain.proofs.RankNumbers.{digits}
-use Rattle.lra_program.specs.declared.program.GlobalVariable.{GlobalVariable}
+use Rattle.lra_program.specs.{Assertions.IsAssertion, declared.program.GlobalVariable.GlobalVariable}
 use Rattle.lra_program.specs.{Program.Cond, ProgramViews.cond_view, Sites.Site}
 use Rattle.lra_operations.specs.Tree.{Node}
-use Rattle.lra_analysis_spec.specs.Pass.{Filters}
-use Rattle.lra_path_segments.specs.Segments.{comes_to, violates}
-use Rattle.lra_path_segments.specs.TreeSegments.{AreSegmentsOf, End, exits, reaches, TreeSegment}
-use Rattle.lra_path_disjuncts.specs.{Disjuncts.greatest_paths, Tables.IsTable}
+use Rattle.lra_back.specs.Crates.lra_path_disjuncts.Disjuncts.{greatest_paths}
+use Rattle.lra_back.specs.Crates.lra_path_segments.Segments.{comes_to, violates}
+use Rattle.lra_back.specs.Crates.lra_path_segments.TreeSegments.{AreSegmentsOf, End, exits, reaches, TreeSegment}
+use Rattle.lra_back.specs.Crates.{lra_analysis_spec.Pass.Filters, lra_path_disjuncts.Tables.IsTable}
 use Rattle.lra_paths.specs.Paths.{AreFewIn, actions_between_in, same_goal}
 use Rattle.lra_paths.specs.{Sources.to_goal, declared.paths.PathsFailure.PathsFailure, declared.sources.Source.Source}
 use Rattle.lra_paths.specs.declared.paths.PathsFailure.TheVariants as paths_failure
-use Rattle.lra_program.specs.Assertions.{IsAssertion}
 use Rattle.lra_back.specs.BackwardAnalysis.{AreAsserted, AreWide, IsAsserted, PathsFit}
 use Rattle.lra_back.specs.Operations.{BackwardOperations, lossy_back_operations}
 use Rattle.lra_back.specs.Preconditions.{PreAlong, IsNext}

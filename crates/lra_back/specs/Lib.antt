@@ -5,3 +5,5 @@ pub mod Rounds
 pub mod BackwardAnalysis
 pub mod BackwardCalls
 pub mod Settled
+-- The crates below
+pub mod Crates

@@ -6,8 +6,8 @@ use Rattle.lra_domain.specs.Actions.{Action, assign, forget, test, embed, remove
 use Rattle.lra_domain.specs.Backward.{BackwardAbstraction, TransfersBackTo, MeetsBoth}
 use Rattle.lra_domain.specs.declared.Exactness.TheVariants.{Exact, Flagged}
 use Rattle.lra_domain.specs.{Abstraction.Abstraction, Parts.CapsWithin, declared.Exactness.Exactness}
-use Rattle.lra_analysis_spec.specs.Operations as forward
-use Rattle.lra_analysis_spec.specs.Operations.{Operations}
+use Rattle.lra_back.specs.Crates.lra_analysis_spec.Operations as forward
+use Rattle.lra_back.specs.Crates.lra_analysis_spec.Operations.{Operations}
 
 pub record BackwardOperations (V H : Type 0) : Type 1 where
   pub forward : Operations V H

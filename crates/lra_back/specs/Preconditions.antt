@@ -2,7 +2,7 @@
 use Rattle.std.specs.Prelude.{◌≡◌, ℕ, suc, List, [], ◌∷◌, Option, None, Some}
 use Rattle.lra_domain.specs.declared.Exactness.{Exactness}
 use Rattle.lra_domain.specs.{Abstraction.worse, Actions.Action, declared.Exactness.TheVariants.Exact}
-use Rattle.lra_analysis_spec.specs.Pass.{JoinsRunning, RunsFrom}
+use Rattle.lra_back.specs.Crates.lra_analysis_spec.Pass.{JoinsRunning, RunsFrom}
 use Rattle.lra_back.specs.Operations.{BackwardOperations, PreOfAction}
 
 -- from the value after the changes to the one before them: over the last of them first

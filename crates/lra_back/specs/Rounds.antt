@@ -1,12 +1,11 @@
 -- Rounds of going back: in each, from the last point to the first, the point's head grows by its next value.
 use Rattle.std.specs.Prelude.{◌≡◌, ◌&&◌, ℕ, zero, suc, ◌⊎◌, List, [], ◌∷◌, Option, None, Some, Bool, true, false}
 use Rattle.std.specs.Prelude.{nat_eq, cond, slice_get, slice_set}
-use Rattle.lra_systems.specs.LinearSystems.{LinearSystem}
-use Rattle.lra_linear_spec.specs.declared.ConKind.{ConKind}
+use Rattle.lra_back.specs.Crates.lra_systems.LinearSystems.{LinearSystem}
+use Rattle.lra_back.specs.Crates.{lra_analysis_spec.Pass.noted, lra_linear_spec.declared.ConKind.ConKind}
 use Rattle.lra_domain.specs.declared.Mode.TheVariants.{Join, Widen}
 use Rattle.lra_domain.specs.{Abstraction.worse, Actions.Action, declared.Exactness.Exactness}
 use Rattle.lra_domain.specs.{declared.Exactness.TheVariants.Exact, declared.Mode.Mode}
-use Rattle.lra_analysis_spec.specs.Pass.{noted}
 use Rattle.lra_back.specs.{Operations.BackwardOperations, Preconditions.IsNext}
 
 -- what is gone back over: the paths from each point to each, the forward values at the points, and the assertion's

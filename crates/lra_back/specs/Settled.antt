@@ -2,7 +2,7 @@
 use Rattle.std.specs.Prelude.{◌≡◌, ◌≢◌, ◌⊎◌, ℕ, List, [], length, Option, Some, Bool, true, false, slice_get}
 use Rattle.lra_domain.specs.{Abstraction.Abstraction, Backward.BackwardAbstraction, declared.Exactness.Exactness}
 use Rattle.lra_domain.specs.{declared.Mode.Mode, declared.Mode.TheVariants.Widen}
-use Rattle.lra_analysis_spec.specs.Pass.{noted}
+use Rattle.lra_back.specs.Crates.lra_analysis_spec.Pass.{noted}
 use Rattle.lra_back.specs.BackwardCalls.{AreHeads, IsNextAt, task_view}
 use Rattle.lra_back.specs.Operations.{BackwardOperations, lossy_back_operations}
 use Rattle.lra_back.specs.{declared.rounds.BackwardState.BackwardState, declared.tasks.Task.Task}

@@ -2,15 +2,15 @@
 
 ghost use Rattle.std.specs.Prelude.{◌≡◌, ◌≢◌, ◌↔◌, ℕ, [], true, map, Err, IfOk};
 ghost use Rattle.lra_operations.specs.{Tree.Node, TreeViews.node_view, TreeViews.site_view};
-ghost use Rattle.lra_analysis_spec.specs.Analysis.{IsUnreachable};
-ghost use Rattle.lra_path_disjuncts.specs.Tables.{IsTable};
+ghost use Rattle.lra_back.specs.Crates.{lra_analysis_spec.Analysis.IsUnreachable, lra_path_disjuncts.Tables.IsTable};
 ghost use Rattle.lra_paths.specs.{Paths.AreFewIn, Paths.HasTooManyIn, Sources.to_goal};
-ghost use Rattle.lra_path_segments.specs.{Segments.comes_to, TreeSegmentViews.seen, TreeSegments.AreSegmentsOf};
+ghost use Rattle.lra_back.specs.Crates.lra_path_segments.TreeSegments.{AreSegmentsOf};
+ghost use Rattle.lra_back.specs.Crates.{lra_path_segments.Segments.comes_to, lra_path_segments.TreeSegmentViews.seen};
 ghost use Rattle.lra_back.specs.Operations as operations;
 ghost use Rattle.lra_back.specs.BackwardAnalysis as traced;
 ghost use Rattle.lra_program.specs.Assertions.{IsAssertion};
-ghost use Rattle.lra_back.specs.BackwardAnalysis.{AreAsserted, AreWide, IsBackwardAnalysis};
-ghost use Rattle.lra_back.specs.BackwardAnalysis.{NothingLeftAtStart, PathsFit};
+ghost use Rattle.lra_back.specs.BackwardAnalysis.{AreAsserted, AreWide, IsBackwardAnalysis, NothingLeftAtStart};
+ghost use Rattle.lra_back.specs.BackwardAnalysis.{PathsFit};
 ghost use Rattle.lra_back.specs.BackwardCalls.{AreSources, BackNeeds, IsPrepared, IsTask, asserts_at};
 ghost use Rattle.lra_back.specs.declared.analysis.BackFailure.TheVariants.{NoAssertion, TooMany};
 
@@ -20,8 +20,7 @@ use crate::tasks::Task;
 use lra_domain::{Backward, Exactness};
 use lra_operations::{InlinedProgram, Site};
 use lra_pass_results::note;
-use lra_path_segments::Goal;
-use lra_paths::{Paths, PathsFailure, Source, find_paths};
+use lra_paths::{Goal, Paths, PathsFailure, Source, find_paths};
 use lra_program::GlobalVariable;
 use std::alloc::{AllocError, Global};
 

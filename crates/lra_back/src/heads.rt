@@ -5,8 +5,7 @@ ghost use Rattle.lra_domain.specs.{Rank.RankFits, declared.Mode.TheVariants.Join
 ghost use Rattle.lra_back.specs.Rounds.{AreStarted, StaysOrGrows, no_rows};
 ghost use Rattle.lra_back.specs.{BackwardCalls.AreHeads, BackwardCalls.rank_of, Operations.lossy_back_operations};
 
-use lra_domain::{Backward, Exactness, Grown, Mode};
-use lra_systems::ConSys;
+use lra_domain::{Backward, ConSys, Exactness, Grown, Mode};
 use std::alloc::{AllocError, Global};
 
 /// How a head took a value: whether it was stable, and the exactness of its growth.

@@ -12,3 +12,4 @@ mod seeds;
 mod tasks;
 
 pub use analysis::{BackFailure, BackwardAnalysis, back};
+pub use lra_domain::Backward;

@@ -2,16 +2,15 @@
 
 ghost use Rattle.std.specs.Prelude.{◌≡◌, Some, IfOk, OnOk};
 ghost use Rattle.lra_domain.specs.{Abstraction.worse, declared.Exactness.Exactness};
-ghost use Rattle.lra_analysis_spec.specs.Pass.{JoinsRunning};
-ghost use Rattle.lra_path_disjuncts.specs.TableDisjuncts.{all_done, lists_done};
+ghost use Rattle.lra_back.specs.Crates.lra_analysis_spec.Pass.{JoinsRunning};
+ghost use Rattle.lra_back.specs.Crates.lra_path_disjuncts.TableDisjuncts.{all_done, lists_done};
 ghost use Rattle.lra_back.specs.BackwardCalls.{AllFit, PreAlongMet, FitHeads, Fits, IfThereHas, IsWritable, paths_from};
 ghost use Rattle.lra_back.specs.Operations.{lossy_back_operations};
 ghost use Rattle.lra_back.specs.Preconditions.{PreOfPaths, PreOfPath, PreOfAllPoints};
 
 use crate::changes::pre_of_action;
 use lra_domain::{Backward, Change, Exactness, worse};
-use lra_path_segments::Goal;
-use lra_paths::Source;
+use lra_paths::{Goal, Source};
 use std::alloc::{AllocError, Global};
 
 /// A value, with the exactness of what led to it.

@@ -6,14 +6,13 @@ ghost use Rattle.lra_domain.specs.declared.Mode.TheVariants.{Join, Widen};
 ghost use Rattle.lra_back.specs.BackwardCalls.{AreHeads, IsTask, paths_from, ranks_of, task_view};
 ghost use Rattle.lra_back.specs.Rounds.{IsUpdated, Round, Rounds, Widens};
 ghost use Rattle.lra_back.specs.{Operations.lossy_back_operations, Settled.IsBackwardState, Settled.Settles};
-ghost use Rattle.lra_path_disjuncts.specs.Tables.{IsTable};
+ghost use Rattle.lra_back.specs.Crates.lra_path_disjuncts.Tables.{IsTable};
 
 use crate::heads::grow;
 use crate::tasks::Task;
 use lra_domain::{Backward, Mode};
 use lra_pass_results::note;
-use lra_path_segments::Goal;
-use lra_paths::Source;
+use lra_paths::{Goal, Source};
 use std::alloc::AllocError;
 
 /// The heads of the points, the first flagged point so far, and which points are settled: stable in a round that

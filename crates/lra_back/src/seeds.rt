@@ -4,18 +4,18 @@ ghost use Rattle.std.specs.Prelude.{◌≡◌, ◌≤◌, ℕ, [], ◌∷◌, ma
 ghost use Rattle.lra_program.specs.Program as program;
 ghost use Rattle.lra_program.specs.{ProgramViews.cond_view, Step.test};
 ghost use Rattle.lra_operations.specs.Tree.{Node};
-ghost use Rattle.lra_path_segments.specs.TreeSegmentViews.{move_view, seen, tree_segment_view};
-ghost use Rattle.lra_path_segments.specs.{Segments.does, TreeSegments.AreSegmentsOf};
-ghost use Rattle.lra_analysis_spec.specs.{LiveLimit.most_live, Pass.Filters};
+ghost use Rattle.lra_back.specs.Crates.lra_path_segments.TreeSegmentViews.{move_view, seen, tree_segment_view};
+ghost use Rattle.lra_back.specs.Crates.{lra_analysis_spec.LiveLimit.most_live, lra_analysis_spec.Pass.Filters};
+ghost use Rattle.lra_back.specs.Crates.{lra_path_segments.Segments.does, lra_path_segments.TreeSegments.AreSegmentsOf};
 ghost use Rattle.lra_back.specs.BackwardCalls.{is_violation, condition_seen};
 ghost use Rattle.lra_back.specs.{BackwardAnalysis.IsAsserted, Operations.lossy_back_operations};
 
 use crate::paths::PreValue;
 use lra_domain::{Backward, Exactness};
 use lra_operations::Op;
-use lra_path_segments::{End, Goal, Move, TreeSegment};
+use lra_pass_results::filter_condition;
+use lra_paths::{End, Goal, Move, TreeSegment};
 use lra_program::Cond;
-use lra_transfer::filter_condition;
 use std::alloc::{AllocError, Global};
 
 /// A condition; the base is where the variables of its call begin.

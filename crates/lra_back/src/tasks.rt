@@ -2,7 +2,7 @@
 
 ghost use Rattle.std.specs.Prelude.{◌≡◌, ◌≤◌, ◌<◌, ◌^◌, ℕ, length, Some, None, slice_get, IfOk};
 ghost use Rattle.lra_domain.specs.{Abstraction.worse, declared.Exactness.Exactness};
-ghost use Rattle.lra_analysis_spec.specs.Pass.{RunsFrom};
+ghost use Rattle.lra_back.specs.Crates.lra_analysis_spec.Pass.{RunsFrom};
 ghost use Rattle.lra_back.specs.BackwardCalls.{AreHeads, IfThereHas, IsNextAt, IsTask, task_view};
 ghost use Rattle.lra_back.specs.{Operations.lossy_back_operations, Preconditions.JoinsSeed, Rounds.seed_at};
 

@@ -4,19 +4,18 @@ use Rattle.std.proofs.Common.{◌≡◌, ℕ, suc, ◌<◌, ◌≤◌, List, [],
 use Rattle.std.proofs.lemmas.List.Elements.{All-nil, All-cons, All-head, All-tail, All-append, All-map, All-weaker, All-contains_itself, filter-append}
 use Rattle.std.proofs.{Math.Bool.and-false, lemmas.Bool.cases_lt, lemmas.Bool.eqb-true, lemmas.Bool.eq-eqb, lemmas.Option.slice_get_within}
 use Rattle.std.specs.{List.All, List.Contains, Prelude.nat_eq, Prelude.◌&&◌, Prelude.slice_get}
-use Rattle.lra_base.specs.{declared.case_labels.CaseLabel.CaseLabel, declared.number_types.NumberType.NumberType}
-use Rattle.lra_program.specs.Program.{Expr, Cond, Call, Rvalue, Stmt, Cases, BlockItems, Program}
-use Rattle.lra_program.specs.{Receivers.result_receiver, Sites.Site, Sites.sites_of, Step.Op, Value.Argument, declared.receivers.Receiver.Receiver}
-use Rattle.lra_operations.specs.Agree.{IsInlinedTree}
-use Rattle.lra_operations.specs.Inlined.{InlineState, spot_of, move, callee, IsSiteAt, InlineStmt, InlineItems, InlineCases, InlineDeclarator, InlineLoop, InlineRvalue, InlineCall, main_inline_state}
-use Rattle.lra_operations.specs.Inlined.{as_nothing, as_block, as_absent, as_assign, as_write, as_write_call, as_call, as_if, as_loop, as_for, as_break, as_continue, as_return, as_return_value}
-use Rattle.lra_operations.specs.Inlined.{as_return_call, as_end, as_end_value, as_end_call, as_assert, as_switch, as_no_cases, as_labelled, as_stated, as_assume, as_none, as_declaration, as_array}
-use Rattle.lra_operations.specs.Inlined.{as_statement, as_fresh, as_given, is_loop, as_value, as_result, is_call}
-use Rattle.lra_operations.specs.Tree.{Exit, normal, Node, empty, point, act, check, seq, choose, iterate, catch, leave, select, Arms, no_arms, entry, arm}
-use Rattle.lra_path_segments.specs.Segments.{SegmentStep, Suffix, Goal, comes_to, violates, GoalSegment, Segment, goes_in, prepend_step_to_goal, then_way, tested_way, segment_by, into_body}
-use Rattle.lra_path_segments.specs.Segments.{out_of_body, segment_to, segments_by, then_ways, through, exit_suffixes, enter, enter_arms, enter_labels, inside, inside_arms}
-use Rattle.lra_paths.specs.Paths.{same_goal}
-use Rattle.lra_program.specs.Assertions.{IsAssertion}
+use Rattle.lra_back_sound.specs.Crates.lra_operations.Inlined.{InlineState, spot_of, move, callee, IsSiteAt, InlineStmt, InlineItems, InlineCases, InlineDeclarator, InlineLoop, InlineRvalue}
+use Rattle.lra_back_sound.specs.Crates.lra_operations.Inlined.{InlineCall, main_inline_state, as_nothing, as_block, as_absent, as_assign, as_write, as_write_call, as_call, as_if, as_loop, as_for}
+use Rattle.lra_back_sound.specs.Crates.lra_operations.Inlined.{as_break, as_continue, as_return, as_return_value, as_return_call, as_end, as_end_value, as_end_call, as_assert, as_switch, as_no_cases}
+use Rattle.lra_back_sound.specs.Crates.lra_operations.Inlined.{as_labelled, as_stated, as_assume, as_none, as_declaration, as_array, as_statement, as_fresh, as_given, is_loop, as_value, as_result}
+use Rattle.lra_back_sound.specs.Crates.lra_operations.Inlined.{is_call}
+use Rattle.lra_back_sound.specs.Crates.lra_operations.Tree.{Exit, normal, Node, empty, point, act, check, seq, choose, iterate, catch, leave, select, Arms, no_arms, entry, arm}
+use Rattle.lra_back_sound.specs.Crates.lra_path_segments.Segments.{SegmentStep, Suffix, Goal, comes_to, violates, GoalSegment, Segment, goes_in, prepend_step_to_goal, then_way, tested_way, segment_by}
+use Rattle.lra_back_sound.specs.Crates.lra_path_segments.Segments.{into_body, out_of_body, segment_to, segments_by, then_ways, through, exit_suffixes, enter, enter_arms, enter_labels, inside}
+use Rattle.lra_back_sound.specs.Crates.lra_program.Program.{Expr, Cond, Call, Rvalue, Stmt, Cases, BlockItems, Program}
+use Rattle.lra_back_sound.specs.Crates.{lra_base.declared.case_labels.CaseLabel.CaseLabel, lra_base.declared.number_types.NumberType.NumberType, lra_operations.Agree.IsInlinedTree}
+use Rattle.lra_back_sound.specs.Crates.{lra_path_segments.Segments.inside_arms, lra_paths.Paths.same_goal, lra_program.Assertions.IsAssertion, lra_program.Receivers.result_receiver}
+use Rattle.lra_back_sound.specs.Crates.{lra_program.Sites.Site, lra_program.Sites.sites_of, lra_program.Step.Op, lra_program.Value.Argument, lra_program.declared.receivers.Receiver.Receiver}
 use Rattle.lra_back.specs.BackwardAnalysis.{violation_segment, AreAsserted}
 use Rattle.lra_back_sound.proofs.MadeLists.{all_flat, all_made}
 

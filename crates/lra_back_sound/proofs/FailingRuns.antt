@@ -3,14 +3,13 @@
 use Rattle.std.proofs.Common.{◌≡◌, ◌≢◌, ℕ, zero, suc, ℤ, List, [], ◌∷◌, Option, None, Some, refl, sym, ◌∙◌, subst}
 use Rattle.std.proofs.lemmas.Option.{same_Some, none-some}
 use Rattle.std.specs.Prelude.{slice_get}
-use Rattle.lra_domain.specs.{Abstraction.Abstraction, Backward.BackwardAbstraction, Gammas.InGamma, Laws.Laws, Moves.SomeLeads}
-use Rattle.lra_program.specs.{Program.Program, Run.Fails, Run.IsFailing, Run.IsOn, Run.Point, Run.Reaches, Run.Steps, Run.label_on, Run.start, Sites.Site, Sites.sites_of, Step.Config, Step.next}
-use Rattle.lra_program.specs.{Traces.NoChange, Traces.Becomes, Traces.TraceEvent, Traces.RunSegment, Traces.TracedSteps, Traces.with_visit, Traces.visit, WellFormed.IsWellFormed}
-use Rattle.lra_operations.specs.{Agree.IsInlinedTree, Agree.point_of, Tree.Node}
-use Rattle.lra_inline_sound.proofs.{Agreement.trees_agree, DistinctSites.distinct_sites}
-use Rattle.lra_path_segments.specs.Segments.{comes_to}
-use Rattle.lra_paths.specs.{Covers.PathsCover, Paths.actions_between}
-use Rattle.lra_paths.proofs.LawsOfPaths.{all_paths_cover}
+use Rattle.lra_back_sound.specs.Crates.lra_operations.Agree.{IsInlinedTree, point_of}
+use Rattle.lra_back_sound.specs.Crates.lra_program.Run.{Fails, IsFailing, IsOn, Point, Reaches, Steps, label_on, start}
+use Rattle.lra_back_sound.specs.Crates.lra_program.Traces.{NoChange, Becomes, TraceEvent, RunSegment, TracedSteps, with_visit, visit}
+use Rattle.lra_back_sound.specs.Crates.{lra_domain.Abstraction.Abstraction, lra_domain.Backward.BackwardAbstraction, lra_domain.Gammas.InGamma, lra_domain.Laws.Laws, lra_domain.Moves.SomeLeads}
+use Rattle.lra_back_sound.specs.Crates.{lra_operations.Tree.Node, lra_path_segments.Segments.comes_to, lra_paths.Covers.PathsCover, lra_paths.Paths.actions_between, lra_program.Program.Program}
+use Rattle.lra_back_sound.specs.Crates.{lra_program.Sites.Site, lra_program.Sites.sites_of, lra_program.Step.Config, lra_program.Step.next, lra_program.WellFormed.IsWellFormed}
+use Rattle.lra_back_sound.proofs.Crates.{lra_inline_sound.Agreement.trees_agree, lra_inline_sound.DistinctSites.distinct_sites, lra_paths.LawsOfPaths.all_paths_cover}
 use Rattle.lra_back.specs.BackwardAnalysis.{AreWide, BackwardAnalysis, FailsFrom, NothingLeftAtStart, PathsFit}
 use Rattle.lra_back.specs.Operations.{lossy_back_operations}
 use Rattle.lra_back_sound.specs.FailingRuns.{CoverFailingRuns, HoldsAtPoints, BackwardIsSound}

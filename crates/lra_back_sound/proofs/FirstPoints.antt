@@ -2,17 +2,15 @@
 use Rattle.std.proofs.Common.{◌≡◌, ℕ, ◌≤◌, List, [], ◌∷◌, ◌++◌, map, filter, flat_map, length, Some, Bool, true, false, cond, ◌⊎◌, inl, inr, refl, sym, ap, ◌∙◌, subst, arith, append-nil}
 use Rattle.std.proofs.{lemmas.Bool.eqb-true, lemmas.Bool.eq-eqb, lemmas.Option.same_Some}
 use Rattle.std.specs.Prelude.{◌≢◌, nat_eq, slice_get}
-use Rattle.lra_domain.specs.Abstraction.{Abstraction}
-use Rattle.lra_program.specs.{Program.Stmt, Program.BlockItems, Program.Program, Sites.Site, Sites.sites_of}
-use Rattle.lra_operations.specs.Inlined.{InlineState, InlineStmt, InlineItems, InlineLoop, as_nothing, as_block, as_absent, as_assign, as_write, as_write_call, as_call, as_if, as_loop, as_for}
-use Rattle.lra_operations.specs.Inlined.{as_break, as_continue, as_return, as_return_value, as_return_call, as_end, as_end_value, as_end_call, as_assert, as_assume, as_switch, as_none, as_declaration}
-use Rattle.lra_operations.specs.{Agree.IsInlinedTree, Inlined.as_array, Inlined.as_statement, Inlined.is_loop, Tree.normal, Tree.Node, Tree.point, Tree.seq}
-use Rattle.lra_analysis_spec.specs.{Analysis.IsUnreachable, MovesOf.first_values}
-use Rattle.lra_path_segments.specs.Segments.{SegmentStep, comes_to, GoalSegment, each_then, then_way, then_ways, through, enter}
-use Rattle.lra_path_segments.proofs.FlatSteps.{flat_none}
-use Rattle.lra_path_disjuncts.specs.Disjuncts.{disjuncts}
-use Rattle.lra_path_disjuncts.proofs.SideLists.{sides_some}
-use Rattle.lra_paths.specs.Paths.{same_goal, started, actions_between}
+use Rattle.lra_back_sound.specs.Crates.lra_operations.Inlined.{InlineState, InlineStmt, InlineItems, InlineLoop, as_nothing, as_block, as_absent, as_assign, as_write, as_write_call, as_call, as_if}
+use Rattle.lra_back_sound.specs.Crates.lra_operations.Inlined.{as_loop, as_for, as_break, as_continue, as_return, as_return_value, as_return_call, as_end, as_end_value, as_end_call, as_assert}
+use Rattle.lra_back_sound.specs.Crates.lra_operations.Inlined.{as_assume, as_switch, as_none, as_declaration, as_array, as_statement, is_loop}
+use Rattle.lra_back_sound.specs.Crates.lra_path_segments.Segments.{SegmentStep, comes_to, GoalSegment, each_then, then_way, then_ways, through, enter}
+use Rattle.lra_back_sound.specs.Crates.lra_paths.Paths.{same_goal, started, actions_between}
+use Rattle.lra_back_sound.specs.Crates.{lra_analysis_spec.Analysis.IsUnreachable, lra_analysis_spec.MovesOf.first_values, lra_domain.Abstraction.Abstraction, lra_operations.Agree.IsInlinedTree}
+use Rattle.lra_back_sound.specs.Crates.{lra_operations.Tree.normal, lra_operations.Tree.Node, lra_operations.Tree.point, lra_operations.Tree.seq, lra_path_disjuncts.Disjuncts.disjuncts}
+use Rattle.lra_back_sound.specs.Crates.{lra_program.Program.Stmt, lra_program.Program.BlockItems, lra_program.Program.Program, lra_program.Sites.Site, lra_program.Sites.sites_of}
+use Rattle.lra_back_sound.proofs.Crates.{lra_path_disjuncts.SideLists.sides_some, lra_path_segments.FlatSteps.flat_none}
 use Rattle.lra_back_sound.specs.Fitting.{IsFirst, OnePointIsFirst, NothingLeftAtFirst}
 
 -- beginnings of trees ----------------------------------------------------------------------------------------------------

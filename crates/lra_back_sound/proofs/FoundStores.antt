@@ -3,17 +3,14 @@
 use Rattle.std.proofs.Common.{◌≡◌, ℕ, suc, ℤ, List, [], ◌∷◌, ◌++◌, Option, None, Some, zero, false, length, inl, inr, sym, ap, ◌∙◌, subst, refl}
 use Rattle.std.proofs.{lemmas.Bool.eq-eqb, lemmas.List.append-nil, lemmas.Option.same_Some, lemmas.Option.none-some, lemmas.Option.slice_get_within}
 use Rattle.std.specs.{List.flat_map, Prelude.slice_get, Prelude.cond, Prelude.Contains}
-use Rattle.lra_linear_spec.proofs.Membership.{contains_head, contains_tail}
-use Rattle.lra_domain.specs.Gammas.{InGamma, InHeadGamma}
-use Rattle.lra_domain.specs.{Abstraction.Abstraction, Abstraction.worse, Actions.Action, Backward.BackwardAbstraction, Changes.AllCanBeMade, Laws.Laws, Moves.LeadsAll, Moves.SomeLeads}
-use Rattle.lra_program.specs.{Program.Cond, Sites.Site, Step.test, declared.program.GlobalVariable.GlobalVariable}
-use Rattle.lra_operations.specs.Tree.{Node}
-use Rattle.lra_analysis_spec.specs.{MovesOf.guard, Pass.noted}
-use Rattle.lra_analysis_spec.proofs.{Covers.stays_has, Keeps.moves_keep}
-use Rattle.lra_path_segments.specs.Segments.{Segment, comes_to, violates, does}
-use Rattle.lra_path_disjuncts.specs.Disjuncts.{disjuncts, written}
-use Rattle.lra_path_disjuncts.proofs.SideSteps.{leads_then, disjuncts_lead}
-use Rattle.lra_paths.specs.Paths.{actions_between_in, live_of}
+use Rattle.lra_back_sound.proofs.Crates.lra_linear_spec.Membership.{contains_head, contains_tail}
+use Rattle.lra_back_sound.proofs.Crates.{lra_analysis_spec.Covers.stays_has, lra_analysis_spec.Keeps.moves_keep, lra_path_disjuncts.SideSteps.leads_then, lra_path_disjuncts.SideSteps.disjuncts_lead}
+use Rattle.lra_back_sound.specs.Crates.lra_path_segments.Segments.{Segment, comes_to, violates, does}
+use Rattle.lra_back_sound.specs.Crates.lra_paths.Paths.{actions_between_in, live_of}
+use Rattle.lra_back_sound.specs.Crates.{lra_analysis_spec.MovesOf.guard, lra_analysis_spec.Pass.noted, lra_domain.Abstraction.Abstraction, lra_domain.Abstraction.worse, lra_domain.Actions.Action}
+use Rattle.lra_back_sound.specs.Crates.{lra_domain.Backward.BackwardAbstraction, lra_domain.Changes.AllCanBeMade, lra_domain.Gammas.InGamma, lra_domain.Gammas.InHeadGamma, lra_domain.Laws.Laws}
+use Rattle.lra_back_sound.specs.Crates.{lra_domain.Moves.LeadsAll, lra_domain.Moves.SomeLeads, lra_operations.Tree.Node, lra_path_disjuncts.Disjuncts.disjuncts, lra_path_disjuncts.Disjuncts.written}
+use Rattle.lra_back_sound.specs.Crates.{lra_program.Program.Cond, lra_program.Sites.Site, lra_program.Step.test, lra_program.declared.program.GlobalVariable.GlobalVariable}
 use Rattle.lra_back.specs.BackwardAnalysis.{AreWide, BackwardAnalysis, PathsFit, task_of}
 use Rattle.lra_back.specs.{Operations.lossy_back_operations, Rounds.AreBackwardValues, Rounds.Task, Rounds.seed_at}
 use Rattle.lra_back_sound.proofs.{LastRound.AreLast, LastRound.IsStable, LastRound.heads_are_last, NextValues.NextHas, NextValues.SomeHas, NextValues.next_has}

@@ -3,7 +3,8 @@
 use Rattle.std.proofs.Common.{◌≡◌, ◌<◌, ℕ, zero, suc, List, [], ◌∷◌, Option, Some, Bool, true, false, ◌⊎◌, inl, inr, refl, sym, ap, ◌∙◌, subst, arith}
 use Rattle.std.proofs.{lemmas.List.set-get_or, lemmas.Option.same_Some, lemmas.Option.none-some, lemmas.Option.get_or_from_slice_get}
 use Rattle.std.specs.Prelude.{slice_get, slice_set, ◌&&◌}
-use Rattle.lra_domain.specs.{Abstraction.Abstraction, Backward.BackwardAbstraction, declared.Exactness.Exactness, declared.Mode.Mode, declared.Mode.TheVariants.Join, declared.Mode.TheVariants.Widen}
+use Rattle.lra_back_sound.specs.Crates.lra_domain.declared.Mode.TheVariants.{Join, Widen}
+use Rattle.lra_back_sound.specs.Crates.{lra_domain.Abstraction.Abstraction, lra_domain.Backward.BackwardAbstraction, lra_domain.declared.Exactness.Exactness, lra_domain.declared.Mode.Mode}
 use Rattle.lra_back.specs.Rounds.{Task, seed_at, AreStarted, IsUpdated, Round, Rounds, StaysOrGrows, Widens}
 use Rattle.lra_back.specs.{Operations.lossy_back_operations, Preconditions.IsNext}
 

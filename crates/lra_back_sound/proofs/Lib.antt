@@ -12,3 +12,5 @@ pub mod PathsMade
 -- What the trees of programs must guarantee to going back.
 pub mod Assertions
 pub mod FirstPoints
+-- The crates below
+pub mod Crates

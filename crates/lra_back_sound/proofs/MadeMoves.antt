@@ -1,35 +1,36 @@
 -- Moves of which each disjunct can be made of a value with so many dimensions, and leaves so many: those of what is
 -- done on a segment, where it fits.
 use Rattle.std.proofs.Common.{◌≡◌, ℕ, ℤ, pos, negsuc, zero, suc, ◌+◌, ◌-◌, ◌≤◌, ◌<◌, List, [], ◌∷◌, ◌++◌, length, Option, Some, None, Bool, true, false, refl, sym, ◌∙◌, subst, arith}
+use Rattle.std.proofs.lemmas.List.{length-set}
 use Rattle.std.proofs.{lemmas.List.length-replicate, lemmas.List.Elements.All-append}
 use Rattle.std.specs.{List.All, Prelude.⊤, Prelude.not, Prelude.replicate, Prelude.slice_set}
-use Rattle.lra_base.specs.Operators.{Comparison, below, at_most, above, at_least, equal, differs}
-use Rattle.lra_base.specs.declared.operators.Comparison.TheVariants.{Below, AtMost, Above, AtLeast, Equal, Differs}
-use Rattle.lra_base.specs.{declared.case_labels.CaseLabel.CaseLabel, declared.case_labels.CaseLabel.TheVariants.Case, declared.case_labels.CaseLabel.TheVariants.Default}
-use Rattle.lra_base.specs.{declared.number_types.NumberType.NumberType, declared.number_types.NumberType.TheVariants.Int, declared.number_types.NumberType.TheVariants.Long}
-use Rattle.lra_program.specs.Program.{Cond, literal, compare, nonzero, opposite, both_of, either_of}
-use Rattle.lra_program.specs.Step.{Op, append, fill, store_value, store_element, havoc, push_for, truncate_to}
-use Rattle.lra_program.specs.{Value.Argument, declared.receivers.Cell.Cell, declared.receivers.Cell.TheVariants.Variable, declared.receivers.Cell.TheVariants.Waiting, declared.receivers.Target.Target}
-use Rattle.lra_program.specs.Step as step
-use Rattle.lra_linear_spec.specs.declared.ConKind.TheVariants.{Ge}
-use Rattle.lra_linear_forms.specs.{Form.Form, declared.test.Test.Test}
-use Rattle.lra_domain.specs.Actions.{Action, assign, forget, embed, remove_last, dims_after}
-use Rattle.lra_domain.specs.{Changes.CanBeMade, Changes.AllCanBeMade, Moves.Moves, Moves.stay, Moves.make, Moves.first_then, Moves.join_of}
-use Rattle.lra_domain.specs.Actions as action
-use Rattle.lra_domain.specs.Changes as changes
-use Rattle.lra_analysis_spec.specs.Linear.{constant_form, comparison_test}
-use Rattle.lra_analysis_spec.specs.Linearization.{Divides, LinearizedFits, linearized, subtracted, linearized_difference}
-use Rattle.lra_analysis_spec.specs.MovesOf.{in_turn, first_case, second_case, in_case, in_cases, test_action, test_moves, case_moves, linearized_moves, split_moves, comparison_as, comparison_moves}
-use Rattle.lra_analysis_spec.specs.MovesOf.{guard, number_moves, within_type, set_to, append_set, push_all, set_cell, above_least, below_greatest, set_target, drop_last, moves_of}
-use Rattle.lra_analysis_spec.specs.declared.linearization.Linearized.TheVariants.{Linear, Divided, Unseen}
-use Rattle.lra_analysis_spec.specs.{Live.live_after_op, LiveLimit.most_live, declared.linearization.Division.Division, declared.linearization.Linearized.Linearized}
-use Rattle.std.proofs.lemmas.List.{length-set}
-use Rattle.lra_analysis_spec.proofs.{DivisionLemmas.constant_length, DivisionLemmas.room, DivisionLemmas.seen_fits, DivisionLemmas.subtracted_fits}
-use Rattle.lra_linearize.proofs.GuardThresholdSteps.{test_wide}
-use Rattle.lra_transfer.specs.Changes.{Stays, CellFits, PlaceFits, OpFitsDims}
-use Rattle.lra_transfer.proofs.ChangeSteps.{assign_stays, first_made, second_made}
-use Rattle.lra_path_segments.specs.Segments.{SegmentStep, does, goes}
-use Rattle.lra_path_disjuncts.specs.{Disjuncts.disjuncts, Disjuncts.written, StepMoves.unmatched_moves, StepMoves.label_moves, StepMoves.step_moves, StepMoves.dims_after_step}
+use Rattle.lra_back_sound.specs.Crates.lra_analysis_spec.Linearization.{Divides, LinearizedFits, linearized, subtracted, linearized_difference}
+use Rattle.lra_back_sound.specs.Crates.lra_analysis_spec.MovesOf.{in_turn, first_case, second_case, in_case, in_cases, test_action, test_moves, case_moves, linearized_moves, split_moves}
+use Rattle.lra_back_sound.specs.Crates.lra_analysis_spec.MovesOf.{comparison_as, comparison_moves, guard, number_moves, within_type, set_to, append_set, push_all, set_cell, above_least}
+use Rattle.lra_back_sound.specs.Crates.lra_analysis_spec.MovesOf.{below_greatest, set_target, drop_last, moves_of}
+use Rattle.lra_back_sound.specs.Crates.lra_analysis_spec.declared.linearization.Linearized.TheVariants.{Linear, Divided, Unseen}
+use Rattle.lra_back_sound.specs.Crates.lra_base.Operators.{Comparison, below, at_most, above, at_least, equal, differs}
+use Rattle.lra_back_sound.specs.Crates.lra_base.declared.case_labels.CaseLabel.TheVariants.{Case, Default}
+use Rattle.lra_back_sound.specs.Crates.lra_base.declared.number_types.NumberType.TheVariants.{Int, Long}
+use Rattle.lra_back_sound.specs.Crates.lra_base.declared.operators.Comparison.TheVariants.{Below, AtMost, Above, AtLeast, Equal, Differs}
+use Rattle.lra_back_sound.specs.Crates.lra_domain.Actions.{Action, assign, forget, embed, remove_last, dims_after}
+use Rattle.lra_back_sound.specs.Crates.lra_domain.Moves.{Moves, stay, make, first_then, join_of}
+use Rattle.lra_back_sound.specs.Crates.lra_path_disjuncts.StepMoves.{unmatched_moves, label_moves, step_moves, dims_after_step}
+use Rattle.lra_back_sound.specs.Crates.lra_path_segments.Segments.{SegmentStep, does, goes}
+use Rattle.lra_back_sound.specs.Crates.lra_program.Program.{Cond, literal, compare, nonzero, opposite, both_of, either_of}
+use Rattle.lra_back_sound.specs.Crates.lra_program.Step.{Op, append, fill, store_value, store_element, havoc, push_for, truncate_to}
+use Rattle.lra_back_sound.specs.Crates.lra_transfer.Changes.{Stays, CellFits, PlaceFits, OpFitsDims}
+use Rattle.lra_back_sound.specs.Crates.{lra_analysis_spec.Linear.constant_form, lra_analysis_spec.Linear.comparison_test, lra_analysis_spec.Live.live_after_op, lra_analysis_spec.LiveLimit.most_live}
+use Rattle.lra_back_sound.specs.Crates.{lra_analysis_spec.declared.linearization.Division.Division, lra_analysis_spec.declared.linearization.Linearized.Linearized}
+use Rattle.lra_back_sound.specs.Crates.{lra_base.declared.case_labels.CaseLabel.CaseLabel, lra_base.declared.number_types.NumberType.NumberType, lra_domain.Changes.CanBeMade}
+use Rattle.lra_back_sound.specs.Crates.{lra_domain.Changes.AllCanBeMade, lra_linear_forms.Form.Form, lra_linear_forms.declared.test.Test.Test, lra_linear_spec.declared.ConKind.TheVariants.Ge}
+use Rattle.lra_back_sound.specs.Crates.{lra_path_disjuncts.Disjuncts.disjuncts, lra_path_disjuncts.Disjuncts.written, lra_program.Value.Argument, lra_program.declared.receivers.Cell.Cell}
+use Rattle.lra_back_sound.specs.Crates.{lra_program.declared.receivers.Cell.TheVariants.Variable, lra_program.declared.receivers.Cell.TheVariants.Waiting, lra_program.declared.receivers.Target.Target}
+use Rattle.lra_back_sound.specs.Crates.lra_program.Step as step
+use Rattle.lra_back_sound.specs.Crates.lra_domain.Actions as action
+use Rattle.lra_back_sound.specs.Crates.lra_domain.Changes as changes
+use Rattle.lra_back_sound.proofs.Crates.lra_analysis_spec.DivisionLemmas.{constant_length, room, seen_fits, subtracted_fits}
+use Rattle.lra_back_sound.proofs.Crates.{lra_linearize.GuardThresholdSteps.test_wide, lra_transfer.ChangeSteps.assign_stays, lra_transfer.ChangeSteps.first_made, lra_transfer.ChangeSteps.second_made}
 use Rattle.lra_back_sound.proofs.MadeLists.{all_one, all_pairs}
 
 -- lists of actions -----------------------------------------------------------------------------------------------------

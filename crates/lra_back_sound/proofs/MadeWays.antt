@@ -3,19 +3,18 @@
 use Rattle.std.proofs.Common.{◌≡◌, ◌≢◌, ℕ, ◌≤◌, List, [], ◌∷◌, ◌++◌, map, Some, Bool, true, false, inl, inr, refl, sym, ◌∙◌, subst}
 use Rattle.std.proofs.lemmas.List.Elements.{All-nil, All-append, All-weaker}
 use Rattle.std.specs.{List.All, List.list_any, Prelude.slice_get}
-use Rattle.lra_base.specs.{CaseLabels.is_same_case, declared.case_labels.CaseLabel.CaseLabel, declared.case_labels.CaseLabel.TheVariants.Default}
-use Rattle.lra_program.specs.{Program.Expr, Program.Cond, Sites.Site, Step.Op, Step.test}
-use Rattle.lra_operations.specs.Tree.{Exit, broken, continued, returned, Completion, normal, jump, Node, empty, probe, point, act, check, seq, choose, iterate, catch, leave, select, Arms, no_arms}
-use Rattle.lra_operations.specs.{Tree.entry, Tree.arm, Tree.entries_of, declared.probes.Probe.Probe}
-use Rattle.lra_operations.proofs.ArmRows.{arms_row}
-use Rattle.lra_analysis_spec.specs.{Live.live_after_op, Live.live_after, LiveLimit.most_live}
-use Rattle.lra_transfer.specs.Changes.{OpFitsDims}
-use Rattle.lra_pass_results.specs.Dimensions.{JumpsWith, ArmsJumpWith, TreeFits, ArmsFit}
+use Rattle.lra_back_sound.specs.Crates.lra_operations.Tree.{Exit, broken, continued, returned, Completion, normal, jump, Node, empty, probe, point, act, check, seq, choose, iterate, catch, leave}
+use Rattle.lra_back_sound.specs.Crates.lra_operations.Tree.{select, Arms, no_arms, entry, arm, entries_of}
+use Rattle.lra_back_sound.specs.Crates.lra_pass_results.Dimensions.{JumpsWith, ArmsJumpWith, TreeFits, ArmsFit}
+use Rattle.lra_back_sound.specs.Crates.lra_path_segments.Segments.{SegmentStep, does, goes, Goal, comes_to, violates, GoalSegment, Segment, Suffix, same_exit, each_then, then_way, then_ways, then_out}
+use Rattle.lra_back_sound.specs.Crates.lra_path_segments.Segments.{then_outs, segment_by, segments_by, prepend_step, prepend_step_to_goal, with_test, tested_way, into_body, out_of_body, segment_to}
+use Rattle.lra_back_sound.specs.Crates.lra_path_segments.Segments.{past_labels, through, through_arms, through_labels, enter, enter_arms, enter_labels, exit_suffixes, inside}
+use Rattle.lra_back_sound.specs.Crates.{lra_analysis_spec.Live.live_after_op, lra_analysis_spec.Live.live_after, lra_analysis_spec.LiveLimit.most_live, lra_base.CaseLabels.is_same_case}
+use Rattle.lra_back_sound.specs.Crates.{lra_base.declared.case_labels.CaseLabel.CaseLabel, lra_base.declared.case_labels.CaseLabel.TheVariants.Default, lra_operations.declared.probes.Probe.Probe}
+use Rattle.lra_back_sound.specs.Crates.{lra_program.Program.Expr, lra_program.Program.Cond, lra_program.Sites.Site, lra_program.Step.Op, lra_program.Step.test, lra_transfer.Changes.OpFitsDims}
+use Rattle.lra_back_sound.proofs.Crates.lra_operations.ArmRows.{arms_row}
+use Rattle.lra_back_sound.proofs.Crates.lra_path_segments.LabelLaws.{through_row, enter_row, outs_row, inside_row}
 use Rattle.lra_fixpoint.specs.Lives.{LiveAt, PointsHave, ArmsHave}
-use Rattle.lra_path_segments.specs.Segments.{SegmentStep, does, goes, Goal, comes_to, violates, GoalSegment, Segment, Suffix, same_exit, each_then, then_way, then_ways, then_out, then_outs}
-use Rattle.lra_path_segments.specs.Segments.{segment_by, segments_by, prepend_step, prepend_step_to_goal, with_test, tested_way, into_body, out_of_body, segment_to, past_labels, through, through_arms}
-use Rattle.lra_path_segments.specs.Segments.{through_labels, enter, enter_arms, enter_labels, exit_suffixes, inside}
-use Rattle.lra_path_segments.proofs.LabelLaws.{through_row, enter_row, outs_row, inside_row}
 use Rattle.lra_back_sound.proofs.{MadeLists.all_made, MadeLists.all_one, MadeLists.all_pairs, MadeLists.all_if, MadeMoves.StepsFit, MadeMoves.steps_then}
 
 -- kinds of jumps -------------------------------------------------------------------------------------------------------

@@ -3,12 +3,11 @@
 use Rattle.std.proofs.Common.{◌≡◌, ℕ, zero, suc, ◌+◌, ℤ, List, [], ◌∷◌, Option, None, Some, length, inl, inr, sym, subst, arith}
 use Rattle.std.proofs.lemmas.Option.{same_Some, none-some}
 use Rattle.std.specs.Prelude.{slice_get, Contains}
-use Rattle.lra_linear_spec.proofs.Membership.{contains_none, contains_cases}
-use Rattle.lra_domain.specs.Gammas.{InGamma, InHeadGamma}
-use Rattle.lra_domain.specs.{Abstraction.Abstraction, Actions.Action, Backward.BackwardAbstraction, Changes.AllCanBeMade, Laws.Laws, Moves.LeadsAll, declared.Exactness.Exactness}
-use Rattle.lra_analysis_spec.specs.Operations as forward
-use Rattle.lra_analysis_spec.specs.Pass.{JoinsRunning, RunsFrom}
-use Rattle.lra_analysis_spec.proofs.Covers.{covered_has}
+use Rattle.lra_back_sound.proofs.Crates.{lra_analysis_spec.Covers.covered_has, lra_linear_spec.Membership.contains_none, lra_linear_spec.Membership.contains_cases}
+use Rattle.lra_back_sound.specs.Crates.lra_analysis_spec.Pass.{JoinsRunning, RunsFrom}
+use Rattle.lra_back_sound.specs.Crates.{lra_domain.Abstraction.Abstraction, lra_domain.Actions.Action, lra_domain.Backward.BackwardAbstraction, lra_domain.Changes.AllCanBeMade}
+use Rattle.lra_back_sound.specs.Crates.{lra_domain.Gammas.InGamma, lra_domain.Gammas.InHeadGamma, lra_domain.Laws.Laws, lra_domain.Moves.LeadsAll, lra_domain.declared.Exactness.Exactness}
+use Rattle.lra_back_sound.specs.Crates.lra_analysis_spec.Operations as forward
 use Rattle.lra_back.specs.{Operations.lossy_back_operations, Preconditions.PreOfPaths, Preconditions.PreOfPath, Preconditions.PreOfAllPoints, Preconditions.IsNext, Preconditions.JoinsSeed}
 use Rattle.lra_back_sound.proofs.Retraced.{gone_over}
 

@@ -2,15 +2,12 @@
 use Rattle.std.proofs.Common.{◌≡◌, ◌≤◌, ℕ, suc, List, length, Some, true, false, sym, ap, ◌∙◌, subst}
 use Rattle.std.proofs.{lemmas.Bool.and_parts, lemmas.Bool.eqb-true, lemmas.List.Elements.All-contains}
 use Rattle.std.specs.{List.All, Prelude.nat_eq, Prelude.◌&&◌, Prelude.slice_get}
-use Rattle.lra_linear_spec.proofs.Membership.{all_from, filter_from}
-use Rattle.lra_program.specs.{Sites.Site, declared.program.GlobalVariable.GlobalVariable}
-use Rattle.lra_operations.specs.Tree.{Node}
-use Rattle.lra_analysis_spec.specs.LiveLimit.{most_live}
-use Rattle.lra_pass_results.specs.Dimensions.{TreeFits}
+use Rattle.lra_back_sound.proofs.Crates.lra_linear_spec.Membership.{all_from, filter_from}
+use Rattle.lra_back_sound.specs.Crates.lra_path_segments.Segments.{Goal, comes_to, violates, Segment, inside}
+use Rattle.lra_back_sound.specs.Crates.lra_paths.Paths.{same_goal, live_of, actions_between_in, next_segments}
+use Rattle.lra_back_sound.specs.Crates.{lra_analysis_spec.LiveLimit.most_live, lra_operations.Tree.Node, lra_pass_results.Dimensions.TreeFits, lra_path_disjuncts.Disjuncts.written}
+use Rattle.lra_back_sound.specs.Crates.{lra_program.Sites.Site, lra_program.declared.program.GlobalVariable.GlobalVariable}
 use Rattle.lra_fixpoint.specs.Lives.{PointsHave}
-use Rattle.lra_path_segments.specs.Segments.{Goal, comes_to, violates, Segment, inside}
-use Rattle.lra_path_disjuncts.specs.Disjuncts.{written}
-use Rattle.lra_paths.specs.Paths.{same_goal, live_of, actions_between_in, next_segments}
 use Rattle.lra_back.specs.BackwardAnalysis.{PathsFit}
 use Rattle.lra_back_sound.proofs.{MadeLists.all_flat, MadeMoves.LeadOn, MadeMoves.StepsFit, MadeMoves.written_lead, MadeWays.GoalFits, MadeWays.SegmentFits, MadeWays.WaysFit, MadeWays.tree_ways}
 

@@ -2,9 +2,10 @@
 use Rattle.std.proofs.Common.{◌≡◌, ℕ, ◌+◌, ◌-◌, ◌≤◌, ℤ, List, [], ◌∷◌, ◌++◌, length, take, drop, set, get_or, sym, ap, ◌∙◌, subst, arith}
 use Rattle.std.proofs.Math.Seq.{take-append_seam}
 use Rattle.std.proofs.lemmas.List.{length-append, length-set, set-get_or, set-set, take-append-drop, length-take-le}
-use Rattle.lra_linear_forms.specs.Form.{form_value}
-use Rattle.lra_domain.specs.{Abstraction.Abstraction, Abstraction.TransfersTo, Actions.Action, Actions.assign, Actions.forget, Actions.test, Actions.embed, Actions.remove_last, Actions.dims_after}
-use Rattle.lra_domain.specs.{Actions.Leads, Backward.BackwardAbstraction, Changes.AllCanBeMade, Changes.CanBeMade, Gammas.InGamma, Laws.Laws, Moves.LeadsAll, declared.Exactness.Exactness}
+use Rattle.lra_back_sound.specs.Crates.lra_domain.Abstraction.{Abstraction, TransfersTo}
+use Rattle.lra_back_sound.specs.Crates.lra_domain.Actions.{Action, assign, forget, test, embed, remove_last, dims_after, Leads}
+use Rattle.lra_back_sound.specs.Crates.{lra_domain.Backward.BackwardAbstraction, lra_domain.Changes.AllCanBeMade, lra_domain.Changes.CanBeMade, lra_domain.Gammas.InGamma, lra_domain.Laws.Laws}
+use Rattle.lra_back_sound.specs.Crates.{lra_domain.Moves.LeadsAll, lra_domain.declared.Exactness.Exactness, lra_linear_forms.Form.form_value}
 use Rattle.lra_back.specs.{Operations.PreOfAction, Operations.lossy_back_operations, Preconditions.PreAlong}
 
 -- what leads the other way --------------------------------------------------------------------------------------------

@@ -1,8 +1,11 @@
 -- What going back from an assertion must guarantee to the runs that fail there.
 use Rattle.std.specs.Prelude.{◌≡◌, ℕ, ℤ, List, Some, Option, slice_get}
-use Rattle.lra_domain.specs.{Abstraction.Abstraction, Backward.BackwardAbstraction, Gammas.InGamma}
-use Rattle.lra_program.specs.{Program.Program, Run.At, Run.Fails, Sites.Site, Sites.sites_of, WellFormed.IsWellFormed}
-use Rattle.lra_operations.specs.{Agree.IsInlinedTree, Agree.point_of, Tree.Node}
+use Rattle.lra_back_sound.specs.Crates.lra_domain.Backward.{BackwardAbstraction}
+use Rattle.lra_back_sound.specs.Crates.lra_operations.Agree.{IsInlinedTree, point_of}
+use Rattle.lra_back_sound.specs.Crates.lra_program.Sites.{Site, sites_of}
+use Rattle.lra_back_sound.specs.Crates.{lra_domain.Abstraction.Abstraction, lra_domain.Gammas.InGamma}
+use Rattle.lra_back_sound.specs.Crates.{lra_operations.Tree.Node, lra_program.Program.Program, lra_program.Run.At}
+use Rattle.lra_back_sound.specs.Crates.{lra_program.Run.Fails, lra_program.WellFormed.IsWellFormed}
 use Rattle.lra_back.specs.BackwardAnalysis.{AreWide, BackwardAnalysis, FailsFrom, NothingLeftAtStart, PathsFit}
 use Rattle.lra_back.specs.Operations.{lossy_back_operations}
 

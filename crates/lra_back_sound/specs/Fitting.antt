@@ -1,14 +1,12 @@
 -- What the trees of programs must guarantee to going back.
 use Rattle.std.specs.Prelude.{◌≡◌, ◌≢◌, ◌≤◌, ◌↔◌, ℕ, List, [], length, Some, slice_get}
-use Rattle.lra_domain.specs.Abstraction.{Abstraction}
-use Rattle.lra_program.specs.declared.program.GlobalVariable.{GlobalVariable}
-use Rattle.lra_program.specs.{Program.Program, Sites.Site, Sites.sites_of}
-use Rattle.lra_operations.specs.{Agree.IsInlinedTree, Tree.Node}
-use Rattle.lra_analysis_spec.specs.{Analysis.IsUnreachable, LiveLimit.most_live}
-use Rattle.lra_pass_results.specs.Dimensions.{TreeFits}
+use Rattle.lra_back_sound.specs.Crates.{lra_analysis_spec.Analysis.IsUnreachable, lra_analysis_spec.LiveLimit.most_live}
+use Rattle.lra_back_sound.specs.Crates.{lra_domain.Abstraction.Abstraction, lra_operations.Agree.IsInlinedTree}
+use Rattle.lra_back_sound.specs.Crates.{lra_operations.Tree.Node, lra_pass_results.Dimensions.TreeFits}
+use Rattle.lra_back_sound.specs.Crates.{lra_path_segments.Segments.comes_to, lra_paths.Paths.actions_between}
+use Rattle.lra_back_sound.specs.Crates.{lra_program.Program.Program, lra_program.Sites.Site, lra_program.Sites.sites_of}
+use Rattle.lra_back_sound.specs.Crates.{lra_program.declared.program.GlobalVariable.GlobalVariable}
 use Rattle.lra_fixpoint.specs.Lives.{PointsHave}
-use Rattle.lra_path_segments.specs.Segments.{comes_to}
-use Rattle.lra_paths.specs.Paths.{actions_between}
 use Rattle.lra_back.specs.BackwardAnalysis.{AreAsserted, NothingLeftAtStart, PathsFit}
 
 -- a tree whose operations can be made, and which reaches its points with as many variables as live there, has paths

@@ -3,7 +3,8 @@
 ghost use Rattle.lra_back_sound.specs.Fitting.{AssertionsHaveViolations, NothingLeftAtFirst, OnePointIsFirst};
 ghost use Rattle.lra_back_sound.specs.{FailingRuns.BackwardIsSound, Fitting.TreesHavePathsThatFit};
 
-use lra_domain::{Backward, Domain};
+use lra_back::Backward;
+use lra_fixpoint::Domain;
 
 /// What is found by going back over values that hold in all runs has each store with which a run is at a point from
 /// which it goes on to fail; where it leaves nothing at the start, no run fails.

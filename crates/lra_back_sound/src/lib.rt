@@ -8,3 +8,5 @@ pub use laws::{
     assertions_have_violations, backward_is_sound, nothing_left_at_first, one_point_is_first,
     paths_fit,
 };
+pub use lra_back::{BackFailure, BackwardAnalysis, back};
+pub use lra_fixpoint::Domain;

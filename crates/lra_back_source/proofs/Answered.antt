@@ -2,22 +2,17 @@
 use Rattle.std.proofs.Common.{◌≡◌, ◌↔◌, ◌<◌, ◌^◌, ℕ, ℤ, suc, Bool, true, List, length, map, refl, ap, sym, subst, arith}
 use Rattle.std.proofs.{lemmas.List.length-map, lemmas.Result.err_from_is_err_and}
 use Rattle.std.specs.Prelude.{Option, Some, Result, Ok, Err, IfOk, IfErr, IsErrAnd, option_map}
-use Rattle.lra_linear_spec.specs.Polyhedra.{Polyhedron}
-use Rattle.lra_syntax.specs.Trees.{FileTree}
-use Rattle.lra_resolution_spec.specs.Resolve.{resolve}
-use Rattle.lra_program.specs.{Sites.Site, declared.program.GlobalVariable.GlobalVariable}
-use Rattle.lra_operations.specs.{Tree.Node, TreeViews.site_view}
-use Rattle.lra_operations.specs.declared.tree.Site as declared
+use Rattle.lra_back_source.specs.Crates.lra_back.BackwardAnalysis.{AreWide, IsBackwardAnalysis, NothingLeftAtStart}
+use Rattle.lra_back_source.specs.Crates.lra_front_end.Stages.{HasTree, HasInlinedTree, HasConstants}
+use Rattle.lra_back_source.specs.Crates.{lra_back.Operations.lossy_back_operations, lra_back.declared.analysis.BackFailure.BackFailure, lra_linear_spec.Polyhedra.Polyhedron, lra_operations.Tree.Node}
+use Rattle.lra_back_source.specs.Crates.{lra_operations.TreeViews.site_view, lra_paths.Paths.AreFewIn, lra_paths.Paths.HasTooManyIn, lra_poly_domain.Abstraction.polyhedron_abstraction}
+use Rattle.lra_back_source.specs.Crates.{lra_poly_domain.Backward.polyhedron_backward, lra_program.Assertions.IsAssertion, lra_program.Sites.Site}
+use Rattle.lra_back_source.specs.Crates.{lra_program.declared.program.GlobalVariable.GlobalVariable, lra_resolution_spec.Resolve.resolve, lra_syntax.Trees.FileTree}
+use Rattle.lra_back_source.specs.Crates.lra_operations.declared.tree.Site as declared
 use Rattle.lra_report.specs.BackText.{BackReport}
-use Rattle.lra_front_end.specs.Stages.{HasTree, HasInlinedTree, HasConstants}
-use Rattle.lra_paths.specs.Paths.{AreFewIn, HasTooManyIn}
 use Rattle.lra_certificate_spec.specs.Claims.{IsProgram}
-use Rattle.lra_poly_domain.specs.{Abstraction.polyhedron_abstraction, Backward.polyhedron_backward}
 use Rattle.lra_analyse_source.proofs.ReportSteps.{few_points}
-use Rattle.lra_program.specs.Assertions.{IsAssertion}
-use Rattle.lra_back.specs.BackwardAnalysis.{AreWide, IsBackwardAnalysis, NothingLeftAtStart}
-use Rattle.lra_back.specs.{Operations.lossy_back_operations, declared.analysis.BackFailure.BackFailure}
-use Rattle.lra_back.specs.declared.analysis.BackFailure.TheVariants as of_back
+use Rattle.lra_back_source.specs.Crates.lra_back.declared.analysis.BackFailure.TheVariants as of_back
 use Rattle.lra_back_source.specs.BackReports.{IsBackReportOf, IsBackRefusalOf, IsBackwardFinding, ShowsAtPoints}
 use Rattle.lra_back_source.specs.{Forward.IsForward, Refusals.IfRefusal, Refusals.IsFailure, Refusals.error_by}
 use Rattle.lra_back_source.proofs.{Flags.flag_below, Forward.taken}

@@ -3,12 +3,11 @@
 use Rattle.std.proofs.Common.{◌≡◌, ◌∙◌, ◌≤◌, ◌<◌, ◌+◌, ℕ, zero, suc, Bool, true, List, [], ◌∷◌, length, refl, sym, subst, arith, inl, inr}
 use Rattle.std.proofs.lemmas.Option.{none-some, slice_get_within}
 use Rattle.std.specs.Prelude.{Option, None, Some}
-use Rattle.lra_program.specs.{Sites.Site, declared.program.GlobalVariable.GlobalVariable}
-use Rattle.lra_operations.specs.Tree.{Node}
-use Rattle.lra_domain.specs.declared.Exactness.TheVariants.{Exact, Flagged}
-use Rattle.lra_domain.specs.{declared.Exactness.Exactness, declared.Mode.Mode, declared.Mode.TheVariants.Join, declared.Mode.TheVariants.Widen}
-use Rattle.lra_analysis_spec.specs.Pass.{noted}
-use Rattle.lra_back.specs.{BackwardAnalysis.BackwardAnalysis, Operations.BackwardOperations, Rounds.AreBackwardValues, Rounds.Round, Rounds.Rounds, Rounds.Task, Rounds.Widens}
+use Rattle.lra_back_source.specs.Crates.lra_back.Rounds.{AreBackwardValues, Round, Rounds, Task, Widens}
+use Rattle.lra_back_source.specs.Crates.lra_domain.declared.Exactness.TheVariants.{Exact, Flagged}
+use Rattle.lra_back_source.specs.Crates.lra_domain.declared.Mode.TheVariants.{Join, Widen}
+use Rattle.lra_back_source.specs.Crates.{lra_analysis_spec.Pass.noted, lra_back.BackwardAnalysis.BackwardAnalysis, lra_back.Operations.BackwardOperations, lra_domain.declared.Exactness.Exactness}
+use Rattle.lra_back_source.specs.Crates.{lra_domain.declared.Mode.Mode, lra_operations.Tree.Node, lra_program.Sites.Site, lra_program.declared.program.GlobalVariable.GlobalVariable}
 use Rattle.lra_analyse_source.proofs.Flags.{IsBelow}
 
 -- noted at a point below n it stays so

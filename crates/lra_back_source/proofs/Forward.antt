@@ -1,19 +1,14 @@
 -- What the forward analysis is, and what it hands to going back.
 use Rattle.std.proofs.Common.{◌≡◌, ◌≤◌, ◌<◌, ℕ, ℤ, Bool, false, List, [], length, refl, ap, sym, subst, arith}
 use Rattle.std.specs.Prelude.{Option, None, Some, slice_get}
-use Rattle.lra_base.specs.declared.refusals.Place.{Place}
-use Rattle.lra_linear_spec.specs.Polyhedra.{Polyhedron}
-use Rattle.lra_syntax.specs.Trees.{FileTree}
-use Rattle.lra_resolution_spec.specs.Resolve.{resolve}
-use Rattle.lra_program.specs.{Sites.Site, Sites.sites_of, declared.program.GlobalVariable.GlobalVariable}
-use Rattle.lra_operations.specs.{CheckedOperations.accessing_ops, Tree.Node}
-use Rattle.lra_analysis_spec.specs.{Accesses.OpInside, Accesses.JudgesAccesses, LiveLimit.most_live, Operations.exact_operations, Operations.lossy_operations, Operations.straining_operations}
-use Rattle.lra_analysis_spec.proofs.OneAccess.{accesses_written, accesses_strained}
-use Rattle.lra_fixpoint.specs.Solved.{IsSolved}
-use Rattle.lra_front_end.specs.Stages.{HasInlinedTree}
-use Rattle.lra_poly_domain.specs.{Abstraction.polyhedron_abstraction, Laws.polyhedron_laws}
+use Rattle.lra_back_source.specs.Crates.lra_analysis_spec.Operations.{exact_operations, lossy_operations, straining_operations}
+use Rattle.lra_back_source.specs.Crates.lra_back.BackwardAnalysis.{AreAsserted, AreWide, PathsFit}
+use Rattle.lra_back_source.specs.Crates.{lra_analysis_spec.Accesses.OpInside, lra_analysis_spec.Accesses.JudgesAccesses, lra_analysis_spec.LiveLimit.most_live, lra_base.declared.refusals.Place.Place}
+use Rattle.lra_back_source.specs.Crates.{lra_fixpoint.Solved.IsSolved, lra_front_end.Stages.HasInlinedTree, lra_linear_spec.Polyhedra.Polyhedron, lra_operations.CheckedOperations.accessing_ops}
+use Rattle.lra_back_source.specs.Crates.{lra_operations.Tree.Node, lra_poly_domain.Abstraction.polyhedron_abstraction, lra_poly_domain.Laws.polyhedron_laws, lra_program.Sites.Site}
+use Rattle.lra_back_source.specs.Crates.{lra_program.Sites.sites_of, lra_program.declared.program.GlobalVariable.GlobalVariable, lra_resolution_spec.Resolve.resolve, lra_syntax.Trees.FileTree}
+use Rattle.lra_back_source.proofs.Crates.lra_analysis_spec.OneAccess.{accesses_written, accesses_strained}
 use Rattle.lra_analyse_source.proofs.{Fitting.few_globals, Fitting.tree_fits, Found.none_before, Handing.as_many, Handing.value_dims, ReportSteps.last_handed, Widths.graph_lives}
-use Rattle.lra_back.specs.BackwardAnalysis.{AreAsserted, AreWide, PathsFit}
 use Rattle.lra_back_sound.proofs.{Assertions.assertions_denied, PathsMade.paths_made}
 use Rattle.lra_back_source.specs.Forward.{IsForward, forward_plan}
 

@@ -8,3 +8,5 @@ pub mod Strained
 -- What is refused.
 pub mod OneAnswer
 pub mod Answered
+-- The crates below
+pub mod Crates

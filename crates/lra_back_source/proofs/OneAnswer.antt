@@ -1,15 +1,10 @@
 -- A source that can be gone back over isn't refused.
 use Rattle.std.proofs.Common.{ℕ, List}
-use Rattle.lra_base.specs.declared.refusals.Refusal.{Refusal}
-use Rattle.lra_syntax.specs.Grammar.{Spells}
-use Rattle.lra_resolution_spec.specs.Refuse.{Refuse}
-use Rattle.lra_program.specs.Sites.{sites_of}
-use Rattle.lra_front_end.proofs.EachAnswer.{each_answer}
-use Rattle.lra_paths.specs.Paths.{AreFewPaths}
-use Rattle.lra_paths.proofs.ManyPaths.{not_both}
+use Rattle.lra_back_source.specs.Crates.{lra_base.declared.refusals.Refusal.Refusal, lra_paths.Paths.AreFewPaths, lra_program.Assertions.IsAssertion, lra_program.Sites.sites_of}
+use Rattle.lra_back_source.specs.Crates.{lra_resolution_spec.Refuse.Refuse, lra_syntax.Grammar.Spells}
+use Rattle.lra_back_source.proofs.Crates.{lra_front_end.EachAnswer.each_answer, lra_paths.ManyPaths.not_both}
 use Rattle.lra_certificate_spec.specs.Claims.{IsProgram, program_of}
 use Rattle.lra_certificate_spec.proofs.OneProgram.{accepted_of, as_said}
-use Rattle.lra_program.specs.Assertions.{IsAssertion}
 use Rattle.lra_back_source.specs.declared.refusals.BackRefusal.TheVariants.{Source, NoAssertion, Paths}
 use Rattle.lra_back_source.specs.{BackReports.BackOrRefused, BackReports.CanGoBack, BackReports.IsBackRefusalOf, declared.refusals.BackRefusal.BackRefusal}
 

@@ -2,20 +2,14 @@
 use Rattle.std.proofs.Common.{◌≡◌, ◌∙◌, ℕ, List, [], ◌∷◌, length, map, ap, sym, subst}
 use Rattle.std.proofs.{lemmas.List.length-map, lemmas.Option.slice_get-map}
 use Rattle.std.specs.{List.AllByRecursion, Prelude.Some, Prelude.option_map, Prelude.slice_get}
-use Rattle.lra_linear_spec.specs.Polyhedra.{Polyhedron}
-use Rattle.lra_syntax.specs.{Labels.Labelled, Labels.labels_of, Trees.FileTree}
-use Rattle.lra_resolution_spec.specs.{LiveNames.globals_named, Resolve.resolve}
-use Rattle.lra_program.specs.Sites.{Site, sites_of}
-use Rattle.lra_operations.specs.Tree.{Node}
-use Rattle.lra_options.specs.declared.options.Domain.TheVariants.{Poly}
-use Rattle.lra_front_end.specs.Stages.{HasInlinedTree}
+use Rattle.lra_back_source.specs.Crates.lra_report_build.AnalysisResults.{AreInvariants, state_of}
+use Rattle.lra_back_source.specs.Crates.{lra_back.BackwardAnalysis.AreWide, lra_front_end.Stages.HasInlinedTree, lra_linear_spec.Polyhedra.Polyhedron, lra_operations.Tree.Node}
+use Rattle.lra_back_source.specs.Crates.{lra_options.declared.options.Domain.TheVariants.Poly, lra_poly_domain.Abstraction.polyhedron_abstraction, lra_program.Sites.Site, lra_program.Sites.sites_of}
+use Rattle.lra_back_source.specs.Crates.{lra_report_build.Polyhedra.shown_polyhedron, lra_report_build.Shown.AreShown, lra_resolution_spec.LiveNames.globals_named, lra_resolution_spec.Resolve.resolve}
+use Rattle.lra_back_source.specs.Crates.{lra_syntax.Labels.Labelled, lra_syntax.Labels.labels_of, lra_syntax.Trees.FileTree}
 use Rattle.lra_report.specs.{Listing.AreListed, Listing.HasWidth, Parts.HasSamePoints, Parts.ShowsPart, Report.Invariant, Report.PointReport}
-use Rattle.lra_front_end.proofs.Named.{shown_as_many}
-use Rattle.lra_report_build.specs.{AnalysisResults.AreInvariants, AnalysisResults.state_of, Polyhedra.shown_polyhedron, Shown.AreShown}
-use Rattle.lra_poly_domain.specs.Abstraction.{polyhedron_abstraction}
-use Rattle.lra_linear_spec.proofs.ListPlaces.{contains_at}
+use Rattle.lra_back_source.proofs.Crates.{lra_front_end.Named.shown_as_many, lra_linear_spec.ListPlaces.contains_at}
 use Rattle.lra_analyse_source.proofs.{Handing.image_of, Sound.listed_all}
-use Rattle.lra_back.specs.BackwardAnalysis.{AreWide}
 use Rattle.lra_report.specs.Report.{HasSamePointsAt}
 use Rattle.lra_back_source.specs.BackReports.{BacksHaveSamePoints, ShowsAtPoints}
 

@@ -1,17 +1,12 @@
 -- What is shown has the stores from which runs fail.
 use Rattle.std.proofs.{Common.◌≡◌, Common.◌∙◌, Common.ℕ, Common.List, Common.[], Common.◌∷◌, Common.length, Common.refl, Common.sym, Common.subst, Common.arith, lemmas.Option.same_Some}
-use Rattle.lra_linear_spec.specs.Polyhedra.{Polyhedron}
-use Rattle.lra_syntax.specs.Labels.{labels_of}
-use Rattle.lra_resolution_spec.specs.LiveNames.{globals_named}
-use Rattle.lra_program.specs.{Run.Point, Sites.sites_of}
-use Rattle.lra_operations.specs.Agree.{point_of}
+use Rattle.lra_back_source.specs.Crates.{lra_back.BackwardAnalysis.FailsFrom, lra_linear_spec.Polyhedra.Polyhedron, lra_operations.Agree.point_of, lra_poly_domain.Abstraction.polyhedron_abstraction}
+use Rattle.lra_back_source.specs.Crates.{lra_poly_domain.Backward.polyhedron_backward, lra_poly_domain.Laws.polyhedron_laws, lra_program.Run.Point, lra_program.Sites.sites_of}
+use Rattle.lra_back_source.specs.Crates.{lra_report_build.Polyhedra.shown_polyhedron, lra_resolution_spec.LiveNames.globals_named, lra_syntax.Labels.labels_of}
 use Rattle.lra_report.specs.{BackText.BackReport, Report.InvariantHolds, Report.Invariant}
 use Rattle.lra_certificate_spec.specs.Claims.{program_of}
-use Rattle.lra_poly_domain.specs.{Abstraction.polyhedron_abstraction, Backward.polyhedron_backward, Laws.polyhedron_laws}
-use Rattle.lra_report_build.specs.Polyhedra.{shown_polyhedron}
-use Rattle.lra_linear_spec.proofs.ListPlaces.{contains_at}
+use Rattle.lra_back_source.proofs.Crates.lra_linear_spec.ListPlaces.{contains_at}
 use Rattle.lra_analyse_source.proofs.{Sound.held_there, Sound.listed_all}
-use Rattle.lra_back.specs.BackwardAnalysis.{FailsFrom}
 use Rattle.lra_back_sound.specs.FailingRuns.{HoldsAtPoints, CoverFailingRuns}
 use Rattle.lra_back_sound.proofs.{FailingRuns.traced_sound, FirstPoints.nothing_left, FirstPoints.one_first}
 use Rattle.lra_back_source.specs.{BackReports.BacksAreProvedAtFirst, BackReports.BacksAreSound, BackReports.HoldsBeforeFailing, BackReports.IsBackReportOf, Forward.forward_plan}

@@ -2,16 +2,15 @@
 use Rattle.std.proofs.Common.{◌≡◌, ◌∙◌, ℕ, suc, List, refl, ap, sym, subst, inl, inr}
 use Rattle.std.proofs.lemmas.Option.{none-some, same_Some}
 use Rattle.std.specs.Prelude.{Option, None, Some, option_map}
-use Rattle.lra_program.specs.Sites.{sites_of}
-use Rattle.lra_operations.specs.CheckedOperations.{accessing_ops}
+use Rattle.lra_back_source.specs.Crates.lra_back.Operations.{exact_back_operations, lossy_back_operations, straining_back_operations}
+use Rattle.lra_back_source.specs.Crates.{lra_analysis_spec.Accesses.OpInside, lra_analysis_spec.Analysis.IsSolution, lra_analysis_spec.Judging.first_flagged}
+use Rattle.lra_back_source.specs.Crates.{lra_back.BackwardAnalysis.BackwardAnalysis, lra_operations.CheckedOperations.accessing_ops, lra_poly_domain.Abstraction.polyhedron_abstraction}
+use Rattle.lra_back_source.specs.Crates.{lra_poly_domain.Backward.polyhedron_backward, lra_program.Sites.sites_of}
 use Rattle.lra_report.specs.BackText.{BackReport}
-use Rattle.lra_analysis_spec.specs.{Accesses.OpInside, Analysis.IsSolution, Judging.first_flagged}
-use Rattle.lra_analysis_spec.specs.Operations as iteration
-use Rattle.lra_analysis_spec.proofs.FlagLaws.{flag_stays}
+use Rattle.lra_back_source.specs.Crates.lra_analysis_spec.Operations as iteration
+use Rattle.lra_back_source.proofs.Crates.lra_analysis_spec.FlagLaws.{flag_stays}
 use Rattle.lra_certificate_spec.specs.Claims.{program_of}
-use Rattle.lra_poly_domain.specs.{Abstraction.polyhedron_abstraction, Backward.polyhedron_backward}
 use Rattle.lra_analyse_source.proofs.Found.{none_before}
-use Rattle.lra_back.specs.{BackwardAnalysis.BackwardAnalysis, Operations.exact_back_operations, Operations.lossy_back_operations, Operations.straining_back_operations}
 use Rattle.lra_back_source.specs.BackReports.{FlaggedBacksStrain, IsBackReportOf, IsDefinedBack, IsWrittenForward, StrainsAt, UnflaggedBacksAreDefined}
 use Rattle.lra_back_source.proofs.Flags.{first_stays, none_first}
 

@@ -3,27 +3,28 @@
 -- report's numbers are one more.
 use Rattle.std.specs.Prelude.{◌≡◌, ◌↔◌, ◌⊎◌, ℕ, suc, ℤ, List, [], map, Bool, true, Option, None, Some}
 use Rattle.std.specs.{List.AllByRecursion, Prelude.option_map, Prelude.slice_get}
-use Rattle.lra_base.specs.declared.refusals.Place.{Place}
-use Rattle.lra_linear_spec.specs.Polyhedra.{Polyhedron}
-use Rattle.lra_syntax.specs.{Grammar.Spells, Labels.labels_of, Trees.FileTree}
-use Rattle.lra_resolution_spec.specs.{LiveNames.globals_named, Refuse.Refuse, Resolve.resolve}
-use Rattle.lra_program.specs.{Program.Program, Run.Point, Run.Fails, Sites.Site, Sites.sites_of}
-use Rattle.lra_operations.specs.{Agree.point_of, Tree.Node}
-use Rattle.lra_options.specs.declared.options.Domain.TheVariants.{Poly}
+use Rattle.lra_back_source.specs.Crates.lra_analysis_spec.Analysis.{ExactIteration, IsSolution, StrainsAtPoint}
+use Rattle.lra_back_source.specs.Crates.lra_back.BackwardAnalysis.{AreWide, BackwardAnalysis, FailsFrom}
+use Rattle.lra_back_source.specs.Crates.lra_back.BackwardAnalysis.{IsBackwardAnalysis, NothingLeftAtStart}
+use Rattle.lra_back_source.specs.Crates.lra_back.Operations.{exact_back_operations, straining_back_operations}
+use Rattle.lra_back_source.specs.Crates.lra_paths.Paths.{AreFewPaths, HasTooManyPaths}
+use Rattle.lra_back_source.specs.Crates.lra_poly_domain.Abstraction.{polyhedron_abstraction}
+use Rattle.lra_back_source.specs.Crates.lra_poly_domain.Backward.{polyhedron_backward}
+use Rattle.lra_back_source.specs.Crates.lra_program.Sites.{Site, sites_of}
+use Rattle.lra_back_source.specs.Crates.lra_report_build.Polyhedra.{shown_polyhedron}
+use Rattle.lra_back_source.specs.Crates.{lra_analysis_spec.Accesses.JudgesAccesses, lra_analysis_spec.Pass.PassResult}
+use Rattle.lra_back_source.specs.Crates.{lra_base.declared.refusals.Place.Place, lra_front_end.Stages.HasConstants}
+use Rattle.lra_back_source.specs.Crates.{lra_linear_spec.Polyhedra.Polyhedron, lra_operations.Agree.point_of}
+use Rattle.lra_back_source.specs.Crates.{lra_operations.Tree.Node, lra_options.declared.options.Domain.TheVariants.Poly}
+use Rattle.lra_back_source.specs.Crates.{lra_program.Assertions.IsAssertion, lra_program.Program.Program}
+use Rattle.lra_back_source.specs.Crates.{lra_program.Run.Point, lra_program.Run.Fails, lra_report_build.Shown.AreShown}
+use Rattle.lra_back_source.specs.Crates.{lra_resolution_spec.LiveNames.globals_named, lra_resolution_spec.Refuse.Refuse}
+use Rattle.lra_back_source.specs.Crates.{lra_resolution_spec.Resolve.resolve, lra_syntax.Grammar.Spells}
+use Rattle.lra_back_source.specs.Crates.{lra_syntax.Labels.labels_of, lra_syntax.Trees.FileTree}
 use Rattle.lra_report.specs.Report.{PointReport, HasSamePointsAt, InvariantHolds}
 use Rattle.lra_report.specs.{BackText.BackReport, Listing.AreListed}
-use Rattle.lra_report_build.specs.{Polyhedra.shown_polyhedron, Shown.AreShown}
-use Rattle.lra_front_end.specs.Stages.{HasConstants}
-use Rattle.lra_analysis_spec.specs.Analysis.{ExactIteration, IsSolution, StrainsAtPoint}
-use Rattle.lra_analysis_spec.specs.{Accesses.JudgesAccesses, Pass.PassResult}
-use Rattle.lra_analysis_spec.specs.Operations as iteration
-use Rattle.lra_paths.specs.Paths.{AreFewPaths, HasTooManyPaths}
+use Rattle.lra_back_source.specs.Crates.lra_analysis_spec.Operations as iteration
 use Rattle.lra_certificate_spec.specs.Claims.{IsProgram, program_of}
-use Rattle.lra_poly_domain.specs.{Abstraction.polyhedron_abstraction, Backward.polyhedron_backward}
-use Rattle.lra_program.specs.Assertions.{IsAssertion}
-use Rattle.lra_back.specs.BackwardAnalysis.{AreWide, BackwardAnalysis, FailsFrom, IsBackwardAnalysis}
-use Rattle.lra_back.specs.BackwardAnalysis.{NothingLeftAtStart}
-use Rattle.lra_back.specs.Operations.{exact_back_operations, straining_back_operations}
 use Rattle.lra_back_sound.specs.Fitting.{IsFirst}
 use Rattle.lra_back_source.specs.declared.refusals.BackRefusal.TheVariants.{Source, NoAssertion, Paths}
 use Rattle.lra_back_source.specs.{Forward.IsForward, Forward.forward_plan, declared.refusals.BackRefusal.BackRefusal}

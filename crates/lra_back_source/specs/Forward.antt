@@ -1,15 +1,14 @@
 -- What is gone back over: what an analysis over polyhedra finds of a program, under the options that words have by
 -- default.
 use Rattle.std.specs.Prelude.{◌≡◌, ℕ, ℤ, List, Bool, Option, None, Some}
-use Rattle.lra_base.specs.declared.refusals.Place.{Place}
-use Rattle.lra_linear_spec.specs.Polyhedra.{Polyhedron}
-use Rattle.lra_program.specs.Program.{Program}
-use Rattle.lra_operations.specs.Tree.{Node}
-use Rattle.lra_options.specs.OptionRows.{default_options}
-use Rattle.lra_analysis_spec.specs.Operations.{exact_operations, lossy_operations, straining_operations}
-use Rattle.lra_analysis_spec.specs.{Accesses.JudgesAccesses, Plan.Plan, Plan.plan_of}
-use Rattle.lra_fixpoint.specs.Solved.{IsSolved}
-use Rattle.lra_poly_domain.specs.Abstraction.{polyhedron_abstraction}
+use Rattle.lra_back_source.specs.Crates.lra_analysis_spec.Operations.{exact_operations, lossy_operations}
+use Rattle.lra_back_source.specs.Crates.lra_analysis_spec.Operations.{straining_operations}
+use Rattle.lra_back_source.specs.Crates.lra_options.OptionRows.{default_options}
+use Rattle.lra_back_source.specs.Crates.lra_poly_domain.Abstraction.{polyhedron_abstraction}
+use Rattle.lra_back_source.specs.Crates.{lra_analysis_spec.Accesses.JudgesAccesses, lra_analysis_spec.Plan.Plan}
+use Rattle.lra_back_source.specs.Crates.{lra_analysis_spec.Plan.plan_of, lra_base.declared.refusals.Place.Place}
+use Rattle.lra_back_source.specs.Crates.{lra_fixpoint.Solved.IsSolved, lra_linear_spec.Polyhedra.Polyhedron}
+use Rattle.lra_back_source.specs.Crates.{lra_operations.Tree.Node, lra_program.Program.Program}
 
 -- of a program with these constants
 abbrev pub forward_plan : List ℤ → Plan

@@ -3,3 +3,5 @@
 pub mod Forward
 pub mod BackReports
 pub mod Refusals
+-- The crates below
+pub mod Crates

@@ -1,13 +1,11 @@
 -- What stands for the errors of the parts.
 use Rattle.std.specs.Prelude.{⊤, ℕ}
-use Rattle.lra_base.specs.declared.error.SourceError.{SourceError}
-use Rattle.lra_base.specs.declared.error.SourceError.TheVariants as of_source
-use Rattle.lra_program.specs.{Program.Program, Sites.sites_of}
-use Rattle.lra_operations.specs.Tree.{Node}
-use Rattle.lra_paths.specs.Paths.{HasTooManyPaths}
-use Rattle.lra_program.specs.Assertions.{IsAssertion}
-use Rattle.lra_back.specs.declared.analysis.BackFailure.{BackFailure}
-use Rattle.lra_back.specs.declared.analysis.BackFailure.TheVariants as of_back
+use Rattle.lra_back_source.specs.Crates.{lra_back.declared.analysis.BackFailure.BackFailure}
+use Rattle.lra_back_source.specs.Crates.{lra_base.declared.error.SourceError.SourceError, lra_operations.Tree.Node}
+use Rattle.lra_back_source.specs.Crates.{lra_paths.Paths.HasTooManyPaths, lra_program.Assertions.IsAssertion}
+use Rattle.lra_back_source.specs.Crates.{lra_program.Program.Program, lra_program.Sites.sites_of}
+use Rattle.lra_back_source.specs.Crates.lra_base.declared.error.SourceError.TheVariants as of_source
+use Rattle.lra_back_source.specs.Crates.lra_back.declared.analysis.BackFailure.TheVariants as of_back
 use Rattle.lra_back_source.specs.declared.refusals.BackError.TheVariants.{Refused, Memory}
 use Rattle.lra_back_source.specs.declared.refusals.BackRefusal.TheVariants.{Source, NoAssertion, Paths}
 use Rattle.lra_back_source.specs.{declared.refusals.BackError.BackError, declared.refusals.BackRefusal.BackRefusal}

@@ -1,29 +1,25 @@
 //! From the bytes of a source to what going back from an assertion finds.
 
 ghost use Rattle.std.specs.Prelude.{◌≡◌, ◌<◌, ◌+◌, ◌^◌, ℕ, suc, map, length, IfOk, IfErr, Some, option_map};
-ghost use Rattle.lra_syntax.specs.{Labels.labels_of, Views.tree_view};
-ghost use Rattle.lra_resolution_spec.specs.Resolve.{resolve};
-ghost use Rattle.lra_program.specs.ProgramViews.{program_view};
-ghost use Rattle.lra_operations.specs.TreeViews.{node_view, site_view};
-ghost use Rattle.lra_front_end.specs.Stages.{HasInlinedTree};
-ghost use Rattle.lra_fixpoint.specs.Solved.{IsSolved};
-ghost use Rattle.lra_poly_domain.specs.Abstraction.{polyhedron_abstraction};
+ghost use Rattle.lra_back_source.specs.Crates.lra_front_end.Stages.{HasInlinedTree};
+ghost use Rattle.lra_back_source.specs.Crates.lra_operations.TreeViews.{node_view, site_view};
+ghost use Rattle.lra_back_source.specs.Crates.lra_poly_domain.Abstraction.{polyhedron_abstraction};
+ghost use Rattle.lra_back_source.specs.Crates.lra_program.ProgramViews.{program_view};
+ghost use Rattle.lra_back_source.specs.Crates.lra_syntax.Views.{tree_view};
+ghost use Rattle.lra_back_source.specs.Crates.{lra_back.BackwardAnalysis.AreWide, lra_fixpoint.Solved.IsSolved};
+ghost use Rattle.lra_back_source.specs.Crates.{lra_resolution_spec.Resolve.resolve, lra_syntax.Labels.labels_of};
 ghost use Rattle.lra_report.specs.View.{back_report_of, point_report_of};
-ghost use Rattle.lra_back.specs.BackwardAnalysis.{AreWide};
 ghost use Rattle.lra_back_source.specs.BackReports.{IsBackReportOf, IsBackRefusalOf, IsBackwardFinding, ShowsAtPoints};
 ghost use Rattle.lra_back_source.specs.Forward.{IsForward, forward_plan};
 ghost use Rattle.lra_back_source.specs.Refusals.{IfRefusal, IsFailure};
 
 use crate::refusals::BackError;
-use lra_analyse_source::solve_front;
-use lra_back::{BackFailure, BackwardAnalysis, back};
-use lra_bounds_checks::judge_accesses;
-use lra_fixpoint::{Plan, Solution};
-use lra_front_end::{AcceptedSource, read_source};
-use lra_options::default_options;
-use lra_poly_domain::Polyhedron;
-use lra_report::{BackReport, PointReport};
-use lra_report_build::{list_points, names_of_globals, number_of, states_of};
+use lra_analyse_source::{
+    AcceptedSource, Plan, Polyhedron, Solution, judge_accesses, list_points, names_of_globals,
+    number_of, read_source, solve_front, states_of,
+};
+use lra_back_sound::{BackFailure, BackwardAnalysis, back};
+use lra_report::{BackReport, PointReport, default_options};
 use std::alloc::{AllocError, Global};
 
 /// The values at the points, and the first flagged point.

@@ -1,7 +1,7 @@
 //! Why a source isn't gone back over.
 
-use lra_back::BackFailure;
-use lra_base::{Refusal, SourceError};
+use lra_analyse_source::{Refusal, SourceError};
+use lra_back_sound::BackFailure;
 use std::alloc::AllocError;
 
 /// Why a source is refused that is to be gone back over from an assertion.

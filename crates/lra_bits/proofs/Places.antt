@@ -1,9 +1,8 @@
 -- Places of values that are true, and rows that are true wherever two others are, by the columns of the matrix.
 use Rattle.std.proofs.Common.{◌≡◌, ◌≢◌, ℕ, ◌+◌, ◌-◌, ◌*◌, ◌<◌, ◌≤◌, Bool, true, false, List, [], ◌∷◌, ◌++◌, length, get_or, Option, Some, None, refl, ap, sym, subst, ◌∙◌, arith, inl, inr}
-use Rattle.std.proofs.lemmas.List.{get_or_past, get_or_append_left, length-append}
+use Rattle.std.proofs.{lemmas.Bool.and_parts, lemmas.List.get_or_past, lemmas.List.get_or_append_left, lemmas.List.length-append}
 use Rattle.std.proofs.{lemmas.Bool.cases_eq, lemmas.Bool.cases_lt, lemmas.Bool.eq-eqb, lemmas.Bool.eqb-true, lemmas.Nat.Bits.bit_at-zero}
 use Rattle.std.specs.{Int.bit_at, List.All, Prelude.◌&&◌, Prelude.◌==◌, Prelude.min}
-use Rattle.std.proofs.lemmas.Bool.{and_parts}
 use Rattle.lra_bits.specs.Matrix.{Matrix, IsCommon, TellsCommon, TellsWithin}
 use Rattle.lra_bits.specs.{Transposed.AreColumns, TruthValues.value_at, TruthValues.both, TruthValues.ArePlaces, TruthValues.IsSubset}
 use Rattle.lra_bits.proofs.Pairs.{both_value}

@@ -2,15 +2,15 @@
 use Rattle.std.proofs.Common.{◌≡◌, ◌∙◌, ℕ, ◌+◌, ◌<◌, ◌≤◌, List, [], ◌∷◌, ◌++◌, length, map, drop, get_or, Bool, Option, Some, None, refl, sym, ap, subst, append_assoc, append-nil}
 use Rattle.std.proofs.lemmas.List.{drop_more, drop_all}
 use Rattle.std.specs.Prelude.{◌-ℤ◌, pos, IfOk, Result}
-use Rattle.lra_linear_forms.specs.{Form.Form, declared.test.Test.Test}
-use Rattle.lra_base.specs.{Operators.below, declared.operators.Comparison.TheVariants.Below, declared.refusals.Place.Place}
+use Rattle.lra_bounds_checks.specs.Crates.lra_analysis_spec.Accesses.{AccessJudged, EachJudged, outside}
+use Rattle.lra_bounds_checks.specs.Crates.lra_analysis_spec.Linear.{at_least_zero, comparison_test, less_by}
+use Rattle.lra_bounds_checks.specs.Crates.{lra_analysis_spec.Operations.lossy_operations, lra_base.Operators.below, lra_base.declared.operators.Comparison.TheVariants.Below}
+use Rattle.lra_bounds_checks.specs.Crates.{lra_base.declared.refusals.Place.Place, lra_linear_forms.Form.Form, lra_linear_forms.declared.test.Test.Test}
 use Rattle.lra_domain.specs.{Abstraction.Abstraction, Abstraction.worse, declared.Exactness.Exactness, declared.Exactness.TheVariants.Exact, declared.Exactness.TheVariants.Flagged}
 use Rattle.lra_domain.proofs.WorseLaws.{worse_behind}
 use Rattle.lra_program.specs.{Program.Element, Value.◌>>=◌}
 use Rattle.lra_bounds_checks.specs.{BoundsChecks.AreWide, BoundsChecks.IsEachTold, Listed.access_view, declared.listing.Access.Access}
-use Rattle.lra_analysis_spec.specs.{Accesses.AccessJudged, Accesses.EachJudged, Accesses.outside, Linear.at_least_zero, Linear.comparison_test, Linear.less_by, Operations.lossy_operations}
-use Rattle.lra_analysis_spec.proofs.FormLemmas.{fitting_same}
-use Rattle.lra_linearize.proofs.GuardThresholdSteps.{test_wide}
+use Rattle.lra_bounds_checks.proofs.Crates.{lra_analysis_spec.FormLemmas.fitting_same, lra_linearize.GuardThresholdSteps.test_wide}
 
 -- tests ----------------------------------------------------------------------------------------------------------------
 

@@ -2,3 +2,5 @@ mod ListedSteps
 mod BoundSteps
 mod BoundsSteps
 mod ShownSteps
+-- The crates below
+pub mod Crates

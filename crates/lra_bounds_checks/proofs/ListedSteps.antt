@@ -1,10 +1,10 @@
 -- Steps of the proofs on what is listed of accesses.
 use Rattle.std.proofs.Common.{◌≡◌, ◌∙◌, ◌+◌, ◌<◌, ℕ, List, [], ◌∷◌, ◌++◌, length, map, drop, get_or, sym, ap, Ok, Err, Result, OnOk, append_assoc, append-nil}
 use Rattle.std.proofs.lemmas.List.{drop_more, map-append}
-use Rattle.lra_base.specs.Operators.{Operator}
+use Rattle.lra_bounds_checks.specs.Crates.lra_base.Operators.{Operator}
 use Rattle.lra_program.specs.ProgramViews.{all_of, any_of, chained, expr_view, operation_view}
 use Rattle.lra_program.specs.{Accesses.expr_accesses, Accesses.cond_accesses, Program.Expr, Program.Element, Program.binary, Program.Cond, declared.program.Operation.Operation}
-use Rattle.lra_linearize.proofs.FormSteps.{operation_is}
+use Rattle.lra_bounds_checks.proofs.Crates.lra_linearize.FormSteps.{operation_is}
 use Rattle.lra_bounds_checks.specs.{Listed.access_view, Listed.operand_accesses, Listed.side_accesses, declared.listing.Access.Access}
 
 -- chains ---------------------------------------------------------------------------------------------------------------

@@ -2,11 +2,11 @@
 use Rattle.std.proofs.Common.{◌≡◌, ◌∙◌, ℕ, zero, suc, ◌<◌, List, [], ◌∷◌, map, Option, Some, refl, ap, subst}
 use Rattle.std.proofs.lemmas.Option.{none-some, same_Some}
 use Rattle.std.specs.Prelude.{slice_get}
-use Rattle.lra_linear_spec.proofs.Membership.{map_has, map_from}
+use Rattle.lra_bounds_checks.proofs.Crates.lra_linear_spec.Membership.{map_has, map_from}
 use Rattle.lra_domain.specs.declared.Exactness.{Exactness}
 use Rattle.lra_program.specs.Step.{Op}
-use Rattle.lra_operations.specs.CheckedOperations.{OpAtPoint}
-use Rattle.lra_analysis_spec.specs.{Judging.Finding, Judging.Finds, Judging.IsFoundOn, Judging.answer_of, Judging.first_flagged, Operations.Operations, Pass.noted}
+use Rattle.lra_bounds_checks.specs.Crates.lra_analysis_spec.Judging.{Finding, Finds, IsFoundOn, answer_of, first_flagged}
+use Rattle.lra_bounds_checks.specs.Crates.{lra_analysis_spec.Operations.Operations, lra_analysis_spec.Pass.noted, lra_operations.CheckedOperations.OpAtPoint}
 
 module _ {V H A B : Type 0} (ops : Operations V H) (Told : Op → V → A → Exactness → Type 0) (Shown : Op → V → B → Exactness → Type 0) (show : A → B)
     (same : (op : Op) (v : V) (x : A) (e : Exactness) → Told op v x e → Shown op v (show x) e) where

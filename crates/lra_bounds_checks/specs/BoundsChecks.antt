@@ -1,10 +1,11 @@
 -- What is reported about accesses after others, as the definitions have it.
 use Rattle.std.specs.Prelude.{◌≡◌, ℕ, List, Bool, Option, None, Some, length, ⊤}
-use Rattle.lra_linear_forms.specs.declared.test.Test.{Test}
+use Rattle.lra_bounds_checks.specs.Crates.lra_analysis_spec.Accesses.{EachJudged, OpInside}
+use Rattle.lra_bounds_checks.specs.Crates.lra_analysis_spec.Operations.{lossy_operations}
+use Rattle.lra_bounds_checks.specs.Crates.lra_base.declared.refusals.Place.{Place}
+use Rattle.lra_bounds_checks.specs.Crates.lra_linear_forms.declared.test.Test.{Test}
 use Rattle.lra_domain.specs.{Abstraction.Abstraction, declared.Exactness.Exactness}
-use Rattle.lra_base.specs.declared.refusals.Place.{Place}
 use Rattle.lra_program.specs.{Program.Element, Step.Op}
-use Rattle.lra_analysis_spec.specs.{Accesses.EachJudged, Accesses.OpInside, Operations.lossy_operations}
 use Rattle.lra_overflow_checks.specs.Judged.{HasAnswers}
 
 -- a coefficient for each of so many variables

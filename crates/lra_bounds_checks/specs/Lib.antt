@@ -1,2 +1,4 @@
 pub mod Listed
 pub mod BoundsChecks
+-- The crates below
+pub mod Crates

@@ -1,6 +1,6 @@
 -- What is listed of accesses, as the program's definitions have it.
 use Rattle.std.specs.Prelude.{List, [], ◌∷◌, ◌++◌}
-use Rattle.lra_base.specs.Operators.{Operator}
+use Rattle.lra_bounds_checks.specs.Crates.lra_base.Operators.{Operator}
 use Rattle.lra_program.specs.Accesses.{expr_accesses, cond_accesses}
 use Rattle.lra_program.specs.{Program.Expr, Program.Cond, Program.Element, ProgramViews.expr_view}
 use Rattle.lra_bounds_checks.specs.declared.listing.Access.{Access}

@@ -3,25 +3,25 @@
 ghost use Rattle.std.specs.Prelude.{◌≡◌, ◌≤◌, ◌↔◌, length, map, IsTrue, IfOk};
 ghost use Rattle.lra_program.specs.Accesses.{expr_accesses, op_accesses, op_accesses_any};
 ghost use Rattle.lra_program.specs.ProgramViews.{expr_view};
-ghost use Rattle.lra_operations.specs.TreeViews.{op_view};
-ghost use Rattle.lra_operations_list.specs.TreeOperations.{op_ref_view};
+ghost use Rattle.lra_bounds_checks.specs.Crates.lra_analysis_spec.Accesses.{outside_of, BothInside, OneInside};
+ghost use Rattle.lra_bounds_checks.specs.Crates.lra_analysis_spec.Accesses.{OpInside, AccessJudged, IndexJudged};
+ghost use Rattle.lra_bounds_checks.specs.Crates.lra_analysis_spec.Analysis.{IsUnreachable};
+ghost use Rattle.lra_bounds_checks.specs.Crates.lra_analysis_spec.LiveLimit.{most_live};
+ghost use Rattle.lra_bounds_checks.specs.Crates.lra_analysis_spec.MovesOf.{test_action};
+ghost use Rattle.lra_bounds_checks.specs.Crates.lra_analysis_spec.Operations.{lossy_operations};
+ghost use Rattle.lra_bounds_checks.specs.Crates.lra_operations.TreeViews.{op_view};
+ghost use Rattle.lra_bounds_checks.specs.Crates.lra_operations_list.TreeOperations.{op_ref_view};
 ghost use Rattle.lra_bounds_checks.specs.BoundsChecks.{AreWide, IsEachTold, IsOpTold};
 ghost use Rattle.lra_bounds_checks.specs.Listed.{access_view};
-ghost use Rattle.lra_analysis_spec.specs.Accesses.{outside_of, BothInside, OneInside, OpInside, AccessJudged};
-ghost use Rattle.lra_analysis_spec.specs.{Accesses.IndexJudged, Analysis.IsUnreachable, LiveLimit.most_live};
-ghost use Rattle.lra_analysis_spec.specs.{MovesOf.test_action, Operations.lossy_operations};
 ghost use Rattle.lra_overflow_checks.specs.Judged.{IsWide};
 
 use crate::bounds::outside;
 use crate::listing::{Access, accesses, push_accesses};
-use lra_base::Place;
-use lra_domain::{Domain, Exactness, worse};
-use lra_linear_forms::{LinExpr, Test};
-use lra_linearize::form_of_expression;
-use lra_operations::Op;
-use lra_operations_list::OpRef;
-use lra_overflow_checks::{Leaf, Question, Surroundings, Verdict, judge_condition};
-use lra_program::Expr;
+use lra_domain::{Domain, Exactness, LinExpr, Test, worse};
+use lra_overflow_checks::{
+    Leaf, Op, OpRef, Question, Surroundings, Verdict, form_of_expression, judge_condition,
+};
+use lra_program::{Expr, Place};
 use std::alloc::{AllocError, Global};
 
 /// Of accesses it is reported which lie inside their arrays: of each the place where its array is named, and whether it

@@ -1,12 +1,11 @@
 //! The tests that an index is outside its array.
 
 ghost use Rattle.std.specs.Prelude.{◌≡◌, ◌<◌, ◌^◌, length, IfOk};
-ghost use Rattle.lra_analysis_spec.specs.Accesses.{outside};
+ghost use Rattle.lra_bounds_checks.specs.Crates.lra_analysis_spec.Accesses.{outside};
 
-use lra_base::Comparison;
-use lra_linear_forms::{LinExpr, Test};
-use lra_linear_spec::ConKind;
-use lra_linearize::{less_by, test_of};
+use lra_domain::{ConKind, LinExpr, Test};
+use lra_overflow_checks::{less_by, test_of};
+use lra_program::Comparison;
 use std::alloc::{AllocError, Global};
 
 /// The tests that an index of this form is below 0, and that it is at least the array's length; `None` exactly where a

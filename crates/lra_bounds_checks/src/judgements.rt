@@ -1,16 +1,18 @@
 //! What is judged of the accesses of a whole program.
 
 ghost use Rattle.std.specs.Prelude.{◌<◌, None, length, map, All, IfOk};
-ghost use Rattle.lra_operations.specs.{CheckedOperations.accessing_ops, TreeViews.node_view};
-ghost use Rattle.lra_analysis_spec.specs.{Accesses.JudgesAccesses, LiveLimit.most_live, Operations.lossy_operations};
+ghost use Rattle.lra_bounds_checks.specs.Crates.lra_analysis_spec.Accesses.{JudgesAccesses};
+ghost use Rattle.lra_bounds_checks.specs.Crates.lra_analysis_spec.LiveLimit.{most_live};
+ghost use Rattle.lra_bounds_checks.specs.Crates.lra_analysis_spec.Operations.{lossy_operations};
+ghost use Rattle.lra_bounds_checks.specs.Crates.lra_base.AccessVerdicts.{reported_view};
+ghost use Rattle.lra_bounds_checks.specs.Crates.lra_operations.CheckedOperations.{accessing_ops};
+ghost use Rattle.lra_bounds_checks.specs.Crates.lra_operations.TreeViews.{node_view};
 ghost use Rattle.lra_overflow_checks.specs.Judged.{AreBelow};
-ghost use Rattle.lra_base.specs.AccessVerdicts.{reported_view};
 
 use crate::access_checks::BoundsCheck;
-use lra_base::Place;
 use lra_domain::Domain;
-use lra_operations::Node;
-use lra_overflow_checks::find;
+use lra_overflow_checks::{Node, find};
+use lra_program::Place;
 use std::alloc::{AllocError, Global};
 
 /// What is judged at the points at which arrays are accessed: the points' numbers in order, each with what is reported

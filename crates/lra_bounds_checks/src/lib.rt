@@ -11,3 +11,5 @@ mod listing;
 pub use bounds::outside;
 pub use judgements::{BoundsVerdicts, judge_accesses};
 pub use listing::{Access, accesses, push_accesses};
+pub use lra_domain::ConKind;
+pub use lra_overflow_checks::{Node, OverflowVerdicts, judge, list_operations};

@@ -4,14 +4,12 @@ ghost use Rattle.std.specs.Prelude.{◌≡◌, ◌++◌, map, IfOk, OnOk};
 ghost use Rattle.lra_program.specs.Accesses.{expr_accesses, cond_accesses, arguments_accesses, aim_accesses};
 ghost use Rattle.lra_program.specs.Accesses.{op_accesses};
 ghost use Rattle.lra_program.specs.ProgramViews.{argument_view, cond_view, element_view, expr_view, operation_view};
-ghost use Rattle.lra_operations.specs.TreeViews.{op_view};
-ghost use Rattle.lra_operations_list.specs.TreeOperations.{op_ref_view};
+ghost use Rattle.lra_bounds_checks.specs.Crates.lra_operations.TreeViews.{op_view};
+ghost use Rattle.lra_bounds_checks.specs.Crates.lra_operations_list.TreeOperations.{op_ref_view};
 ghost use Rattle.lra_bounds_checks.specs.Listed.{access_view, operand_accesses, side_accesses};
 
-use lra_base::Place;
-use lra_operations::Op;
-use lra_operations_list::OpRef;
-use lra_program::{Argument, Array, Cond, Element, Expr, Operation};
+use lra_overflow_checks::{Op, OpRef};
+use lra_program::{Argument, Array, Cond, Element, Expr, Operation, Place};
 use std::alloc::{AllocError, Global};
 
 /// An access: the array, the place where it is named, and the index.

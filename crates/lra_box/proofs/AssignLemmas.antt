@@ -2,8 +2,7 @@
 use Rattle.std.proofs.Common.{◌≡◌, ℕ, zero, suc, ◌<◌, ℤ, List, [], ◌∷◌, length, Option, Some, IfSome, ◌⊎◌, inl, inr, refl, ◌∙◌, arith}
 use Rattle.std.proofs.Math.ListN.{length-set}
 use Rattle.std.specs.Prelude.{slice_set, slice_index_or}
-use Rattle.lra_linear_spec.specs.Range.{InRange}
-use Rattle.lra_linear_forms.specs.Form.{Form, form_value}
+use Rattle.lra_box.specs.Crates.{lra_linear_forms.Form.Form, lra_linear_forms.Form.form_value, lra_linear_spec.Range.InRange}
 use Rattle.lra_domain.specs.{Bounds.AtMost, declared.Exactness.Exactness, declared.Exactness.TheVariants.Exact, declared.Exactness.TheVariants.Flagged}
 use Rattle.lra_box.specs.Bounds.{InInterval, AllValidIntervals, end_sum, SumPasses, IsBound, full_interval}
 use Rattle.lra_box.specs.{Answers.AssignedTo, Covering.intervals_within_refl, Covering.low_within_refl, Covering.high_within_refl, Sums.end_sum_holds, Tables.LowWithin, declared.ends.Bound.Bound}

@@ -1,6 +1,6 @@
 -- Worked examples of the tables.
 use Rattle.std.proofs.Common.{◌≡◌, ℤ, pos, negsuc, [], ◌∷◌, None, Some, refl}
-use Rattle.lra_linear_spec.specs.declared.ConKind.TheVariants.{Ge, Eq}
+use Rattle.lra_box.specs.Crates.lra_linear_spec.declared.ConKind.TheVariants.{Ge, Eq}
 use Rattle.lra_domain.specs.declared.Mode.TheVariants.{Widen}
 use Rattle.lra_box.specs.{Bounds.full_interval, Bounds.form, Refine.tested, Tables.assigned_bounds, Tables.grown_bounds, Tables.joined_bounds, declared.interval.Interval.Interval}
 

@@ -2,7 +2,7 @@
 use Rattle.std.proofs.Common.{◌≡◌, ℕ, zero, suc, ℤ, List, [], ◌∷◌, length, Option, None, Some, refl, arith}
 use Rattle.std.proofs.lemmas.Int.{ints, clamps}
 use Rattle.std.specs.Prelude.{slice_set}
-use Rattle.lra_linear_forms.specs.Form.{Form, form_value}
+use Rattle.lra_box.specs.Crates.lra_linear_forms.Form.{Form, form_value}
 use Rattle.lra_box.specs.{Bounds.BoundHolds, Bounds.InInterval, Bounds.InBounds, Bounds.end_sum, Bounds.SumPasses, Bounds.IsBound, Sums.end_sum_holds, Tables.joined_intervals}
 use Rattle.lra_box.specs.{declared.ends.Bound.Bound, declared.interval.Interval.Interval, declared.interval.Side.Side, declared.interval.Side.TheVariants.Low, declared.interval.Side.TheVariants.High}
 use Rattle.lra_domain.specs.{Bounds.greater, Bounds.lesser_low, declared.Exactness.Exactness, declared.Exactness.TheVariants.Exact, declared.Exactness.TheVariants.Flagged}

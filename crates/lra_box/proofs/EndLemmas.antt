@@ -1,7 +1,7 @@
 -- The end of a form's values, product by product.
 use Rattle.std.proofs.Common.{◌≡◌, ◌∙◌, zero, suc, ℤ, pos, negsuc, ◌+ℤ◌, List, [], ◌∷◌, Option, None, Some, inl, inr, refl, sym, subst}
 use Rattle.std.specs.Prelude.{◌⊎◌, IsSomeAnd}
-use Rattle.lra_linear_spec.specs.Range.{InRange}
+use Rattle.lra_box.specs.Crates.lra_linear_spec.Range.{InRange}
 use Rattle.lra_box.specs.{Bounds.EndProductPasses, Bounds.SumPasses, Bounds.TimesPasses, Bounds.end_product, Bounds.end_sum, Bounds.times, Ends.HasProduct, Ends.IsEndFrom, Ends.PlusEnd}
 use Rattle.lra_box.specs.{declared.interval.Interval.Interval, declared.interval.Side.Side, declared.interval.Side.TheVariants.Low, declared.interval.Side.TheVariants.High}
 

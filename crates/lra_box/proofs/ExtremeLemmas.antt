@@ -2,8 +2,7 @@
 use Rattle.std.proofs.Common.{◌≡◌, ℕ, zero, suc, ◌*◌, ◌≤◌, ℤ, pos, negsuc, List, [], ◌∷◌, length, Option, None, Some, refl, ◌∙◌, false, arith}
 use Rattle.std.proofs.{lemmas.Int.ints, lemmas.Int.clamps, lemmas.Option.same_Some}
 use Rattle.std.specs.{Int.int_min, Int.int_max, Prelude.◌+ℤ◌, Prelude.◌*ℤ◌, Prelude.◌≤ℤ◌, Prelude.neg_ℤ, Prelude.option_and_then}
-use Rattle.lra_linear_spec.specs.Vectors.{product}
-use Rattle.lra_linear_forms.specs.Form.{Form}
+use Rattle.lra_box.specs.Crates.{lra_linear_forms.Form.Form, lra_linear_spec.Vectors.product}
 use Rattle.lra_box.specs.Bounds.{BoundHolds, InInterval, InBounds, crossed, crossed_ends, AllValidIntervals, times, end_product, end_sum, IsExtreme}
 use Rattle.lra_box.specs.{Sums.end_sum_holds, declared.interval.Interval.Interval, declared.interval.Side.Side, declared.interval.Side.TheVariants.Low, declared.interval.Side.TheVariants.High}
 use Rattle.lra_box.proofs.SoundLemmas.{some_number, some_store}

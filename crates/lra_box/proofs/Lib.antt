@@ -16,3 +16,5 @@ pub mod PartLemmas
 pub mod TightenLemmas
 -- Worked examples: each table of specs/ on small boxes.
 mod BoxExamples
+-- The crates below
+pub mod Crates

@@ -2,10 +2,11 @@
 use Rattle.std.proofs.Common.{◌≡◌, ℕ, zero, suc, ◌+◌, ◌<◌, ℤ, pos, negsuc, List, [], ◌∷◌, ◌++◌, length, replicate, drop, Option, None, Some, Bool, true, false, cond, ◌⊎◌, inl, inr, ◌↔◌, refl, ap, ◌∙◌}
 use Rattle.std.proofs.{Common.subst, Common.append_assoc, Common.arith, Math.Seq.drop-cons, lemmas.Int.ints, lemmas.List.Elements.All-cons}
 use Rattle.std.specs.{List.All, Prelude.◌+ℤ◌, Prelude.◌*ℤ◌, Prelude.neg_ℤ, Prelude.slice_set, Prelude.slice_index_or}
-use Rattle.lra_linear_spec.specs.Descriptions.{LinearRow, Holds, Con}
-use Rattle.lra_linear_spec.specs.{Kinds.is_equality, Range.InRange, Vectors.product, declared.ConKind.ConKind, declared.ConKind.TheVariants.Ge, declared.ConKind.TheVariants.Eq}
-use Rattle.lra_systems.specs.LinearSystems.{rows_by_kind}
-use Rattle.lra_linear_spec.proofs.{Membership.contains_none, Membership.contains_head, Membership.contains_tail, Membership.contains_cases, UnitRows.set_in_range, UnitRows.zeros_in_range}
+use Rattle.lra_box.specs.Crates.lra_linear_spec.Descriptions.{LinearRow, Holds, Con}
+use Rattle.lra_box.specs.Crates.{lra_linear_spec.Kinds.is_equality, lra_linear_spec.Range.InRange, lra_linear_spec.Vectors.product, lra_linear_spec.declared.ConKind.ConKind}
+use Rattle.lra_box.specs.Crates.{lra_linear_spec.declared.ConKind.TheVariants.Ge, lra_linear_spec.declared.ConKind.TheVariants.Eq, lra_systems.LinearSystems.rows_by_kind}
+use Rattle.lra_box.proofs.Crates.lra_linear_spec.Membership.{contains_none, contains_head, contains_tail, contains_cases}
+use Rattle.lra_box.proofs.Crates.lra_linear_spec.UnitRows.{set_in_range, zeros_in_range}
 use Rattle.lra_domain.specs.Parts.{SomePartHolds}
 use Rattle.lra_box.specs.Bounds.{BoundHolds, InInterval, InBounds}
 use Rattle.lra_box.specs.Parts.{bound_row, is_single, is_single_ends, low_rows, high_rows, box_equalities, box_inequalities, box_parts}

@@ -2,7 +2,7 @@
 use Rattle.std.proofs.Common.{◌≡◌, ℕ, zero, suc, ◌+◌, ◌*◌, ◌/◌, ◌<◌, ◌≤◌, ℤ, pos, negsuc, List, [], ◌∷◌, length, Option, None, Some, refl, ap, ◌∙◌, ◌⊎◌, inl, inr, zero-add, arith}
 use Rattle.std.proofs.{Math.ListN.length-set, Math.Nat.le-div_iff_mul-le, Math.Nat.div-lt_iff_lt-mul, Math.Nat.mul_comm, Math.Nat.suc-add, lemmas.Int.ints, lemmas.Int.clamps}
 use Rattle.std.specs.{Int.int_div_euclid, Prelude.◌+ℤ◌, Prelude.◌*ℤ◌, Prelude.◌≤ℤ◌, Prelude.neg_ℤ, Prelude.slice_set, Prelude.slice_index_or}
-use Rattle.lra_linear_spec.specs.Vectors.{product}
+use Rattle.lra_box.specs.Crates.lra_linear_spec.Vectors.{product}
 use Rattle.lra_box.specs.{Bounds.full_interval, Bounds.BoundHolds, Bounds.InInterval, Bounds.InBounds, Refine.tightened, Refine.raised, Refine.lowered, Refine.others_most, Refine.refined}
 use Rattle.lra_box.specs.{Refine.RefinePasses, Sums.end_sum_holds, declared.interval.Interval.Interval, declared.interval.Side.TheVariants.Low, declared.interval.Side.TheVariants.High}
 use Rattle.lra_box.proofs.{BoxLemmas.in_length, ExtremeLemmas.flip}

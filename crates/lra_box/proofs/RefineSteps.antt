@@ -2,7 +2,7 @@
 use Rattle.std.proofs.Common.{◌≡◌, ◌≢◌, ℕ, zero, suc, ◌+◌, ◌-◌, ◌<◌, ℤ, pos, Bool, true, false, cond, List, [], ◌∷◌, Option, None, Some, ◌⊎◌, inl, inr, length, refl, sym, ap, ◌∙◌, subst, arith}
 use Rattle.std.proofs.lemmas.Bool.{false≢true}
 use Rattle.std.specs.Prelude.{◌+ℤ◌, ◌≤ℤ◌, slice_set, slice_index_or}
-use Rattle.lra_linear_spec.specs.Vectors.{product}
+use Rattle.lra_box.specs.Crates.lra_linear_spec.Vectors.{product}
 use Rattle.lra_domain.specs.{declared.Exactness.Exactness, declared.Exactness.TheVariants.Exact, declared.Exactness.TheVariants.Flagged}
 use Rattle.lra_box.specs.Bounds.{full_interval, crossed, InInterval, InBounds, EndsInRange, AllValidIntervals, SumPasses, IsBound}
 use Rattle.lra_box.specs.Covering.{intervals_within_refl, low_within_refl, high_within_refl, within_refl, within_trans}

@@ -4,10 +4,10 @@ use Rattle.std.proofs.lemmas.List.Elements.{Contains-append_cases, Contains-appe
 use Rattle.std.proofs.{Common.sym, Common.ap, Common.subst, Common.◌∙◌, Common.arith, lemmas.Int.ints, lemmas.List.length-replicate, lemmas.Option.slice_get_within}
 use Rattle.std.specs.{Cmp.nat_cmp_is, Cmp.Lexicographic.slice_cmp, List.Contains, Ordering.int_cmp, Ordering.int_eq, Ordering.nat_cmp, Ordering.ordering_then, Prelude.neg_ℤ, Prelude.slice_get}
 use Rattle.std.specs.{Prelude.slice_set, Prelude.unsigned_abs, declared.cmp.Ordering.Ordering, declared.cmp.Ordering.TheVariants.Less, declared.cmp.Ordering.TheVariants.Equal}
-use Rattle.lra_linear_spec.specs.Echelon.{Before, IsEchelon, HasPivot, lead_from, pivot}
-use Rattle.lra_linear_spec.specs.{LowestTerms.IsPrimitive, RowOrder.Ascends, RowOrder.inequality_cmp, Vectors.entry}
-use Rattle.lra_linear_spec.proofs.Membership.{contains_cases, contains_head, contains_none, contains_tail}
-use Rattle.lra_linear_spec.proofs.{LowestTerms.primitive_at, Products.entry_set_other, Products.entry_set_same}
+use Rattle.lra_box.specs.Crates.lra_linear_spec.Echelon.{Before, IsEchelon, HasPivot, lead_from, pivot}
+use Rattle.lra_box.specs.Crates.{lra_linear_spec.LowestTerms.IsPrimitive, lra_linear_spec.RowOrder.Ascends, lra_linear_spec.RowOrder.inequality_cmp, lra_linear_spec.Vectors.entry}
+use Rattle.lra_box.proofs.Crates.lra_linear_spec.Membership.{contains_cases, contains_head, contains_none, contains_tail}
+use Rattle.lra_box.proofs.Crates.{lra_linear_spec.LowestTerms.primitive_at, lra_linear_spec.Products.entry_set_other, lra_linear_spec.Products.entry_set_same}
 use Rattle.lra_box.specs.Parts.{bound_row, box_equalities, high_rows, is_single, low_rows, box_inequalities}
 use Rattle.lra_box.specs.{ExactRows.IsEqualityRow, ExactRows.IsInequalityRow, ExactRows.IsOfEnd, declared.interval.Interval.Interval}
 

@@ -2,7 +2,7 @@
 use Rattle.std.proofs.Common.{◌≡◌, ℕ, zero, suc, Bool, true, false, cond, ℤ, pos, List, [], ◌∷◌, ◌++◌, take, replicate, Option, None, Some, IfSome, refl, arith}
 use Rattle.std.proofs.lemmas.Int.{ints, clamps}
 use Rattle.std.specs.{Prelude.slice_set, Prelude.slice_index_or, Prelude.int_lt, Prelude.IsTrue, Prelude.◌↔◌, Prelude.not, Prelude.is_some, Prelude.Vec, declared.alloc.Global.Global}
-use Rattle.lra_linear_spec.specs.Range.{InRange}
+use Rattle.lra_box.specs.Crates.lra_linear_spec.Range.{InRange}
 use Rattle.lra_domain.specs.declared.Mode.TheVariants.{Join, Widen, Limited, Tightest}
 use Rattle.lra_domain.specs.{Bounds.greater, Bounds.stable, Bounds.lesser_low, declared.Mode.Mode}
 use Rattle.lra_box.specs.Bounds.{BoundHolds, InInterval, InBounds, full_interval, crossed, crossed_ends, EndsInRange, IsValidInterval, AllValidIntervals}

@@ -2,9 +2,9 @@
 use Rattle.std.proofs.Common.{◌≡◌, ℕ, zero, suc, ℤ, pos, negsuc, List, [], ◌∷◌, length, map, Option, None, Bool, true, false, cond, ◌⊎◌, inl, inr, refl, sym, ap, ◌∙◌, arith}
 use Rattle.std.proofs.{lemmas.Bool.false≢true, lemmas.Int.ints}
 use Rattle.std.specs.Prelude.{◌+ℤ◌, ◌*ℤ◌, ◌≤ℤ◌, neg_ℤ, int_lt}
-use Rattle.lra_linear_spec.specs.{Vectors.product, declared.ConKind.TheVariants.Eq}
-use Rattle.lra_linear_forms.specs.Form.{Form, form_value, HoldsAt}
-use Rattle.lra_linear_forms.proofs.FormLemmas.{product_negated}
+use Rattle.lra_box.specs.Crates.lra_linear_forms.Form.{Form, form_value, HoldsAt}
+use Rattle.lra_box.specs.Crates.{lra_linear_spec.Vectors.product, lra_linear_spec.declared.ConKind.TheVariants.Eq}
+use Rattle.lra_box.proofs.Crates.lra_linear_forms.FormLemmas.{product_negated}
 use Rattle.lra_domain.specs.{declared.Exactness.Exactness, declared.Exactness.TheVariants.Exact, declared.Exactness.TheVariants.Flagged}
 use Rattle.lra_box.specs.Refine.{refined, some_occurs, ge_tested, tested, RefinePasses, TestPasses}
 use Rattle.lra_box.specs.{Answers.TestedTo, Content.BoundsAreValid, Covering.within_refl, Covering.within_trans, declared.interval.Interval.Interval}

@@ -2,7 +2,7 @@
 use Rattle.std.proofs.Common.{◌≡◌, zero, suc, ℤ, pos, negsuc, Option, None, Some, true, refl, sym, ap, subst, ◌∙◌, arith, FitsSigned}
 use Rattle.std.proofs.{Math.Nat.div-le_self, lemmas.Int.ints, lemmas.Int.clamps, lemmas.Int.to_z-of_z}
 use Rattle.std.specs.{Int.w128, Int.cast_signed, Int.cast_unsigned, Int.int_div_euclid, Prelude.◌<ℤ◌, Prelude.◌-ℤ◌, Prelude.neg_ℤ, Prelude.int_lt, Prelude.IfSome}
-use Rattle.lra_linear_spec.specs.Range.{InRange}
+use Rattle.lra_box.specs.Crates.lra_linear_spec.Range.{InRange}
 use Rattle.lra_box.specs.{Bounds.EndsInRange, Refine.lowered, Refine.raised, Refine.tightened, declared.interval.Interval.Interval}
 
 -- a number as 128 bits hold it

@@ -1,6 +1,6 @@
 -- What the changes of bounds answer.
 use Rattle.std.specs.Prelude.{◌≡◌, ℕ, ℤ, List, slice_set, Option}
-use Rattle.lra_linear_forms.specs.Form.{Form, form_value}
+use Rattle.lra_box.specs.Crates.lra_linear_forms.Form.{Form, form_value}
 use Rattle.lra_domain.specs.declared.Exactness.TheVariants.{Exact, Flagged}
 use Rattle.lra_domain.specs.{Actions.assign, declared.Exactness.Exactness}
 use Rattle.lra_box.specs.Content.{BoundsFit, BoundsAreValid}

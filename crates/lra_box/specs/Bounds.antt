@@ -1,8 +1,8 @@
 -- Intervals, what they hold, and the ends of a form's values over them.
 use Rattle.std.specs.Prelude.{◌≡◌, zero, suc, Bool, false, int_lt, ℤ, pos, negsuc, ◌+ℤ◌, ◌*ℤ◌, ◌≤ℤ◌, List, [], ◌∷◌}
 use Rattle.std.specs.Prelude.{Option, None, Some, option_and_then, IfSome, IsSomeAnd, ◌⊎◌}
-use Rattle.lra_linear_spec.specs.Range.{InRange}
-use Rattle.lra_linear_forms.specs.Form.{Form, form_value}
+use Rattle.lra_box.specs.Crates.lra_linear_forms.Form.{Form, form_value}
+use Rattle.lra_box.specs.Crates.lra_linear_spec.Range.{InRange}
 use Rattle.lra_domain.specs.declared.Exactness.TheVariants.{Exact, Flagged}
 use Rattle.lra_box.specs.declared.interval.Side.TheVariants.{Low, High}
 use Rattle.lra_box.specs.{declared.ends.Bound.Bound, declared.interval.Interval.Interval, declared.interval.Side.Side}

@@ -1,8 +1,7 @@
 -- What a box says of the least and the greatest value of a form: the ends by which an assignment of the form sets the
 -- bounds, and none if a number passes the range on the way.
 use Rattle.std.specs.Prelude.{◌≡◌, ◌⊎◌, ℤ, ◌+ℤ◌, List, Option, None, Some}
-use Rattle.lra_linear_spec.specs.Range.{InRange}
-use Rattle.lra_linear_forms.specs.Form.{Form}
+use Rattle.lra_box.specs.Crates.{lra_linear_forms.Form.Form, lra_linear_spec.Range.InRange}
 use Rattle.lra_box.specs.Bounds.{EndProductPasses, SumPasses, end_product, end_sum}
 use Rattle.lra_box.specs.declared.interval.Side.TheVariants.{Low, High}
 use Rattle.lra_box.specs.{declared.interval.Interval.Interval, declared.interval.Side.Side}

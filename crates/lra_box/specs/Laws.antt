@@ -1,7 +1,7 @@
 -- The laws of boxes.
 use Rattle.std.proofs.Common.{◌≡◌, ◌≤◌, ℕ, ℤ, List, [], length, Option, None, Some, refl, ap, sym, subst, ◌∙◌, arith}
 use Rattle.std.proofs.{Common.inl, Common.inr, Common.pos, Common.replicate, lemmas.List.length-replicate}
-use Rattle.lra_linear_forms.specs.Form.{Form, form_value}
+use Rattle.lra_box.specs.Crates.lra_linear_forms.Form.{Form, form_value}
 use Rattle.lra_domain.specs.Bounds.{IsLowerBound, IsBetween, IsUpperBound}
 use Rattle.lra_domain.specs.{Actions.Within, Laws.Laws, Laws.BaseLaws, Laws.SingleLaws}
 use Rattle.lra_box.specs.Abstraction.{BoxGamma, BoxWithin, top_box, box_abstraction}

@@ -12,3 +12,5 @@ pub mod Parts
 pub mod Abstraction
 pub mod Laws
 pub mod ExactRows
+-- The crates below
+pub mod Crates

@@ -2,9 +2,9 @@
 -- first.
 use Rattle.std.specs.Prelude.{ℕ, suc, ℤ, pos, negsuc, neg_ℤ, List, [], ◌∷◌, ◌++◌, length, replicate, slice_set, Option}
 use Rattle.std.specs.{Ordering.int_eq, Prelude.None, Prelude.Some, Prelude.Bool, Prelude.false, Prelude.if◌then◌else◌}
-use Rattle.lra_systems.specs.LinearSystems.{LinearSystem}
-use Rattle.lra_linear_spec.specs.declared.ConKind.{ConKind}
-use Rattle.lra_linear_spec.specs.declared.ConKind.TheVariants.{Ge, Eq}
+use Rattle.lra_box.specs.Crates.lra_linear_spec.declared.ConKind.{ConKind}
+use Rattle.lra_box.specs.Crates.lra_linear_spec.declared.ConKind.TheVariants.{Ge, Eq}
+use Rattle.lra_box.specs.Crates.lra_systems.LinearSystems.{LinearSystem}
 use Rattle.lra_box.specs.declared.interval.Interval.{Interval}
 
 -- the row `constant + factor * x_k` in n dimensions

@@ -2,9 +2,9 @@
 use Rattle.std.specs.Int.{int_min, int_max, int_div_euclid}
 use Rattle.std.specs.Prelude.{◌≡◌, ◌≢◌, ℕ, zero, suc, ℤ, pos, negsuc, neg_ℤ, List, [], ◌∷◌, map, length, slice_set}
 use Rattle.std.specs.Prelude.{slice_index_or, Option, None, Some, ◌⊎◌, int_lt, Bool, true, false, if◌then◌else◌}
-use Rattle.lra_linear_forms.specs.Form.{Form}
-use Rattle.lra_linear_spec.specs.declared.ConKind.{ConKind}
-use Rattle.lra_linear_spec.specs.declared.ConKind.TheVariants.{Ge, Eq}
+use Rattle.lra_box.specs.Crates.lra_linear_forms.Form.{Form}
+use Rattle.lra_box.specs.Crates.lra_linear_spec.declared.ConKind.{ConKind}
+use Rattle.lra_box.specs.Crates.lra_linear_spec.declared.ConKind.TheVariants.{Ge, Eq}
 use Rattle.lra_domain.specs.declared.Exactness.{Exactness}
 use Rattle.lra_domain.specs.declared.Exactness.TheVariants.{Exact, Flagged}
 use Rattle.lra_box.specs.Bounds.{full_interval, crossed, end_sum, SumPasses, EndsInRange}

@@ -2,7 +2,7 @@
 use Rattle.std.proofs.Common.{◌≡◌, ℕ, zero, suc, ℤ, pos, negsuc, List, [], ◌∷◌, length, Option, None, Some, inr, refl}
 use Rattle.std.proofs.{Common.arith, lemmas.Int.ints}
 use Rattle.std.specs.Prelude.{◌+ℤ◌, ◌*ℤ◌, option_and_then}
-use Rattle.lra_linear_spec.specs.Vectors.{product}
+use Rattle.lra_box.specs.Crates.lra_linear_spec.Vectors.{product}
 use Rattle.lra_box.specs.Bounds.{BoundHolds, InInterval, InBounds, times, end_product, end_sum, SumPasses}
 use Rattle.lra_box.specs.Products.{mul_grows, mul_falls}
 use Rattle.lra_box.specs.declared.interval.Side.TheVariants.{Low, High}

@@ -1,7 +1,7 @@
 -- The tables of boxes: what each call makes of the bounds, and when it may be flagged.
 use Rattle.std.specs.Prelude.{ℕ, ◌+◌, ◌*◌, ◌-◌, ℤ, ◌≤ℤ◌, int_lt, cond, List, [], ◌∷◌, ◌++◌, take, replicate, slice_set}
 use Rattle.std.specs.Prelude.{Option, None, Some, ◌⊎◌, slice_index_or}
-use Rattle.lra_linear_forms.specs.Form.{Form}
+use Rattle.lra_box.specs.Crates.lra_linear_forms.Form.{Form}
 use Rattle.lra_domain.specs.Actions.{Action, assign, forget, test, embed, remove_last}
 use Rattle.lra_domain.specs.Bounds.{AtMost, finite, greater, lesser_low, stable}
 use Rattle.lra_domain.specs.declared.Mode.TheVariants.{Join, Widen, Limited, Tightest}

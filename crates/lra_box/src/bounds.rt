@@ -2,8 +2,8 @@
 
 ghost use Rattle.std.specs.Prelude.{◌≡◌, ◌+◌, ◌-◌, pos, neg_ℤ, ◌+ℤ◌, ◌≤ℤ◌, ◌≤◌, ◌<◌, ◌^◌, ◌++◌, All, IfOk, OnErr, OnOk};
 ghost use Rattle.std.specs.Prelude.{IsTrue, ◌↔◌, None, Some, length, map, replicate, slice_set, take, List};
-ghost use Rattle.lra_linear_spec.specs.{Range.InRange, Vectors.product};
-ghost use Rattle.lra_linear_forms.specs.Form.{HoldsAt};
+ghost use Rattle.lra_box.specs.Crates.lra_linear_spec.Vectors.{product};
+ghost use Rattle.lra_box.specs.Crates.{lra_linear_forms.Form.HoldsAt, lra_linear_spec.Range.InRange};
 ghost use Rattle.lra_box.specs.Refine.{ge_tested, tested, RefinePasses, TestPasses};
 ghost use Rattle.lra_box.specs.Tables.{on_bounds, joined_bounds, widened_bounds, grown_bounds, BoundsWithin, admitting};
 ghost use Rattle.lra_box.specs.{Answers.AssignedTo, Answers.TestedTo, Bounds.form, Bounds.full_interval};
@@ -14,9 +14,7 @@ use crate::ends::form_end;
 use crate::interval::{Interval, Side};
 use crate::intervals::{all_within, assign_bounds, count_bounds, join_all, widen_all};
 use crate::refine::{occurs, refine_all};
-use lra_domain::{Exactness, Mode, Rank, worse};
-use lra_linear_forms::{LinExpr, Test};
-use lra_linear_spec::ConKind;
+use lra_domain::{ConKind, Exactness, LinExpr, Mode, Rank, Test, worse};
 use std::alloc::{AllocError, Global};
 
 /// The intervals of a box, or none if it is empty.

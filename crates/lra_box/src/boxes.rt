@@ -13,9 +13,9 @@ use crate::bounds::{
 };
 use crate::interval::Interval;
 use crate::parts::system_of;
-use lra_domain::{BaseDomain, Domain, ExactParts, Exactness, Grown, Included, Mode, Rank};
-use lra_linear_forms::{LinExpr, Test};
-use lra_systems::ConSys;
+use lra_domain::{
+    BaseDomain, ConSys, Domain, ExactParts, Exactness, Grown, Included, LinExpr, Mode, Rank, Test,
+};
 use std::alloc::{AllocError, Global};
 use std::marker::Model;
 

@@ -2,14 +2,12 @@
 
 ghost use Rattle.std.specs.Prelude.{◌≡◌, length, IfSome};
 ghost use Rattle.lra_domain.specs.declared.Exactness.TheVariants.{Exact};
-ghost use Rattle.lra_linear_spec.specs.Range.{InRange};
+ghost use Rattle.lra_box.specs.Crates.lra_linear_spec.Range.{InRange};
 ghost use Rattle.lra_box.specs.Bounds.{times, TimesPasses, end_product, EndProductPasses, end_sum, SumPasses, IsBound};
 ghost use Rattle.lra_box.specs.Ends.{IsEnd, PlusEnd};
 
 use crate::interval::{Interval, Side};
-use lra_domain::Exactness;
-use lra_linear_forms::LinExpr;
-use lra_row::{add, mul};
+use lra_domain::{Exactness, LinExpr, add, mul};
 
 /// A bound, or none, and whether it is none because a number passed the range.
 #[derive(Clone, Copy, Debug, PartialEq, Eq)]

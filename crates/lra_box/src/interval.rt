@@ -1,7 +1,7 @@
 //! Intervals of whole numbers, and the tables of single bounds.
 
 ghost use Rattle.std.specs.Prelude.{◌≡◌, ◌↔◌, IsTrue, IfSome};
-ghost use Rattle.lra_linear_spec.specs.Range.{InRange};
+ghost use Rattle.lra_box.specs.Crates.lra_linear_spec.Range.{InRange};
 ghost use Rattle.lra_box.specs.Tables.{joined_interval, widened_low, IntervalWithin, LowWithin};
 ghost use Rattle.lra_box.specs.{Bounds.crossed, Bounds.EndsInRange, Refine.raised, Refine.lowered, Refine.tightened};
 

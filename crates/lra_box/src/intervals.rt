@@ -1,7 +1,7 @@
 //! Lists of intervals, one for each dimension.
 
 ghost use Rattle.std.specs.Prelude.{◌≡◌, ◌≤◌, ◌<◌, ◌^◌, IfOk, IsTrue, ◌↔◌, Some, length};
-ghost use Rattle.lra_linear_spec.specs.Range.{InRange};
+ghost use Rattle.lra_box.specs.Crates.lra_linear_spec.Range.{InRange};
 ghost use Rattle.lra_box.specs.Tables.{joined_intervals, widened_intervals, IntervalsWithin, finite_bounds};
 ghost use Rattle.lra_box.specs.{Answers.AssignedTo, Bounds.AllValidIntervals, Bounds.form};
 

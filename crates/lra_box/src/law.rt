@@ -1,7 +1,8 @@
 //! A law: the function does nothing, and its contract is the theorem.
 
 ghost use Rattle.std.specs.{List.Contains, Prelude.◌↔◌, Prelude.ℕ, Prelude.ℤ, Prelude.List, Prelude.length};
-ghost use Rattle.lra_linear_spec.specs.{Echelon.IsEchelon, RowOrder.Ascends, RowOrder.inequality_cmp};
+ghost use Rattle.lra_box.specs.Crates.lra_linear_spec.Echelon.{IsEchelon};
+ghost use Rattle.lra_box.specs.Crates.lra_linear_spec.RowOrder.{Ascends, inequality_cmp};
 ghost use Rattle.lra_box.specs.ExactRows.{IsEqualityRow, IsInequalityRow};
 ghost use Rattle.lra_box.specs.{Parts.box_equalities, Parts.box_inequalities, declared.interval.Interval.Interval};
 

@@ -2,14 +2,13 @@
 
 ghost use Rattle.std.specs.Prelude.{◌≡◌, ◌^◌, ◌≤◌, ◌<◌, ◌+◌, ◌++◌, [], All, replicate, length, IfOk, OnOk, IfSome};
 ghost use Rattle.std.specs.Prelude.{if◌then◌else◌};
-ghost use Rattle.lra_linear_spec.specs.Range.{InRange};
-ghost use Rattle.lra_linear_spec.specs.declared.ConKind.TheVariants.{Ge, Eq};
+ghost use Rattle.lra_box.specs.Crates.lra_linear_spec.Range.{InRange};
+ghost use Rattle.lra_box.specs.Crates.lra_linear_spec.declared.ConKind.TheVariants.{Ge, Eq};
 ghost use Rattle.lra_box.specs.Parts.{bound_row, is_single, low_rows, high_rows, box_equalities, box_inequalities};
 ghost use Rattle.lra_box.specs.{Bounds.AllValidIntervals, Bounds.EndsInRange, Parts.box_system};
 
 use crate::interval::Interval;
-use lra_row::Row;
-use lra_systems::{ConKind, ConSys};
+use lra_domain::{ConKind, ConSys, Row};
 use std::alloc::{AllocError, Global};
 
 /// The row `constant + factor * x_k` in `n` dimensions.

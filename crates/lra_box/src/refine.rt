@@ -3,7 +3,7 @@
 ghost use Rattle.std.specs.Prelude.{◌≡◌, ◌≢◌, ◌↔◌, pos, ◌<◌, length, IsTrue, None, Some, All, if◌then◌else◌, ◌+ℤ◌};
 ghost use Rattle.std.specs.Prelude.{◌≤ℤ◌, slice_index_or};
 ghost use Rattle.lra_domain.specs.declared.Exactness.TheVariants.{Exact};
-ghost use Rattle.lra_linear_spec.specs.{Range.InRange, Vectors.product};
+ghost use Rattle.lra_box.specs.Crates.{lra_linear_spec.Range.InRange, lra_linear_spec.Vectors.product};
 ghost use Rattle.lra_box.specs.Refine.{refined, some_occurs, RefinePasses, TightAt};
 ghost use Rattle.lra_box.specs.{Answers.TestedTo, Bounds.AllValidIntervals, Bounds.EndsInRange, Bounds.full_interval};
 

@@ -17,3 +17,5 @@ pub mod OneRefusal
 pub mod OneEnd
 -- Worked examples: whole scripts whose answers are known.
 mod ScriptExamples
+-- The crates below
+pub mod Crates

@@ -2,17 +2,16 @@
 use Rattle.std.proofs.Common.{◌≡◌, ◌<◌, ◌+◌, ℕ, zero, suc, ℤ, pos, negsuc, ◌+ℤ◌, neg_ℤ, ◌*ℤ◌, ◌<ℤ◌, ◌≤ℤ◌, List, [], ◌∷◌, ◌++◌, length, length-append, refl, ap, sym, ◌∙◌, subst, arith}
 use Rattle.std.proofs.lemmas.Int.{ints}
 use Rattle.std.specs.List.{All}
-use Rattle.lra_linear_spec.specs.{Descriptions.LinearRow, LowestTerms.IsPrimitive, Vectors.entry, Vectors.product}
-use Rattle.lra_linear_spec.proofs.{LowestTerms.same_multiple, Ring.mul_nonnegative, Ring.ring, Ring.v, Ring.⊖, Ring.◌⊕◌, Ring.◌⊗◌, Signs.cancel_same, Signs.divide_nonnegative}
+use Rattle.lra_calc.specs.Crates.lra_duality.Inclusions.{Satisfies, Violates, Passes, SatisfiesAll, ViolatesFirst, IsInclusion}
+use Rattle.lra_calc.specs.Crates.lra_duality.Maxima.{StaysInRange, PassesRange, Improves, DoesNotImprove, HasValue, IsAtMost, IsBelow, OfPoint, IsGreatest, IsMaximum}
+use Rattle.lra_calc.specs.Crates.{lra_duality.declared.inclusion.Inclusion.Inclusion, lra_duality.declared.maximum.Maximum.Maximum, lra_linear_spec.Descriptions.LinearRow}
+use Rattle.lra_calc.specs.Crates.{lra_linear_spec.LowestTerms.IsPrimitive, lra_linear_spec.Vectors.entry, lra_linear_spec.Vectors.product}
+use Rattle.lra_calc.proofs.Crates.lra_linear_spec.Ring.{mul_nonnegative, ring, v, ⊖, ◌⊕◌, ◌⊗◌}
+use Rattle.lra_calc.proofs.Crates.lra_linear_spec.Signs.{cancel_same, divide_nonnegative, difference, in_order}
+use Rattle.lra_calc.proofs.Crates.{lra_duality.MaximumLemmas.never_both, lra_linear_spec.LowestTerms.same_multiple, lra_linear_spec.Membership.split_none}
 use Rattle.lra_systems.specs.FirstPlaces.{FirstAt}
-use Rattle.lra_duality.specs.Inclusions.{Satisfies, Violates, Passes, SatisfiesAll, ViolatesFirst, IsInclusion}
-use Rattle.lra_duality.specs.Maxima.{StaysInRange, PassesRange, Improves, DoesNotImprove, HasValue, IsAtMost, IsBelow, OfPoint, IsGreatest, IsMaximum}
-use Rattle.lra_duality.specs.{declared.inclusion.Inclusion.Inclusion, declared.maximum.Maximum.Maximum}
-use Rattle.lra_duality.specs.declared.inclusion.Inclusion.TheVariants as inclusion
-use Rattle.lra_duality.specs.declared.maximum.Maximum.TheVariants as maximum
-use Rattle.lra_linear_spec.proofs.Signs.{difference, in_order}
-use Rattle.lra_linear_spec.proofs.Membership.{split_none}
-use Rattle.lra_duality.proofs.MaximumLemmas.{never_both}
+use Rattle.lra_calc.specs.Crates.lra_duality.declared.inclusion.Inclusion.TheVariants as inclusion
+use Rattle.lra_calc.specs.Crates.lra_duality.declared.maximum.Maximum.TheVariants as maximum
 use Rattle.lra_calc.specs.Views.{IsPlacedInclusion, IsPlacedMaximum}
 use Rattle.lra_calc.proofs.MakingLemmas.{all_tail}
 

@@ -1,18 +1,18 @@
 -- A script that isn't flagged has one end: each of its sets is then made exactly, by its one pair of canonical lists.
 use Rattle.std.proofs.Common.{◌≡◌, ◌+◌, ℕ, suc, Bool, true, false, List, [], ◌∷◌, length, map, refl, ap, sym, ◌∙◌, subst, ◌⊎◌, inl, inr, Option, Some, None, Result, Ok, Err}
-use Rattle.lra_linear_spec.specs.OperationStrain.{FromRowsStrains, FromGeneratorsStrains, ForgetStrains, StandardStrains, LimitedStrains}
-use Rattle.lra_linear_spec.specs.{Descriptions.Con as points_of, Descriptions.Gen as generated_by, Points.PointSet, Polyhedra.Polyhedron, Strain.Loss}
-use Rattle.lra_linear_spec.specs.SetOperations as sets
-use Rattle.lra_linear_spec.proofs.Polyhedra.{polyhedron_unique}
+use Rattle.lra_calc.specs.Crates.lra_linear_spec.OperationStrain.{FromRowsStrains, FromGeneratorsStrains, ForgetStrains, StandardStrains, LimitedStrains}
+use Rattle.lra_calc.specs.Crates.{lra_duality.Inclusions.IsInclusion, lra_duality.Maxima.IsMaximum, lra_duality.declared.inclusion.Inclusion.Inclusion, lra_linear_spec.Descriptions.Con as points_of}
+use Rattle.lra_calc.specs.Crates.{lra_linear_spec.Descriptions.Gen as generated_by, lra_linear_spec.Points.PointSet, lra_linear_spec.Polyhedra.Polyhedron, lra_linear_spec.Strain.Loss}
+use Rattle.lra_calc.specs.Crates.lra_linear_spec.SetOperations as sets
+use Rattle.lra_calc.proofs.Crates.lra_linear_spec.Polyhedra.{polyhedron_unique}
 use Rattle.lra_script.specs.LineForms.{row_of_generator, Line, Dims, Make, Ask, Recipe, Con, Gen, Combine, Widen, Limited, Map, Forget, Question, Show, Holds, Include, Maximise, line_of}
 use Rattle.lra_script.specs.ScriptText.{is_skipped, words}
-use Rattle.lra_duality.specs.{Inclusions.IsInclusion, Maxima.IsMaximum, declared.inclusion.Inclusion.Inclusion}
 use Rattle.lra_calc.specs.MadeSets.{IsMadeOf, IsMadeOfRows, IsMadeOfGenerators, combined_sets, CombiningStrains, IsCombined, mapped_set, MappingStrains, IsMapped, IsForgotten, IsWidened, IsLimited}
 use Rattle.lra_calc.specs.Script.{Fault, Session, flagged_by, Unless, WithSet, wrong_row, wrong_generator, wrong_coordinate, wrong_width, Made, MakesSet, WidenedBy, Widens, MadeBy, Answer, Answers}
 use Rattle.lra_calc.specs.Script.{shown, held, AnswerTo, made_as, printed_by, session_after, AfterLine, AfterForm, End, GoesOn, Performs, CarriesOut, stopped, last_session, IsUnflagged, AgreesWith}
 use Rattle.lra_calc.specs.{MadeSets.IsAllFlagged, ShownSets.include_text, ShownSets.is_wide_inclusion, ShownSets.maximise_text, ShownSets.is_wide_maximum}
-use Rattle.lra_linear_spec.specs.Widening as widening
-use Rattle.lra_duality.specs.declared.inclusion.Inclusion.TheVariants as inclusion
+use Rattle.lra_calc.specs.Crates.lra_linear_spec.Widening as widening
+use Rattle.lra_calc.specs.Crates.lra_duality.declared.inclusion.Inclusion.TheVariants as inclusion
 use Rattle.lra_calc.proofs.OneAnswer.{one_inclusion, one_maximum}
 use Rattle.lra_calc.proofs.OneRefusal.{AlikeResults, agrees_by, alike_by, alike_refl, line_alike_by, skip_alike, skip_told, WideningsAgree}
 

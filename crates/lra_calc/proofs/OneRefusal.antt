@@ -4,9 +4,9 @@ use Rattle.std.proofs.Common.{◌≡◌, ◌+◌, ℕ, suc, Bool, true, false, c
 use Rattle.std.proofs.Common.{Ok, Err}
 use Rattle.std.specs.{List.All, Prelude.is_some, Prelude.IfSome}
 use Rattle.lra_base.specs.Places.{greatest_length}
-use Rattle.lra_linear_spec.specs.{Descriptions.LinearRow, Polyhedra.Polyhedron}
-use Rattle.lra_duality.specs.{Inclusions.IsInclusion, Maxima.IsMaximum, declared.inclusion.Inclusion.Inclusion}
-use Rattle.lra_duality.specs.declared.inclusion.Inclusion.TheVariants as inclusion
+use Rattle.lra_calc.specs.Crates.lra_duality.Inclusions.{IsInclusion}
+use Rattle.lra_calc.specs.Crates.{lra_duality.Maxima.IsMaximum, lra_duality.declared.inclusion.Inclusion.Inclusion, lra_linear_spec.Descriptions.LinearRow, lra_linear_spec.Polyhedra.Polyhedron}
+use Rattle.lra_calc.specs.Crates.lra_duality.declared.inclusion.Inclusion.TheVariants as inclusion
 use Rattle.lra_script.specs.LineForms.{Generator, Line, Dims, Make, Ask, Recipe, Con, Gen, Combine, Widen, Limited, Map, Forget, Question, Show, Holds, Include, Maximise, line_of, row_of_generator}
 use Rattle.lra_script.specs.ScriptText.{is_skipped, words, lines}
 use Rattle.lra_calc.specs.MadeSets.{IsMadeOfRows, IsMadeOfGenerators, IsCombined, IsMapped, IsForgotten}

@@ -1,9 +1,9 @@
 -- Lines and scripts whose answers are known. Which slip an example would catch stands beside it.
 use Rattle.std.proofs.Common.{◌≡◌, ℕ, pos, negsuc, List, [], ◌∷◌, refl, inl, None, Result, Ok, Err, true, false}
 use Rattle.std.specs.{Fmt.digits, List.flat_map, Prelude.codes}
-use Rattle.lra_linear_spec.specs.Descriptions.{LinearRow, inequality, equality, generator, line, Con as points_of}
-use Rattle.lra_linear_spec.specs.{Points.IsWithin, Polyhedra.Polyhedron, Polyhedra.falsity, Representable.IsRepresentable}
-use Rattle.lra_linear_spec.proofs.{SpellingExamples.quadrant, SpellingExamples.plain_is_quadrant, StrainExamples.third_row_strains}
+use Rattle.lra_calc.specs.Crates.lra_linear_spec.Descriptions.{LinearRow, inequality, equality, generator, line, Con as points_of}
+use Rattle.lra_calc.specs.Crates.{lra_linear_spec.Points.IsWithin, lra_linear_spec.Polyhedra.Polyhedron, lra_linear_spec.Polyhedra.falsity, lra_linear_spec.Representable.IsRepresentable}
+use Rattle.lra_calc.proofs.Crates.{lra_linear_spec.SpellingExamples.quadrant, lra_linear_spec.SpellingExamples.plain_is_quadrant, lra_linear_spec.StrainExamples.third_row_strains}
 use Rattle.lra_base.specs.Places.{greatest_length}
 use Rattle.lra_row_text.specs.Texts.{text_line}
 use Rattle.lra_script.specs.ScriptText.{lines}

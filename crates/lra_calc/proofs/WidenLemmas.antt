@@ -1,8 +1,10 @@
 -- What is answered of widenings: the set that is made, with all points where the inclusion is wide, or the generator outside.
 use Rattle.std.proofs.Common.{◌≡◌, ◌∙◌, inl, inr, ℕ, Bool, true, List, [], length, refl, ap, sym, subst, Some, None, Result, Ok, Err}
-use Rattle.lra_linear_spec.specs.{Descriptions.LinearRow, Descriptions.Con as points_of, Points.PointSet, Polyhedra.Polyhedron, Polyhedra.IsPolyhedronOf, Representable.IsRepresentable, Strain.Loss}
-use Rattle.lra_poly.specs.{Outcomes.Becomes, Outcomes.IfExact, declared.outcome.Outcome.Outcome, declared.outcome.Outcome.TheVariants.Exact, declared.outcome.Outcome.TheVariants.Flagged}
-use Rattle.lra_duality.specs.declared.inclusion.Inclusion.TheVariants as inclusion
+use Rattle.lra_calc.specs.Crates.lra_linear_spec.Descriptions.{LinearRow, Con as points_of}
+use Rattle.lra_calc.specs.Crates.lra_linear_spec.Polyhedra.{Polyhedron, IsPolyhedronOf}
+use Rattle.lra_calc.specs.Crates.{lra_linear_spec.Points.PointSet, lra_linear_spec.Representable.IsRepresentable, lra_linear_spec.Strain.Loss, lra_poly.Outcomes.Becomes, lra_poly.Outcomes.IfExact}
+use Rattle.lra_calc.specs.Crates.{lra_poly.declared.outcome.Outcome.Outcome, lra_poly.declared.outcome.Outcome.TheVariants.Exact, lra_poly.declared.outcome.Outcome.TheVariants.Flagged}
+use Rattle.lra_calc.specs.Crates.lra_duality.declared.inclusion.Inclusion.TheVariants as inclusion
 use Rattle.lra_poly_widening.specs.{Widenings.IsRefusal, Widenings.LiesOrIsGivenUp, declared.error.WidenError.WidenError}
 use Rattle.lra_poly_widening.specs.declared.error.WidenError.TheVariants as widen_error
 use Rattle.lra_script.specs.LineForms as form

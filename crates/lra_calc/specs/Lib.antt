@@ -3,3 +3,5 @@ pub mod ShownSets
 pub mod MadeSets
 pub mod Script
 pub mod Views
+-- The crates below
+pub mod Crates

@@ -1,14 +1,16 @@
 -- The sets that lines make: without a flag by the canonical lists of exactly the points that the line reports. A
 -- flagged one may have further points, and there what was given exceeds a limit.
 use Rattle.std.specs.Prelude.{◌≡◌, ℕ, ℤ, Bool, true, false, List, []}
-use Rattle.lra_linear_spec.specs.Descriptions.{LinearRow, Con as points_of, Gen as generated_by}
-use Rattle.lra_linear_spec.specs.OperationStrain.{FromRowsStrains, FromGeneratorsStrains, MeetStrains, HullStrains}
-use Rattle.lra_linear_spec.specs.OperationStrain.{TimeElapseStrains, ImageStrains, PreimageStrains, ForgetStrains}
-use Rattle.lra_linear_spec.specs.OperationStrain.{StandardStrains, LimitedStrains}
-use Rattle.lra_linear_spec.specs.Polyhedra.{Polyhedron, IsPolyhedronOf}
-use Rattle.lra_linear_spec.specs.{Points.PointSet, Points.IsWithin, Representable.IsRepresentable, Strain.Loss}
-use Rattle.lra_linear_spec.specs.SetOperations as sets
-use Rattle.lra_linear_spec.specs.Widening as widening
+use Rattle.lra_calc.specs.Crates.lra_linear_spec.Descriptions.{LinearRow, Con as points_of, Gen as generated_by}
+use Rattle.lra_calc.specs.Crates.lra_linear_spec.OperationStrain.{FromRowsStrains, FromGeneratorsStrains, MeetStrains}
+use Rattle.lra_calc.specs.Crates.lra_linear_spec.OperationStrain.{HullStrains, TimeElapseStrains, ImageStrains}
+use Rattle.lra_calc.specs.Crates.lra_linear_spec.OperationStrain.{PreimageStrains, ForgetStrains, StandardStrains}
+use Rattle.lra_calc.specs.Crates.lra_linear_spec.OperationStrain.{LimitedStrains}
+use Rattle.lra_calc.specs.Crates.lra_linear_spec.Points.{PointSet, IsWithin}
+use Rattle.lra_calc.specs.Crates.lra_linear_spec.Polyhedra.{Polyhedron, IsPolyhedronOf}
+use Rattle.lra_calc.specs.Crates.{lra_linear_spec.Representable.IsRepresentable, lra_linear_spec.Strain.Loss}
+use Rattle.lra_calc.specs.Crates.lra_linear_spec.SetOperations as sets
+use Rattle.lra_calc.specs.Crates.lra_linear_spec.Widening as widening
 use Rattle.lra_script.specs.declared.recipes.Combination.TheVariants.{Meet, Hull, Elapse}
 use Rattle.lra_script.specs.declared.recipes.Mapping.TheVariants.{Image, Preimage}
 use Rattle.lra_script.specs.{declared.recipes.Combination.Combination, declared.recipes.Mapping.Mapping}

@@ -5,13 +5,15 @@
 use Rattle.std.specs.Prelude.{◌≡◌, ◌+◌, ℕ, suc, ℤ, pos, negsuc, Bool, true, false, ◌&&◌, nat_eq, nat_lt, nat_le, List}
 use Rattle.std.specs.Prelude.{[], ◌∷◌, ◌++◌, length, take, map, codes, bytes_eq, if◌then◌else◌, Option, Some, None}
 use Rattle.std.specs.{Fmt.decimal, List.All, Map.update, Prelude.Result, Prelude.Ok, Prelude.Err}
-use Rattle.lra_linear_spec.specs.CheckedArithmetic.{checked_product}
-use Rattle.lra_linear_spec.specs.Descriptions.{LinearRow, Con as points_of}
-use Rattle.lra_linear_spec.specs.{Polyhedra.Polyhedron, declared.Excess.Excess, declared.GenKind.GenKind}
-use Rattle.lra_linear_spec.specs.declared.GenKind.TheVariants as gen
+use Rattle.lra_calc.specs.Crates.lra_duality.Inclusions.{IsInclusion}
+use Rattle.lra_calc.specs.Crates.lra_linear_spec.CheckedArithmetic.{checked_product}
+use Rattle.lra_calc.specs.Crates.lra_linear_spec.Descriptions.{LinearRow, Con as points_of}
+use Rattle.lra_calc.specs.Crates.lra_linear_spec.Polyhedra.{Polyhedron}
+use Rattle.lra_calc.specs.Crates.{lra_duality.Maxima.IsMaximum, lra_duality.declared.inclusion.Inclusion.Inclusion}
+use Rattle.lra_calc.specs.Crates.{lra_linear_spec.declared.Excess.Excess, lra_linear_spec.declared.GenKind.GenKind}
+use Rattle.lra_calc.specs.Crates.lra_linear_spec.declared.GenKind.TheVariants as gen
 use Rattle.lra_systems.specs.{FirstPlaces.FirstAt, Membership.HoldsInRange, Membership.IsWide}
-use Rattle.lra_duality.specs.{Inclusions.IsInclusion, Maxima.IsMaximum, declared.inclusion.Inclusion.Inclusion}
-use Rattle.lra_duality.specs.declared.inclusion.Inclusion.TheVariants as inclusion
+use Rattle.lra_calc.specs.Crates.lra_duality.declared.inclusion.Inclusion.TheVariants as inclusion
 use Rattle.lra_base.specs.{Places.place_after, Places.greatest_length, declared.refusals.Place.Place}
 use Rattle.lra_row_text.specs.Texts.{text_line}
 use Rattle.lra_script.specs.LineForms.{Generator, row_of_generator, line_of, Line, Dims, Make, Ask, Recipe, Con, Gen}

@@ -2,12 +2,13 @@
 -- orders. The variables are x1, x2 and on.
 use Rattle.std.specs.Prelude.{ℕ, zero, suc, ◌+◌, ℤ, nat_abs, Bool, true, false, List, [], ◌∷◌, ◌++◌, map, codes, get_or}
 use Rattle.std.specs.{Fmt.decimal, Prelude.Option, Prelude.Some, Prelude.None}
-use Rattle.lra_linear_spec.specs.{Descriptions.LinearRow, Descriptions.line, Polyhedra.Polyhedron}
+use Rattle.lra_calc.specs.Crates.lra_linear_spec.Descriptions.{LinearRow, line}
+use Rattle.lra_calc.specs.Crates.{lra_duality.declared.inclusion.Inclusion.Inclusion}
+use Rattle.lra_calc.specs.Crates.{lra_duality.declared.maximum.Maximum.Maximum, lra_linear_spec.Polyhedra.Polyhedron}
 use Rattle.lra_row_text.specs.Texts.{text_line, part_text, generator_text, fraction_text}
 use Rattle.lra_row_text.specs.{Part.Part, ShownDescriptions.shown_constraint, ShownDescriptions.shown_generator}
-use Rattle.lra_duality.specs.{declared.inclusion.Inclusion.Inclusion, declared.maximum.Maximum.Maximum}
-use Rattle.lra_duality.specs.declared.inclusion.Inclusion.TheVariants as inclusion
-use Rattle.lra_duality.specs.declared.maximum.Maximum.TheVariants as maximum
+use Rattle.lra_calc.specs.Crates.lra_duality.declared.inclusion.Inclusion.TheVariants as inclusion
+use Rattle.lra_calc.specs.Crates.lra_duality.declared.maximum.Maximum.TheVariants as maximum
 
 -- so many, from this number on
 abbrev pub variables_from : ℕ → ℕ → List (List ℕ)

@@ -2,14 +2,14 @@
 use Rattle.std.specs.Prelude.{◌≡◌, ◌≤◌, ◌<◌, ℕ, ◌+◌, pos, ◌<ℤ◌, Bool, true, false, List, ◌∷◌, Option, Some, None}
 use Rattle.std.specs.Prelude.{option_map, Result, Ok, Err, Vec, IfSome, string_bytes}
 use Rattle.std.specs.{BTreeMap.get_by_text, declared.alloc.Global.Global}
-use Rattle.lra_linear_spec.specs.Polyhedra.{Polyhedron}
+use Rattle.lra_calc.specs.Crates.{lra_duality.declared.inclusion.Inclusion.Inclusion}
+use Rattle.lra_calc.specs.Crates.{lra_duality.declared.maximum.Maximum.Maximum, lra_linear_spec.Polyhedra.Polyhedron}
+use Rattle.lra_calc.specs.Crates.{lra_poly.declared.outcome.Outcome.Outcome}
 use Rattle.lra_systems.specs.declared.membership.MembershipAnswer as H
 use Rattle.lra_systems.specs.declared.membership.MembershipAnswer.TheVariants as holds
-use Rattle.lra_poly.specs.declared.outcome.Outcome.{Outcome}
-use Rattle.lra_poly.specs.declared.outcome.Outcome.TheVariants as outcome
-use Rattle.lra_duality.specs.{declared.inclusion.Inclusion.Inclusion, declared.maximum.Maximum.Maximum}
-use Rattle.lra_duality.specs.declared.inclusion.Inclusion.TheVariants as inclusion
-use Rattle.lra_duality.specs.declared.maximum.Maximum.TheVariants as maximum
+use Rattle.lra_calc.specs.Crates.lra_poly.declared.outcome.Outcome.TheVariants as outcome
+use Rattle.lra_calc.specs.Crates.lra_duality.declared.inclusion.Inclusion.TheVariants as inclusion
+use Rattle.lra_calc.specs.Crates.lra_duality.declared.maximum.Maximum.TheVariants as maximum
 use Rattle.lra_poly_widening.specs.declared.error.WidenError.{WidenError}
 use Rattle.lra_poly_widening.specs.declared.error.WidenError.TheVariants as widen_error
 use Rattle.lra_script.specs.LineForms.{greatest_dims}

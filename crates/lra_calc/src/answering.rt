@@ -4,7 +4,7 @@ ghost use Rattle.std.specs.Prelude.{◌≡◌, ◌≤◌, ◌<◌, ◌<ℤ◌, �
 ghost use Rattle.std.specs.Prelude.{ℕ, ℤ};
 ghost use Rattle.lra_row_text.specs.Texts.{text_line};
 ghost use Rattle.lra_systems.specs.LinearSystems.{constraints as constraints_of};
-ghost use Rattle.lra_duality.specs.{Inclusions.IsInclusion, Maxima.IsMaximum};
+ghost use Rattle.lra_calc.specs.Crates.{lra_duality.Inclusions.IsInclusion, lra_duality.Maxima.IsMaximum};
 ghost use Rattle.lra_script.specs.{LineForms.greatest_dims, Views.HasDivisor};
 ghost use Rattle.lra_calc.specs.ShownSets as shown;
 ghost use Rattle.lra_calc.specs.Script as script;
@@ -12,8 +12,7 @@ ghost use Rattle.lra_calc.specs.Views.{answer_of, answered, IsPlacedInclusion, I
 
 use crate::making::form_of;
 use crate::showing::{fraction, generator_at, push_polyhedron};
-use lra_duality::{Inclusion, Maximum};
-use lra_poly::Poly;
+use lra_poly_widening::{Inclusion, Maximum, Poly};
 use lra_systems::{ConSys, MembershipAnswer};
 use std::alloc::{AllocError, Global};
 use std::fmt::Write;

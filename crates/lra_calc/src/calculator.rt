@@ -2,11 +2,12 @@
 
 ghost use Rattle.std.specs.Prelude.{List, ℕ, suc, ℤ, Result, None, ◌≡◌, ◌<◌, ◌^◌, ◌++◌, length, map, Some};
 ghost use Rattle.std.specs.Prelude.{string_bytes, IfOk, IfSome, OnOk, option_map};
-ghost use Rattle.lra_linear_spec.specs.Polyhedra.{Polyhedron, IsPolyhedron};
-ghost use Rattle.lra_linear_spec.specs.{Descriptions.Con, Descriptions.Gen, Points.SameSet};
-ghost use Rattle.lra_duality.specs.Inclusions.{IsInclusion, TellsInclusion};
-ghost use Rattle.lra_duality.specs.Maxima.{IsMaximum, TellsMaximum};
-ghost use Rattle.lra_duality.specs.{declared.inclusion.Inclusion.Inclusion, declared.maximum.Maximum.Maximum};
+ghost use Rattle.lra_calc.specs.Crates.lra_duality.Inclusions.{IsInclusion, TellsInclusion};
+ghost use Rattle.lra_calc.specs.Crates.lra_duality.Maxima.{IsMaximum, TellsMaximum};
+ghost use Rattle.lra_calc.specs.Crates.lra_duality.declared.inclusion.Inclusion.{Inclusion};
+ghost use Rattle.lra_calc.specs.Crates.lra_linear_spec.Descriptions.{Con, Gen};
+ghost use Rattle.lra_calc.specs.Crates.lra_linear_spec.Polyhedra.{Polyhedron, IsPolyhedron};
+ghost use Rattle.lra_calc.specs.Crates.{lra_duality.declared.maximum.Maximum.Maximum, lra_linear_spec.Points.SameSet};
 ghost use Rattle.lra_script.specs.ScriptText as text;
 ghost use Rattle.lra_script.specs.LineForms as form;
 ghost use Rattle.lra_calc.specs.Script as spec;

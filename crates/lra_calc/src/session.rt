@@ -16,7 +16,7 @@ use crate::making::{
 };
 use crate::refusal::{Fault, LineError};
 use crate::widening::{limit, widen};
-use lra_poly::Poly;
+use lra_poly_widening::Poly;
 use lra_script::{Combination, Constraint, Generator, Line, Mapping, Question, Recipe};
 use std::alloc::{AllocError, Global};
 use std::collections::BTreeMap;

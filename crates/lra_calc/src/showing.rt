@@ -5,7 +5,7 @@ ghost use Rattle.lra_row_text.specs.Texts.{fraction_text};
 ghost use Rattle.lra_script.specs.LineForms.{greatest_dims};
 ghost use Rattle.lra_calc.specs.ShownSets as shown;
 
-use lra_poly::Poly;
+use lra_poly_widening::Poly;
 use lra_row_text::{Names, generator_text, push_fraction, push_generators, push_rows};
 use std::alloc::{AllocError, Global};
 use std::fmt::Write;

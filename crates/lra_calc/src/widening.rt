@@ -9,8 +9,7 @@ ghost use Rattle.lra_calc.specs.Views.{made_of, Gives, NamesOutside, IsPlacedRef
 use crate::making::{Made, constraints_of_rows, make_with};
 use crate::refusal::{Fault, LineError};
 use crate::showing::generator_at;
-use lra_poly::Poly;
-use lra_poly_widening::{WidenError, limited, standard};
+use lra_poly_widening::{Poly, WidenError, limited, standard};
 use lra_script::Constraint;
 use std::alloc::Global;
 

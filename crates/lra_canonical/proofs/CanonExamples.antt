@@ -2,10 +2,12 @@
 use Rattle.std.proofs.Common.{◌≡◌, ◌↔◌, ℕ, zero, suc, ◌<◌, ◌^◌, ◌-◌, true, false, List, [], ◌∷◌, length, get_or, refl, ap, sym, ◌∙◌, subst, pos, negsuc, ℤ, ◌+ℤ◌, ◌*ℤ◌, ◌≤ℤ◌, Ok, arith, inl, inr}
 use Rattle.std.proofs.{Common.true≢false, lemmas.Int.ints, lemmas.List.Elements.All-cons}
 use Rattle.std.specs.{List.Contains, declared.cmp.Ordering.TheVariants.Less}
-use Rattle.lra_linear_spec.specs.Descriptions.{LinearRow, Gen, generator}
-use Rattle.lra_linear_spec.specs.{Echelon.Before, LowestTerms.IsPrimitive, Reduction.checked_clearing, Vectors.entry, Vectors.product, declared.Operation.TheVariants.Product}
-use Rattle.lra_linear_spec.proofs.Membership.{contains_cases, contains_head, contains_none, contains_tail, each_two}
-use Rattle.lra_linear_spec.proofs.{Descriptions.gen_generated, LinearMaps.generated_nonneg, LowestTerms.primitive_at, Ring.ring, Ring.v, Ring.◌⊕◌, Ring.◌⊗◌, Signs.as_nat}
+use Rattle.lra_canonical.specs.Crates.lra_linear_spec.Descriptions.{LinearRow, Gen, generator}
+use Rattle.lra_canonical.specs.Crates.{lra_linear_spec.Echelon.Before, lra_linear_spec.LowestTerms.IsPrimitive, lra_linear_spec.Reduction.checked_clearing, lra_linear_spec.Vectors.entry}
+use Rattle.lra_canonical.specs.Crates.{lra_linear_spec.Vectors.product, lra_linear_spec.declared.Operation.TheVariants.Product}
+use Rattle.lra_canonical.proofs.Crates.lra_linear_spec.Membership.{contains_cases, contains_head, contains_none, contains_tail, each_two}
+use Rattle.lra_canonical.proofs.Crates.lra_linear_spec.Ring.{ring, v, ◌⊕◌, ◌⊗◌}
+use Rattle.lra_canonical.proofs.Crates.{lra_linear_spec.Descriptions.gen_generated, lra_linear_spec.LinearMaps.generated_nonneg, lra_linear_spec.LowestTerms.primitive_at, lra_linear_spec.Signs.as_nat}
 use Rattle.lra_bits.specs.{Matrix.Matrix, TruthValues.value_at}
 use Rattle.lra_canonical.specs.declared.order.Order.TheVariants.{Inequalities, Generators, Pivots}
 use Rattle.lra_canonical.specs.{Echelons.HaveOneWidth, Irredundant.IsSaturation, Irredundant.Solutions, Ordered.cmp_by, Reduced.IsEchelonForm, Reduced.FirstPassing}

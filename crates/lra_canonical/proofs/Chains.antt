@@ -3,11 +3,14 @@ use Rattle.std.proofs.Common.{◌≡◌, ◌≢◌, ℕ, zero, suc, ◌+◌, ◌
 use Rattle.std.proofs.{Common.length-append, Common.FitsSigned, Common.of_z, Common.to_z, Common.take, Common.drop, lemmas.Bool.cases_lt, lemmas.Int.ints, lemmas.Int.to_z-of_z, lemmas.List.take_more}
 use Rattle.std.proofs.{lemmas.List.take_all, lemmas.List.Elements.Contains-append_left, lemmas.List.Elements.Contains-append_right}
 use Rattle.std.specs.{Int.w128, List.All, List.Contains}
-use Rattle.lra_linear_spec.specs.declared.Excess as E
-use Rattle.lra_linear_spec.specs.{CheckedArithmetic.checked_blend, Echelon.pivot, LowestTerms.IsLowest, Reduction.ClearingStep, Reduction.ReducesAlong, Reduction.ReductionPasses, Vectors.entry}
-use Rattle.lra_linear_spec.proofs.Signs.{as_nat, no_product, positive_is_nonnegative, positive_nat}
-use Rattle.lra_linear_spec.proofs.{CheckedArithmetic.checked_blend_is, Membership.contains_head, Membership.contains_tail, Pivots.echelon_positive, Pivots.echelon_apart_at, Products.entry_blend}
-use Rattle.lra_linear_spec.proofs.{Products.blend_length, Ring.ring, Ring.v, Ring.⊖, Ring.◌⊕◌, Ring.◌⊗◌, Spans.spanned_linear, Spans.spanned_row, Spans.spanned_zero}
+use Rattle.lra_canonical.specs.Crates.lra_linear_spec.declared.Excess as E
+use Rattle.lra_canonical.specs.Crates.lra_linear_spec.Reduction.{ClearingStep, ReducesAlong, ReductionPasses}
+use Rattle.lra_canonical.specs.Crates.{lra_linear_spec.CheckedArithmetic.checked_blend, lra_linear_spec.Echelon.pivot, lra_linear_spec.LowestTerms.IsLowest, lra_linear_spec.Vectors.entry}
+use Rattle.lra_canonical.proofs.Crates.lra_linear_spec.Ring.{ring, v, ⊖, ◌⊕◌, ◌⊗◌}
+use Rattle.lra_canonical.proofs.Crates.lra_linear_spec.Signs.{as_nat, no_product, positive_is_nonnegative, positive_nat}
+use Rattle.lra_canonical.proofs.Crates.lra_linear_spec.Spans.{spanned_linear, spanned_row, spanned_zero}
+use Rattle.lra_canonical.proofs.Crates.{lra_linear_spec.CheckedArithmetic.checked_blend_is, lra_linear_spec.Membership.contains_head, lra_linear_spec.Membership.contains_tail}
+use Rattle.lra_canonical.proofs.Crates.{lra_linear_spec.Pivots.echelon_positive, lra_linear_spec.Pivots.echelon_apart_at, lra_linear_spec.Products.entry_blend, lra_linear_spec.Products.blend_length}
 use Rattle.lra_row.specs.{Rows.IsExcessOf, declared.error.RowError.RowError, declared.error.RowError.TheVariants.Excess, declared.error.RowError.TheVariants.Memory}
 use Rattle.lra_canonical.specs.Reduced.{IsEchelonForm, IsAlong, IsReducedBy, IsCleared, IsClearingExcess, Clears, FirstPassing, IsChainEnd, IsFirstExcess, IsReductionExcess}
 

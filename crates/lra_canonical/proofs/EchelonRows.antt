@@ -4,12 +4,16 @@ use Rattle.std.proofs.Common.{◌≡◌, ℕ, ◌+◌, ◌<◌, List, [], ◌∷
 use Rattle.std.proofs.lemmas.List.Elements.{All-contains, Contains-append_cases, Contains-append_left, Contains-append_right}
 use Rattle.std.proofs.{Common.None, lemmas.Int.ints, lemmas.List.take_more, lemmas.List.take_all}
 use Rattle.std.specs.List.{Contains}
-use Rattle.lra_linear_spec.specs.Echelon.{IsEchelon, IsEchelonOf, Spanned, pivot}
-use Rattle.lra_linear_spec.specs.{Cones.both_ways, LowestTerms.IsPrimitive, Vectors.blend, Vectors.entry, Vectors.product, Vectors.signed_sum}
-use Rattle.lra_linear_spec.proofs.Spans.{echelon_rows_at_most, echelon_unique, spanned_divided, spanned_head, spanned_linear, spanned_more, spanned_row, spanned_same, spanned_through}
-use Rattle.lra_linear_spec.proofs.{EchelonExtension.ClearedRows, EchelonExtension.cleared_exist, FlatRows.member_primitive, FlatRows.signed_primitive, Lines.described_generated, Membership.all_from}
-use Rattle.lra_linear_spec.proofs.{Membership.contains_cases, Membership.contains_head, Membership.contains_none, Membership.contains_tail, Pivots.echelon_apart, Pivots.echelon_positive}
-use Rattle.lra_linear_spec.proofs.{Products.entry_blend, Products.entry_negated, Products.product_comm, Ring.ring, Ring.v, Ring.⊖, Ring.◌⊕◌, Ring.◌⊗◌, Signs.not_both, Signs.zero_at_least}
+use Rattle.lra_canonical.specs.Crates.lra_linear_spec.Echelon.{IsEchelon, IsEchelonOf, Spanned, pivot}
+use Rattle.lra_canonical.specs.Crates.lra_linear_spec.Vectors.{blend, entry, product, signed_sum}
+use Rattle.lra_canonical.specs.Crates.{lra_linear_spec.Cones.both_ways, lra_linear_spec.LowestTerms.IsPrimitive}
+use Rattle.lra_canonical.proofs.Crates.lra_linear_spec.Membership.{all_from, contains_cases, contains_head, contains_none, contains_tail}
+use Rattle.lra_canonical.proofs.Crates.lra_linear_spec.Products.{entry_blend, entry_negated, product_comm}
+use Rattle.lra_canonical.proofs.Crates.lra_linear_spec.Ring.{ring, v, ⊖, ◌⊕◌, ◌⊗◌}
+use Rattle.lra_canonical.proofs.Crates.lra_linear_spec.Spans.{echelon_rows_at_most, echelon_unique, spanned_divided, spanned_head, spanned_linear, spanned_more, spanned_row, spanned_same}
+use Rattle.lra_canonical.proofs.Crates.{lra_linear_spec.EchelonExtension.ClearedRows, lra_linear_spec.EchelonExtension.cleared_exist, lra_linear_spec.FlatRows.member_primitive}
+use Rattle.lra_canonical.proofs.Crates.{lra_linear_spec.FlatRows.signed_primitive, lra_linear_spec.Lines.described_generated, lra_linear_spec.Pivots.echelon_apart}
+use Rattle.lra_canonical.proofs.Crates.{lra_linear_spec.Pivots.echelon_positive, lra_linear_spec.Signs.not_both, lra_linear_spec.Signs.zero_at_least, lra_linear_spec.Spans.spanned_through}
 use Rattle.lra_row.specs.{declared.error.RowError.RowError, declared.error.RowError.TheVariants.Excess, declared.error.RowError.TheVariants.Memory}
 use Rattle.lra_canonical.specs.Echelons.{SameEqualities, HaveWidth, IsOneForm, AreCleared, IsDirected, IsPlaced, IsInserted, IsExtended, IsExtensionExcess, Extends, IsFirstRowExcess, IsEchelonExcess}
 use Rattle.lra_canonical.specs.Reduced.{IsEchelonForm, SolvesAll, IsAlong, IsCleared, IsReducedBy}

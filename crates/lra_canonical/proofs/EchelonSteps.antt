@@ -4,8 +4,8 @@ use Rattle.std.proofs.Common.{Some, FitsSigned, of_z, to_z}
 use Rattle.std.proofs.{lemmas.Int.ints, lemmas.Int.to_z-of_z, lemmas.List.take_more, lemmas.List.get_or-take, lemmas.List.get_or-drop, lemmas.List.length-take-le, lemmas.List.length-drop}
 use borrow.Author.Tests.{ltb-false}
 use Rattle.std.specs.{Int.w128, Int.Signed.lt_z}
-use Rattle.lra_linear_spec.specs.{Echelon.Before, Echelon.pivot, Vectors.entry, Vectors.negated}
-use Rattle.lra_linear_spec.proofs.Products.{negated_length}
+use Rattle.lra_canonical.specs.Crates.{lra_linear_spec.Echelon.Before, lra_linear_spec.Echelon.pivot, lra_linear_spec.Vectors.entry, lra_linear_spec.Vectors.negated}
+use Rattle.lra_canonical.proofs.Crates.lra_linear_spec.Products.{negated_length}
 use Rattle.lra_row.specs.{declared.error.RowError.RowError, declared.error.RowError.TheVariants.Excess, declared.error.RowError.TheVariants.Memory}
 use Rattle.lra_canonical.specs.Echelons.{IsDirected, AreCleared, IsClearedExcess, StartsAfter, IsPlaced, IsInserted, InsertionPasses, IsInsertionExcess, IsExtended, IsExtensionExcess}
 use Rattle.lra_canonical.specs.Reduced.{IsCleared, IsClearingExcess, IsReducedBy, IsChainEnd, IsFirstExcess}

@@ -2,11 +2,13 @@
 use Rattle.std.proofs.Common.{◌≡◌, ◌≢◌, ℕ, zero, suc, ◌+◌, ◌<◌, Bool, true, false, cond, List, [], ◌∷◌, ◌++◌, length, refl, ap, sym, ◌∙◌, subst, pos, ℤ, ◌+ℤ◌, ◌*ℤ◌, ◌<ℤ◌, neg_ℤ, arith, inl, inr, ◌⊎◌}
 use Rattle.std.proofs.{Common.true≢false, lemmas.Bool.cases_lt, lemmas.Int.ints, lemmas.List.Elements.Contains-append_right}
 use Rattle.std.specs.{Cmp.signed_Decides, List.Contains, Ordering.int_eq}
-use Rattle.lra_linear_spec.specs.{Echelon.Before, Echelon.IsEchelon, Echelon.HasPivot, Echelon.Spanned, Echelon.lead_from, Echelon.pivot, LowestTerms.IsPrimitive, Vectors.entry, Vectors.negated}
-use Rattle.lra_linear_spec.proofs.EchelonExtension.{ClearedRow, ClearedRows, before_trans, echelon_insert, extension_span}
-use Rattle.lra_linear_spec.proofs.Membership.{contains_cases, contains_head, contains_none, contains_tail}
-use Rattle.lra_linear_spec.proofs.Signs.{as_nat, not_both, positive_is_nonnegative, positive_nat}
-use Rattle.lra_linear_spec.proofs.{Pivots.echelon_positive, Pivots.pivot_is, Products.entry_negated, Ring.ring, Ring.v, Ring.⊖, Ring.◌⊕◌, Ring.◌⊗◌, Widening.zero_said}
+use Rattle.lra_canonical.specs.Crates.lra_linear_spec.Echelon.{Before, IsEchelon, HasPivot, Spanned, lead_from, pivot}
+use Rattle.lra_canonical.specs.Crates.{lra_linear_spec.LowestTerms.IsPrimitive, lra_linear_spec.Vectors.entry, lra_linear_spec.Vectors.negated}
+use Rattle.lra_canonical.proofs.Crates.lra_linear_spec.EchelonExtension.{ClearedRow, ClearedRows, before_trans, echelon_insert, extension_span}
+use Rattle.lra_canonical.proofs.Crates.lra_linear_spec.Membership.{contains_cases, contains_head, contains_none, contains_tail}
+use Rattle.lra_canonical.proofs.Crates.lra_linear_spec.Ring.{ring, v, ⊖, ◌⊕◌, ◌⊗◌}
+use Rattle.lra_canonical.proofs.Crates.lra_linear_spec.Signs.{as_nat, not_both, positive_is_nonnegative, positive_nat}
+use Rattle.lra_canonical.proofs.Crates.{lra_linear_spec.Pivots.echelon_positive, lra_linear_spec.Pivots.pivot_is, lra_linear_spec.Products.entry_negated, lra_linear_spec.Widening.zero_said}
 use Rattle.lra_canonical.specs.{Echelons.AreCleared, Echelons.IsPlaced, Echelons.StartsAfter, Reduced.IsEchelonForm, Reduced.IsCleared}
 use Rattle.lra_canonical.proofs.{Chains.step_entry, Solutions.pivot_of_some}
 

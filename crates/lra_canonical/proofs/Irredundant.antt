@@ -5,13 +5,17 @@ use Rattle.std.proofs.Common.{arith, inl, inr, true≢false, get_or-set_same, ge
 use Rattle.std.proofs.lemmas.List.Elements.{Contains-append_cases, Contains-append_left, Contains-append_right, Contains-get_or}
 use Rattle.std.proofs.{lemmas.Bool.cases_lt, lemmas.Int.ints, lemmas.List.length-replicate, lemmas.List.length-set}
 use Rattle.std.specs.List.{Contains}
-use Rattle.lra_linear_spec.specs.Cones.{AreDual, Generated, Solves, all_rows, both_ways}
-use Rattle.lra_linear_spec.specs.{Canonical.IsCanonical, Descriptions.LinearRow, Descriptions.system_of, Vectors.dot, Vectors.entry, Vectors.negated, Vectors.product}
-use Rattle.lra_linear_spec.proofs.Products.{dot_minus, dot_negated, negated_dot, negated_length, product_comm}
-use Rattle.lra_linear_spec.proofs.{CanonicalForms.one_spelling, Combinations.generated_row, Descriptions.gen_generated, Descriptions.generated_gen, Descriptions.system_from, Descriptions.system_has}
-use Rattle.lra_linear_spec.proofs.{FlatRows.generated_flat, LinearMaps.generated_nonneg, LinearMaps.generated_through, Lines.in_lines, Lines.in_lines_negated, Lines.signed_from}
-use Rattle.lra_linear_spec.proofs.{Membership.contains_cases, Membership.contains_head, Membership.contains_tail, Membership.contains_middle, OneSpelling.dual_same_cone, Redundancy.drop_keeps}
-use Rattle.lra_linear_spec.proofs.{Redundancy.redundant_tight, Redundancy.kept_pointed, Saturation.TightToo, Signs.between_opposites, Signs.opposite_of_zero, Signs.zero_at_least}
+use Rattle.lra_canonical.specs.Crates.lra_linear_spec.Cones.{AreDual, Generated, Solves, all_rows, both_ways}
+use Rattle.lra_canonical.specs.Crates.lra_linear_spec.Vectors.{dot, entry, negated, product}
+use Rattle.lra_canonical.specs.Crates.{lra_linear_spec.Canonical.IsCanonical, lra_linear_spec.Descriptions.LinearRow, lra_linear_spec.Descriptions.system_of}
+use Rattle.lra_canonical.proofs.Crates.lra_linear_spec.Descriptions.{gen_generated, generated_gen, system_from, system_has}
+use Rattle.lra_canonical.proofs.Crates.lra_linear_spec.Membership.{contains_cases, contains_head, contains_tail, contains_middle}
+use Rattle.lra_canonical.proofs.Crates.lra_linear_spec.Products.{dot_minus, dot_negated, negated_dot, negated_length, product_comm}
+use Rattle.lra_canonical.proofs.Crates.lra_linear_spec.Redundancy.{drop_keeps, redundant_tight, kept_pointed}
+use Rattle.lra_canonical.proofs.Crates.lra_linear_spec.Signs.{between_opposites, opposite_of_zero, zero_at_least}
+use Rattle.lra_canonical.proofs.Crates.{lra_linear_spec.CanonicalForms.one_spelling, lra_linear_spec.Combinations.generated_row, lra_linear_spec.FlatRows.generated_flat}
+use Rattle.lra_canonical.proofs.Crates.{lra_linear_spec.LinearMaps.generated_nonneg, lra_linear_spec.LinearMaps.generated_through, lra_linear_spec.Lines.in_lines}
+use Rattle.lra_canonical.proofs.Crates.{lra_linear_spec.Lines.in_lines_negated, lra_linear_spec.Lines.signed_from, lra_linear_spec.OneSpelling.dual_same_cone, lra_linear_spec.Saturation.TightToo}
 use Rattle.lra_bits.specs.{Matrix.Matrix, Matrix.unmarked, TruthValues.value_at, TruthValues.IsSubset}
 use Rattle.lra_canonical.specs.Echelons.{HaveWidth}
 use Rattle.lra_canonical.specs.Irredundant.{Solutions, IsSaturation, IsCovered, AreMarks, IsIrredundant, WithoutRedundant}

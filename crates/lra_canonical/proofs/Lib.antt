@@ -10,3 +10,5 @@ pub mod Orders
 pub mod CanonExamples
 pub mod Covers
 pub mod MarkedOrder
+-- The crates below
+pub mod Crates

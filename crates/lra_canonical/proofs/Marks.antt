@@ -2,7 +2,7 @@
 use Rattle.std.proofs.Common.{◌≡◌, ◌≢◌, ℕ, zero, suc, ◌<◌, Bool, true, false, List, [], ◌∷◌, ◌++◌, length, get_or, slice_set, refl, ap, sym, ◌∙◌, subst, arith, inl, inr, true≢false}
 use Rattle.std.specs.List.{Contains}
 use Rattle.lra_bits.specs.{Matrix.unmarked, TruthValues.value_at}
-use Rattle.lra_linear_spec.proofs.Membership.{contains_cases, contains_head, contains_none, contains_tail}
+use Rattle.lra_canonical.proofs.Crates.lra_linear_spec.Membership.{contains_cases, contains_head, contains_none, contains_tail}
 
 -- ---- one more mark takes one element out
 pub record Marked {A : Type 0} (marks : List Bool) (xs : List A) (i : ℕ) (d : A) : Type 0 where

@@ -6,8 +6,9 @@ use Rattle.std.specs.Cmp.{IsTotalOrder, IsStrictWeakOrder, on_total, then_total,
 use Rattle.std.specs.Ordering.{is_lt, is_eq, ordering_reverse, ordering_then, bool_cmp, nat_cmp}
 use Rattle.std.specs.{FinMap.nat_cmp-IsAntisymmetric, Fn.Called, Fn.Mut, Fn.ComparesAs, List.Contains, List.sum_by, List.Sorted.IsSorted, List.Sorted.IsSortedBy, List.Sorted.IsPermutation}
 use Rattle.std.specs.{declared.cmp.Ordering.Ordering, declared.cmp.Ordering.TheVariants.Less, declared.cmp.Ordering.TheVariants.Equal, declared.cmp.Ordering.TheVariants.Greater}
-use Rattle.lra_linear_spec.specs.{Echelon.pivot, RowOrder.row_cmp, RowOrder.Ascends}
-use Rattle.lra_linear_spec.proofs.{Membership.contains_head, Membership.contains_tail, Membership.NoRepeat, RowOrder.row_cmp_total, RowOrder.inequality_cmp_total}
+use Rattle.lra_canonical.specs.Crates.{lra_linear_spec.Echelon.pivot, lra_linear_spec.RowOrder.row_cmp, lra_linear_spec.RowOrder.Ascends}
+use Rattle.lra_canonical.proofs.Crates.lra_linear_spec.Membership.{contains_head, contains_tail, NoRepeat}
+use Rattle.lra_canonical.proofs.Crates.lra_linear_spec.RowOrder.{row_cmp_total, inequality_cmp_total}
 use Rattle.lra_row.proofs.OrderLemmas.{row_cmp_ties}
 use Rattle.lra_canonical.specs.declared.order.Order.TheVariants.{Inequalities, Generators, Pivots}
 use Rattle.lra_canonical.specs.{Ordered.cmp_by, Ordered.TiesAreEqual, Ordered.IsOneOrder, declared.order.Order.Order}

@@ -4,14 +4,18 @@ use Rattle.std.proofs.Common.{◌≡◌, ℕ, zero, suc, ◌<◌, List, [], ◌�
 use Rattle.std.proofs.lemmas.List.Elements.{Contains-append_left, Contains-append_right, Contains-append_cases, All-contains}
 use Rattle.std.proofs.{lemmas.Bool.cases_lt, lemmas.Int.ints, lemmas.Nat.Gcd.dvd-zero}
 use Rattle.std.specs.{Int.◌∣◌, List.Contains}
-use Rattle.lra_linear_spec.specs.Vectors.{behind_zero, dot, entry, negated, product, signed_sum, sum_of, units, zeros}
-use Rattle.lra_linear_spec.specs.{Cones.AreDual, Cones.Generated, Cones.Solves, Cones.all_rows, Cones.both_ways, Echelon.pivot, Echelon.Spanned, Echelon.IsEchelon, LowestTerms.IsPrimitive}
-use Rattle.lra_linear_spec.proofs.Lines.{described_generated, generated_described, in_lines, in_lines_negated, signed_from, whole_described, zeros_length}
-use Rattle.lra_linear_spec.proofs.Membership.{contains_cases, contains_head, contains_none, contains_tail}
-use Rattle.lra_linear_spec.proofs.Products.{blend_length, dot_plus, dot_same, dot_scale, dot_zero, entry_past, negated_dot, negated_length, product_comm, row_same}
-use Rattle.lra_linear_spec.proofs.{AllPairs.step_rows_are, AllPairs.kept_only, AllPairs.pairs_only, Combinations.generated_same, Combinations.generated_zero, DoubleDescription.kept}
-use Rattle.lra_linear_spec.proofs.{DoubleDescription.pairs, DoubleDescription.step_rows, Duality.dual_step, LowestTerms.same_multiple, OneSpelling.dot_zeros, Pivots.pivot_is, Ring.ring, Ring.v}
-use Rattle.lra_linear_spec.proofs.{Ring.⊖, Ring.◌⊕◌, Ring.◌⊗◌, Ring.mul_nonnegative, Signs.between_opposites, Signs.cancel_same, Signs.divide_nonnegative, Signs.no_product, Spans.all_zero}
+use Rattle.lra_canonical.specs.Crates.lra_linear_spec.Cones.{AreDual, Generated, Solves, all_rows, both_ways}
+use Rattle.lra_canonical.specs.Crates.lra_linear_spec.Vectors.{behind_zero, dot, entry, negated, product, signed_sum, sum_of, units, zeros}
+use Rattle.lra_canonical.specs.Crates.{lra_linear_spec.Echelon.pivot, lra_linear_spec.Echelon.Spanned, lra_linear_spec.Echelon.IsEchelon, lra_linear_spec.LowestTerms.IsPrimitive}
+use Rattle.lra_canonical.proofs.Crates.lra_linear_spec.AllPairs.{step_rows_are, kept_only, pairs_only}
+use Rattle.lra_canonical.proofs.Crates.lra_linear_spec.Combinations.{generated_same, generated_zero}
+use Rattle.lra_canonical.proofs.Crates.lra_linear_spec.Lines.{described_generated, generated_described, in_lines, in_lines_negated, signed_from, whole_described, zeros_length}
+use Rattle.lra_canonical.proofs.Crates.lra_linear_spec.Membership.{contains_cases, contains_head, contains_none, contains_tail}
+use Rattle.lra_canonical.proofs.Crates.lra_linear_spec.Products.{blend_length, dot_plus, dot_same, dot_scale, dot_zero, entry_past, negated_dot, negated_length, product_comm, row_same}
+use Rattle.lra_canonical.proofs.Crates.lra_linear_spec.Ring.{ring, v, ⊖, ◌⊕◌, ◌⊗◌, mul_nonnegative}
+use Rattle.lra_canonical.proofs.Crates.lra_linear_spec.Signs.{between_opposites, cancel_same, divide_nonnegative, no_product}
+use Rattle.lra_canonical.proofs.Crates.{lra_linear_spec.DoubleDescription.kept, lra_linear_spec.DoubleDescription.pairs, lra_linear_spec.DoubleDescription.step_rows, lra_linear_spec.Duality.dual_step}
+use Rattle.lra_canonical.proofs.Crates.{lra_linear_spec.LowestTerms.same_multiple, lra_linear_spec.OneSpelling.dot_zeros, lra_linear_spec.Pivots.pivot_is, lra_linear_spec.Spans.all_zero}
 use Rattle.lra_canonical.specs.{Echelons.HaveWidth, Reduced.IsEchelonForm, Reduced.SolvesAll, Reduced.SameSolutions, Reduced.IsAlong, Reduced.IsReducedBy, Reduced.IsOneReduced}
 
 pub have_width : (w : ℕ) (rows : List (List ℤ)) → HaveWidth w rows → (r : List ℤ) → Contains rows r → length r ≡ w

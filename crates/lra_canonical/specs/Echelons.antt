@@ -1,9 +1,11 @@
 -- Reduced echelon forms, made row by row.
 use Rattle.std.specs.Prelude.{◌≡◌, ℕ, ◌<◌, ◌⊎◌, ℤ, pos, ◌<ℤ◌, List, [], ◌∷◌, ◌++◌, length, take, Option, Some, None}
 use Rattle.std.specs.{List.Contains, List.All, Prelude.Err}
-use Rattle.lra_linear_spec.specs.declared.Excess as E
-use Rattle.lra_linear_spec.specs.{Echelon.Before, Echelon.IsEchelonOf, Echelon.pivot, Reduction.ReductionPasses}
-use Rattle.lra_linear_spec.specs.{Reduction.checked_clearing, Strain.InOtherForm, Vectors.entry, Vectors.negated}
+use Rattle.lra_canonical.specs.Crates.lra_linear_spec.declared.Excess as E
+use Rattle.lra_canonical.specs.Crates.lra_linear_spec.Echelon.{Before, IsEchelonOf, pivot}
+use Rattle.lra_canonical.specs.Crates.lra_linear_spec.Reduction.{ReductionPasses, checked_clearing}
+use Rattle.lra_canonical.specs.Crates.lra_linear_spec.Strain.{InOtherForm}
+use Rattle.lra_canonical.specs.Crates.lra_linear_spec.Vectors.{entry, negated}
 use Rattle.lra_row.specs.declared.error.RowError.{RowError}
 use Rattle.lra_row.specs.declared.error.RowError.TheVariants.{Excess, Memory}
 use Rattle.lra_canonical.specs.Reduced.{SolvesAll, IsReducedBy, IsCleared, IsChainEnd, FirstPassing}

@@ -2,9 +2,11 @@
 -- Prodon 1996).
 use Rattle.std.specs.Prelude.{◌≡◌, ◌≢◌, ◌↔◌, ℕ, ◌<◌, ◌≤◌, ℤ, pos, ◌≤ℤ◌, Bool, true, false, List, [], length}
 use Rattle.std.specs.{List.Contains, Prelude.slice_index_or}
-use Rattle.lra_linear_spec.specs.Cones.{Generated, all_rows}
-use Rattle.lra_linear_spec.specs.{Canonical.IsCanonical, Descriptions.LinearRow, Descriptions.Gen, Echelon.pivot}
-use Rattle.lra_linear_spec.specs.{LowestTerms.IsPrimitive, Vectors.entry, Vectors.product}
+use Rattle.lra_canonical.specs.Crates.lra_linear_spec.Cones.{Generated, all_rows}
+use Rattle.lra_canonical.specs.Crates.lra_linear_spec.Descriptions.{LinearRow, Gen}
+use Rattle.lra_canonical.specs.Crates.lra_linear_spec.LowestTerms.{IsPrimitive}
+use Rattle.lra_canonical.specs.Crates.lra_linear_spec.Vectors.{entry, product}
+use Rattle.lra_canonical.specs.Crates.{lra_linear_spec.Canonical.IsCanonical, lra_linear_spec.Echelon.pivot}
 use Rattle.lra_bits.specs.{Matrix.Matrix, Matrix.unmarked, TruthValues.value_at, TruthValues.IsSubset}
 use Rattle.lra_canonical.specs.{Echelons.HaveWidth, Reduced.IsEchelonForm, Reduced.SolvesAll}
 

@@ -5,3 +5,5 @@ pub mod Irredundant
 pub mod Ordered
 -- Rows with truth values that go with them.
 pub mod MarkedRows
+-- The crates below
+pub mod Crates

@@ -2,7 +2,8 @@
 use Rattle.std.specs.{List.Contains, List.Sorted.IsSorted, List.Sorted.IsPermutation, Ordering.bool_cmp}
 use Rattle.std.specs.{Ordering.nat_cmp, Ordering.ordering_then, Prelude.◌≡◌, Prelude.◌==◌, Prelude.ℤ, Prelude.List}
 use Rattle.std.specs.declared.cmp.Ordering as std_ordering
-use Rattle.lra_linear_spec.specs.{Echelon.pivot, RowOrder.row_cmp, RowOrder.inequality_cmp}
+use Rattle.lra_canonical.specs.Crates.lra_linear_spec.Echelon.{pivot}
+use Rattle.lra_canonical.specs.Crates.lra_linear_spec.RowOrder.{row_cmp, inequality_cmp}
 use Rattle.lra_canonical.specs.declared.order.Order.{Order}
 use Rattle.lra_canonical.specs.declared.order.Order.TheVariants.{Inequalities, Generators, Pivots}
 

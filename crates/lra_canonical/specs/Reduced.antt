@@ -1,10 +1,11 @@
 -- Rows reduced by an echelon form.
 use Rattle.std.specs.List.{Contains}
 use Rattle.std.specs.Prelude.{◌≡◌, ℕ, ◌<◌, ◌⊎◌, ℤ, pos, ◌+ℤ◌, ◌*ℤ◌, ◌≤ℤ◌, List, [], ◌∷◌, ◌++◌, length, Err}
-use Rattle.lra_linear_spec.specs.declared.Excess as E
-use Rattle.lra_linear_spec.specs.Echelon.{IsEchelon, Spanned, pivot}
-use Rattle.lra_linear_spec.specs.Reduction.{ClearingStep, ReductionPasses, checked_clearing}
-use Rattle.lra_linear_spec.specs.{LowestTerms.IsPrimitive, LowestTerms.IsLowest, Vectors.entry, Vectors.product}
+use Rattle.lra_canonical.specs.Crates.lra_linear_spec.declared.Excess as E
+use Rattle.lra_canonical.specs.Crates.lra_linear_spec.Echelon.{IsEchelon, Spanned, pivot}
+use Rattle.lra_canonical.specs.Crates.lra_linear_spec.LowestTerms.{IsPrimitive, IsLowest}
+use Rattle.lra_canonical.specs.Crates.lra_linear_spec.Reduction.{ClearingStep, ReductionPasses, checked_clearing}
+use Rattle.lra_canonical.specs.Crates.lra_linear_spec.Vectors.{entry, product}
 use Rattle.lra_row.specs.declared.error.RowError.{RowError}
 use Rattle.lra_row.specs.declared.error.RowError.TheVariants.{Excess, Memory}
 

@@ -2,7 +2,7 @@
 
 ghost use Rattle.std.specs.Prelude.{◌≡◌, ◌≤◌, ◌<◌, ◌↔◌, ℕ, [], length, slice_index_or, IsTrue, IfOk, IfErr, OnOk};
 ghost use Rattle.std.specs.{List.All, Prelude.OnErr};
-ghost use Rattle.lra_linear_spec.specs.Echelon.{Before, IsEchelonOf, pivot};
+ghost use Rattle.lra_canonical.specs.Crates.lra_linear_spec.Echelon.{Before, IsEchelonOf, pivot};
 ghost use Rattle.lra_canonical.specs.Echelons.{SameEqualities, HaveWidth, IsOneForm, IsDirected, AreCleared};
 ghost use Rattle.lra_canonical.specs.Echelons.{IsClearedExcess, IsInserted, IsInsertionExcess, IsExtended};
 ghost use Rattle.lra_canonical.specs.Echelons.{IsExtensionExcess, Extends, HaveOneWidth, IsFirstRowExcess};

@@ -1,7 +1,7 @@
 //! The orders of lists that are shown.
 
 ghost use Rattle.std.specs.{List.Sorted.IsPermutation, List.Sorted.IsSorted, Prelude.◌≡◌, Prelude.OnOk, Prelude.OnErr};
-ghost use Rattle.lra_linear_spec.specs.RowOrder.{inequality_cmp};
+ghost use Rattle.lra_canonical.specs.Crates.lra_linear_spec.RowOrder.{inequality_cmp};
 ghost use Rattle.lra_canonical.specs.{MarkedRows.rows_in, Ordered.cmp_by, Ordered.pivot_cmp, Ordered.IsOneOrder};
 
 use lra_bits::BitRow;

@@ -2,7 +2,7 @@
 
 ghost use Rattle.std.specs.List.{All};
 ghost use Rattle.std.specs.Prelude.{◌≡◌, ◌<◌, pos, length, IfOk, IfErr, OnOk, OnErr, IsTrue};
-ghost use Rattle.lra_linear_spec.specs.{Echelon.pivot, Vectors.entry};
+ghost use Rattle.lra_canonical.specs.Crates.{lra_linear_spec.Echelon.pivot, lra_linear_spec.Vectors.entry};
 ghost use Rattle.lra_canonical.specs.Reduced.{IsEchelonForm, SameSolutions, IsReducedBy, IsOneReduced, IsCleared};
 ghost use Rattle.lra_canonical.specs.Reduced.{IsClearingExcess, IsChainEnd, IsFirstExcess, IsReductionExcess};
 

@@ -3,3 +3,5 @@ pub mod WalkSteps
 pub mod WalkChanges
 pub mod TrackSteps
 pub mod ShowSteps
+-- The crates below
+pub mod Crates

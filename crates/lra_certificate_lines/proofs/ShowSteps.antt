@@ -2,8 +2,9 @@
 use Rattle.std.proofs.Common.{◌≡◌, ◌+◌, ◌++◌, ◌∷◌, [], ℕ, zero, suc, ℤ, Bool, true, false, List, drop, Option, Some, None, Result, Ok, Err, refl, ap, sym, ◌∙◌, subst, add-one}
 use Rattle.std.proofs.lemmas.Option.{same_Some, none-some}
 use Rattle.std.specs.Prelude.{if◌then◌else◌, slice_get, codes, MatchOption}
-use Rattle.lra_linear_spec.specs.{Cones.with_row, Descriptions.LinearRow, Descriptions.system_of, Kinds.is_equality, Vectors.negated, declared.ConKind.ConKind, declared.Excess.Excess}
-use Rattle.lra_systems.specs.LinearSystems.{LinearSystem, constraints, rows_by_kind}
+use Rattle.lra_certificate_lines.specs.Crates.lra_systems.LinearSystems.{LinearSystem, constraints, rows_by_kind}
+use Rattle.lra_certificate_lines.specs.Crates.{lra_linear_spec.Cones.with_row, lra_linear_spec.Descriptions.LinearRow, lra_linear_spec.Descriptions.system_of, lra_linear_spec.Kinds.is_equality}
+use Rattle.lra_certificate_lines.specs.Crates.{lra_linear_spec.Vectors.negated, lra_linear_spec.declared.ConKind.ConKind, lra_linear_spec.declared.Excess.Excess}
 use Rattle.lra_multipliers.specs.{Multipliers.Multipliers, Multipliers.Answer, Symbols.SymbolicState, Symbols.executed_path, Symbols.width_of}
 use Rattle.lra_certificate_spec.specs.Judged.{Left, Judged, RowsAtPoint, then_judged, after_line, by_answer, judged_claim, judged_walk, premises_count, judged_multipliers, judged_line, judged_claims}
 use Rattle.lra_certificate_spec.specs.Judged.{judged_to, judged_lines, judged_dead, multipliers_in, line_on, line_or_empty, is_dead_line}

@@ -1,9 +1,8 @@
 -- What the code says of lines, passed on from one part to the whole.
 use Rattle.std.proofs.Common.{◌≡◌, ◌+◌, ◌++◌, ℕ, suc, true, false, List, [], ◌∷◌, length, refl, ap, sym, ◌∙◌, subst, append_assoc, append-nil, ℤ, Option, Some, None, Ok, Err}
-use Rattle.lra_linear_spec.specs.{Descriptions.LinearRow, Kinds.is_equality, declared.ConKind.ConKind}
-use Rattle.lra_systems.specs.LinearSystems.{LinearSystem, constraints}
-use Rattle.lra_systems.proofs.LinearRows.{constraints_pushed}
-use Rattle.lra_program.specs.Sites.{Site}
+use Rattle.lra_certificate_lines.specs.Crates.lra_systems.LinearSystems.{LinearSystem, constraints}
+use Rattle.lra_certificate_lines.specs.Crates.{lra_linear_spec.Descriptions.LinearRow, lra_linear_spec.Kinds.is_equality, lra_linear_spec.declared.ConKind.ConKind, lra_program.Sites.Site}
+use Rattle.lra_certificate_lines.proofs.Crates.lra_systems.LinearRows.{constraints_pushed}
 use Rattle.lra_certificate_lines.specs.declared.refusals.VerifyError.TheVariants.{Refused, Memory}
 use Rattle.lra_certificate_lines.specs.declared.refusals.VerifyRefusal.TheVariants.{Source, Paths, Line}
 use Rattle.lra_certificate_lines.specs.{LineViews.IsFault, Views.fault_view, declared.refusals.LineFault.LineFault, declared.refusals.VerifyError.VerifyError}

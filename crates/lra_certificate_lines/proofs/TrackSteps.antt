@@ -2,11 +2,10 @@
 use Rattle.std.proofs.Common.{◌≡◌, ◌≤◌, ◌+◌, ◌-◌, ◌++◌, ◌∷◌, [], ℕ, zero, suc, ℤ, pos, Bool, List, length, map, take, Some, Ok, refl, ap, sym, ◌∙◌, subst, arith, add-one, append_assoc, length-append}
 use Rattle.std.proofs.{lemmas.List.take_all, lemmas.List.map-append, lemmas.List.length-map, lemmas.List.replicate_more, lemmas.Option.same_Some, lemmas.Option.none-some}
 use Rattle.std.specs.Prelude.{slice_get}
-use Rattle.lra_linear_spec.specs.{Descriptions.LinearRow, Kinds.is_equality, Vectors.zeros, declared.ConKind.ConKind}
-use Rattle.lra_linear_spec.proofs.UnitRows.{zeros_are, zeros_more}
-use Rattle.lra_systems.specs.LinearSystems.{LinearSystem, constraints, rows_by_kind}
-use Rattle.lra_systems.proofs.LinearRows.{constraints_pushed}
-use Rattle.lra_domain.specs.Actions.{Action}
+use Rattle.lra_certificate_lines.specs.Crates.lra_linear_spec.Kinds.{is_equality}
+use Rattle.lra_certificate_lines.specs.Crates.lra_systems.LinearSystems.{LinearSystem, constraints, rows_by_kind}
+use Rattle.lra_certificate_lines.specs.Crates.{lra_domain.Actions.Action, lra_linear_spec.Descriptions.LinearRow, lra_linear_spec.Vectors.zeros, lra_linear_spec.declared.ConKind.ConKind}
+use Rattle.lra_certificate_lines.proofs.Crates.{lra_linear_spec.UnitRows.zeros_are, lra_linear_spec.UnitRows.zeros_more, lra_systems.LinearRows.constraints_pushed}
 use Rattle.lra_certificate_spec.specs.Certificates.{padded}
 use Rattle.lra_multipliers.specs.Symbols.{SymbolicState, executed_path, width_of, new_symbols, tests_in, symbols}
 use Rattle.lra_certificate_lines.specs.SymbolicViews.{symbolic_view, HasWidth}

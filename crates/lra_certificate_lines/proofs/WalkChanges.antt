@@ -2,14 +2,14 @@
 use Rattle.std.proofs.Common.{Bor, zero, drop, drop-cons, add-one, ◌<◌, ◌≤◌, slice_index_or, ◌≡◌, ◌+◌, ◌-◌, ℕ, suc, ℤ, List, [], ◌∷◌, ◌++◌, length, take, Result, Ok, ap, sym, ◌∙◌, subst, arith}
 use Rattle.std.proofs.{lemmas.List.drop_all, lemmas.List.Elements.All-cons}
 use Rattle.std.specs.List.{All}
-use Rattle.lra_linear_spec.specs.{CheckedArithmetic.and_then, Descriptions.LinearRow, Kinds.is_equality, declared.ConKind.ConKind, declared.Excess.Excess}
-use Rattle.lra_linear_forms.specs.Form.{form_row}
-use Rattle.lra_domain.specs.{Actions.Action, Actions.assign, Actions.forget, Actions.test, Actions.embed, Actions.remove_last, Changes.action_of, declared.changes.Change.Change}
+use Rattle.lra_certificate_lines.specs.Crates.lra_domain.Actions.{Action, assign, forget, test, embed, remove_last}
+use Rattle.lra_certificate_lines.specs.Crates.lra_systems.LinearSystems.{LinearSystem, constraints}
+use Rattle.lra_certificate_lines.specs.Crates.{lra_domain.Changes.action_of, lra_domain.declared.changes.Change.Change, lra_linear_forms.Form.form_row, lra_linear_spec.CheckedArithmetic.and_then}
+use Rattle.lra_certificate_lines.specs.Crates.{lra_linear_spec.Descriptions.LinearRow, lra_linear_spec.Kinds.is_equality, lra_linear_spec.declared.ConKind.ConKind}
+use Rattle.lra_certificate_lines.specs.Crates.{lra_linear_spec.declared.Excess.Excess, lra_path_disjuncts.TableDisjuncts.all_done}
 use Rattle.lra_row.specs.{Rows.IsExcessOf, declared.error.RowError.RowError}
 use Rattle.lra_row.specs.declared.error.RowError.TheVariants as of_row
-use Rattle.lra_systems.specs.LinearSystems.{LinearSystem, constraints}
-use Rattle.lra_systems.proofs.LinearRows.{constraints_pushed}
-use Rattle.lra_path_disjuncts.specs.TableDisjuncts.{all_done}
+use Rattle.lra_certificate_lines.proofs.Crates.lra_systems.LinearRows.{constraints_pushed}
 use Rattle.lra_multipliers.specs.Symbols.{composed, symbol, symbols, SymbolicState, gives, tests_too, executed_action, executed, new_symbols, tests_in, width_of, executed_path}
 use Rattle.lra_certificate_spec.proofs.WalkedRows.{and_ok, ok_is, symbol_width}
 

@@ -3,9 +3,10 @@ use Rattle.std.proofs.Common.{◌≡◌, ◌⊎◌, ◌<◌, ◌≤◌, ◌+◌,
 use Rattle.std.proofs.Common.{drop-cons, add-one, append_assoc, Result, Ok, Err}
 use Rattle.std.proofs.{lemmas.List.drop_all, lemmas.List.Elements.All-head, lemmas.List.Elements.All-tail, lemmas.List.Elements.All-cons}
 use Rattle.std.specs.{List.All, Prelude.slice_set}
-use Rattle.lra_linear_spec.specs.CheckedArithmetic.{checked_added_entry, checked_added, then_rest, and_then}
-use Rattle.lra_linear_spec.specs.{Range.InRange, Range.in_range, Vectors.entry, Vectors.zeros, declared.Excess.Excess, declared.Operation.TheVariants.Product, declared.Operation.TheVariants.Sum}
-use Rattle.lra_linear_spec.proofs.{CheckedArithmetic.in_range_yes, Ring.ring, Ring.v, Ring.◌⊕◌, Ring.◌⊗◌}
+use Rattle.lra_certificate_lines.specs.Crates.lra_linear_spec.CheckedArithmetic.{checked_added_entry, checked_added, then_rest, and_then}
+use Rattle.lra_certificate_lines.specs.Crates.{lra_linear_spec.Range.InRange, lra_linear_spec.Range.in_range, lra_linear_spec.Vectors.entry, lra_linear_spec.Vectors.zeros}
+use Rattle.lra_certificate_lines.specs.Crates.{lra_linear_spec.declared.Excess.Excess, lra_linear_spec.declared.Operation.TheVariants.Product, lra_linear_spec.declared.Operation.TheVariants.Sum}
+use Rattle.lra_certificate_lines.proofs.Crates.{lra_linear_spec.CheckedArithmetic.in_range_yes, lra_linear_spec.Ring.ring, lra_linear_spec.Ring.v, lra_linear_spec.Ring.◌⊕◌, lra_linear_spec.Ring.◌⊗◌}
 use Rattle.lra_row.specs.{Rows.IsExcessOf, declared.error.RowError.RowError}
 use Rattle.lra_row.specs.declared.error.RowError.TheVariants as of_row
 use Rattle.lra_row.proofs.RowLemmas.{entry_at}

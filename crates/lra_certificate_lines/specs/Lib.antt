@@ -4,3 +4,5 @@ pub mod LineViews
 pub mod MultiplierLineViews
 pub mod SymbolicViews
 pub mod PathCheckViews
+-- The crates below
+pub mod Crates

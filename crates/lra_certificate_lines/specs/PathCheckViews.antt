@@ -2,10 +2,12 @@
 use Rattle.std.specs.Prelude.{◌≡◌, ◌<◌, ◌+◌, ◌-◌, ◌++◌, ◌^◌, ℕ, suc, ℤ, List, [], map, codes, if◌then◌else◌, length}
 use Rattle.std.specs.Prelude.{Result, Ok, Err, Option, None, Some, option_map, MatchOption, IfSome}
 use Rattle.std.specs.{Borrow.Bor, List.All}
-use Rattle.lra_linear_spec.specs.Descriptions.{LinearRow}
-use Rattle.lra_linear_spec.specs.{Cones.with_row, Polyhedra.falsity, declared.ConKind.ConKind, declared.Excess.Excess}
-use Rattle.lra_systems.specs.LinearSystems.{LinearSystem, constraints}
-use Rattle.lra_domain.specs.Actions.{Action}
+use Rattle.lra_certificate_lines.specs.Crates.lra_linear_spec.Cones.{with_row}
+use Rattle.lra_certificate_lines.specs.Crates.lra_linear_spec.Descriptions.{LinearRow}
+use Rattle.lra_certificate_lines.specs.Crates.lra_linear_spec.Polyhedra.{falsity}
+use Rattle.lra_certificate_lines.specs.Crates.lra_linear_spec.declared.ConKind.{ConKind}
+use Rattle.lra_certificate_lines.specs.Crates.lra_systems.LinearSystems.{LinearSystem, constraints}
+use Rattle.lra_certificate_lines.specs.Crates.{lra_domain.Actions.Action, lra_linear_spec.declared.Excess.Excess}
 use Rattle.lra_multipliers.specs.Multipliers.{Multipliers, Answer, wide, checked}
 use Rattle.lra_multipliers.specs.Symbols.{SymbolicState, composed, executed_path, width_of, tests_in}
 use Rattle.lra_certificate_spec.specs.Judged.{Left, Judged, RowsAtPoint, then_judged, by_answer, is_dead_line, line_on}

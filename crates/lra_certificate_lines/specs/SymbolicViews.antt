@@ -1,6 +1,6 @@
 -- Paths as the code walks them.
 use Rattle.std.specs.{List.All, Prelude.◌≡◌, Prelude.ℕ, Prelude.suc, Prelude.length}
-use Rattle.lra_systems.specs.LinearSystems.{constraints}
+use Rattle.lra_certificate_lines.specs.Crates.lra_systems.LinearSystems.{constraints}
 use Rattle.lra_certificate_lines.specs.declared.symbolic.SymbolicExecution.{SymbolicExecution}
 use Rattle.lra_multipliers.specs.Symbols.{SymbolicState}
 

@@ -1,7 +1,7 @@
 //! Lines of multipliers, and what they show.
 
 ghost use Rattle.std.specs.Prelude.{◌≡◌, ◌≤◌, ◌<◌, ◌^◌, length, IfOk, IfErr, IfSome, option_map};
-ghost use Rattle.lra_linear_spec.specs.Range.{InRange};
+ghost use Rattle.lra_certificate_lines.specs.Crates.lra_linear_spec.Range.{InRange};
 ghost use Rattle.lra_certificate_spec.specs.Judged.{multipliers_in, by_answer};
 ghost use Rattle.lra_certificate_spec.specs.Lines.{line_number_at, left_at};
 ghost use Rattle.lra_certificate_lines.specs.LineViews.{IsJudgedAs, IsRefusal};

@@ -2,14 +2,13 @@
 
 ghost use Rattle.std.specs.Prelude.{◌≡◌, MatchOption, IfOk, IfSome, length};
 ghost use Rattle.std.specs.{Char.is_ascii_digit, List.All, List.list_all};
-ghost use Rattle.lra_linear_spec.specs.Range.{InRange};
+ghost use Rattle.lra_certificate_lines.specs.Crates.{lra_linear_spec.Range.InRange, lra_script.Views.option_items};
 ghost use Rattle.lra_certificate_spec.specs.Judged.{is_magnitude, is_spelled, number_in, words_of, spaced_numbers};
 ghost use Rattle.lra_certificate_spec.specs.Judged.{so_many, numbers_after};
-ghost use Rattle.lra_script.specs.Views.{option_items};
 ghost use Rattle.lra_certificate_spec.specs.NumberViews.{HasNoWord, IsWordOf};
 
 use crate::lines::place_of;
-use lra_script::number_of;
+use lra_certificate_spec::number_of;
 use std::alloc::{AllocError, Global};
 
 fn are_digits(bytes: &[u8]) -> bool

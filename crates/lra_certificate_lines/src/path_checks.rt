@@ -2,11 +2,11 @@
 
 ghost use Rattle.std.specs.Prelude.{◌≡◌, ◌≤◌, ◌<◌, ◌+◌, ◌-◌, ◌++◌, ◌^◌, [], ◌∷◌, suc, map, length, IfOk, IfErr, IfSome};
 ghost use Rattle.std.specs.Prelude.{OnOk, codes, None};
-ghost use Rattle.lra_linear_spec.specs.{Kinds.is_equality, Vectors.zeros};
+ghost use Rattle.lra_certificate_lines.specs.Crates.lra_linear_spec.Kinds.{is_equality};
+ghost use Rattle.lra_certificate_lines.specs.Crates.lra_systems.LinearSystems.{constraints};
+ghost use Rattle.lra_certificate_lines.specs.Crates.{lra_domain.Changes.action_of, lra_linear_spec.Vectors.zeros};
+ghost use Rattle.lra_certificate_lines.specs.Crates.{lra_path_disjuncts.TableDisjuncts.all_done};
 ghost use Rattle.lra_row.specs.Rows.{IsExcessOf};
-ghost use Rattle.lra_systems.specs.LinearSystems.{constraints};
-ghost use Rattle.lra_domain.specs.Changes.{action_of};
-ghost use Rattle.lra_path_disjuncts.specs.TableDisjuncts.{all_done};
 ghost use Rattle.lra_multipliers.specs.MultiplierViews.{answer_view, multipliers_view};
 ghost use Rattle.lra_multipliers.specs.Symbols.{tests_in};
 ghost use Rattle.lra_certificate_spec.specs.Lines.{pieces_at, left_at, judged_in_turn};
@@ -19,11 +19,8 @@ use crate::lines::line_at;
 use crate::multiplier_lines::{MultiplierLine, take_answer, take_multipliers};
 use crate::refusals::VerifyError;
 use crate::symbolic::{SymbolicExecution, compose};
-use lra_domain::Change;
-use lra_linear_spec::ConKind;
-use lra_multipliers::{Answer, Multipliers, check};
+use lra_multipliers::{Answer, Change, ConKind, ConSys, Multipliers, check};
 use lra_row::{Row, RowError};
-use lra_systems::ConSys;
 use std::alloc::{AllocError, Global};
 
 /// The premises of a path's lines, and the rows of the variables after it.

@@ -4,7 +4,7 @@ ghost use Rattle.std.specs.Prelude.{◌≡◌};
 ghost use Rattle.lra_certificate_spec.specs.Judged.{fault_name};
 ghost use Rattle.lra_certificate_lines.specs.Views.{fault_view};
 
-use lra_base::Refusal;
+use lra_certificate_spec::Refusal;
 use std::alloc::{AllocError, AllocFailed};
 
 /// Why a line is refused.

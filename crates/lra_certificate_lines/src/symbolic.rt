@@ -2,19 +2,18 @@
 
 ghost use Rattle.std.specs.Prelude.{◌++◌, ◌≡◌, ◌≤◌, ◌<◌, ◌+◌, ◌-◌, ◌^◌, length, take, slice_set, IfOk, IfErr, OnOk, []};
 ghost use Rattle.std.specs.{List.All, Prelude.◌∷◌, Prelude.suc, Prelude.MatchOption};
-ghost use Rattle.lra_linear_spec.specs.{CheckedArithmetic.checked_added, Range.InRange};
+ghost use Rattle.lra_certificate_lines.specs.Crates.lra_domain.Actions.{embed, forget};
+ghost use Rattle.lra_certificate_lines.specs.Crates.lra_domain.Changes.{action_of};
+ghost use Rattle.lra_certificate_lines.specs.Crates.lra_linear_spec.CheckedArithmetic.{checked_added};
+ghost use Rattle.lra_certificate_lines.specs.Crates.lra_path_disjuncts.TableDisjuncts.{all_done};
+ghost use Rattle.lra_certificate_lines.specs.Crates.{lra_linear_forms.Form.form_row, lra_linear_spec.Range.InRange};
 ghost use Rattle.lra_row.specs.Rows.{IsExcessOf};
-ghost use Rattle.lra_domain.specs.{Actions.embed, Actions.forget, Changes.action_of};
-ghost use Rattle.lra_linear_forms.specs.Form.{form_row};
-ghost use Rattle.lra_path_disjuncts.specs.TableDisjuncts.{all_done};
 ghost use Rattle.lra_multipliers.specs.Symbols.{composed, new_symbols, symbols, executed_path, executed_action};
 ghost use Rattle.lra_multipliers.specs.Symbols.{width_of};
 ghost use Rattle.lra_certificate_lines.specs.SymbolicViews.{symbolic_view, HasWidth};
 
-use lra_domain::Change;
-use lra_linear_forms::LinExpr;
+use lra_multipliers::{Change, ConSys, LinExpr};
 use lra_row::{Row, RowError};
-use lra_systems::ConSys;
 use std::alloc::{AllocError, Global};
 
 /// The sum with so many times the row, or the first product or sum that passes; a factor 0 leaves it.

@@ -1,8 +1,9 @@
 -- Definitions of certificates on small operands. Which slip an example would catch stands beside it.
 use Rattle.std.proofs.Common.{◌≡◌, ℤ, pos, negsuc, List, [], ◌∷◌, ◌++◌, Some, None, refl}
 use Rattle.std.specs.Prelude.{codes, Ok}
-use Rattle.lra_linear_spec.specs.{Descriptions.LinearRow, Descriptions.equality, Descriptions.inequality, declared.ConKind.TheVariants.Ge}
-use Rattle.lra_domain.specs.Actions.{assign, forget, test, embed, remove_last}
+use Rattle.lra_certificate_spec.specs.Crates.lra_domain.Actions.{assign, forget, test, embed, remove_last}
+use Rattle.lra_certificate_spec.specs.Crates.lra_linear_spec.Descriptions.{LinearRow, equality, inequality}
+use Rattle.lra_certificate_spec.specs.Crates.lra_linear_spec.declared.ConKind.TheVariants.{Ge}
 use Rattle.lra_multipliers.specs.{Multipliers.Multipliers, Multipliers.yes, Multipliers.no, Multipliers.wide, Multipliers.checked, Symbols.executed_path}
 use Rattle.lra_certificate_spec.specs.Judged.{number_in, row_in, multipliers_in, head_of}
 

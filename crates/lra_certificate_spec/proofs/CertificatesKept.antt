@@ -4,15 +4,13 @@ use Rattle.std.proofs.Common.{◌≡◌, ℕ, zero, suc, ◌<◌, ◌≤◌, ◌
 use Rattle.std.proofs.lemmas.List.Elements.{All-from_recursion, All-contains, Contains-append_cases}
 use Rattle.std.proofs.{Common.inl, Common.inr, Common.◌⊎◌, lemmas.Bool.cases_lt, lemmas.Int.ints, lemmas.Option.slice_get_within}
 use Rattle.std.specs.{List.AllByRecursion, List.Contains, List.flat_map, List.range_with_len, Prelude.slice_get}
-use Rattle.lra_domain.specs.{Actions.Action, Moves.LeadsAll, Moves.SomeLeads}
-use Rattle.lra_linear_spec.specs.Descriptions.{LinearRow, HoldsWith, Holds, Con, system_of}
-use Rattle.lra_linear_spec.specs.{Polyhedra.falsity, Vectors.entry, Vectors.dot, Vectors.product, Vectors.zeros}
-use Rattle.lra_linear_spec.proofs.Membership.{contains_none, contains_cases, contains_head, contains_tail, map_has, map_from}
-use Rattle.lra_linear_spec.proofs.{Descriptions.solves_con, Ring.ring, Ring.v, Ring.◌⊕◌, Ring.◌⊗◌}
-use Rattle.lra_linear_spec.proofs.OneSpelling.{dot_zeros}
-use Rattle.lra_program.specs.{Program.Program, Sites.Site, Sites.sites_of}
-use Rattle.lra_operations.specs.Tree.{Node}
-use Rattle.lra_path_segments.specs.Segments.{Goal, comes_to, violates}
+use Rattle.lra_certificate_spec.specs.Crates.lra_linear_spec.Descriptions.{LinearRow, HoldsWith, Holds, Con, system_of}
+use Rattle.lra_certificate_spec.specs.Crates.{lra_domain.Actions.Action, lra_domain.Moves.LeadsAll, lra_domain.Moves.SomeLeads, lra_linear_spec.Polyhedra.falsity, lra_linear_spec.Vectors.entry}
+use Rattle.lra_certificate_spec.specs.Crates.{lra_linear_spec.Vectors.dot, lra_linear_spec.Vectors.product, lra_linear_spec.Vectors.zeros, lra_operations.Tree.Node, lra_path_segments.Segments.Goal}
+use Rattle.lra_certificate_spec.specs.Crates.{lra_path_segments.Segments.comes_to, lra_path_segments.Segments.violates, lra_program.Program.Program, lra_program.Sites.Site, lra_program.Sites.sites_of}
+use Rattle.lra_certificate_spec.proofs.Crates.lra_linear_spec.Membership.{contains_none, contains_cases, contains_head, contains_tail, map_has, map_from}
+use Rattle.lra_certificate_spec.proofs.Crates.lra_linear_spec.Ring.{ring, v, ◌⊕◌, ◌⊗◌}
+use Rattle.lra_certificate_spec.proofs.Crates.{lra_linear_spec.Descriptions.solves_con, lra_linear_spec.OneSpelling.dot_zeros, lra_path_segments.Lists.flat_map_has}
 use Rattle.lra_paths.specs.Covers.{HoldInAllRuns, IsGoalOf}
 use Rattle.lra_paths.specs.Paths.{Path, path_by, live_of, live_at, actions_between, paths_between, paths_of, violations_of, sources_of, points_of}
 use Rattle.lra_multipliers.specs.{Multipliers.Multipliers, Symbols.SymbolicState, Symbols.symbols, Symbols.new_symbols, Symbols.width_of, Symbols.executed_path}
@@ -20,7 +18,6 @@ use Rattle.lra_certificate_spec.specs.Certificates.{Evidence, none, infeasible, 
 use Rattle.lra_certificate_spec.specs.Certificates.{premises_of, contradiction, IsShownInfeasible, IsClaimImplied, AreImplied, CertifiesClaims, CertifiesByEvidence, CertifiesFrom, CertifiesPath}
 use Rattle.lra_certificate_spec.specs.Certificates.{CertifiesPaths, CertifiesAssertion, IsPointRow, IsState, AreStates, Certifies}
 use Rattle.lra_certificate_spec.specs.Claims.{RowsHoldAt, RowsHold, ClaimsAt, PathsKeepRows}
-use Rattle.lra_path_segments.proofs.Lists.{flat_map_has}
 use Rattle.lra_multipliers.proofs.ShownRows.{shown_holds}
 use Rattle.lra_certificate_spec.proofs.WalkedRows.{values, composed_value, GoesOn, symbols_values, symbols_behind, symbols_width, Stands, goes_on}
 

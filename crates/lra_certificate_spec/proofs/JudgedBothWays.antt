@@ -2,11 +2,9 @@
 use Rattle.std.proofs.Common.{◌≡◌, ◌≤◌, ◌+◌, ◌^◌, ℕ, suc, pos, Bool, true, false, List, [], ◌∷◌, ◌++◌, length, ap, sym, ◌∙◌, arith, Option, Some, None, Ok, length-append}
 use Rattle.std.proofs.lemmas.Bool.Decides.{nat_tests}
 use Rattle.std.specs.Prelude.{if◌then◌else◌, nat_lt}
-use Rattle.lra_base.specs.declared.refusals.Refusal.{Refusal}
-use Rattle.lra_linear_spec.specs.Range.{InRange}
-use Rattle.lra_syntax.specs.Labels.{labels_of}
-use Rattle.lra_resolution_spec.specs.Refuse.{greatest_live, greatest_points, limit_fault}
-use Rattle.lra_program.specs.Sites.{Event, comes, one_call_more, event_sites, sites_of, events_of}
+use Rattle.lra_certificate_spec.specs.Crates.lra_program.Sites.{Event, comes, one_call_more, event_sites, sites_of, events_of}
+use Rattle.lra_certificate_spec.specs.Crates.lra_resolution_spec.Refuse.{greatest_live, greatest_points, limit_fault}
+use Rattle.lra_certificate_spec.specs.Crates.{lra_base.declared.refusals.Refusal.Refusal, lra_linear_spec.Range.InRange, lra_syntax.Labels.labels_of}
 use Rattle.lra_paths.specs.Paths.{paths_of}
 use Rattle.lra_certificate_spec.specs.Claims.{IsProgram, program_of, IsVerified, JudgedSo, JudgedExactly}
 use Rattle.lra_row_text.specs.Texts.{text_line}

@@ -25,3 +25,5 @@ pub mod OneProgram
 pub mod OneCertificate
 -- Worked examples.
 mod CertificateExamples
+-- The crates below
+pub mod Crates

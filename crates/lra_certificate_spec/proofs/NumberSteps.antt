@@ -1,14 +1,13 @@
 -- Numbers of a line, word by word.
 use Rattle.std.proofs.Common.{◌≡◌, ◌⊎◌, ◌<◌, ◌≤◌, ◌+◌, ℕ, suc, ℤ, Bool, true, false, cond, ◌&&◌, not, nat_eq, List, [], ◌∷◌, ◌++◌, length, take, drop, refl, ap, sym, ◌∙◌, subst, arith, inl, inr}
 use Rattle.std.proofs.Common.{Option, Some, None, append_assoc, append-nil, get_or, drop-cons, add-one, length-append, eq-eqb}
-use Rattle.std.proofs.lemmas.List.Splits.{slice_split_first, slice_split_none, slice_split-cons_no}
+use Rattle.std.proofs.{lemmas.Bool.and_parts, lemmas.List.Splits.slice_split_first, lemmas.List.Splits.slice_split_none, lemmas.List.Splits.slice_split-cons_no}
 use Rattle.std.proofs.{lemmas.Bool.cases_lt, lemmas.Bool.ne_eqb, lemmas.Bool.Decides.nat_tests, lemmas.Bool.Decides.Decides-eqb, lemmas.Grind.common_steps, lemmas.List.take_all, lemmas.List.drop_all}
 use Rattle.std.proofs.{lemmas.List.length-take-le, lemmas.List.Sums.fails_before_first, lemmas.List.Sums.passes_at_first, lemmas.Slice.Eq.starts_is}
 use Rattle.std.specs.List.{list_all, slice_split, starts_with, onto_first, position_or_len}
 use Rattle.std.specs.{Char.is_ascii_digit, Prelude.◌||◌, Prelude.codes, Prelude.if◌then◌else◌, Str.bytes_eq, Str.Parse.signed_digits_value}
-use Rattle.lra_linear_spec.specs.Range.{in_range}
+use Rattle.lra_certificate_spec.specs.Crates.lra_linear_spec.Range.{in_range}
 use Rattle.lra_script.specs.ScriptText.{is_number, number_of}
-use Rattle.std.proofs.lemmas.Bool.{and_parts}
 use Rattle.lra_certificate_spec.specs.Judged.{is_magnitude, begins_with_minus, is_spelled, number_in, then_number, numbers_in, words_of, spaced_numbers, so_many}
 use Rattle.lra_certificate_spec.specs.NumberViews.{HasNoWord, IsWordOf}
 

@@ -1,14 +1,14 @@
 -- A number of the range is spelled as it is printed, and in no other way.
 use Rattle.std.proofs.Common.{◌≡◌, ◌≢◌, ◌⊎◌, ◌<◌, ◌≤◌, ◌+◌, ◌*◌, ◌/◌, ◌%◌, ◌^◌, ℕ, zero, suc, ℤ, pos, negsuc, neg_ℤ, Bool, true, false, cond, ◌&&◌, nat_eq, List, [], ◌∷◌, ◌++◌, refl, ap, sym, ◌∙◌}
+use Rattle.std.proofs.lemmas.Bool.{and_parts}
 use Rattle.std.proofs.{Common.subst, Common.arith, Common.inl, Common.inr, Common.Some, Common.None, Common.append_assoc, Common.append-nil, Common.drop, Common.◌-◌, lemmas.Bool.ne_eqb}
 use Rattle.std.proofs.{lemmas.Bool.ltb-true, lemmas.Bool.eqb-true, lemmas.Bool.Decides.nat_tests, lemmas.Fmt.decimal_digit, lemmas.Fmt.decimal_step_wide, lemmas.Fmt.decimal_by_steps_wide}
 use Rattle.std.proofs.{lemmas.Fmt.decimal_is_IsNumeral_wide, lemmas.Option.same_Some, lemmas.Option.none-some, lemmas.Str.digit_value_digit, lemmas.Str.Parse.digit_from_value}
 use Rattle.std.specs.{Char.is_ascii_digit, Char.digit_value, Fmt.decimal, Fmt.signed_decimal, List.list_all, Prelude.◌||◌, Prelude.nat_le, Prelude.codes, Prelude.if◌then◌else◌, Prelude.unsigned_abs}
 use Rattle.std.specs.{Str.bytes_eq, Str.Parse.AllDigits, Str.Parse.digits_value_after, Str.Parse.digits_value, Str.Parse.signed_digits_value, Str.Parse.without_leading_plus}
-use Rattle.lra_linear_spec.specs.Range.{InRange, in_range}
-use Rattle.lra_linear_spec.proofs.CheckedArithmetic.{in_range_yes}
+use Rattle.lra_certificate_spec.specs.Crates.lra_linear_spec.Range.{InRange, in_range}
+use Rattle.lra_certificate_spec.proofs.Crates.lra_linear_spec.CheckedArithmetic.{in_range_yes}
 use Rattle.lra_certificate_spec.specs.Judged.{begins_with_minus, is_magnitude, is_spelled, number_in}
-use Rattle.std.proofs.lemmas.Bool.{and_parts}
 use Rattle.lra_script.proofs.WordLemmas.{all_digits}
 use Rattle.lra_certificate_spec.proofs.NumberSteps.{either, zero_word}
 

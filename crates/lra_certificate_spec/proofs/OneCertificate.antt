@@ -1,10 +1,7 @@
 -- A text is that of at most one certificate that meets its program: its head reports the source, so both have one
 -- program, and what comes after it the rest.
 use Rattle.std.proofs.{Common.◌≡◌, Common.◌≤◌, Common.ℕ, Common.pos, Common.List, Common.length, Common.ap, Common.sym, Common.◌∙◌, Common.subst, Common.arith, Common.Some, lemmas.Option.same_Some}
-use Rattle.lra_base.specs.Places.{greatest_length}
-use Rattle.lra_linear_spec.specs.Range.{InRange}
-use Rattle.lra_program.specs.Program.{Program}
-use Rattle.lra_operations.specs.Tree.{Node}
+use Rattle.lra_certificate_spec.specs.Crates.{lra_base.Places.greatest_length, lra_linear_spec.Range.InRange, lra_operations.Tree.Node, lra_program.Program.Program}
 use Rattle.lra_paths.specs.Paths.{paths_of}
 use Rattle.lra_certificate_spec.specs.Claims.{IsProgram, program_of, IsCertificate, OneCertificate}
 use Rattle.lra_certificate_spec.specs.{CertificateText.body_text, Certificates.Certificate, Certificates.Certifies, Judged.Head, Judged.head_of}

@@ -1,10 +1,8 @@
 -- A source has one program, with one tree of operations.
 use Rattle.std.proofs.Common.{◌≡◌, ℕ, List, ap, sym, subst}
-use Rattle.lra_syntax.specs.Grammar.{Spells}
-use Rattle.lra_resolution_spec.specs.{Refuse.Accepts, Resolve.resolve}
-use Rattle.lra_program.specs.Program.{Program}
-use Rattle.lra_operations.specs.{Agree.IsInlinedTree, Tree.Node}
-use Rattle.lra_analysis_spec.proofs.OneTree.{one_tree}
+use Rattle.lra_certificate_spec.specs.Crates.lra_operations.Agree.{IsInlinedTree}
+use Rattle.lra_certificate_spec.specs.Crates.{lra_operations.Tree.Node, lra_program.Program.Program, lra_resolution_spec.Refuse.Accepts, lra_resolution_spec.Resolve.resolve, lra_syntax.Grammar.Spells}
+use Rattle.lra_certificate_spec.proofs.Crates.lra_analysis_spec.OneTree.{one_tree}
 use Rattle.lra_front_end.proofs.EachAnswer.{each_answer}
 use Rattle.lra_front_end.proofs.StageSteps as stages
 use Rattle.lra_certificate_spec.specs.Claims.{IsProgram, program_of}

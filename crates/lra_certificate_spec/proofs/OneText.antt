@@ -3,9 +3,7 @@
 use Rattle.std.proofs.Common.{◌≡◌, ◌<◌, ◌^◌, ℕ, ℤ, List, [], ◌∷◌, ◌++◌, length, get_or, refl, ap, sym, ◌∙◌, subst, arith, append_assoc, None, Some}
 use Rattle.std.proofs.{lemmas.List.append_cancel_left, lemmas.List.append_cancel_right, lemmas.List.Splits.join_with_byte-slice_split, lemmas.Option.same_Some, lemmas.Option.slice_get_within}
 use Rattle.std.specs.{List.AllByRecursion, List.join_with_byte, List.flat_map, Prelude.codes}
-use Rattle.lra_linear_spec.specs.Range.{InRange}
-use Rattle.lra_program.specs.{Program.Program, Sites.sites_of}
-use Rattle.lra_operations.specs.Tree.{Node}
+use Rattle.lra_certificate_spec.specs.Crates.{lra_linear_spec.Range.InRange, lra_operations.Tree.Node, lra_program.Program.Program, lra_program.Sites.sites_of}
 use Rattle.lra_paths.specs.Paths.{Path, paths_of, violations_of}
 use Rattle.lra_multipliers.specs.Multipliers.{Multipliers}
 use Rattle.lra_row_text.specs.Texts.{text_line}

@@ -3,8 +3,7 @@ use Rattle.std.proofs.Common.{◌≡◌, ◌⊎◌, ◌<◌, ◌≤◌, ◌+◌,
 use Rattle.std.proofs.{Common.append_assoc, Common.append-nil, Common.Option, Common.Some, Common.None, Common.Ok, Common.nat_eq, lemmas.Bool.eqb-true, lemmas.Bool.cases_lt, lemmas.List.drop_all}
 use Rattle.std.proofs.{lemmas.List.Splits.join_with_byte-slice_split, lemmas.List.Sums.split_at_first, lemmas.List.Sums.passes_at_first, lemmas.Option.same_Some, lemmas.Option.none-some}
 use Rattle.std.specs.{Fmt.decimal, List.flat_map, List.before_first, List.after_first, List.position_or_len, Prelude.if◌then◌else◌, Prelude.codes, Prelude.slice_get}
-use Rattle.lra_program.specs.{Program.Program, Sites.sites_of}
-use Rattle.lra_operations.specs.Tree.{Node}
+use Rattle.lra_certificate_spec.specs.Crates.{lra_operations.Tree.Node, lra_program.Program.Program, lra_program.Sites.sites_of}
 use Rattle.lra_paths.specs.Paths.{paths_of}
 use Rattle.lra_row_text.specs.Texts.{text_line}
 use Rattle.lra_certificate_spec.specs.CertificateText.{numbered_text, head_text, body_text, states_text, edges_text, listed_text, end_text}

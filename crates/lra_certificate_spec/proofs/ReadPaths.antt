@@ -1,11 +1,9 @@
 -- What is read of paths and of assertions has this text, and shows what it has to.
 use Rattle.std.proofs.Common.{◌≡◌, ◌<◌, ◌≤◌, ◌+◌, ℕ, suc, ℤ, Bool, true, false, List, [], ◌∷◌, ◌++◌, length, refl, ap, sym, ◌∙◌, subst, arith, append_assoc, append-nil, Option, Some, None, Result, Ok}
-use Rattle.std.proofs.Common.{Err, length-append}
+use Rattle.std.proofs.{Common.Err, Common.length-append, lemmas.Bool.and_parts}
 use Rattle.std.specs.{List.AllByRecursion, List.flat_map, Prelude.if◌then◌else◌, Prelude.codes, Prelude.slice_get, Prelude.◌&&◌, Prelude.⊤}
-use Rattle.std.proofs.lemmas.Bool.{and_parts}
-use Rattle.lra_linear_spec.specs.{Descriptions.LinearRow, Descriptions.system_of, declared.Excess.Excess}
-use Rattle.lra_program.specs.{Program.Program, Sites.Site, Sites.sites_of}
-use Rattle.lra_operations.specs.Tree.{Node}
+use Rattle.lra_certificate_spec.specs.Crates.lra_linear_spec.Descriptions.{LinearRow, system_of}
+use Rattle.lra_certificate_spec.specs.Crates.{lra_linear_spec.declared.Excess.Excess, lra_operations.Tree.Node, lra_program.Program.Program, lra_program.Sites.Site, lra_program.Sites.sites_of}
 use Rattle.lra_paths.specs.Paths.{Path, violations_of}
 use Rattle.lra_multipliers.specs.Multipliers.{Multipliers, Answer, yes, no, wide, IsAnswer, checked}
 use Rattle.lra_multipliers.specs.Symbols.{SymbolicState, executed_path}

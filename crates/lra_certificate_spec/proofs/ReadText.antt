@@ -3,8 +3,7 @@ use Rattle.std.proofs.Common.{◌≡◌, ◌+◌, ℕ, suc, ℤ, Bool, true, fal
 use Rattle.std.proofs.lemmas.Option.{same_Some, none-some}
 use Rattle.std.proofs.{Common.nat_eq, lemmas.Bool.eqb-true, lemmas.Bool.Decides.Decides-eqb, lemmas.List.Splits.join_with_byte-slice_split, lemmas.Slice.Eq.starts_is}
 use Rattle.std.specs.{Fmt.signed_decimal, List.AllByRecursion, List.starts_with, List.join_with_byte, List.flat_map, Prelude.if◌then◌else◌, Prelude.codes}
-use Rattle.lra_linear_spec.specs.{Descriptions.LinearRow, Range.InRange}
-use Rattle.lra_program.specs.Sites.{Site}
+use Rattle.lra_certificate_spec.specs.Crates.{lra_linear_spec.Descriptions.LinearRow, lra_linear_spec.Range.InRange, lra_program.Sites.Site}
 use Rattle.lra_multipliers.specs.Multipliers.{Multipliers}
 use Rattle.lra_row_text.specs.Texts.{text_line}
 use Rattle.lra_certificate_spec.specs.CertificateText.{numbers_text, relation_text, row_text, point_text, state_text, states_text, multipliers_text}

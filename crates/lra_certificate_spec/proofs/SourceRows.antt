@@ -1,10 +1,8 @@
 -- Rows of sources have the width of their points, and assertions that are false no row.
 use Rattle.std.proofs.Common.{◌≡◌, ℕ, zero, suc, List, [], ◌∷◌, ◌++◌, map, refl, Some, None}
 use Rattle.std.specs.{List.AllByRecursion, List.flat_map, Prelude.slice_get}
-use Rattle.lra_domain.specs.Actions.{Action}
-use Rattle.lra_program.specs.{Program.Program, Sites.Site, Sites.sites_of}
-use Rattle.lra_operations.specs.Tree.{Node}
-use Rattle.lra_path_segments.specs.Segments.{violates}
+use Rattle.lra_certificate_spec.specs.Crates.lra_program.Sites.{Site, sites_of}
+use Rattle.lra_certificate_spec.specs.Crates.{lra_domain.Actions.Action, lra_operations.Tree.Node, lra_path_segments.Segments.violates, lra_program.Program.Program}
 use Rattle.lra_paths.specs.Paths.{Path, path_by, paths_between, actions_between, live_of, sources_of, violations_of}
 use Rattle.lra_certificate_spec.specs.{Certificates.state_or_empty, Certificates.state_from, Certificates.state_to, Certificates.live_at_source, Certificates.AreStates, Judged.RowsAtPoint}
 use Rattle.lra_certificate_spec.proofs.ReadPaths.{AreRows}

@@ -4,13 +4,16 @@ use Rattle.std.proofs.Common.{◌≡◌, ℕ, zero, suc, ◌<◌, ◌≤◌, ◌
 use Rattle.std.proofs.lemmas.List.{map-append, length-append, length-map, map-set, take-map, length-set}
 use Rattle.std.proofs.{Common.add-one, Math.IntN.+ℤ_idr, lemmas.Bool.cases_lt, lemmas.List.Elements.Contains-append_cases}
 use Rattle.std.specs.{List.AllByRecursion, List.Contains, Prelude.slice_set}
-use Rattle.lra_linear_spec.specs.Descriptions.{LinearRow, HoldsWith, Holds, Con}
-use Rattle.lra_linear_spec.specs.{CheckedArithmetic.checked_added, CheckedArithmetic.and_then, Kinds.is_equality, Vectors.entry, Vectors.dot, Vectors.product, Vectors.zeros, declared.ConKind.ConKind}
-use Rattle.lra_linear_spec.specs.{declared.ConKind.TheVariants.Ge, declared.ConKind.TheVariants.Eq, declared.Excess.Excess}
-use Rattle.lra_linear_spec.proofs.Products.{entry_past, dot_same, dot_plus, product_comm, product_none}
-use Rattle.lra_linear_spec.proofs.{Membership.contains_none, Membership.contains_cases, Ring.ring, Ring.v, Ring.◌⊕◌, Ring.◌⊗◌, UnitRows.entry_product}
-use Rattle.lra_linear_forms.specs.Form.{Form, form_row, form_value, KindHolds}
-use Rattle.lra_domain.specs.{Actions.Action, Actions.assign, Actions.forget, Actions.test, Actions.embed, Actions.remove_last, Moves.LeadsAll}
+use Rattle.lra_certificate_spec.specs.Crates.lra_domain.Actions.{Action, assign, forget, test, embed, remove_last}
+use Rattle.lra_certificate_spec.specs.Crates.lra_linear_forms.Form.{Form, form_row, form_value, KindHolds}
+use Rattle.lra_certificate_spec.specs.Crates.lra_linear_spec.CheckedArithmetic.{checked_added, and_then}
+use Rattle.lra_certificate_spec.specs.Crates.lra_linear_spec.Descriptions.{LinearRow, HoldsWith, Holds, Con}
+use Rattle.lra_certificate_spec.specs.Crates.lra_linear_spec.Vectors.{entry, dot, product, zeros}
+use Rattle.lra_certificate_spec.specs.Crates.lra_linear_spec.declared.ConKind.TheVariants.{Ge, Eq}
+use Rattle.lra_certificate_spec.specs.Crates.{lra_domain.Moves.LeadsAll, lra_linear_spec.Kinds.is_equality, lra_linear_spec.declared.ConKind.ConKind, lra_linear_spec.declared.Excess.Excess}
+use Rattle.lra_certificate_spec.proofs.Crates.lra_linear_spec.Membership.{contains_none, contains_cases}
+use Rattle.lra_certificate_spec.proofs.Crates.lra_linear_spec.Products.{entry_past, dot_same, dot_plus, product_comm, product_none}
+use Rattle.lra_certificate_spec.proofs.Crates.{lra_linear_spec.Ring.ring, lra_linear_spec.Ring.v, lra_linear_spec.Ring.◌⊕◌, lra_linear_spec.Ring.◌⊗◌, lra_linear_spec.UnitRows.entry_product}
 use Rattle.lra_multipliers.specs.Columns.{added_to}
 use Rattle.lra_multipliers.specs.Symbols.{symbol, symbols, constant_row, composed_from, composed, SymbolicState, tests_too, gives, executed_action, executed, new_symbols}
 use Rattle.lra_multipliers.proofs.CheckSteps.{Matches, added_columns, added_is, length_zeros}

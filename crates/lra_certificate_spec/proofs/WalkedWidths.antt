@@ -2,9 +2,8 @@
 use Rattle.std.proofs.Common.{◌≡◌, ℕ, suc, ◌≤◌, ◌+◌, ◌-◌, ℤ, pos, List, [], ◌∷◌, ◌++◌, length, map, take, Ok, refl, ap, sym, ◌∙◌, subst, arith, length-append}
 use Rattle.std.proofs.lemmas.List.{length-map}
 use Rattle.std.specs.List.{AllByRecursion}
-use Rattle.lra_linear_spec.specs.{Descriptions.LinearRow, Kinds.is_equality, Vectors.zeros}
-use Rattle.lra_linear_forms.specs.Form.{form_row}
-use Rattle.lra_domain.specs.Actions.{Action, assign, forget, test, embed, remove_last}
+use Rattle.lra_certificate_spec.specs.Crates.lra_domain.Actions.{Action, assign, forget, test, embed, remove_last}
+use Rattle.lra_certificate_spec.specs.Crates.{lra_linear_forms.Form.form_row, lra_linear_spec.Descriptions.LinearRow, lra_linear_spec.Kinds.is_equality, lra_linear_spec.Vectors.zeros}
 use Rattle.lra_paths.specs.Paths.{Path}
 use Rattle.lra_multipliers.specs.Multipliers.{Multipliers, IsAnswer, checked}
 use Rattle.lra_multipliers.specs.Symbols.{symbol, symbols, composed, SymbolicState, tests_too, gives, executed_action, executed, new_symbols, tests_in, width_of, executed_path}

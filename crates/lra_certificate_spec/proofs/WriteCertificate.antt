@@ -1,14 +1,11 @@
 -- The text of a certificate that meets its program is read, and accepted with its numbers.
 use Rattle.std.proofs.Common.{◌≡◌, ◌⊎◌, ◌<◌, ◌≤◌, ◌+◌, ◌^◌, ℕ, zero, suc, ℤ, pos, Bool, true, false, List, [], ◌∷◌, ◌++◌, length, take, drop, get_or, refl, ap, sym, ◌∙◌, subst, arith, inl, inr}
-use Rattle.std.proofs.Common.{append_assoc, append-nil, Option, Some, None, Ok, nat_eq, length-append}
+use Rattle.std.proofs.{Common.append_assoc, Common.append-nil, Common.Option, Common.Some, Common.None, Common.Ok, Common.nat_eq, Common.length-append, lemmas.Bool.and_right}
 use Rattle.std.proofs.{Math.Seq.take-append_seam, Math.Seq.drop-append-add, lemmas.Bool.cases_lt, lemmas.Fmt.decimal_is_IsNumeral_wide, lemmas.Grind.common_steps, lemmas.List.Sums.position_or_len_is}
 use Rattle.std.proofs.{lemmas.Option.same_Some, lemmas.Option.none-some, lemmas.Slice.Eq.bytes_eq-Decides}
 use Rattle.std.specs.List.{AllByRecursion, flat_map, position_or_len, before_first, after_first}
 use Rattle.std.specs.{Fmt.decimal, Prelude.if◌then◌else◌, Prelude.codes, Prelude.slice_get, Prelude.◌&&◌, Str.Parse.digits_value}
-use Rattle.std.proofs.lemmas.Bool.{and_right}
-use Rattle.lra_linear_spec.specs.Range.{InRange}
-use Rattle.lra_program.specs.{Program.Program, Sites.Site, Sites.sites_of}
-use Rattle.lra_operations.specs.Tree.{Node}
+use Rattle.lra_certificate_spec.specs.Crates.{lra_linear_spec.Range.InRange, lra_operations.Tree.Node, lra_program.Program.Program, lra_program.Sites.Site, lra_program.Sites.sites_of}
 use Rattle.lra_paths.specs.Paths.{Path, paths_of, violations_of}
 use Rattle.lra_row_text.specs.Texts.{text_line}
 use Rattle.lra_certificate_spec.specs.CertificateText.{numbers_text, numbered_text, edge_text, edges_text, evidence_text, assert_text, listed_text, end_text, head_text, states_text}

@@ -1,9 +1,8 @@
 -- Paths and assertions that are written are read again, and accepted.
 use Rattle.std.proofs.Common.{◌≡◌, ℕ, suc, ℤ, Bool, false, List, [], ◌∷◌, ◌++◌, length, drop, refl, ap, sym, ◌∙◌, subst, arith, append_assoc, append-nil, Option, Some, None, Result, Ok}
 use Rattle.std.specs.{Fmt.decimal, List.AllByRecursion, List.flat_map, Prelude.if◌then◌else◌, Prelude.codes}
-use Rattle.lra_linear_spec.specs.{Descriptions.LinearRow, Descriptions.system_of, declared.Excess.Excess}
-use Rattle.lra_program.specs.Program.{Program}
-use Rattle.lra_operations.specs.Tree.{Node}
+use Rattle.lra_certificate_spec.specs.Crates.lra_linear_spec.Descriptions.{LinearRow, system_of}
+use Rattle.lra_certificate_spec.specs.Crates.{lra_linear_spec.declared.Excess.Excess, lra_operations.Tree.Node, lra_program.Program.Program}
 use Rattle.lra_paths.specs.Paths.{Path}
 use Rattle.lra_multipliers.specs.Multipliers.{Multipliers, Answer, yes, no, wide, IsAnswer, AreSigned, checked}
 use Rattle.lra_multipliers.specs.Symbols.{SymbolicState, executed_path}

@@ -2,8 +2,7 @@
 use Rattle.std.proofs.Common.{◌≡◌, ◌<◌, ℕ, suc, Bool, true, false, List, [], ◌∷◌, ◌++◌, length, drop, refl, ap, sym, ◌∙◌, subst, arith, append_assoc, Option, Some, None, Ok, length-append}
 use Rattle.std.proofs.lemmas.Slice.Eq.{bytes_eq-Decides}
 use Rattle.std.specs.{Fmt.decimal, List.AllByRecursion, Prelude.if◌then◌else◌, Prelude.codes}
-use Rattle.lra_linear_spec.specs.Descriptions.{LinearRow}
-use Rattle.lra_program.specs.Sites.{Site}
+use Rattle.lra_certificate_spec.specs.Crates.{lra_linear_spec.Descriptions.LinearRow, lra_program.Sites.Site}
 use Rattle.lra_row_text.specs.Texts.{text_line}
 use Rattle.lra_certificate_spec.specs.CertificateText.{numbers_text, relation_text, row_text, point_text, state_text, states_text}
 use Rattle.lra_certificate_spec.specs.Judged.{Left, Judged, then_judged, line_on, after_line, is_next_line, takes, judged_with_row, row_before, judged_rows, RowsAtPoint, some_rows, judged_state}

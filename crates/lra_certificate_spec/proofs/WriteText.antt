@@ -1,19 +1,18 @@
 -- What is written is read again: lines, their numbers, the rows of points.
 use Rattle.std.proofs.Common.{◌≡◌, ◌<◌, ◌≤◌, ◌+◌, ◌/◌, ◌%◌, ℕ, zero, suc, ℤ, pos, negsuc, Bool, true, false, List, [], ◌∷◌, ◌++◌, length, take, drop, get_or, refl, ap, sym, ◌∙◌, arith, append_assoc}
-use Rattle.std.proofs.Common.{Option, Some, None, Ok, nat_eq, length-append}
+use Rattle.std.proofs.{Common.Option, Common.Some, Common.None, Common.Ok, Common.nat_eq, Common.length-append, lemmas.Bool.and_parts}
 use Rattle.std.proofs.{Math.Seq.drop-append_seam, Math.Seq.take-append_seam, lemmas.Bool.ne_eqb, lemmas.Bool.eq-eqb, lemmas.Bool.lt-ltb, lemmas.Bool.Decides.Decides-eqb, lemmas.Bool.Decides.nat_tests}
 use Rattle.std.proofs.{lemmas.Grind.common_steps, lemmas.List.Elements.All-from_recursion, lemmas.List.Splits.slice_split_at, lemmas.List.Splits.length-slice_split}
 use Rattle.std.proofs.{lemmas.List.Sums.position_or_len_is, lemmas.Nat.mod_below, lemmas.Slice.Eq.bytes_eq-Decides, lemmas.Slice.Eq.starts_is}
 use Rattle.std.specs.List.{All, AllByRecursion, starts_with, slice_split, position_or_len, list_all}
 use Rattle.std.specs.{Fmt.decimal, Fmt.digits, Fmt.digit_glyph, Fmt.digits_onto, Fmt.signed_decimal, Prelude.if◌then◌else◌, Prelude.◌==◌, Prelude.nat_le}
-use Rattle.lra_linear_spec.specs.{Descriptions.LinearRow, Range.InRange}
+use Rattle.lra_certificate_spec.specs.Crates.{lra_linear_spec.Descriptions.LinearRow, lra_linear_spec.Range.InRange}
 use Rattle.lra_multipliers.specs.Multipliers.{Multipliers}
 use Rattle.lra_row_text.specs.Texts.{text_line}
 use Rattle.lra_certificate_spec.specs.CertificateText.{numbers_text, relation_text, row_text, multipliers_text}
 use Rattle.lra_certificate_spec.specs.Certificates.{IsPointRow, AreNumbers}
 use Rattle.lra_certificate_spec.specs.Judged.{number_in, then_number, numbers_in, words_of, so_many, spaced_numbers, numbers_after, Left, Judged, then_judged, line_on, after_line, is_next_line, takes}
 use Rattle.lra_certificate_spec.specs.Judged.{constraint_row, or_else, row_in, judged_rows, RowsAtPoint, judged_state, judged_states, multipliers_in}
-use Rattle.std.proofs.lemmas.Bool.{and_parts}
 use Rattle.lra_certificate_spec.proofs.{NumberSteps.word_behind, NumberText.text_spelled}
 
 -- ---- bytes of words and of lines: above the space, and at least that

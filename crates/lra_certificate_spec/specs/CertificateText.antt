@@ -1,9 +1,9 @@
 -- The text of a certificate. Every line ends with a line feed; points are numbered from 1.
 use Rattle.std.specs.Prelude.{ℕ, suc, ℤ, Bool, true, false, List, [], ◌∷◌, ◌++◌, length, Option, None, Some, codes}
 use Rattle.std.specs.{Fmt.decimal, Fmt.signed_decimal, List.flat_map}
-use Rattle.lra_linear_spec.specs.Descriptions.{LinearRow}
+use Rattle.lra_certificate_spec.specs.Crates.lra_linear_spec.Descriptions.{LinearRow}
+use Rattle.lra_certificate_spec.specs.Crates.lra_path_segments.Segments.{Goal, comes_to, violates}
 use Rattle.lra_row_text.specs.Texts.{text_line}
-use Rattle.lra_path_segments.specs.Segments.{Goal, comes_to, violates}
 use Rattle.lra_paths.specs.Paths.{Path}
 use Rattle.lra_multipliers.specs.Multipliers.{Multipliers}
 use Rattle.lra_certificate_spec.specs.Certificates.{Evidence, none, infeasible, implies, ListedAssertion, Certificate}

@@ -2,11 +2,12 @@
 -- source, as multipliers show. Points are numbered from 0 here, sources as in paths.
 use Rattle.std.specs.Prelude.{◌≡◌, ◌<◌, ℕ, zero, suc, ◌-◌, ℤ, ⊤, true, List, [], ◌∷◌, ◌++◌, length, map, Option, None}
 use Rattle.std.specs.{List.AllByRecursion, Prelude.Some, Prelude.slice_get, Prelude.Ok}
-use Rattle.lra_linear_spec.specs.Descriptions.{LinearRow, system_of}
-use Rattle.lra_linear_spec.specs.{Polyhedra.falsity, Range.InRange, Vectors.zeros}
-use Rattle.lra_program.specs.{Program.Program, Sites.Site, Sites.sites_of}
-use Rattle.lra_operations.specs.Tree.{Node}
-use Rattle.lra_path_segments.specs.Segments.{Goal, comes_to, violates}
+use Rattle.lra_certificate_spec.specs.Crates.lra_linear_spec.Descriptions.{LinearRow, system_of}
+use Rattle.lra_certificate_spec.specs.Crates.lra_path_segments.Segments.{Goal, comes_to, violates}
+use Rattle.lra_certificate_spec.specs.Crates.lra_program.Program.{Program}
+use Rattle.lra_certificate_spec.specs.Crates.lra_program.Sites.{Site, sites_of}
+use Rattle.lra_certificate_spec.specs.Crates.{lra_linear_spec.Polyhedra.falsity, lra_linear_spec.Range.InRange}
+use Rattle.lra_certificate_spec.specs.Crates.{lra_linear_spec.Vectors.zeros, lra_operations.Tree.Node}
 use Rattle.lra_paths.specs.Paths.{Path, live_at, paths_of, violations_of}
 use Rattle.lra_multipliers.specs.Multipliers.{Multipliers, yes, IsAnswer}
 use Rattle.lra_multipliers.specs.Symbols.{SymbolicState, composed, width_of, executed_path}

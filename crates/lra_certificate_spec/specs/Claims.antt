@@ -2,15 +2,16 @@
 -- answer to each input.
 use Rattle.std.specs.Prelude.{◌≡◌, ◌≤◌, ◌<◌, ◌⊎◌, ℕ, suc, ℤ, ◌^◌, List, [], length, Option, None, Some, slice_get, Ok}
 use Rattle.std.specs.Prelude.{Err, pos, ◌∷◌, Contains}
-use Rattle.lra_base.specs.{declared.refusals.Cause.Cause, declared.refusals.Place.Place}
-use Rattle.lra_syntax.specs.{Grammar.Spells, Trees.FileTree}
-use Rattle.lra_resolution_spec.specs.{Refuse.Refuse, Resolve.resolve}
-use Rattle.lra_linear_spec.specs.Descriptions.{LinearRow, Con}
-use Rattle.lra_program.specs.{Program.Program, Run.At, Run.Fails, Sites.Site, Sites.sites_of}
-use Rattle.lra_operations.specs.{Agree.point_of, Tree.Node}
+use Rattle.lra_certificate_spec.specs.Crates.lra_linear_spec.Descriptions.{LinearRow, Con}
+use Rattle.lra_certificate_spec.specs.Crates.lra_path_segments.Segments.{Goal, comes_to, violates}
+use Rattle.lra_certificate_spec.specs.Crates.lra_program.Sites.{Site, sites_of}
+use Rattle.lra_certificate_spec.specs.Crates.{lra_base.declared.refusals.Cause.Cause}
+use Rattle.lra_certificate_spec.specs.Crates.{lra_base.declared.refusals.Place.Place, lra_domain.Moves.SomeLeads}
+use Rattle.lra_certificate_spec.specs.Crates.{lra_operations.Agree.point_of, lra_operations.Tree.Node}
+use Rattle.lra_certificate_spec.specs.Crates.{lra_program.Program.Program, lra_program.Run.At, lra_program.Run.Fails}
+use Rattle.lra_certificate_spec.specs.Crates.{lra_resolution_spec.Refuse.Refuse, lra_resolution_spec.Resolve.resolve}
+use Rattle.lra_certificate_spec.specs.Crates.{lra_syntax.Grammar.Spells, lra_syntax.Trees.FileTree}
 use Rattle.lra_front_end.specs.Stages.{HasTree, HasInlinedTree}
-use Rattle.lra_domain.specs.Moves.{SomeLeads}
-use Rattle.lra_path_segments.specs.Segments.{Goal, comes_to, violates}
 use Rattle.lra_paths.specs.Covers.{IsGoalOf, HoldInAllRuns}
 use Rattle.lra_paths.specs.Paths.{live_at, actions_between, paths_of, AreFewPaths, HasTooManyPaths}
 use Rattle.lra_certificate_spec.specs.CertificateText.{certificate_text}

@@ -6,10 +6,10 @@ use Rattle.std.specs.List.{list_all, slice_split, starts_with, before_first, aft
 use Rattle.std.specs.Prelude.{ℕ, suc, ◌+◌, ℤ, pos, Bool, true, false, ◌&&◌, ◌||◌, List, [], ◌∷◌, ◌++◌, length, take}
 use Rattle.std.specs.Prelude.{drop, Option, None, Some, Result, Ok, Err, nat_eq, nat_le, if◌then◌else◌, codes}
 use Rattle.std.specs.{Char.is_ascii_digit, Prelude.slice_get, Str.bytes_eq, Str.Parse.signed_digits_value}
-use Rattle.lra_linear_spec.specs.Descriptions.{LinearRow, system_of}
-use Rattle.lra_linear_spec.specs.{Range.in_range, declared.Excess.Excess}
-use Rattle.lra_program.specs.{Program.Program, Sites.Site, Sites.sites_of}
-use Rattle.lra_operations.specs.Tree.{Node}
+use Rattle.lra_certificate_spec.specs.Crates.lra_linear_spec.Descriptions.{LinearRow, system_of}
+use Rattle.lra_certificate_spec.specs.Crates.lra_program.Sites.{Site, sites_of}
+use Rattle.lra_certificate_spec.specs.Crates.{lra_linear_spec.Range.in_range, lra_linear_spec.declared.Excess.Excess}
+use Rattle.lra_certificate_spec.specs.Crates.{lra_operations.Tree.Node, lra_program.Program.Program}
 use Rattle.lra_paths.specs.Paths.{Path, paths_of, violations_of}
 use Rattle.lra_multipliers.specs.Multipliers.{Multipliers, Answer, yes, no, wide, checked}
 use Rattle.lra_multipliers.specs.Symbols.{SymbolicState, composed, width_of, executed_path, tests_in}

@@ -5,3 +5,5 @@ pub mod Judged
 pub mod Claims
 pub mod Lines
 pub mod NumberViews
+-- The crates below
+pub mod Crates

@@ -8,3 +8,5 @@
 mod laws;
 
 pub use laws::{certificates_are_inductive, certificates_hold, judged_exactly, one_certificate};
+pub use lra_front_end::{Refusal, read_source};
+pub use lra_script::{Constraint, number_of};

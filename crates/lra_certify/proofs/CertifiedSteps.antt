@@ -2,15 +2,13 @@
 use Rattle.std.proofs.Common.{◌≡◌, ◌⊎◌, inl, inr, ◌<◌, ◌+◌, ◌++◌, ◌∷◌, [], ℕ, zero, suc, true, List, length, map, Some, None, refl, ap, sym, ◌∙◌, subst, arith}
 use Rattle.std.proofs.{lemmas.List.length-map, lemmas.List.Elements.All-contains, lemmas.List.Elements.Contains-append_cases, lemmas.Option.none-some}
 use Rattle.std.specs.{List.Contains, List.All, List.AllByRecursion, List.flat_map, List.range_with_len, Prelude.slice_get}
-use Rattle.lra_linear_spec.proofs.Membership.{contains_none, contains_head, contains_tail, contains_cases, map_from, all_from}
-use Rattle.lra_domain.specs.Actions.{Action}
-use Rattle.lra_program.specs.{Program.Program, Sites.Site, Sites.sites_of}
-use Rattle.lra_operations.specs.{Tree.Node, TreeViews.site_view}
-use Rattle.lra_path_segments.specs.Segments.{Goal, comes_to, violates}
-use Rattle.lra_paths.specs.Paths.{Path, path_by, paths_between, paths_of, violations_of, sources_of, points_of, actions_between, live_at, AreFewPaths}
-use Rattle.lra_certificate_spec.specs.Certificates.{Evidence, none, infeasible, implies, ListedAssertion, live_at_source, state_from, state_to, CertifiesFrom, CertifiesPaths, CertifiesAssertion}
-use Rattle.lra_certificate_spec.specs.Certificates.{ShowsNoClaim, Ascend, AreStates, IsWritable}
-use Rattle.lra_certificate_spec.specs.{CertificateText.edges_text, CertificateText.listed_text, CertificateText.states_text, CertificateText.end_text, Judged.RowsAtPoint}
+use Rattle.lra_certify.proofs.Crates.lra_linear_spec.Membership.{contains_none, contains_head, contains_tail, contains_cases, map_from, all_from}
+use Rattle.lra_certify.specs.Crates.lra_certificate_spec.CertificateText.{edges_text, listed_text, states_text, end_text}
+use Rattle.lra_certify.specs.Crates.lra_certificate_spec.Certificates.{Evidence, none, infeasible, implies, ListedAssertion, live_at_source, state_from, state_to, CertifiesFrom, CertifiesPaths}
+use Rattle.lra_certify.specs.Crates.lra_certificate_spec.Certificates.{CertifiesAssertion, ShowsNoClaim, Ascend, AreStates, IsWritable}
+use Rattle.lra_certify.specs.Crates.lra_paths.Paths.{Path, path_by, paths_between, paths_of, violations_of, sources_of, points_of, actions_between, live_at, AreFewPaths}
+use Rattle.lra_certify.specs.Crates.{lra_certificate_spec.Judged.RowsAtPoint, lra_domain.Actions.Action, lra_operations.Tree.Node, lra_operations.TreeViews.site_view, lra_path_segments.Segments.Goal}
+use Rattle.lra_certify.specs.Crates.{lra_path_segments.Segments.comes_to, lra_path_segments.Segments.violates, lra_program.Program.Program, lra_program.Sites.Site, lra_program.Sites.sites_of}
 use Rattle.lra_verify.specs.EdgeViews.{IsAnnotatedProgram, sites_in, states_in, actions_by, live_by}
 use Rattle.lra_verify.specs.{SourceViews.LeadAs, declared.annotated.AnnotatedProgram.AnnotatedProgram}
 use Rattle.lra_certify.specs.Certified.{AscendStrictly, AreListable, IsListedFound, IsCertified, AssertionStops, StopsAt, IsFailure}

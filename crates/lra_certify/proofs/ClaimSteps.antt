@@ -2,15 +2,14 @@
 use Rattle.std.proofs.Common.{◌≡◌, inl, inr, ◌++◌, ◌∷◌, [], ℕ, ℤ, Bool, true, false, List, Option, Some, None, Result, Ok, Err, refl, ap, sym, ◌∙◌, subst, IfOk, IfErr, OnOk, ◌+◌, take, drop}
 use Rattle.std.proofs.{lemmas.List.take-append-drop, lemmas.List.Elements.All-contains, lemmas.List.Elements.Contains-append_left}
 use Rattle.std.specs.{List.Contains, Prelude.cond, Prelude.codes}
-use Rattle.lra_linear_spec.specs.{Cones.with_row, Descriptions.LinearRow, Descriptions.system_of, Range.InRange, Vectors.negated}
-use Rattle.lra_linear_spec.proofs.{Membership.contains_head, Membership.contains_tail, SetOperations.system_append_in}
-use Rattle.lra_systems.specs.LinearSystems.{constraints}
-use Rattle.lra_multipliers.specs.declared.multipliers.Multipliers as made
-use Rattle.lra_multipliers.specs.{MultiplierViews.multipliers_view, Multipliers.Multipliers, Multipliers.yes, Multipliers.IsAnswer}
-use Rattle.lra_row_text.specs.Texts.{text_line}
-use Rattle.lra_certificate_spec.specs.CertificateText.{multipliers_text, evidence_text}
-use Rattle.lra_certificate_spec.specs.{Certificates.infeasible, Certificates.implies, Certificates.AreNumbers, Judged.RowsAtPoint}
-use Rattle.lra_certificate_lines.specs.declared.path_checks.PathFacts.{PathFacts}
+use Rattle.lra_certify.specs.Crates.lra_certificate_spec.CertificateText.{multipliers_text, evidence_text}
+use Rattle.lra_certify.specs.Crates.lra_certificate_spec.Certificates.{infeasible, implies, AreNumbers}
+use Rattle.lra_certify.specs.Crates.lra_multipliers.Multipliers.{Multipliers, yes, IsAnswer}
+use Rattle.lra_certify.specs.Crates.{lra_certificate_lines.declared.path_checks.PathFacts.PathFacts, lra_certificate_spec.Judged.RowsAtPoint, lra_linear_spec.Cones.with_row}
+use Rattle.lra_certify.specs.Crates.{lra_linear_spec.Descriptions.LinearRow, lra_linear_spec.Descriptions.system_of, lra_linear_spec.Range.InRange, lra_linear_spec.Vectors.negated}
+use Rattle.lra_certify.specs.Crates.{lra_multipliers.MultiplierViews.multipliers_view, lra_row_text.Texts.text_line, lra_systems.LinearSystems.constraints}
+use Rattle.lra_certify.proofs.Crates.{lra_linear_spec.Membership.contains_head, lra_linear_spec.Membership.contains_tail, lra_linear_spec.SetOperations.system_append_in}
+use Rattle.lra_certify.specs.Crates.lra_multipliers.declared.multipliers.Multipliers as made
 use Rattle.lra_farkas.specs.FirstMultipliers.{AreFirst, MultipliersInRange, IsMultipliersFailure}
 use Rattle.lra_farkas.specs.declared.first.MultipliersFailure.TheVariants.{NotImplied, Strained, Memory}
 use Rattle.lra_farkas.specs.{MultiplierRows.AreAsWide, declared.first.MultipliersFailure.MultipliersFailure}

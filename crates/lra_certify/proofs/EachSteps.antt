@@ -2,7 +2,7 @@
 use Rattle.std.proofs.Common.{◌≡◌, ℕ, List, [], ◌∷◌, ◌++◌, refl, ap, sym, ◌∙◌, subst, append_assoc, append-nil}
 use Rattle.std.proofs.lemmas.List.Elements.{Contains-append_right}
 use Rattle.std.specs.List.{Contains, AllZip}
-use Rattle.lra_linear_spec.proofs.Membership.{contains_head}
+use Rattle.lra_certify.proofs.Crates.lra_linear_spec.Membership.{contains_head}
 use Rattle.lra_certify.specs.Each.{Stops, each_text, AddsEach, IsLeft}
 
 module _ {A B : Type 0} (Is : A → B → Type 0) where

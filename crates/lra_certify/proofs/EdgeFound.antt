@@ -1,16 +1,12 @@
 -- What is found over the grounds of a path, as it is said of the path.
 use Rattle.std.proofs.Common.{◌≡◌, inl, suc, ℕ, ℤ, List, length, Option, Some, None, Result, Ok, Err, sym, ◌∙◌, subst, OnOk, IfErr, IfSome}
 use Rattle.std.specs.{List.All, List.Contains, Prelude.MatchOption}
-use Rattle.lra_linear_spec.specs.{Descriptions.LinearRow, Vectors.zeros, declared.ConKind.ConKind, declared.Excess.Excess}
-use Rattle.lra_systems.specs.LinearSystems.{LinearSystem, constraints}
-use Rattle.lra_domain.specs.Actions.{Action}
-use Rattle.lra_paths.specs.Paths.{path_by}
-use Rattle.lra_path_segments.specs.Segments.{violates}
-use Rattle.lra_multipliers.specs.Symbols.{executed_path}
-use Rattle.lra_multipliers.proofs.CheckSteps.{length_zeros}
-use Rattle.lra_certificate_spec.specs.Judged.{RowsAtPoint}
-use Rattle.lra_certificate_lines.specs.PathCheckViews.{ArePathFactsOf, IsPathCheck, IsWhole, ArePathFacts, AreCounted}
-use Rattle.lra_certificate_lines.specs.{declared.path_checks.PathCheck.PathCheck, declared.path_checks.PathFacts.PathFacts}
+use Rattle.lra_certify.specs.Crates.lra_certificate_lines.PathCheckViews.{ArePathFactsOf, IsPathCheck, IsWhole, ArePathFacts, AreCounted}
+use Rattle.lra_certify.specs.Crates.{lra_certificate_lines.declared.path_checks.PathCheck.PathCheck, lra_certificate_lines.declared.path_checks.PathFacts.PathFacts}
+use Rattle.lra_certify.specs.Crates.{lra_certificate_spec.Judged.RowsAtPoint, lra_domain.Actions.Action, lra_linear_spec.Descriptions.LinearRow, lra_linear_spec.Vectors.zeros}
+use Rattle.lra_certify.specs.Crates.{lra_linear_spec.declared.ConKind.ConKind, lra_linear_spec.declared.Excess.Excess, lra_multipliers.Symbols.executed_path, lra_path_segments.Segments.violates}
+use Rattle.lra_certify.specs.Crates.{lra_paths.Paths.path_by, lra_systems.LinearSystems.LinearSystem, lra_systems.LinearSystems.constraints}
+use Rattle.lra_certify.proofs.Crates.lra_multipliers.CheckSteps.{length_zeros}
 use Rattle.lra_farkas.proofs.FirstPoints.{as_wide}
 use Rattle.lra_certify.specs.PathFactViews.{AllLead, IsEvidence, AddsEvidence, TargetStrains, IfStrained}
 use Rattle.lra_certify.specs.{InductiveRows.IsInductiveFrom, WrittenPaths.FoundOn, WrittenPaths.StrainsOn, declared.failures.PathFailure.PathFailure}

@@ -2,17 +2,16 @@
 use Rattle.std.proofs.Common.{◌≡◌, inl, inr, ◌-◌, ℕ, suc, ℤ, pos, ◌≤ℤ◌, ◌<ℤ◌, ◌<◌, List, [], ◌∷◌, length, map, take, Option, None, Some, Ok, Err, refl, ap, sym, ◌∙◌, subst, arith}
 use Rattle.std.proofs.{lemmas.List.length-take-le, lemmas.List.Elements.All-contains, lemmas.List.Elements.Contains-append_left, lemmas.List.Elements.Contains-append_right}
 use Rattle.std.specs.List.{Contains, AllByRecursion, AllZip}
-use Rattle.lra_linear_spec.specs.Descriptions.{LinearRow, Con, system_of}
-use Rattle.lra_linear_spec.specs.{Points.IsPoint, Points.IsEmptySet, Polyhedra.falsity, Vectors.entry, Vectors.product}
-use Rattle.lra_linear_spec.proofs.{Descriptions.con_solves, Membership.contains_head, Membership.contains_tail, Membership.map_has}
-use Rattle.lra_systems.specs.LinearSystems.{constraints}
-use Rattle.lra_paths.specs.Paths.{Path}
-use Rattle.lra_multipliers.specs.{Multipliers.Multipliers, Multipliers.IsFarkasCertificate, Multipliers.yes, Multipliers.IsAnswer, Symbols.SymbolicState, Symbols.composed, Symbols.width_of}
-use Rattle.lra_multipliers.proofs.CheckSteps.{ok_err}
-use Rattle.lra_certificate_spec.specs.Certificates.{Evidence, none, infeasible, implies, PathPremises, padded, premises_of, contradiction, IsShownInfeasible, IsClaimImplied, AreImplied, AreNumbers}
-use Rattle.lra_certificate_spec.specs.Judged.{RowsAtPoint}
-use Rattle.lra_certificate_spec.proofs.WalkedRows.{ok_is, AreOfWidth}
-use Rattle.lra_certificate_lines.specs.{PathCheckViews.ArePathFacts, PathCheckViews.ArePathFactsOf, declared.path_checks.PathFacts.PathFacts}
+use Rattle.lra_certify.specs.Crates.lra_certificate_lines.PathCheckViews.{ArePathFacts, ArePathFactsOf}
+use Rattle.lra_certify.specs.Crates.lra_certificate_spec.Certificates.{Evidence, none, infeasible, implies, PathPremises, padded, premises_of, contradiction, IsShownInfeasible, IsClaimImplied}
+use Rattle.lra_certify.specs.Crates.lra_certificate_spec.Certificates.{AreImplied, AreNumbers}
+use Rattle.lra_certify.specs.Crates.lra_multipliers.Multipliers.{Multipliers, IsFarkasCertificate, yes, IsAnswer}
+use Rattle.lra_certify.specs.Crates.lra_multipliers.Symbols.{SymbolicState, composed, width_of}
+use Rattle.lra_certify.specs.Crates.{lra_certificate_lines.declared.path_checks.PathFacts.PathFacts, lra_certificate_spec.Judged.RowsAtPoint, lra_linear_spec.Descriptions.LinearRow}
+use Rattle.lra_certify.specs.Crates.{lra_linear_spec.Descriptions.Con, lra_linear_spec.Descriptions.system_of, lra_linear_spec.Points.IsPoint, lra_linear_spec.Points.IsEmptySet}
+use Rattle.lra_certify.specs.Crates.{lra_linear_spec.Polyhedra.falsity, lra_linear_spec.Vectors.entry, lra_linear_spec.Vectors.product, lra_paths.Paths.Path, lra_systems.LinearSystems.constraints}
+use Rattle.lra_certify.proofs.Crates.lra_linear_spec.Membership.{contains_head, contains_tail, map_has}
+use Rattle.lra_certify.proofs.Crates.{lra_certificate_spec.WalkedRows.ok_is, lra_certificate_spec.WalkedRows.AreOfWidth, lra_linear_spec.Descriptions.con_solves, lra_multipliers.CheckSteps.ok_err}
 use Rattle.lra_farkas.specs.{FirstMultipliers.AreFirst, FirstMultipliers.MultipliersStrain, MultiplierRows.multiplier_dims, MultiplierRows.multiplier_rows, MultiplierRows.AreAsWide}
 use Rattle.lra_certify.specs.PathEvidence.{IsFirstInfeasible, IsNotShownInfeasible, IsFirstShown, IsEvidenceAlong, ClaimStrains, EvidenceStrains, PathStrains}
 use Rattle.lra_certify.specs.PathFactViews.{claim_on, led_to, AllLead, HoldsOn, AllHold, IsLine, IsNotShown, LineStrains, IsClaimLine, ClaimStrained, IsEvidence, TargetStrains}

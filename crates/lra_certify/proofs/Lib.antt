@@ -9,3 +9,5 @@ pub mod TextSteps
 pub mod ClaimSteps
 pub mod CertifiedSteps
 pub mod ReadyWays
+-- The crates below
+pub mod Crates

@@ -1,7 +1,7 @@
 -- A claim that holds wherever its premises do has multipliers, unless some show that the premises have no point.
 use Rattle.std.proofs.Common.{◌≡◌, ℕ, suc, ℤ, pos, ◌≤ℤ◌, List, length}
-use Rattle.lra_linear_spec.specs.{Descriptions.LinearRow, Descriptions.Con, Points.IsEmptySet, Points.IsWithin, Polyhedra.falsity, Vectors.product}
-use Rattle.lra_multipliers.specs.Multipliers.{Multipliers, IsFarkasCertificate}
+use Rattle.lra_certify.specs.Crates.{lra_linear_spec.Descriptions.LinearRow, lra_linear_spec.Descriptions.Con, lra_linear_spec.Points.IsEmptySet, lra_linear_spec.Points.IsWithin}
+use Rattle.lra_certify.specs.Crates.{lra_linear_spec.Polyhedra.falsity, lra_linear_spec.Vectors.product, lra_multipliers.Multipliers.Multipliers, lra_multipliers.Multipliers.IsFarkasCertificate}
 use Rattle.lra_farkas.specs.MultiplierRows.{multiplier_dims, multiplier_rows, point_of, AreAsWide, PointsShow, WhatHoldsAtPointsIsShown, NoPointIsShown}
 
 abbrev AreNone : List LinearRow → List ℤ → Type 0

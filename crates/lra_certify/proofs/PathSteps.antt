@@ -1,19 +1,16 @@
 -- Paths and assertions whose lines are written one after the other.
-use Rattle.std.proofs.Common.{◌≡◌, ◌≤◌, ◌<◌, ◌+◌, ◌-◌, ◌++◌, ◌∷◌, [], ℕ, List, length, drop, map, Option, Some, None, Result, Ok, Err, refl, ap, sym, ◌∙◌, subst, arith, add-one}
-use Rattle.std.proofs.Common.{append_assoc, append-nil, IfErr, OnOk, IsErrAnd, slice_index_or, Vec, ◌⊎◌, inl, inr, drop-cons, get_or}
+use Rattle.std.proofs.Common.{◌≡◌, ◌≤◌, ◌<◌, ◌+◌, ◌-◌, ◌++◌, ◌∷◌, [], ℕ, List, length, drop, map, Option, Some, None, Result, Ok, Err, refl, ap, sym, ◌∙◌, subst, arith, add-one, append_assoc}
+use Rattle.std.proofs.Common.{append-nil, IfErr, OnOk, IsErrAnd, slice_index_or, Vec, ◌⊎◌, inl, inr, drop-cons, get_or}
 use Rattle.std.proofs.{lemmas.List.map-append, lemmas.List.Elements.Contains-append_left, lemmas.List.Elements.Contains-get_or, lemmas.Result.err_from_is_err_and}
 use Rattle.std.specs.{Borrow.Bor, Global.Global, List.Contains, List.flat_map, List.range_with_len, Prelude.slice_get}
-use Rattle.lra_linear_spec.proofs.Membership.{contains_head, contains_cases, contains_none, map_has, map_from}
-use Rattle.lra_linear_spec.specs.Descriptions.{LinearRow}
-use Rattle.lra_domain.specs.{Actions.Action, declared.changes.Change.Change}
-use Rattle.lra_path_segments.specs.Segments.{Goal, comes_to, violates}
-use Rattle.lra_paths.specs.{Paths.Path, Paths.path_by, Sources.to_goal, declared.sources.Source.Source}
-use Rattle.lra_path_disjuncts.specs.TableDisjuncts.{all_done, lists_done}
-use Rattle.lra_path_segments.proofs.Lists.{flat_map_has}
-use Rattle.lra_row_text.specs.Texts.{text_line}
-use Rattle.lra_certificate_spec.specs.CertificateText.{edge_text, assert_text, evidence_text, listed_text}
-use Rattle.lra_certificate_spec.specs.{Certificates.Evidence, Certificates.none, Certificates.ListedAssertion, Certificates.state_from, Certificates.state_to, Judged.RowsAtPoint}
-use Rattle.lra_certificate_spec.proofs.CertificatesKept.{range_has}
+use Rattle.lra_certify.proofs.Crates.lra_linear_spec.Membership.{contains_head, contains_cases, contains_none, map_has, map_from}
+use Rattle.lra_certify.proofs.Crates.{lra_certificate_spec.CertificatesKept.range_has, lra_path_segments.Lists.flat_map_has}
+use Rattle.lra_certify.specs.Crates.lra_certificate_spec.CertificateText.{edge_text, assert_text, evidence_text, listed_text}
+use Rattle.lra_certify.specs.Crates.lra_certificate_spec.Certificates.{Evidence, none, ListedAssertion, state_from, state_to}
+use Rattle.lra_certify.specs.Crates.lra_path_disjuncts.TableDisjuncts.{all_done, lists_done}
+use Rattle.lra_certify.specs.Crates.lra_path_segments.Segments.{Goal, comes_to, violates}
+use Rattle.lra_certify.specs.Crates.{lra_certificate_spec.Judged.RowsAtPoint, lra_domain.Actions.Action, lra_domain.declared.changes.Change.Change, lra_linear_spec.Descriptions.LinearRow}
+use Rattle.lra_certify.specs.Crates.{lra_paths.Paths.Path, lra_paths.Paths.path_by, lra_paths.Sources.to_goal, lra_paths.declared.sources.Source.Source, lra_row_text.Texts.text_line}
 use Rattle.lra_verify.specs.{EdgeViews.sites_in, EdgeViews.states_in, EdgeViews.actions_out_of, EdgeViews.actions_by, EdgeViews.live_by, declared.annotated.AnnotatedProgram.AnnotatedProgram}
 use Rattle.lra_verify.proofs.EdgeSteps.{lists_next, lists_end, numbers_next, numbers_end}
 use Rattle.lra_certify.specs.PathEvidence.{IsEvidenceFrom, IsEvidenceFor, StrainsFrom, StrainsAlong, StopsIn}

@@ -3,12 +3,10 @@
 use Rattle.std.proofs.Common.{◌≡◌, ◌<◌, ◌≤◌, ◌^◌, ◌∙◌, ℕ, suc, [], List, length, map, refl, ap, sym, subst}
 use Rattle.std.proofs.lemmas.List.{length-map}
 use Rattle.std.specs.{List.All, Prelude.slice_get}
-use Rattle.lra_program.specs.{Program.Program, Sites.sites_of, declared.program.GlobalVariable.GlobalVariable}
-use Rattle.lra_operations.specs.{Tree.Node, TreeViews.site_view}
-use Rattle.lra_operations.specs.declared.tree.Site as declared
-use Rattle.lra_path_segments.specs.Segments.{Goal}
-use Rattle.lra_path_disjuncts.specs.Tables.{IsTable}
-use Rattle.lra_paths.specs.{Paths.actions_between_in, Paths.AreFewIn, declared.sources.Source.Source}
+use Rattle.lra_certify.specs.Crates.lra_paths.Paths.{actions_between_in, AreFewIn}
+use Rattle.lra_certify.specs.Crates.{lra_operations.Tree.Node, lra_operations.TreeViews.site_view, lra_path_disjuncts.Tables.IsTable, lra_path_segments.Segments.Goal}
+use Rattle.lra_certify.specs.Crates.{lra_paths.declared.sources.Source.Source, lra_program.Program.Program, lra_program.Sites.sites_of, lra_program.declared.program.GlobalVariable.GlobalVariable}
+use Rattle.lra_certify.specs.Crates.lra_operations.declared.tree.Site as declared
 use Rattle.lra_verify.specs.EdgeViews.{IsAnnotatedProgram, actions_out_of, sites_in}
 use Rattle.lra_verify.specs.{PointViews.HaveDims, SourceViews.AreSources, SourceViews.LeadAs, declared.annotated.AnnotatedProgram.AnnotatedProgram}
 use Rattle.lra_verify.proofs.VerifySteps.{ways_ready, sources_ready, lead_ready}

@@ -3,17 +3,13 @@ use Rattle.std.proofs.Common.{◌≡◌, ◌≤◌, ◌<◌, ◌+◌, ◌++◌, 
 use Rattle.std.proofs.{Common.slice_index_or, Common.drop-cons, Common.option_copied, Common.arith, Common.add-one, Common.append_assoc, Common.append-nil, Math.Seq.take-suc, lemmas.List.take_all}
 use Rattle.std.proofs.{lemmas.List.Elements.All-contains, lemmas.List.Elements.All-append, lemmas.List.Elements.All-cons, lemmas.List.Elements.All-nil, lemmas.Result.on_ok_weaker}
 use Rattle.std.specs.{Borrow.Bor, Fmt.decimal, Fmt.signed_decimal, List.All, List.AllByRecursion, List.Contains}
-use Rattle.lra_linear_spec.specs.{Descriptions.LinearRow, Kinds.is_equality, Range.InRange, declared.ConKind.ConKind}
-use Rattle.lra_linear_spec.proofs.Membership.{contains_head, contains_tail}
-use Rattle.lra_systems.specs.LinearSystems.{LinearSystem, constraints, rows_by_kind}
-use Rattle.lra_program.specs.Sites.{Site}
-use Rattle.lra_paths.specs.Paths.{path_by}
-use Rattle.lra_path_segments.specs.Segments.{comes_to}
-use Rattle.lra_multipliers.specs.Multipliers.{Multipliers}
-use Rattle.lra_row_text.specs.Texts.{text_line}
-use Rattle.lra_certificate_spec.specs.CertificateText.{numbers_text, relation_text, row_text, point_text, state_text, states_text, multipliers_text, edge_text}
-use Rattle.lra_certificate_spec.specs.{Certificates.IsPointRow, Certificates.IsState, Certificates.AreStates, Judged.RowsAtPoint}
-use Rattle.lra_certificate_lines.specs.PathCheckViews.{target_rows}
+use Rattle.lra_certify.specs.Crates.lra_certificate_spec.CertificateText.{numbers_text, relation_text, row_text, point_text, state_text, states_text, multipliers_text, edge_text}
+use Rattle.lra_certify.specs.Crates.lra_certificate_spec.Certificates.{IsPointRow, IsState, AreStates}
+use Rattle.lra_certify.specs.Crates.lra_systems.LinearSystems.{LinearSystem, constraints, rows_by_kind}
+use Rattle.lra_certify.specs.Crates.{lra_certificate_lines.PathCheckViews.target_rows, lra_certificate_spec.Judged.RowsAtPoint, lra_linear_spec.Descriptions.LinearRow}
+use Rattle.lra_certify.specs.Crates.{lra_linear_spec.Kinds.is_equality, lra_linear_spec.Range.InRange, lra_linear_spec.declared.ConKind.ConKind, lra_multipliers.Multipliers.Multipliers}
+use Rattle.lra_certify.specs.Crates.{lra_path_segments.Segments.comes_to, lra_paths.Paths.path_by, lra_program.Sites.Site, lra_row_text.Texts.text_line}
+use Rattle.lra_certify.proofs.Crates.lra_linear_spec.Membership.{contains_head, contains_tail}
 use Rattle.lra_verify.specs.PointViews.{state_view, HaveDims}
 use Rattle.lra_certify.specs.Lines.{rows_text, ArePointRows, HasPointRows}
 

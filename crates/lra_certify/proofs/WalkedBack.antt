@@ -4,14 +4,14 @@ use Rattle.std.proofs.Common.{◌≡◌, ℕ, zero, suc, ◌≤◌, ◌+◌, ◌
 use Rattle.std.proofs.lemmas.List.{map-append, length-map, map-set, take-map, length-take-le, take-append-drop}
 use Rattle.std.proofs.lemmas.List.Elements.{Contains-append_left, Contains-push}
 use Rattle.std.specs.Prelude.{slice_set}
-use Rattle.lra_linear_spec.specs.{Descriptions.LinearRow, Descriptions.HoldsWith, Descriptions.Holds, Descriptions.Con, Kinds.is_equality, Vectors.entry, Vectors.product, Vectors.zeros}
-use Rattle.lra_linear_spec.proofs.{OneSpelling.dot_zeros, Products.product_none, UnitRows.entry_product}
-use Rattle.lra_linear_forms.specs.Form.{form_row}
-use Rattle.lra_domain.specs.Actions.{Action, assign, forget, test, embed, remove_last}
-use Rattle.lra_multipliers.specs.Symbols.{symbol, symbols, composed, SymbolicState, tests_too, gives, executed_action, executed, new_symbols, width_of, executed_path}
-use Rattle.lra_multipliers.proofs.CheckSteps.{length_zeros}
-use Rattle.lra_certificate_spec.specs.Certificates.{padded}
-use Rattle.lra_certificate_spec.proofs.WalkedRows.{and_ok, ok_is, AreOfWidth, values, composed_from_value, symbols_values, all_put, all_behind, all_taken, symbol_width, symbols_width}
+use Rattle.lra_certify.specs.Crates.lra_domain.Actions.{Action, assign, forget, test, embed, remove_last}
+use Rattle.lra_certify.specs.Crates.lra_linear_spec.Descriptions.{LinearRow, HoldsWith, Holds, Con}
+use Rattle.lra_certify.specs.Crates.lra_linear_spec.Vectors.{entry, product, zeros}
+use Rattle.lra_certify.specs.Crates.lra_multipliers.Symbols.{symbol, symbols, composed, SymbolicState, tests_too, gives, executed_action, executed, new_symbols, width_of, executed_path}
+use Rattle.lra_certify.specs.Crates.{lra_certificate_spec.Certificates.padded, lra_linear_forms.Form.form_row, lra_linear_spec.Kinds.is_equality}
+use Rattle.lra_certify.proofs.Crates.lra_certificate_spec.WalkedRows.{and_ok, ok_is, AreOfWidth, values, composed_from_value, symbols_values, all_put, all_behind, all_taken, symbol_width}
+use Rattle.lra_certify.proofs.Crates.lra_certificate_spec.WalkedRows.{symbols_width}
+use Rattle.lra_certify.proofs.Crates.{lra_linear_spec.OneSpelling.dot_zeros, lra_linear_spec.Products.product_none, lra_linear_spec.UnitRows.entry_product, lra_multipliers.CheckSteps.length_zeros}
 use Rattle.lra_certify.specs.PointMoves.{PointLeadsAll}
 
 -- ---- the row of a form, and of a claim

@@ -1,17 +1,18 @@
 -- What is written of a program: the text of a certificate that meets it, with widening thresholds and listed
 -- assertions; or why there is none.
+use Rattle.std.specs.List.{AllZip}
 use Rattle.std.specs.Prelude.{◌≡◌, ◌<◌, ℕ, ⊤, true, List, [], ◌∷◌, Some, slice_get, Contains}
-use Rattle.lra_program.specs.{Program.Program, Sites.Site, Sites.sites_of}
-use Rattle.lra_operations.specs.Tree.{Node}
-use Rattle.lra_path_segments.specs.Segments.{comes_to}
-use Rattle.lra_paths.specs.Paths.{Path, paths_of, violations_of, AreFewPaths, HasTooManyPaths}
-use Rattle.lra_certificate_spec.specs.Certificates.{Evidence, ListedAssertion, Certificate, Certifies}
-use Rattle.lra_certificate_spec.specs.{CertificateText.body_text, Judged.RowsAtPoint}
+use Rattle.lra_certify.specs.Crates.lra_certificate_spec.Certificates.{Evidence, ListedAssertion, Certificate}
+use Rattle.lra_certify.specs.Crates.lra_certificate_spec.Certificates.{Certifies}
+use Rattle.lra_certify.specs.Crates.lra_certificate_spec.Judged.{RowsAtPoint}
+use Rattle.lra_certify.specs.Crates.lra_paths.Paths.{Path, paths_of, violations_of, AreFewPaths, HasTooManyPaths}
+use Rattle.lra_certify.specs.Crates.lra_program.Sites.{Site, sites_of}
+use Rattle.lra_certify.specs.Crates.{lra_certificate_spec.CertificateText.body_text, lra_operations.Tree.Node}
+use Rattle.lra_certify.specs.Crates.{lra_path_segments.Segments.comes_to, lra_program.Program.Program}
 use Rattle.lra_certify.specs.PathEvidence.{IsEvidenceFor, StopsIn}
 use Rattle.lra_certify.specs.declared.failures.CertifyFailure.{CertifyFailure}
 use Rattle.lra_certify.specs.declared.failures.CertifyFailure.TheVariants.{TooMany, Strained, Memory}
 use Rattle.lra_certify.specs.declared.failures.StrainedAt.TheVariants.{Edge, Assertion}
-use Rattle.std.specs.List.{AllZip}
 use Rattle.lra_certify.specs.{Each.Stops, declared.failures.StrainedAt.StrainedAt}
 
 -- the numbers of assertions, in ascending order

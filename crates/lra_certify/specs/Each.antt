@@ -1,6 +1,5 @@
 -- Lists of which something is found for each, and written.
-use Rattle.std.specs.Prelude.{◌≡◌, ◌++◌, ℕ, List, [], ◌∷◌}
-use Rattle.std.specs.List.{AllZip}
+use Rattle.std.specs.{List.AllZip, Prelude.◌≡◌, Prelude.◌++◌, Prelude.ℕ, Prelude.List, Prelude.[], Prelude.◌∷◌}
 
 -- this is so of one of the list, and to each before it there is one of the second
 pub record Stops {A B : Type 0} (Is : A → B → Type 0) (Bad : A → Type 0) (xs : List A) (x : A) : Type 0 where

@@ -1,13 +1,13 @@
 -- Rows that are inductive along paths: from each rational point of its source's rows a path leads to points of its
 -- target's rows alone.
 use Rattle.std.specs.Prelude.{◌≤◌, ◌<◌, ℕ, ℤ, ⊤, List, length, None, Some, Contains}
-use Rattle.lra_linear_spec.specs.{Descriptions.Con, Points.IsPoint}
-use Rattle.lra_domain.specs.Actions.{Action}
-use Rattle.lra_program.specs.{Program.Program, Sites.Site, Sites.sites_of}
-use Rattle.lra_operations.specs.Tree.{Node}
-use Rattle.lra_path_segments.specs.Segments.{Goal, comes_to, violates}
-use Rattle.lra_paths.specs.Paths.{Path, path_by, actions_between}
-use Rattle.lra_certificate_spec.specs.{Certificates.state_from, Certificates.state_to, Judged.RowsAtPoint}
+use Rattle.lra_certify.specs.Crates.lra_certificate_spec.Certificates.{state_from, state_to}
+use Rattle.lra_certify.specs.Crates.lra_path_segments.Segments.{Goal, comes_to, violates}
+use Rattle.lra_certify.specs.Crates.lra_paths.Paths.{Path, path_by, actions_between}
+use Rattle.lra_certify.specs.Crates.lra_program.Sites.{Site, sites_of}
+use Rattle.lra_certify.specs.Crates.{lra_certificate_spec.Judged.RowsAtPoint, lra_domain.Actions.Action}
+use Rattle.lra_certify.specs.Crates.{lra_linear_spec.Descriptions.Con, lra_linear_spec.Points.IsPoint}
+use Rattle.lra_certify.specs.Crates.{lra_operations.Tree.Node, lra_program.Program.Program}
 use Rattle.lra_verify.specs.EdgeViews.{live_by}
 use Rattle.lra_certify.specs.PointMoves.{PointLeadsAll}
 

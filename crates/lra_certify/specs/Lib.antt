@@ -9,3 +9,5 @@ pub mod Failures
 pub mod Lines
 pub mod PathFactViews
 pub mod WrittenPaths
+-- The crates below
+pub mod Crates

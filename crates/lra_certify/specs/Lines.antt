@@ -1,10 +1,11 @@
 -- Rows of states as the code writes them.
 use Rattle.std.specs.List.{flat_map, AllByRecursion}
 use Rattle.std.specs.Prelude.{ℕ, ⊤, List, Option, None, Some}
-use Rattle.lra_linear_spec.specs.{Descriptions.LinearRow, declared.ConKind.ConKind}
-use Rattle.lra_systems.specs.LinearSystems.{LinearSystem, constraints}
-use Rattle.lra_row_text.specs.Texts.{text_line}
-use Rattle.lra_certificate_spec.specs.{CertificateText.row_text, Certificates.IsPointRow}
+use Rattle.lra_certify.specs.Crates.lra_certificate_spec.Certificates.{IsPointRow}
+use Rattle.lra_certify.specs.Crates.lra_row_text.Texts.{text_line}
+use Rattle.lra_certify.specs.Crates.lra_systems.LinearSystems.{LinearSystem, constraints}
+use Rattle.lra_certify.specs.Crates.{lra_certificate_spec.CertificateText.row_text}
+use Rattle.lra_certify.specs.Crates.{lra_linear_spec.Descriptions.LinearRow, lra_linear_spec.declared.ConKind.ConKind}
 
 abbrev pub rows_text : List LinearRow → List ℕ
 rows_text rows = flat_map (λ g. text_line (row_text g)) rows

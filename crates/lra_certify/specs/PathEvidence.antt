@@ -1,17 +1,18 @@
 -- What is written of a path: the first multipliers that show that nothing goes along it; where there are none, the
 -- first for each claim of its target.
+use Rattle.std.specs.List.{AllZip}
 use Rattle.std.specs.Prelude.{◌≡◌, ◌⊎◌, ℕ, ℤ, List, [], None, Some, Ok, Err, Contains}
-use Rattle.lra_linear_spec.specs.{Descriptions.system_of, declared.Excess.Excess}
-use Rattle.lra_program.specs.Sites.{Site}
-use Rattle.lra_paths.specs.Paths.{Path}
-use Rattle.lra_multipliers.specs.Multipliers.{Multipliers, IsFarkasCertificate}
-use Rattle.lra_multipliers.specs.Symbols.{SymbolicState, executed_path}
-use Rattle.lra_certificate_spec.specs.Certificates.{Evidence, none, infeasible, implies, PathPremises, premises_of}
-use Rattle.lra_certificate_spec.specs.Certificates.{contradiction, CertifiesByEvidence, IsWritable, state_from}
-use Rattle.lra_certificate_spec.specs.{Certificates.state_to, Judged.RowsAtPoint, Judged.claim_of}
+use Rattle.lra_certify.specs.Crates.lra_certificate_spec.Certificates.{Evidence, none, infeasible, implies}
+use Rattle.lra_certify.specs.Crates.lra_certificate_spec.Certificates.{PathPremises, premises_of, contradiction}
+use Rattle.lra_certify.specs.Crates.lra_certificate_spec.Certificates.{CertifiesByEvidence, IsWritable, state_from}
+use Rattle.lra_certify.specs.Crates.lra_certificate_spec.Certificates.{state_to}
+use Rattle.lra_certify.specs.Crates.lra_certificate_spec.Judged.{RowsAtPoint, claim_of}
+use Rattle.lra_certify.specs.Crates.lra_multipliers.Multipliers.{Multipliers, IsFarkasCertificate}
+use Rattle.lra_certify.specs.Crates.lra_multipliers.Symbols.{SymbolicState, executed_path}
+use Rattle.lra_certify.specs.Crates.{lra_linear_spec.Descriptions.system_of, lra_linear_spec.declared.Excess.Excess}
+use Rattle.lra_certify.specs.Crates.{lra_paths.Paths.Path, lra_program.Sites.Site}
 use Rattle.lra_verify.specs.EdgeViews.{live_by}
 use Rattle.lra_farkas.specs.FirstMultipliers.{AreFirst, MultipliersStrain}
-use Rattle.std.specs.List.{AllZip}
 use Rattle.lra_certify.specs.Each.{Stops}
 
 -- lines --------------------------------------------------------------------------------------------------------------

@@ -1,20 +1,20 @@
 -- Lines of one path as the code writes them, over its premises and the rows of the variables after it.
 use Rattle.std.specs.Prelude.{◌≡◌, ◌⊎◌, ◌++◌, ◌≤ℤ◌, suc, ℤ, pos, ℕ, List, ◌∷◌, map, codes, Result, Ok, Err, Option}
-use Rattle.std.specs.Prelude.{None, Some, Contains}
-use Rattle.lra_linear_spec.specs.{Descriptions.Con, Descriptions.system_of, Points.IsPoint, Points.IsEmptySet}
-use Rattle.lra_linear_spec.specs.{Vectors.entry, Vectors.product, declared.Excess.Excess}
-use Rattle.lra_systems.specs.LinearSystems.{constraints}
-use Rattle.lra_multipliers.specs.Multipliers.{Multipliers, yes, IsAnswer}
-use Rattle.lra_row_text.specs.Texts.{text_line}
-use Rattle.lra_certificate_spec.specs.CertificateText.{multipliers_text, evidence_text}
-use Rattle.lra_certificate_spec.specs.Certificates.{Evidence, none, infeasible, implies, AreNumbers}
-use Rattle.lra_certificate_spec.specs.Judged.{RowsAtPoint}
-use Rattle.lra_certificate_lines.specs.{PathCheckViews.claimed, declared.path_checks.PathFacts.PathFacts}
+use Rattle.std.specs.{List.AllZip, Prelude.None, Prelude.Some, Prelude.Contains}
+use Rattle.lra_certify.specs.Crates.lra_certificate_spec.CertificateText.{multipliers_text, evidence_text}
+use Rattle.lra_certify.specs.Crates.lra_certificate_spec.Certificates.{Evidence, none, infeasible, implies, AreNumbers}
+use Rattle.lra_certify.specs.Crates.lra_linear_spec.Descriptions.{Con, system_of}
+use Rattle.lra_certify.specs.Crates.lra_linear_spec.Points.{IsPoint, IsEmptySet}
+use Rattle.lra_certify.specs.Crates.lra_linear_spec.Vectors.{entry, product}
+use Rattle.lra_certify.specs.Crates.lra_multipliers.Multipliers.{Multipliers, yes, IsAnswer}
+use Rattle.lra_certify.specs.Crates.{lra_certificate_lines.PathCheckViews.claimed}
+use Rattle.lra_certify.specs.Crates.{lra_certificate_lines.declared.path_checks.PathFacts.PathFacts}
+use Rattle.lra_certify.specs.Crates.{lra_certificate_spec.Judged.RowsAtPoint, lra_linear_spec.declared.Excess.Excess}
+use Rattle.lra_certify.specs.Crates.{lra_row_text.Texts.text_line, lra_systems.LinearSystems.constraints}
 use Rattle.lra_farkas.specs.FirstMultipliers.{AreFirst, MultipliersStrain}
 use Rattle.lra_farkas.specs.MultiplierRows.{multiplier_dims, multiplier_rows, AreAsWide}
 use Rattle.lra_farkas.specs.declared.first.MultipliersFailure.{MultipliersFailure}
 use Rattle.lra_farkas.specs.declared.first.MultipliersFailure.TheVariants.{NotImplied, Strained, Memory}
-use Rattle.std.specs.List.{AllZip}
 use Rattle.lra_certify.specs.Each.{Stops, AddsEach, IsLeft}
 use Rattle.lra_certify.specs.{InductiveRows.IsIn, declared.failures.PathFailure.PathFailure}
 use Rattle.lra_certify.specs.declared.failures.PathFailure.TheVariants as of_path

@@ -1,8 +1,8 @@
 -- What least changes do to rational points, at the same divisor; dimension x is column x + 1.
 use Rattle.std.specs.Prelude.{◌≡◌, suc, ◌-◌, ℤ, List, [], ◌∷◌, ◌++◌, length, take, slice_set}
-use Rattle.lra_linear_spec.specs.{Descriptions.Holds, Kinds.is_equality, SetOperations.assigned}
-use Rattle.lra_linear_forms.specs.Form.{form_row}
-use Rattle.lra_domain.specs.Actions.{Action, assign, forget, test, embed, remove_last}
+use Rattle.lra_certify.specs.Crates.lra_domain.Actions.{Action, assign, forget, test, embed, remove_last}
+use Rattle.lra_certify.specs.Crates.{lra_linear_forms.Form.form_row, lra_linear_spec.Descriptions.Holds}
+use Rattle.lra_certify.specs.Crates.{lra_linear_spec.Kinds.is_equality, lra_linear_spec.SetOperations.assigned}
 
 -- the change may lead from the first point to the second
 abbrev pub PointLeads : Action → List ℤ → List ℤ → Type 0

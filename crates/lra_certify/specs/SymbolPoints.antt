@@ -1,8 +1,8 @@
 -- From values of a path's symbols back to points.
 use Rattle.std.specs.Prelude.{◌≡◌, ℕ, suc, ℤ, List, ◌∷◌, length, take, Ok, map}
-use Rattle.lra_linear_spec.specs.{Descriptions.Con, Vectors.entry, Vectors.product}
-use Rattle.lra_domain.specs.Actions.{Action}
-use Rattle.lra_multipliers.specs.Symbols.{SymbolicState, width_of, executed_path}
+use Rattle.lra_certify.specs.Crates.lra_linear_spec.Vectors.{entry, product}
+use Rattle.lra_certify.specs.Crates.lra_multipliers.Symbols.{SymbolicState, width_of, executed_path}
+use Rattle.lra_certify.specs.Crates.{lra_domain.Actions.Action, lra_linear_spec.Descriptions.Con}
 use Rattle.lra_certify.specs.PointMoves.{PointLeadsAll}
 
 -- where the tests hold

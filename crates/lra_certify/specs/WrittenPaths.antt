@@ -1,14 +1,13 @@
 -- Paths as the code writes their lines, from one source after the other.
 use Rattle.std.specs.List.{flat_map, range_with_len, AllZip}
 use Rattle.std.specs.Prelude.{◌≡◌, ◌⊎◌, ◌++◌, ℕ, List, map, length, Some, None, Contains}
-use Rattle.lra_path_segments.specs.Segments.{Goal, comes_to, violates}
-use Rattle.lra_paths.specs.Paths.{Path, path_by}
-use Rattle.lra_linear_spec.specs.Descriptions.{LinearRow}
-use Rattle.lra_domain.specs.Actions.{Action}
-use Rattle.lra_row_text.specs.Texts.{text_line}
-use Rattle.lra_certificate_spec.specs.CertificateText.{edge_text, evidence_text, listed_text, states_text}
-use Rattle.lra_certificate_spec.specs.Certificates.{Evidence, ListedAssertion, AreStates}
-use Rattle.lra_certificate_spec.specs.{CertificateText.end_text, Judged.RowsAtPoint}
+use Rattle.lra_certify.specs.Crates.lra_certificate_spec.CertificateText.{edge_text, evidence_text, listed_text}
+use Rattle.lra_certify.specs.Crates.lra_certificate_spec.CertificateText.{states_text, end_text}
+use Rattle.lra_certify.specs.Crates.lra_certificate_spec.Certificates.{Evidence, ListedAssertion, AreStates}
+use Rattle.lra_certify.specs.Crates.lra_path_segments.Segments.{Goal, comes_to, violates}
+use Rattle.lra_certify.specs.Crates.lra_paths.Paths.{Path, path_by}
+use Rattle.lra_certify.specs.Crates.{lra_certificate_spec.Judged.RowsAtPoint, lra_domain.Actions.Action}
+use Rattle.lra_certify.specs.Crates.{lra_linear_spec.Descriptions.LinearRow, lra_row_text.Texts.text_line}
 use Rattle.lra_verify.specs.EdgeViews.{sites_in, states_in, actions_by}
 use Rattle.lra_verify.specs.declared.annotated.AnnotatedProgram.{AnnotatedProgram}
 use Rattle.lra_certify.specs.Each.{Stops, AddsEach, IsLeft}

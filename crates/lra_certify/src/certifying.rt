@@ -2,9 +2,9 @@
 
 ghost use Rattle.std.specs.List.{All};
 ghost use Rattle.std.specs.Prelude.{◌≡◌, ◌<◌, ◌^◌, map, length, OnOk, IfOk, IfErr, string_bytes};
-ghost use Rattle.lra_program.specs.{ProgramViews.program_view, Sites.sites_of};
-ghost use Rattle.lra_operations.specs.TreeViews.{node_view, site_view};
-ghost use Rattle.lra_paths.specs.Paths.{AreFewPaths};
+ghost use Rattle.lra_certify.specs.Crates.lra_operations.TreeViews.{node_view, site_view};
+ghost use Rattle.lra_certify.specs.Crates.lra_program.ProgramViews.{program_view};
+ghost use Rattle.lra_certify.specs.Crates.{lra_paths.Paths.AreFewPaths, lra_program.Sites.sites_of};
 ghost use Rattle.lra_verify.specs.{EdgeViews.IsAnnotatedProgram, PointViews.HaveDims, PointViews.state_view};
 ghost use Rattle.lra_certify.specs.Certified.{AreListable, IsCertified, IsFailure};
 ghost use Rattle.lra_certify.specs.WrittenPaths.{AllAreInductive, AllAssertionsInductive, AddsBody, BodyStops};
@@ -14,11 +14,10 @@ use crate::edges::push_sources;
 use crate::failures::CertifyFailure;
 use crate::listed::push_listed;
 use crate::text::{push_end, push_states};
-use lra_operations::InlinedProgram;
-use lra_paths::{PathsFailure, find_paths};
-use lra_program::Program;
-use lra_systems::ConSys;
-use lra_verify::{AnnotatedProgram, all_sources};
+use lra_farkas::ConSys;
+use lra_verify::{
+    AnnotatedProgram, InlinedProgram, PathsFailure, Program, all_sources, find_paths,
+};
 use std::alloc::Global;
 
 /// Appends all lines after the source, with these assertions listed.

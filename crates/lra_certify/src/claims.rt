@@ -2,22 +2,18 @@
 //! for each claim of its target.
 
 ghost use Rattle.std.specs.Prelude.{◌<◌, [], ◌∷◌, length, OnOk, IfOk, IfErr, IfSome, Some, None, string_bytes};
-ghost use Rattle.lra_linear_spec.specs.{Cones.with_row, Descriptions.system_of, Kinds.is_equality};
-ghost use Rattle.lra_systems.specs.LinearSystems.{constraints};
-ghost use Rattle.lra_multipliers.specs.MultiplierViews.{multipliers_view};
-ghost use Rattle.lra_certificate_lines.specs.PathCheckViews.{ArePathFacts, claim_row, target_rows};
+ghost use Rattle.lra_certify.specs.Crates.lra_certificate_lines.PathCheckViews.{ArePathFacts, claim_row, target_rows};
+ghost use Rattle.lra_certify.specs.Crates.lra_multipliers.MultiplierViews.{multipliers_view};
+ghost use Rattle.lra_certify.specs.Crates.{lra_linear_spec.Cones.with_row, lra_linear_spec.Descriptions.system_of};
+ghost use Rattle.lra_certify.specs.Crates.{lra_linear_spec.Kinds.is_equality, lra_systems.LinearSystems.constraints};
 ghost use Rattle.lra_certify.specs.PathFactViews.{IsLine, IsLineFailure, IsNotShown, IsEvidence, HoldsOn, AllLead};
 ghost use Rattle.lra_certify.specs.PathFactViews.{AllHold, AddsLines, AddsEvidence, SomeStrains, TargetStrains};
 ghost use Rattle.lra_certify.specs.PathFactViews.{IfStrained};
 
 use crate::failures::PathFailure;
 use crate::text::push_multipliers;
-use lra_certificate_lines::PathFacts;
-use lra_farkas::{MultipliersFailure, multipliers};
-use lra_linear_spec::ConKind;
-use lra_multipliers::Multipliers;
-use lra_row::{Row, RowError};
-use lra_systems::ConSys;
+use lra_farkas::{ConKind, ConSys, MultipliersFailure, Row, RowError, multipliers};
+use lra_verify::{Multipliers, PathFacts};
 use std::alloc::Global;
 
 /// The first multipliers of a claim: a row over the variables, or that nothing is left.

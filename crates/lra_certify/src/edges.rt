@@ -1,11 +1,10 @@
 //! The lines of all paths, from one source after the other.
 
 ghost use Rattle.std.specs.Prelude.{◌≤◌, ◌<◌, ◌^◌, [], ◌∷◌, map, length, OnOk, IfErr, Some, string_bytes};
-ghost use Rattle.lra_systems.specs.LinearSystems.{constraints};
-ghost use Rattle.lra_paths.specs.Paths.{path_by};
-ghost use Rattle.lra_path_disjuncts.specs.TableDisjuncts.{all_done, lists_done};
-ghost use Rattle.lra_path_segments.specs.Segments.{comes_to};
-ghost use Rattle.lra_certificate_lines.specs.PathCheckViews.{target_rows};
+ghost use Rattle.lra_certify.specs.Crates.lra_certificate_lines.PathCheckViews.{target_rows};
+ghost use Rattle.lra_certify.specs.Crates.lra_path_disjuncts.TableDisjuncts.{all_done, lists_done};
+ghost use Rattle.lra_certify.specs.Crates.lra_systems.LinearSystems.{constraints};
+ghost use Rattle.lra_certify.specs.Crates.{lra_path_segments.Segments.comes_to, lra_paths.Paths.path_by};
 ghost use Rattle.lra_verify.specs.EdgeViews.{IsAnnotatedProgram};
 ghost use Rattle.lra_certify.specs.InductiveRows.{IsInductiveFrom};
 ghost use Rattle.lra_certify.specs.PathFactViews.{AddsEvidence, IfStrained};
@@ -15,11 +14,8 @@ ghost use Rattle.lra_certify.specs.WrittenPaths.{SomePathStops, IfStopped, edge_
 use crate::claims::push_evidence;
 use crate::failures::{CertifyFailure, PathFailure, StrainedAt};
 use crate::text::push_edge;
-use lra_certificate_lines::PathCheck;
-use lra_domain::Change;
-use lra_path_segments::Goal;
-use lra_systems::ConSys;
-use lra_verify::AnnotatedProgram;
+use lra_farkas::ConSys;
+use lra_verify::{AnnotatedProgram, Change, Goal, PathCheck};
 use std::alloc::Global;
 
 /// Appends what is said of a path from a source with these rows to a target.

@@ -16,3 +16,4 @@ mod text;
 pub use certifying::certify;
 pub use failures::{CertifyFailure, PathFailure, StrainedAt};
 pub use laws::symbols_give_points;
+pub use lra_verify::{GREATEST_CERTIFICATE, VerifyError, VerifyRefusal, verify};

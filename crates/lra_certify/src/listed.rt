@@ -2,9 +2,8 @@
 
 ghost use Rattle.std.specs.List.{All};
 ghost use Rattle.std.specs.Prelude.{◌≤◌, ◌<◌, ◌^◌, ◌∷◌, [], length, OnOk, IfErr, string_bytes};
-ghost use Rattle.lra_systems.specs.LinearSystems.{constraints};
-ghost use Rattle.lra_path_disjuncts.specs.TableDisjuncts.{lists_done};
-ghost use Rattle.lra_path_segments.specs.Segments.{violates};
+ghost use Rattle.lra_certify.specs.Crates.{lra_path_disjuncts.TableDisjuncts.lists_done};
+ghost use Rattle.lra_certify.specs.Crates.{lra_path_segments.Segments.violates, lra_systems.LinearSystems.constraints};
 ghost use Rattle.lra_verify.specs.EdgeViews.{IsAnnotatedProgram};
 ghost use Rattle.lra_certify.specs.PathFactViews.{IfStrained};
 ghost use Rattle.lra_certify.specs.WrittenPaths.{AllAreInductive, AllDead, AddsPaths, AddsDead, AddsListed};
@@ -14,10 +13,8 @@ ghost use Rattle.lra_certify.specs.WrittenPaths.{paths_to, violating_paths, AllA
 use crate::edges::push_path;
 use crate::failures::{CertifyFailure, PathFailure, StrainedAt};
 use crate::text::push_assertion;
-use lra_domain::Change;
-use lra_path_segments::Goal;
-use lra_systems::ConSys;
-use lra_verify::AnnotatedProgram;
+use lra_farkas::ConSys;
+use lra_verify::{AnnotatedProgram, Change, Goal};
 use std::alloc::Global;
 
 /// Appends the lines of paths from a source with these rows along which nothing goes.

@@ -2,23 +2,20 @@
 
 ghost use Rattle.std.specs.List.{All};
 ghost use Rattle.std.specs.Prelude.{◌≡◌, ◌<◌, ◌^◌, ◌++◌, [], OnOk, string_bytes, map, IfSome};
-ghost use Rattle.lra_linear_spec.specs.Kinds.{is_equality};
-ghost use Rattle.lra_systems.specs.LinearSystems.{constraints};
-ghost use Rattle.lra_multipliers.specs.MultiplierViews.{multipliers_view};
-ghost use Rattle.lra_row_text.specs.Texts.{text_line};
-ghost use Rattle.lra_certificate_spec.specs.CertificateText.{numbers_text, row_text, multipliers_text};
-ghost use Rattle.lra_certificate_spec.specs.CertificateText.{state_text, states_text, relation_text, edge_text};
-ghost use Rattle.lra_certificate_spec.specs.CertificateText.{assert_text, end_text};
-ghost use Rattle.lra_paths.specs.Paths.{path_by};
-ghost use Rattle.lra_path_segments.specs.Segments.{comes_to};
-ghost use Rattle.lra_certificate_lines.specs.PathCheckViews.{target_rows};
+ghost use Rattle.lra_certify.specs.Crates.lra_certificate_spec.CertificateText.{numbers_text, row_text};
+ghost use Rattle.lra_certify.specs.Crates.lra_certificate_spec.CertificateText.{multipliers_text, state_text};
+ghost use Rattle.lra_certify.specs.Crates.lra_certificate_spec.CertificateText.{states_text, relation_text, edge_text};
+ghost use Rattle.lra_certify.specs.Crates.lra_certificate_spec.CertificateText.{assert_text, end_text};
+ghost use Rattle.lra_certify.specs.Crates.lra_multipliers.MultiplierViews.{multipliers_view};
+ghost use Rattle.lra_certify.specs.Crates.lra_systems.LinearSystems.{constraints};
+ghost use Rattle.lra_certify.specs.Crates.{lra_certificate_lines.PathCheckViews.target_rows};
+ghost use Rattle.lra_certify.specs.Crates.{lra_linear_spec.Kinds.is_equality, lra_path_segments.Segments.comes_to};
+ghost use Rattle.lra_certify.specs.Crates.{lra_paths.Paths.path_by, lra_row_text.Texts.text_line};
 ghost use Rattle.lra_certify.specs.Lines.{rows_text, ArePointRows, HasPointRows};
 ghost use Rattle.lra_verify.specs.PointViews.{state_view};
 
-use lra_linear_spec::ConKind;
-use lra_multipliers::Multipliers;
-use lra_row::Row;
-use lra_systems::ConSys;
+use lra_farkas::{ConKind, ConSys, Row};
+use lra_verify::Multipliers;
 use std::alloc::AllocError;
 use std::fmt::Write;
 

@@ -3,33 +3,24 @@ use Rattle.std.proofs.Common.{◌≡◌, ◌∙◌, ◌<◌, ◌++◌, ◌^◌, 
 use Rattle.std.proofs.{lemmas.List.length-map, lemmas.Option.slice_get_within}
 use Rattle.std.specs.Prelude.{Option, Some, Result, Ok, Err, IfOk, IfErr, OnOk, slice_get, string_bytes}
 use Rattle.std.specs.{List.All, List.AllByRecursion, declared.alloc.Global.Global}
-use Rattle.lra_linear_spec.specs.{Polyhedra.Polyhedron, Polyhedra.IsPolyhedron, declared.ConKind.ConKind}
-use Rattle.lra_systems.specs.LinearSystems.{LinearSystem}
-use Rattle.lra_syntax.specs.Trees.{FileTree}
-use Rattle.lra_resolution_spec.specs.Resolve.{resolve}
-use Rattle.lra_program.specs.{Program.Program, Sites.Site, Sites.sites_of}
-use Rattle.lra_operations.specs.{Tree.Node, TreeViews.site_view}
-use Rattle.lra_operations.specs.declared.tree.Site as declared
-use Rattle.lra_analysis_spec.specs.{Operations.lossy_operations, Plan.plan_of}
-use Rattle.lra_fixpoint.specs.Solved.{IsSolved}
-use Rattle.lra_fixpoint.proofs.Counting.{iteration_fails_once}
-use Rattle.lra_poly_domain.specs.{Abstraction.polyhedron_abstraction, Laws.polyhedron_laws}
-use Rattle.lra_report_build.specs.Polyhedra.{shown_polyhedron}
+use Rattle.lra_certify_source.specs.Crates.{lra_analysis_spec.Operations.lossy_operations, lra_analysis_spec.Plan.plan_of, lra_certificate_spec.CertificateText.head_text}
+use Rattle.lra_certify_source.specs.Crates.{lra_certificate_spec.Claims.IsProgram, lra_certificate_spec.Judged.RowsAtPoint, lra_fixpoint.Solved.IsSolved, lra_front_end.Stages.HasTree}
+use Rattle.lra_certify_source.specs.Crates.{lra_front_end.Stages.HasInlinedTree, lra_front_end.Stages.HasConstants, lra_linear_spec.Polyhedra.Polyhedron, lra_linear_spec.Polyhedra.IsPolyhedron}
+use Rattle.lra_certify_source.specs.Crates.{lra_linear_spec.declared.ConKind.ConKind, lra_operations.Tree.Node, lra_operations.TreeViews.site_view, lra_paths.Paths.AreFewPaths}
+use Rattle.lra_certify_source.specs.Crates.{lra_paths.Paths.live_of, lra_poly_domain.Abstraction.polyhedron_abstraction, lra_poly_domain.Laws.polyhedron_laws, lra_program.Program.Program}
+use Rattle.lra_certify_source.specs.Crates.{lra_program.Sites.Site, lra_program.Sites.sites_of, lra_report_build.Polyhedra.shown_polyhedron, lra_resolution_spec.Resolve.resolve}
+use Rattle.lra_certify_source.specs.Crates.{lra_syntax.Trees.FileTree, lra_systems.LinearSystems.LinearSystem, lra_verify.PointViews.HaveDims, lra_verify.PointViews.state_view}
+use Rattle.lra_certify_source.specs.Crates.lra_operations.declared.tree.Site as declared
+use Rattle.lra_certify_source.proofs.Crates.{lra_fixpoint.Counting.iteration_fails_once, lra_linear_spec.ListPlaces.there_within, lra_verify.VerifySteps.live_few}
 use Rattle.lra_report.specs.Report.{Report}
-use Rattle.lra_front_end.specs.Stages.{HasTree, HasInlinedTree, HasConstants}
-use Rattle.lra_paths.specs.Paths.{AreFewPaths, live_of}
 use Rattle.lra_inductive_sound.specs.{Inductive.AreInductive, Inductive.AreWide, Inductive.FailOnce, RationalPoints.rational_points}
 use Rattle.lra_inductive_sound.proofs.RationalPoints.{polyhedra_closed}
-use Rattle.lra_certificate_spec.specs.{CertificateText.head_text, Claims.IsProgram, Judged.RowsAtPoint}
-use Rattle.lra_verify.specs.PointViews.{HaveDims, state_view}
-use Rattle.lra_verify.proofs.VerifySteps.{live_few}
 use Rattle.lra_certify.specs.{Certified.AreListable, Certified.IsCertified, Certified.IsFailure, InductiveRows.AreInductiveRows, declared.failures.CertifyFailure.CertifyFailure}
 use Rattle.lra_certify.specs.declared.failures.CertifyFailure.TheVariants as of_paths
 use Rattle.lra_analyse_source.specs.{SourceReports.IsAnalysisReport, Stages.IsReportOfTree, Stages.ReportsSolution}
 use Rattle.lra_analyse_source.proofs.{Handing.as_many, Handing.of_assertions, Handing.value_dims, Numbering.numbered, ReportSteps.few_points, StageSteps.is_answered}
 use Rattle.lra_certify_source.specs.Certified.{IsHanded, IsCertificateOf, IsCertifyRefusalOf, HasSmallPoint}
 use Rattle.lra_certify_source.specs.{Extraction.state_by, Extraction.dims_by, Extraction.dims_in, Extraction.proved_in, Refusals.IfRefusal, Refusals.error_by, Settings.certify_options}
-use Rattle.lra_linear_spec.proofs.ListPlaces.{there_within}
 use Rattle.lra_certify_source.proofs.{ClosedPaths.paths_stay, Listing.listable, Listing.shows_rows, TakenSteps.taken_dims, Written.stops_there, Written.counted}
 
 -- ---- the program

@@ -4,20 +4,17 @@ use Rattle.std.proofs.Common.{◌≡◌, ◌≢◌, ◌∙◌, ◌+◌, ◌-◌,
 use Rattle.std.proofs.lemmas.List.{length-set, length-append, length-take-le}
 use Rattle.std.proofs.{Math.Seq.take-append_seam, lemmas.Option.none-some, lemmas.Option.same_Some, lemmas.Option.slice_get-map}
 use Rattle.std.specs.{List.AllByRecursion, Prelude.Option, Prelude.None, Prelude.Some, Prelude.map, Prelude.option_map, Prelude.slice_get, Prelude.slice_set, Prelude.Contains}
-use Rattle.lra_linear_spec.specs.Polyhedra.{Polyhedron, IsPolyhedron}
-use Rattle.lra_linear_spec.specs.{Descriptions.LinearRow, Descriptions.Con, Points.IsPoint, Points.SamePoint, SetOperations.assigned, SetOperations.SameBut, Vectors.entry, Vectors.product}
-use Rattle.lra_linear_spec.proofs.Products.{entry_set_other}
-use Rattle.lra_linear_spec.proofs.ListPlaces.{there_within}
-use Rattle.lra_linear_forms.specs.Form.{form_row}
-use Rattle.lra_domain.specs.Actions.{Action, dims_after, assign, forget, test, embed, remove_last}
-use Rattle.lra_poly_domain.specs.Abstraction.{polyhedron_abstraction}
-use Rattle.lra_program.specs.{Program.Program, Sites.Site, Sites.sites_of}
-use Rattle.lra_operations.specs.Tree.{Node}
-use Rattle.lra_path_segments.specs.Segments.{Goal, comes_to, violates}
-use Rattle.lra_paths.specs.Paths.{live_of, actions_between}
+use Rattle.lra_certify_source.specs.Crates.lra_domain.Actions.{Action, dims_after, assign, forget, test, embed, remove_last}
+use Rattle.lra_certify_source.specs.Crates.lra_path_segments.Segments.{Goal, comes_to, violates}
+use Rattle.lra_certify_source.specs.Crates.lra_paths.Paths.{live_of, actions_between}
+use Rattle.lra_certify_source.specs.Crates.{lra_certificate_spec.Certificates.state_to, lra_certificate_spec.Certificates.state_or_empty, lra_certificate_spec.Judged.RowsAtPoint}
+use Rattle.lra_certify_source.specs.Crates.{lra_linear_forms.Form.form_row, lra_linear_spec.Descriptions.LinearRow, lra_linear_spec.Descriptions.Con, lra_linear_spec.Points.IsPoint}
+use Rattle.lra_certify_source.specs.Crates.{lra_linear_spec.Points.SamePoint, lra_linear_spec.Polyhedra.Polyhedron, lra_linear_spec.Polyhedra.IsPolyhedron, lra_linear_spec.SetOperations.assigned}
+use Rattle.lra_certify_source.specs.Crates.{lra_linear_spec.SetOperations.SameBut, lra_linear_spec.Vectors.entry, lra_linear_spec.Vectors.product, lra_operations.Tree.Node}
+use Rattle.lra_certify_source.specs.Crates.{lra_poly_domain.Abstraction.polyhedron_abstraction, lra_program.Program.Program, lra_program.Sites.Site, lra_program.Sites.sites_of}
+use Rattle.lra_certify_source.proofs.Crates.{lra_linear_spec.ListPlaces.there_within, lra_linear_spec.Products.entry_set_other}
 use Rattle.lra_inductive_sound.specs.RationalPoints.{MovesPoint, LeadsPoint, IsPointOf, dimension, rational_points}
 use Rattle.lra_inductive_sound.specs.{Inductive.IsAtGoal, Inductive.AreInductive, Inductive.AreWide, Points.LeadsBy}
-use Rattle.lra_certificate_spec.specs.{Certificates.state_to, Certificates.state_or_empty, Judged.RowsAtPoint}
 use Rattle.lra_certify.specs.{InductiveRows.IsIn, InductiveRows.IsInductiveFrom, InductiveRows.MustBeShown, InductiveRows.AreInductiveRows, PointMoves.PointLeads, PointMoves.PointLeadsAll}
 use Rattle.lra_certify_source.specs.Extraction.{state_by, proved_in}
 use Rattle.lra_certify_source.proofs.{Listing.proved_there, TakenSteps.in_state, TakenSteps.state_rows}

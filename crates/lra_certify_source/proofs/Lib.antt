@@ -7,3 +7,5 @@ pub mod ClosedPaths
 pub mod Written
 pub mod OneRefusal
 pub mod Answered
+-- The crates below
+pub mod Crates

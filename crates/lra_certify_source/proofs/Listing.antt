@@ -2,15 +2,12 @@
 use Rattle.std.proofs.Common.{◌≡◌, ◌∙◌, ◌<◌, ◌++◌, ℕ, suc, Bool, true, false, List, [], ◌∷◌, cond, map, refl, ap, ap₂, sym, subst, arith}
 use Rattle.std.proofs.{lemmas.List.append-nil, lemmas.List.Elements.filter-append, lemmas.Option.slice_get-get_or, lemmas.Simd.map-map}
 use Rattle.std.specs.{List.filter, List.flat_map, Prelude.Option, Prelude.Some, Prelude.option_map, Prelude.slice_get, Prelude.Contains, Prelude.◌&&◌}
-use Rattle.lra_linear_spec.specs.{Descriptions.LinearRow, Polyhedra.Polyhedron}
-use Rattle.lra_linear_spec.proofs.Membership.{map_from, filter_from}
-use Rattle.lra_base.specs.declared.refusals.Place.{Place}
-use Rattle.lra_program.specs.Sites.{Site}
-use Rattle.lra_row_text.specs.{Part.ReportGenerator, Rows.ReportRow, ShownDescriptions.shown_constraint, ShownDescriptions.shown_generator}
+use Rattle.lra_certify_source.specs.Crates.lra_report_build.AnalysisResults.{ReportedVerdict, reported_verdict, reported_from, reported_accesses, reported_of, reported_all}
+use Rattle.lra_certify_source.specs.Crates.{lra_base.declared.refusals.Place.Place, lra_linear_spec.Descriptions.LinearRow, lra_linear_spec.Polyhedra.Polyhedron, lra_program.Assertions.IsAssertion}
+use Rattle.lra_certify_source.specs.Crates.{lra_program.Sites.Site, lra_report_build.Polyhedra.part_if_any, lra_report_build.Polyhedra.shown_polyhedron, lra_row_text.Part.ReportGenerator}
+use Rattle.lra_certify_source.specs.Crates.{lra_row_text.Rows.ReportRow, lra_row_text.ShownDescriptions.shown_constraint, lra_row_text.ShownDescriptions.shown_generator}
+use Rattle.lra_certify_source.proofs.Crates.lra_linear_spec.Membership.{map_from, filter_from}
 use Rattle.lra_report.specs.{Report.PointReport, Report.Verdict, Report.Report, declared.verdict_kinds.VerdictKind.TheVariants.Assertion}
-use Rattle.lra_program.specs.Assertions.{IsAssertion}
-use Rattle.lra_report_build.specs.AnalysisResults.{ReportedVerdict, reported_verdict, reported_from, reported_accesses, reported_of, reported_all}
-use Rattle.lra_report_build.specs.Polyhedra.{part_if_any, shown_polyhedron}
 use Rattle.lra_analyse_source.specs.Stages.{ReportsSolution}
 use Rattle.lra_certify.specs.Certified.{AscendStrictly, AreListable}
 use Rattle.lra_certify_source.specs.Assertions.{is_assertion, is_proved_assertion, proved_numbers}

@@ -1,12 +1,8 @@
 -- A source from one of whose points too many paths lead gets that refusal, and no certificate.
 use Rattle.std.proofs.{Common.◌≡◌, Common.◌≤◌, Common.◌<◌, Common.◌⊎◌, Common.ℕ, Common.List, Common.ap, Common.arith, Common.inl, Common.inr, lemmas.Bool.cases_order}
-use Rattle.lra_program.specs.{Program.Program, Sites.sites_of}
-use Rattle.lra_operations.specs.Tree.{Node}
-use Rattle.lra_front_end.proofs.EachAnswer.{each_answer}
-use Rattle.lra_paths.specs.Paths.{AreFewPaths, HasTooManyPaths}
-use Rattle.lra_paths.proofs.ManyPaths.{not_both}
-use Rattle.lra_certificate_spec.specs.Claims.{IsProgram, program_of}
-use Rattle.lra_certificate_spec.proofs.OneProgram.{accepted_of, as_said}
+use Rattle.lra_certify_source.specs.Crates.lra_certificate_spec.Claims.{IsProgram, program_of}
+use Rattle.lra_certify_source.specs.Crates.{lra_operations.Tree.Node, lra_paths.Paths.AreFewPaths, lra_paths.Paths.HasTooManyPaths, lra_program.Program.Program, lra_program.Sites.sites_of}
+use Rattle.lra_certify_source.proofs.Crates.{lra_certificate_spec.OneProgram.accepted_of, lra_certificate_spec.OneProgram.as_said, lra_front_end.EachAnswer.each_answer, lra_paths.ManyPaths.not_both}
 use Rattle.lra_certify_source.specs.declared.refusals.CertifyRefusal.TheVariants.{Source, Paths, Strained}
 use Rattle.lra_certify_source.specs.{Certified.IsCertifyRefusalOf, Certified.ManyAreRefused, declared.refusals.CertifyRefusal.CertifyRefusal}
 

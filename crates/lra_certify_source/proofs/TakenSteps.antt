@@ -2,11 +2,11 @@
 use Rattle.std.proofs.Common.{◌≡◌, ◌≢◌, ◌∙◌, ◌<◌, ℕ, ℤ, true, false, List, [], ◌∷◌, ◌++◌, length, refl, ap, sym, subst, arith, inl, inr}
 use Rattle.std.proofs.{lemmas.List.append_assoc, lemmas.Option.none-some, lemmas.Option.same_Some, lemmas.Option.slice_get-map}
 use Rattle.std.specs.Prelude.{Option, None, Some, option_map, map, slice_get, Contains}
-use Rattle.lra_linear_spec.specs.Polyhedra.{Polyhedron, IsPolyhedron, HasPoint, falsity}
-use Rattle.lra_linear_spec.specs.{Descriptions.LinearRow, Descriptions.rows_as, Descriptions.Con, Kinds.is_line, Points.IsPoint, declared.ConKind.ConKind, declared.GenKind.GenKind}
-use Rattle.lra_linear_spec.proofs.{Membership.contains_head, OneSpelling.falsity_never}
-use Rattle.lra_systems.specs.LinearSystems.{LinearSystem, rows_by_kind, generators}
-use Rattle.lra_certificate_spec.specs.Judged.{RowsAtPoint}
+use Rattle.lra_certify_source.specs.Crates.lra_linear_spec.Polyhedra.{Polyhedron, IsPolyhedron, HasPoint, falsity}
+use Rattle.lra_certify_source.specs.Crates.lra_systems.LinearSystems.{LinearSystem, rows_by_kind, generators}
+use Rattle.lra_certify_source.specs.Crates.{lra_certificate_spec.Judged.RowsAtPoint, lra_linear_spec.Descriptions.LinearRow, lra_linear_spec.Descriptions.rows_as, lra_linear_spec.Descriptions.Con}
+use Rattle.lra_certify_source.specs.Crates.{lra_linear_spec.Kinds.is_line, lra_linear_spec.Points.IsPoint, lra_linear_spec.declared.ConKind.ConKind, lra_linear_spec.declared.GenKind.GenKind}
+use Rattle.lra_certify_source.proofs.Crates.{lra_linear_spec.Membership.contains_head, lra_linear_spec.OneSpelling.falsity_never}
 use Rattle.lra_certify.specs.InductiveRows.{IsIn}
 use Rattle.lra_certify_source.specs.Extraction.{rows_if_any, state_by, dims_by, dims_in}
 

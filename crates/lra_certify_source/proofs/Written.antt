@@ -2,12 +2,11 @@
 use Rattle.std.proofs.Common.{◌≡◌, ◌∙◌, ◌≤◌, ◌<◌, ℕ, List, [], ◌∷◌, ◌++◌, length, map, refl, ap, ap₂, sym, subst, arith}
 use Rattle.std.proofs.{lemmas.List.Elements.Contains-append_right, lemmas.Option.slice_get_within}
 use Rattle.std.specs.{List.flat_map, Prelude.Contains}
-use Rattle.lra_linear_spec.proofs.Membership.{contains_head, map_from}
-use Rattle.lra_program.specs.{Program.Program, Sites.sites_of}
-use Rattle.lra_operations.specs.Tree.{Node}
-use Rattle.lra_path_segments.specs.Segments.{comes_to}
-use Rattle.lra_paths.specs.Paths.{Path, path_by, actions_between, paths_between, points_of, sources_of, paths_of}
-use Rattle.lra_certificate_spec.specs.{CertificateText.head_text, Certificates.ListedAssertion, Claims.program_of, Judged.RowsAtPoint}
+use Rattle.lra_certify_source.proofs.Crates.lra_linear_spec.Membership.{contains_head, map_from}
+use Rattle.lra_certify_source.specs.Crates.lra_certificate_spec.Certificates.{ListedAssertion}
+use Rattle.lra_certify_source.specs.Crates.lra_paths.Paths.{Path, path_by, actions_between, paths_between, points_of, sources_of, paths_of}
+use Rattle.lra_certify_source.specs.Crates.{lra_certificate_spec.CertificateText.head_text, lra_certificate_spec.Claims.program_of, lra_certificate_spec.Judged.RowsAtPoint, lra_operations.Tree.Node}
+use Rattle.lra_certify_source.specs.Crates.{lra_path_segments.Segments.comes_to, lra_program.Program.Program, lra_program.Sites.sites_of}
 use Rattle.lra_certify.specs.Certified.{AreListable, IsListedFound, certificate_by, StopsAt}
 use Rattle.std.specs.List.{AllZip}
 use Rattle.lra_certify.specs.{declared.failures.StrainedAt.StrainedAt, declared.failures.StrainedAt.TheVariants.Edge, declared.failures.StrainedAt.TheVariants.Assertion}

@@ -1,13 +1,14 @@
 -- What a source must get that is to be certified: a certificate with the rows, the empty points and the proved
 -- assertions of its report; or why it has none.
 use Rattle.std.specs.Prelude.{◌≡◌, ◌<◌, ◌^◌, ℕ, suc, ⊤, List, [], ◌∷◌, ◌++◌, map, Option, None, Some, option_map}
-use Rattle.lra_syntax.specs.Grammar.{Spells}
-use Rattle.lra_resolution_spec.specs.Refuse.{Refuse}
-use Rattle.lra_row_text.specs.{Rows.ReportRow, ShownDescriptions.shown_constraint}
+use Rattle.lra_certify_source.specs.Crates.lra_certificate_spec.Certificates.{ListedAssertion}
+use Rattle.lra_certify_source.specs.Crates.lra_certificate_spec.Claims.{IsProgram, program_of, IsCertificate}
+use Rattle.lra_certify_source.specs.Crates.lra_paths.Paths.{AreFewPaths, HasTooManyPaths}
+use Rattle.lra_certify_source.specs.Crates.lra_row_text.ShownDescriptions.{shown_constraint}
+use Rattle.lra_certify_source.specs.Crates.{lra_certificate_spec.CertificateText.head_text}
+use Rattle.lra_certify_source.specs.Crates.{lra_certificate_spec.Judged.RowsAtPoint, lra_resolution_spec.Refuse.Refuse}
+use Rattle.lra_certify_source.specs.Crates.{lra_row_text.Rows.ReportRow, lra_syntax.Grammar.Spells}
 use Rattle.lra_report.specs.Report.{Invariant, PointReport, Report}
-use Rattle.lra_paths.specs.Paths.{AreFewPaths, HasTooManyPaths}
-use Rattle.lra_certificate_spec.specs.Claims.{IsProgram, program_of, IsCertificate}
-use Rattle.lra_certificate_spec.specs.{CertificateText.head_text, Certificates.ListedAssertion, Judged.RowsAtPoint}
 use Rattle.lra_certify.specs.Certified.{IsCertified, StopsAt}
 use Rattle.lra_certify.specs.declared.failures.StrainedAt.{StrainedAt}
 use Rattle.lra_certify.specs.declared.failures.StrainedAt.TheVariants.{Edge, Assertion}

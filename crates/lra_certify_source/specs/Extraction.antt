@@ -2,9 +2,11 @@
 -- the assertions that are proved.
 use Rattle.std.specs.List.{filter}
 use Rattle.std.specs.Prelude.{ℕ, Bool, List, [], ◌∷◌, map, Option, None, Some, option_map}
-use Rattle.lra_linear_spec.specs.{Descriptions.LinearRow, Polyhedra.Polyhedron, declared.ConKind.ConKind}
-use Rattle.lra_systems.specs.LinearSystems.{LinearSystem}
-use Rattle.lra_certificate_spec.specs.Judged.{RowsAtPoint}
+use Rattle.lra_certify_source.specs.Crates.lra_certificate_spec.Judged.{RowsAtPoint}
+use Rattle.lra_certify_source.specs.Crates.lra_linear_spec.Descriptions.{LinearRow}
+use Rattle.lra_certify_source.specs.Crates.lra_linear_spec.Polyhedra.{Polyhedron}
+use Rattle.lra_certify_source.specs.Crates.lra_linear_spec.declared.ConKind.{ConKind}
+use Rattle.lra_certify_source.specs.Crates.lra_systems.LinearSystems.{LinearSystem}
 
 -- the rows where there is a generator
 abbrev pub rows_if_any : List LinearRow → List LinearRow → RowsAtPoint

@@ -5,3 +5,5 @@ pub mod Extraction
 pub mod Assertions
 pub mod Certified
 pub mod Refusals
+-- The crates below
+pub mod Crates

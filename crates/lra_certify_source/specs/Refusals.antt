@@ -1,7 +1,7 @@
 -- What stands for the errors of the parts.
 use Rattle.std.specs.Prelude.{⊤}
-use Rattle.lra_base.specs.declared.error.SourceError.{SourceError}
-use Rattle.lra_base.specs.declared.error.SourceError.TheVariants as of_source
+use Rattle.lra_certify_source.specs.Crates.lra_base.declared.error.SourceError.{SourceError}
+use Rattle.lra_certify_source.specs.Crates.lra_base.declared.error.SourceError.TheVariants as of_source
 use Rattle.lra_certify.specs.declared.failures.CertifyFailure.{CertifyFailure}
 use Rattle.lra_certify.specs.declared.failures.CertifyFailure.TheVariants as of_paths
 use Rattle.lra_certify_source.specs.declared.refusals.CertifyError.{CertifyError}

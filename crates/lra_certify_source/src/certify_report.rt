@@ -2,19 +2,16 @@
 
 ghost use Rattle.std.specs.Fmt.{decimal};
 ghost use Rattle.std.specs.Prelude.{◌≡◌, ◌<◌, ◌+◌, ◌++◌, ◌^◌, map, length, codes, IfOk, IfErr, OnOk, string_bytes};
-ghost use Rattle.lra_syntax.specs.{Labels.labels_of, Views.tree_view};
-ghost use Rattle.lra_resolution_spec.specs.Resolve.{resolve};
-ghost use Rattle.lra_program.specs.ProgramViews.{program_view};
-ghost use Rattle.lra_operations.specs.TreeViews.{node_view, site_view};
-ghost use Rattle.lra_analysis_spec.specs.Plan.{plan_of};
-ghost use Rattle.lra_fixpoint.specs.Solved.{IsSolved};
-ghost use Rattle.lra_poly_domain.specs.Abstraction.{polyhedron_abstraction};
-ghost use Rattle.lra_paths.specs.Paths.{AreFewPaths};
-ghost use Rattle.lra_row_text.specs.Texts.{text_line};
-ghost use Rattle.lra_certificate_spec.specs.CertificateText.{numbered_text, head_text};
+ghost use Rattle.lra_certify_source.specs.Crates.lra_certificate_spec.CertificateText.{numbered_text, head_text};
+ghost use Rattle.lra_certify_source.specs.Crates.lra_front_end.Stages.{HasInlinedTree};
+ghost use Rattle.lra_certify_source.specs.Crates.lra_operations.TreeViews.{node_view, site_view};
+ghost use Rattle.lra_certify_source.specs.Crates.lra_poly_domain.Abstraction.{polyhedron_abstraction};
+ghost use Rattle.lra_certify_source.specs.Crates.{lra_analysis_spec.Plan.plan_of, lra_fixpoint.Solved.IsSolved};
+ghost use Rattle.lra_certify_source.specs.Crates.{lra_paths.Paths.AreFewPaths, lra_program.ProgramViews.program_view};
+ghost use Rattle.lra_certify_source.specs.Crates.{lra_resolution_spec.Resolve.resolve, lra_row_text.Texts.text_line};
+ghost use Rattle.lra_certify_source.specs.Crates.{lra_syntax.Labels.labels_of, lra_syntax.Views.tree_view};
 ghost use Rattle.lra_certify.specs.Certified.{IsCertified, IsFailure};
 ghost use Rattle.lra_report.specs.View.{report_of, verdict_of};
-ghost use Rattle.lra_front_end.specs.Stages.{HasInlinedTree};
 ghost use Rattle.lra_analyse_source.specs.SourceReports.{IsAnalysisReport};
 ghost use Rattle.lra_certify_source.specs.Settings as settings;
 ghost use Rattle.lra_certify_source.specs.Assertions.{is_unknown_assertion, unknown_assertions};
@@ -24,11 +21,10 @@ ghost use Rattle.lra_certify_source.specs.{Extraction.state_by, Extraction.prove
 use crate::extraction::{proved_of, states_of};
 use crate::refusals::CertifyError;
 use crate::settings::certify_options;
-use lra_analyse_source::{report_solution, solve_front};
+use lra_analyse_source::{
+    AcceptedSource, Plan, Polyhedron, Solution, read_source, report_solution, solve_front,
+};
 use lra_certify::{CertifyFailure, certify};
-use lra_fixpoint::{Plan, Solution};
-use lra_front_end::{AcceptedSource, read_source};
-use lra_poly_domain::Polyhedron;
 use lra_report::{Report, Verdict, VerdictKind};
 use std::alloc::{AllocError, Global};
 use std::fmt::Write;

@@ -2,12 +2,12 @@
 
 ghost use Rattle.std.specs.List.{AllByRecursion};
 ghost use Rattle.std.specs.Prelude.{◌≡◌, map, IfOk, Some, option_map};
-ghost use Rattle.lra_linear_spec.specs.Polyhedra.{IsPolyhedron};
-ghost use Rattle.lra_verify.specs.PointViews.{state_view};
+ghost use Rattle.lra_certify_source.specs.Crates.lra_linear_spec.Polyhedra.{IsPolyhedron};
+ghost use Rattle.lra_certify_source.specs.Crates.lra_verify.PointViews.{state_view};
 ghost use Rattle.lra_certify_source.specs.Extraction.{state_by, dims_by, dims_in, proved_in};
 
-use lra_poly_domain::Polyhedron;
-use lra_systems::ConSys;
+use lra_analyse_source::Polyhedron;
+use lra_report::ConSys;
 use std::alloc::{AllocError, Global};
 
 /// The rows of a value; none if it has no point.

@@ -10,6 +10,6 @@ mod settings;
 
 pub use certify_report::{CertifiedReport, certify_source};
 pub use laws::{certified_are_certificates, many_are_refused};
-pub use lra_certify::StrainedAt;
+pub use lra_certify::{GREATEST_CERTIFICATE, StrainedAt, VerifyError, VerifyRefusal, verify};
 pub use refusals::{CertifyError, CertifyRefusal};
 pub use settings::certify_options;

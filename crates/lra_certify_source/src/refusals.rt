@@ -1,6 +1,6 @@
 //! Why a source gets no certificate.
 
-use lra_base::{Refusal, SourceError};
+use lra_analyse_source::{Refusal, SourceError};
 use lra_certify::{CertifyFailure, StrainedAt};
 use std::alloc::AllocError;
 

@@ -3,7 +3,8 @@
 ghost use Rattle.std.specs.Prelude.{◌≡◌};
 ghost use Rattle.lra_certify_source.specs.Settings as settings;
 
-use lra_options::{Domain, Options};
+use lra_analyse_source::Domain;
+use lra_report::Options;
 
 /// Over polyhedra, one for each point, with one round of joining and the limited widening; heads aren't narrowed.
 pub fn certify_options() -> Options

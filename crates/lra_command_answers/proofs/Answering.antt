@@ -1,7 +1,7 @@
 -- What a call knows of a command's answer.
 use Rattle.std.proofs.Common.{◌≡◌, ◌<◌, ◌+◌, ◌^◌, ℕ, List, ◌++◌, length, subst, sym, arith}
 use Rattle.std.specs.Prelude.{Option, Some, None}
-use Rattle.lra_base.specs.Places.{greatest_length}
+use Rattle.lra_command_answers.specs.Crates.lra_base.Places.{greatest_length}
 use Rattle.lra_command_answers.specs.{Statuses.Ends, Statuses.refused, Statuses.source_statuses, declared.status.Status.Status}
 
 -- with values in their ranges, a limit of bytes, what its input must get, and the statuses of its answers: all of them,

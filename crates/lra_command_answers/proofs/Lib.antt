@@ -1,2 +1,4 @@
 pub mod Answering
 pub mod ToldWays
+-- The crates below
+pub mod Crates

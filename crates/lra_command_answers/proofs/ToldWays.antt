@@ -2,9 +2,9 @@
 use Rattle.std.proofs.Common.{◌≡◌, ◌≤◌, ◌<◌, ℕ, List, ◌∷◌, ◌++◌, length, take, subst, sym, arith, inl, inr}
 use Rattle.std.proofs.{lemmas.Grind.common_steps, lemmas.List.take-append-le}
 use Rattle.std.specs.Prelude.{Some}
-use Rattle.lra_base.specs.{Places.place_after, Places.greatest_length, declared.refusals.Cause.Cause, declared.refusals.Cause.TheVariants.TooLong, declared.refusals.Place.Place}
-use Rattle.lra_syntax.specs.{Grammar.Spells, Trees.FileTree}
-use Rattle.lra_resolution_spec.specs.Refuse.{Refuse, too_long, bad_token, bad_text, bad_tree, Accepts}
+use Rattle.lra_command_answers.specs.Crates.lra_resolution_spec.Refuse.{Refuse, too_long, bad_token, bad_text, bad_tree, Accepts}
+use Rattle.lra_command_answers.specs.Crates.{lra_base.Places.place_after, lra_base.Places.greatest_length, lra_base.declared.refusals.Cause.Cause, lra_base.declared.refusals.Cause.TheVariants.TooLong}
+use Rattle.lra_command_answers.specs.Crates.{lra_base.declared.refusals.Place.Place, lra_syntax.Grammar.Spells, lra_syntax.Trees.FileTree}
 use Rattle.lra_report.specs.RefusalText.{refusal_text}
 use Rattle.lra_front_end.specs.Claims.{HasRefusal}
 use Rattle.lra_front_end.proofs.EachAnswer.{each_answer}

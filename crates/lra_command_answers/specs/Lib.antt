@@ -3,3 +3,5 @@
 pub mod Statuses
 pub mod SourceAnswers
 pub mod Exit
+-- The crates below
+pub mod Crates

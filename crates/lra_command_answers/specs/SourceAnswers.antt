@@ -1,9 +1,10 @@
 -- What a source must get of which a command reports something: the text of its one refusal, or what is reported about
 -- it.
 use Rattle.std.specs.Prelude.{◌≡◌, ◌⊎◌, ℕ, List}
-use Rattle.lra_base.specs.{declared.refusals.Cause.Cause, declared.refusals.Place.Place}
-use Rattle.lra_syntax.specs.{Grammar.Spells, Trees.FileTree}
-use Rattle.lra_resolution_spec.specs.Refuse.{Refuse, Accepts}
+use Rattle.lra_command_answers.specs.Crates.lra_resolution_spec.Refuse.{Refuse, Accepts}
+use Rattle.lra_command_answers.specs.Crates.lra_syntax.Trees.{FileTree}
+use Rattle.lra_command_answers.specs.Crates.{lra_base.declared.refusals.Cause.Cause}
+use Rattle.lra_command_answers.specs.Crates.{lra_base.declared.refusals.Place.Place, lra_syntax.Grammar.Spells}
 use Rattle.lra_report.specs.RefusalText.{refusal_text}
 use Rattle.lra_front_end.specs.Claims.{HasRefusal}
 use Rattle.lra_command_answers.specs.declared.status.Status.TheVariants.{Refused}

@@ -3,7 +3,7 @@ ghost use Rattle.std.specs.Prelude.{◌≡◌, IfOk};
 ghost use Rattle.lra_report.specs.RefusalText as refusal_line;
 
 use crate::status::Status;
-use lra_base::Refusal;
+use lra_front_end::Refusal;
 use lra_report::refusal_text;
 use std::alloc::{AllocError, Global};
 

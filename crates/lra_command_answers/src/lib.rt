@@ -6,4 +6,5 @@ mod answer;
 mod status;
 
 pub use answer::{Answer, answer_refusal};
+pub use lra_front_end::one_answer;
 pub use status::Status;

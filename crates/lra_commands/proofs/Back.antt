@@ -1,7 +1,7 @@
 -- From what a source must get that is gone back over to what is claimed of its report.
 use Rattle.std.proofs.Common.{◌≡◌, ℕ, suc, List, subst, inl, inr}
 use Rattle.std.specs.{Io.KnownBytes.Appends, Prelude.Option}
-use Rattle.lra_certificate_spec.proofs.OneProgram.{accepted_of}
+use Rattle.lra_commands.proofs.Crates.lra_certificate_spec.OneProgram.{accepted_of}
 use Rattle.lra_back_source.proofs.{Showing.backs_same_points, Sound.backs_sound, Sound.proved_at_first, Strained.unflagged_defined, Strained.flagged_strain}
 use Rattle.lra_command_line.specs.{ParsedCommand.Asks, declared.commands.Command.TheVariants.Back}
 use Rattle.lra_command_answers.specs.{Statuses.Ends, Statuses.reported, declared.status.Status.Status}

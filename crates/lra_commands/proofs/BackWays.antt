@@ -7,7 +7,7 @@ use Rattle.lra_back_source.specs.declared.refusals.BackRefusal.TheVariants.{Sour
 use Rattle.lra_back_source.specs.{BackReports.CanGoBack, BackReports.IsBackReportOf, BackReports.IsBackRefusalOf, declared.refusals.BackRefusal.BackRefusal}
 use Rattle.lra_back_source.proofs.OneAnswer.{back_or_refused}
 use Rattle.lra_command_line.specs.CommandLine.{point_option}
-use Rattle.lra_options.specs.OptionRows.{IsInRange}
+use Rattle.lra_commands.specs.Crates.lra_options.OptionRows.{IsInRange}
 use Rattle.lra_command_answers.specs.Statuses.{Ends, reported, refused, source_statuses}
 use Rattle.lra_command_answers.specs.{declared.answer.Answer.Answer, declared.status.Status.Status, declared.status.Status.TheVariants.Refused}
 use Rattle.lra_command_answers.proofs.{Answering.IsAnswering, Answering.small, Answering.past, ToldWays.not_past, ToldWays.longer_refused}

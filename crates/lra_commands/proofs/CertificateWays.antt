@@ -2,11 +2,9 @@
 use Rattle.std.proofs.Common.{◌≡◌, ◌∙◌, ◌≤◌, ◌<◌, ◌+◌, ◌^◌, ℕ, List, ◌++◌, length, refl, ap, sym, subst, arith, inl, inr}
 use Rattle.std.proofs.lemmas.Grind.{common_steps}
 use Rattle.std.specs.Prelude.{Some}
-use Rattle.lra_program.specs.Sites.{sites_of}
-use Rattle.lra_certificate_spec.specs.Claims.{VerifyAnswer, verified, source_refused, paths_refused, line_refused, VerifiesTo, IsCertificate, program_of, greatest_certificate}
-use Rattle.lra_verify.specs.RefusalViews.{refusal_view}
-use Rattle.lra_certificate_lines.specs.declared.refusals.VerifyRefusal.{VerifyRefusal}
-use Rattle.lra_certificate_lines.specs.declared.refusals.VerifyRefusal.TheVariants.{Source, Paths, Line}
+use Rattle.lra_commands.specs.Crates.lra_certificate_lines.declared.refusals.VerifyRefusal.TheVariants.{Source, Paths, Line}
+use Rattle.lra_commands.specs.Crates.lra_certificate_spec.Claims.{VerifyAnswer, verified, source_refused, paths_refused, line_refused, VerifiesTo, IsCertificate, program_of, greatest_certificate}
+use Rattle.lra_commands.specs.Crates.{lra_certificate_lines.declared.refusals.VerifyRefusal.VerifyRefusal, lra_program.Sites.sites_of, lra_verify.RefusalViews.refusal_view}
 use Rattle.lra_command_answers.specs.{Statuses.Ends, Statuses.refused, declared.status.Status.Status, declared.status.Status.TheVariants.Proved, declared.status.Status.TheVariants.Refused}
 use Rattle.lra_command_answers.proofs.Answering.{IsAnswering, small_as, past_as}
 use Rattle.lra_commands.specs.CertificateAnswer.{AnswersCertificate, EachCertificateAnswer, AllowedCertificateStatuses, certificate_statuses, verify_answer_text, answer_status, verified_text}

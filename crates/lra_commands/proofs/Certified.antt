@@ -2,8 +2,9 @@
 use Rattle.std.proofs.Common.{◌≡◌, ◌∙◌, ◌≤◌, ℕ, suc, List, [], ◌∷◌, length, refl, ap, sym, inl, inr}
 use Rattle.std.proofs.lemmas.List.{length-map}
 use Rattle.std.specs.{Io.KnownBytes.Appends, Prelude.Option}
-use Rattle.lra_program.specs.Sites.{Site, sites_of}
-use Rattle.lra_certificate_spec.specs.{Certificates.ListedAssertion, Certificates.AreStates, Claims.program_of, Claims.verified, Claims.greatest_certificate, Judged.RowsAtPoint}
+use Rattle.lra_commands.specs.Crates.lra_certificate_spec.Certificates.{ListedAssertion, AreStates}
+use Rattle.lra_commands.specs.Crates.lra_certificate_spec.Claims.{program_of, verified, greatest_certificate}
+use Rattle.lra_commands.specs.Crates.{lra_certificate_spec.Judged.RowsAtPoint, lra_program.Sites.Site, lra_program.Sites.sites_of}
 use Rattle.lra_certify_source.specs.{Certified.IsCertificateWith, Settings.certify_options}
 use Rattle.lra_certify_source.proofs.Written.{certificates}
 use Rattle.lra_command_line.specs.{ParsedCommand.Asks, declared.commands.Command.TheVariants.Plain, declared.commands.PlainCommand.TheVariants.Certify}

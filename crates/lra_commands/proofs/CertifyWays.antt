@@ -3,8 +3,8 @@ use Rattle.std.proofs.Common.{◌≡◌, ◌<◌, ℕ, List, ◌++◌, length, s
 use Rattle.std.specs.Prelude.{Some}
 use Rattle.lra_base.specs.Places.{greatest_length}
 use Rattle.lra_report.specs.Report.{Report}
-use Rattle.lra_front_end.proofs.EachAnswer.{each_answer}
-use Rattle.lra_analyse_source.specs.SourceReports.{IsAnalysisReport}
+use Rattle.lra_commands.proofs.Crates.lra_front_end.EachAnswer.{each_answer}
+use Rattle.lra_commands.specs.Crates.lra_analyse_source.SourceReports.{IsAnalysisReport}
 use Rattle.lra_certify_source.specs.declared.refusals.CertifyRefusal.TheVariants.{Source, Paths, Strained}
 use Rattle.lra_certify_source.specs.{Assertions.unknown_assertions, Certified.IsCertificateOf, Certified.IsCertifyRefusalOf, Settings.certify_options, declared.refusals.CertifyRefusal.CertifyRefusal}
 use Rattle.lra_certify_source.proofs.OneRefusal.{many_refused}

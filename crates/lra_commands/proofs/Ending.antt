@@ -2,7 +2,7 @@
 use Rattle.std.proofs.Common.{◌≡◌, ◌≢◌, ◌≤◌, ◌<◌, ℕ, List, length, refl, sym, ap, subst, inl, inr, ◌⊎◌, arith}
 use Rattle.std.specs.{Io.KnownBytes.Appends, Io.KnownBytes.Keeps, Prelude.Option, Prelude.Some, Prelude.None, Prelude.Result, Prelude.Ok, Prelude.Err, Prelude.IfOk, Prelude.IsOk}
 use Rattle.lra_io.specs.Causes.{AppendsPart, Rose}
-use Rattle.lra_options.specs.declared.options.Options.{Options}
+use Rattle.lra_commands.specs.Crates.lra_options.declared.options.Options.{Options}
 use Rattle.lra_command_line.specs.declared.commands.Command.TheVariants.{Analyse, Sample, Back, Threads, Plain}
 use Rattle.lra_command_line.specs.declared.commands.PlainCommand.TheVariants.{Certify, Verify}
 use Rattle.lra_command_line.specs.{ParsedCommand.Asks, ParsedCommand.AsksNone, ParsedCommand.IsRejected, declared.commands.Command.Command, declared.commands.Format.Format}

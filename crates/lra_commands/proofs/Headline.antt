@@ -2,24 +2,22 @@
 use Rattle.std.proofs.Common.{◌≡◌, ◌∙◌, ℕ, ℤ, List, [], ◌∷◌, length, map, Bool, true, false, ap, refl, sym, subst, inl, inr}
 use Rattle.std.specs.{Io.KnownBytes.Appends, List.AllByRecursion, Prelude.IsTrue, Prelude.Option, Prelude.None, Prelude.Some}
 use Rattle.lra_base.specs.declared.refusals.Place.{Place}
-use Rattle.lra_options.specs.{declared.options.Domain.Domain, declared.options.Domain.TheVariants.Poly, declared.options.Options.Options}
-use Rattle.lra_domain.specs.Abstraction.{Abstraction}
-use Rattle.lra_program.specs.Program.{Program}
-use Rattle.lra_analysis_spec.specs.{Analysis.IsSolution, Fits.Judges, Fits.JudgesIf, Operations.lossy_operations}
-use Rattle.lra_operations.specs.Tree.{Node}
-use Rattle.lra_report_build.specs.AnalysisResults.{reported_all, reported_of}
-use Rattle.lra_analyse_source.proofs.{OneReport.unflagged_behind, OneReport.unflagged_first, Sayings.over_each, Sayings.over_same}
-use Rattle.lra_resolution_spec.specs.Resolve.{resolve}
+use Rattle.lra_commands.specs.Crates.lra_report_build.AnalysisResults.{reported_all, reported_of}
+use Rattle.lra_commands.specs.Crates.{lra_analyse_source.AnalysisReport.ReportsIteration, lra_analyse_source.SourceReports.IsAnalysisReport, lra_analysis_spec.Analysis.IsSolution}
+use Rattle.lra_commands.specs.Crates.{lra_analysis_spec.Fits.Judges, lra_analysis_spec.Fits.JudgesIf, lra_analysis_spec.Operations.lossy_operations, lra_domain.Abstraction.Abstraction}
+use Rattle.lra_commands.specs.Crates.{lra_operations.Tree.Node, lra_options.declared.options.Domain.Domain, lra_options.declared.options.Domain.TheVariants.Poly}
+use Rattle.lra_commands.specs.Crates.{lra_options.declared.options.Options.Options, lra_program.Program.Program, lra_resolution_spec.Resolve.resolve}
+use Rattle.lra_commands.proofs.Crates.lra_analyse_source.OneReport.{unflagged_behind, unflagged_first}
+use Rattle.lra_commands.proofs.Crates.lra_analyse_source.Sayings.{over_each, over_same}
 use Rattle.lra_report.specs.{Listing.AreParts, Parts.ShowsPart, Report.Invariant, Report.InvariantHolds, Report.PointReport, Report.Report, Report.IsInvariant}
 use Rattle.lra_back_source.proofs.{Showing.same_parts, Strained.unflagged}
-use Rattle.lra_analyse_source.specs.{AnalysisReport.ReportsIteration, SourceReports.IsAnalysisReport}
 use Rattle.lra_sample.specs.{Sample.sample_source, Summary.summary_text}
 use Rattle.lra_command_line.specs.ParsedCommand.{Asks, default_options}
 use Rattle.lra_command_line.specs.{declared.commands.Command.TheVariants.Analyse, declared.commands.Command.TheVariants.Sample, declared.commands.Format.Format}
 use Rattle.lra_command_answers.specs.{Statuses.Ends, Statuses.reported, declared.status.Status.Status, declared.status.Status.TheVariants.Refused}
 use Rattle.lra_commands.specs.OutputClaims.{WritesReport, IsNeverReached, HoldsInAllRuns, ReportsWritten, IsWrittenUnlessFlagged, ReportsAccessing, ReportsAccesses, ReportsFitting, ReportsFits}
-use Rattle.lra_report.specs.Report.{HasSamePointsAt}
 use Rattle.lra_commands.specs.OutputClaims.{ReportsSamePoints, WritesSummary}
+use Rattle.lra_report.specs.Report.{HasSamePointsAt}
 use Rattle.lra_commands.specs.{Run.IsInput, Run.WritesAnswer, SourceAnswer.AnswersSource, SourceAnswer.written_report}
 use Rattle.lra_commands.proofs.Ways.{asked_input}
 

@@ -18,3 +18,5 @@ pub mod Back
 pub mod Threads
 pub mod Ending
 pub mod OneWritten
+-- The crates below
+pub mod Crates

@@ -1,9 +1,7 @@
 -- A source that isn't gone back over from an assertion is refused in one way.
 use Rattle.std.proofs.Common.{refl, ap}
-use Rattle.lra_front_end.proofs.EachAnswer.{each_answer}
-use Rattle.lra_paths.specs.Paths.{HasTooManyPaths}
-use Rattle.lra_certificate_spec.specs.Claims.{program_of}
-use Rattle.lra_certificate_spec.proofs.OneProgram.{as_said}
+use Rattle.lra_commands.proofs.Crates.{lra_certificate_spec.OneProgram.as_said, lra_front_end.EachAnswer.each_answer}
+use Rattle.lra_commands.specs.Crates.{lra_certificate_spec.Claims.program_of, lra_paths.Paths.HasTooManyPaths}
 use Rattle.lra_certify_source.proofs.OneRefusal.{one_source}
 use Rattle.lra_back_source.specs.declared.refusals.BackRefusal.TheVariants.{Source, NoAssertion, Paths}
 use Rattle.lra_back_source.proofs.OneAnswer.{accepted, same_assertion}

@@ -3,15 +3,11 @@
 use Rattle.std.proofs.Common.{◌≡◌, ◌∙◌, ◌≤◌, ◌<◌, ℕ, List, length, None, Ok, Err, ap, sym, subst, arith, inl, inr}
 use Rattle.std.proofs.lemmas.Option.{same_Some, none-some}
 use Rattle.lra_base.specs.{declared.refusals.Cause.Cause, declared.refusals.Place.Place}
-use Rattle.lra_syntax.specs.Grammar.{Spells}
-use Rattle.lra_resolution_spec.specs.Refuse.{Refuse}
-use Rattle.lra_program.specs.Sites.{sites_of}
-use Rattle.lra_front_end.proofs.EachAnswer.{each_answer}
-use Rattle.lra_paths.specs.Paths.{AreFewPaths, HasTooManyPaths}
-use Rattle.lra_paths.proofs.ManyPaths.{not_both}
-use Rattle.lra_certificate_spec.specs.Claims.{IsProgram, program_of, VerifyAnswer, verified, source_refused, paths_refused, line_refused, VerifiesTo, HasHead, greatest_certificate}
-use Rattle.lra_certificate_spec.specs.Judged.{Judged, Head, too_long, bad_line, judged, head_of}
-use Rattle.lra_certificate_spec.proofs.{JudgedBothWays.judged_exactly, OneProgram.accepted_of, OneProgram.as_said}
+use Rattle.lra_commands.specs.Crates.lra_certificate_spec.Claims.{IsProgram, program_of, VerifyAnswer, verified, source_refused, paths_refused, line_refused, VerifiesTo, HasHead, greatest_certificate}
+use Rattle.lra_commands.specs.Crates.lra_certificate_spec.Judged.{Judged, Head, too_long, bad_line, judged, head_of}
+use Rattle.lra_commands.specs.Crates.{lra_paths.Paths.AreFewPaths, lra_paths.Paths.HasTooManyPaths, lra_program.Sites.sites_of, lra_resolution_spec.Refuse.Refuse, lra_syntax.Grammar.Spells}
+use Rattle.lra_commands.proofs.Crates.lra_certificate_spec.OneProgram.{accepted_of, as_said}
+use Rattle.lra_commands.proofs.Crates.{lra_certificate_spec.JudgedBothWays.judged_exactly, lra_front_end.EachAnswer.each_answer, lra_paths.ManyPaths.not_both}
 use Rattle.lra_certify_source.proofs.OneRefusal.{one_source}
 
 -- answers ------------------------------------------------------------------------

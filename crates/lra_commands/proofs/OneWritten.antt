@@ -1,9 +1,8 @@
 -- Two reports that a source must get and that are written alike are the same.
 use Rattle.lra_command_line.specs.declared.commands.Format.TheVariants.{Lines, Json}
-use Rattle.lra_syntax.specs.Grammar.{Spells}
-use Rattle.lra_resolution_spec.specs.Refuse.{OneAnswer}
+use Rattle.lra_commands.specs.Crates.{lra_resolution_spec.Refuse.OneAnswer, lra_syntax.Grammar.Spells}
 use Rattle.lra_report_json.proofs.OneJson.{one_source_json}
-use Rattle.lra_analyse_source.proofs.OneText.{one_text}
+use Rattle.lra_commands.proofs.Crates.lra_analyse_source.OneText.{one_text}
 use Rattle.lra_commands.specs.SourceAnswer.{OneWrittenReport}
 
 pub one_written : OneAnswer Spells → OneWrittenReport

@@ -2,13 +2,11 @@
 use Rattle.std.proofs.Common.{◌≡◌, ℕ, List, subst, inr}
 use Rattle.std.specs.Prelude.{None, Result, Ok, Err, IfOk}
 use Rattle.lra_base.specs.{declared.refusals.Cause.Cause, declared.refusals.Place.Place, declared.refusals.Refusal.Refusal}
-use Rattle.lra_options.specs.{OptionRows.IsInRange, declared.options.Options.Options}
+use Rattle.lra_commands.specs.Crates.lra_analyse_source.SourceReports.{IsAnalysisReport}
+use Rattle.lra_commands.specs.Crates.{lra_options.OptionRows.IsInRange, lra_options.declared.options.Options.Options, lra_resolution_spec.Refuse.Refuse, lra_syntax.Grammar.Spells}
 use Rattle.lra_report.specs.{RefusalText.refusal_text, Report.Report, ReportText.unknown_count}
-use Rattle.lra_syntax.specs.Grammar.{Spells}
-use Rattle.lra_resolution_spec.specs.Refuse.{Refuse}
 use Rattle.lra_sample.specs.{Sample.sample_source, Summary.summary_text}
 use Rattle.lra_sample.proofs.Samples.{accepted}
-use Rattle.lra_analyse_source.specs.SourceReports.{IsAnalysisReport}
 use Rattle.lra_command_line.specs.{CommandLine.seed_option, CommandLine.size_option, ParsedCommand.default_options}
 use Rattle.lra_command_answers.specs.{Statuses.reported, declared.answer.Answer.Answer, declared.status.Status.Status, declared.status.Status.TheVariants.Refused}
 use Rattle.lra_commands.specs.{SampleAnswer.AnswersSample, SourceAnswer.report_status}

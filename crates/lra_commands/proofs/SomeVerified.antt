@@ -4,19 +4,16 @@ use Rattle.std.proofs.Common.{◌≡◌, ◌∙◌, ◌≤◌, ◌<◌, ◌⊎�
 use Rattle.std.proofs.{lemmas.Bool.cases_lt, lemmas.Bool.eqb-true, lemmas.Bool.Decides.nat_tests, lemmas.Option.same_Some, lemmas.Option.none-some}
 use Rattle.std.specs.{List.filter, List.flat_map, Prelude.if◌then◌else◌, Prelude.nat_lt, Prelude.nat_eq, Prelude.◌&&◌}
 use Rattle.lra_base.specs.declared.refusals.Refusal.{Refusal}
-use Rattle.lra_syntax.specs.Labels.{Labelled, labels_of}
-use Rattle.lra_syntax.proofs.LexedByTest.{and_second}
-use Rattle.lra_resolution_spec.specs.{Refuse.greatest_live, Refuse.greatest_points, Refuse.limit_fault, Resolve.resolve}
-use Rattle.lra_program.specs.{Program.Program, Sites.Site, Sites.Event, Sites.comes, Sites.one_call_more, Sites.event_sites, Sites.events_of, Sites.sites_of}
-use Rattle.lra_operations.specs.Tree.{Node}
-use Rattle.lra_front_end.specs.{Claims.IsAccepted, Stages.HasTree}
-use Rattle.lra_front_end.proofs.{SomeAnswer.some_answer, StageSteps.well}
-use Rattle.lra_path_segments.specs.Segments.{Goal, comes_to, violates, GoalSegment, Segment, enter, inside}
-use Rattle.lra_path_disjuncts.specs.Disjuncts.{written, greatest_paths}
-use Rattle.lra_paths.specs.Paths.{same_goal, live_at, started, actions_between, AreFewFrom, AreFewPaths, HasTooManyPaths}
-use Rattle.lra_certificate_spec.specs.Claims.{IsProgram, program_of, VerifyAnswer, verified, source_refused, paths_refused, line_refused, VerifiesTo, HasHead, greatest_certificate, EachVerified}
-use Rattle.lra_certificate_spec.specs.Judged.{Judged, Head, too_long, bad_line, judged, head_of}
-use Rattle.lra_certificate_spec.proofs.JudgedBothWays.{judged_exactly}
+use Rattle.lra_commands.specs.Crates.lra_certificate_spec.Claims.{IsProgram, program_of, VerifyAnswer, verified, source_refused, paths_refused, line_refused, VerifiesTo, HasHead, greatest_certificate}
+use Rattle.lra_commands.specs.Crates.lra_certificate_spec.Claims.{EachVerified}
+use Rattle.lra_commands.specs.Crates.lra_certificate_spec.Judged.{Judged, Head, too_long, bad_line, judged, head_of}
+use Rattle.lra_commands.specs.Crates.lra_path_segments.Segments.{Goal, comes_to, violates, GoalSegment, Segment, enter, inside}
+use Rattle.lra_commands.specs.Crates.lra_paths.Paths.{same_goal, live_at, started, actions_between, AreFewFrom, AreFewPaths, HasTooManyPaths}
+use Rattle.lra_commands.specs.Crates.lra_program.Sites.{Site, Event, comes, one_call_more, event_sites, events_of, sites_of}
+use Rattle.lra_commands.specs.Crates.{lra_front_end.Claims.IsAccepted, lra_front_end.Stages.HasTree, lra_operations.Tree.Node, lra_path_disjuncts.Disjuncts.written}
+use Rattle.lra_commands.specs.Crates.{lra_path_disjuncts.Disjuncts.greatest_paths, lra_program.Program.Program, lra_resolution_spec.Refuse.greatest_live, lra_resolution_spec.Refuse.greatest_points}
+use Rattle.lra_commands.specs.Crates.{lra_resolution_spec.Refuse.limit_fault, lra_resolution_spec.Resolve.resolve, lra_syntax.Labels.Labelled, lra_syntax.Labels.labels_of}
+use Rattle.lra_commands.proofs.Crates.{lra_certificate_spec.JudgedBothWays.judged_exactly, lra_front_end.SomeAnswer.some_answer, lra_front_end.StageSteps.well, lra_syntax.LexedByTest.and_second}
 use Rattle.lra_commands.proofs.OneVerified.{one_verified}
 
 -- programs -----------------------------------------------------------------------

@@ -1,11 +1,8 @@
 -- From a report that a source must get to how a call ends that answers it.
 use Rattle.std.proofs.Common.{◌≡◌, ◌<◌, ℕ, zero, suc, List, refl, sym, subst, arith, inl, inr}
 use Rattle.lra_base.specs.{declared.refusals.Cause.Cause, declared.refusals.Place.Place}
-use Rattle.lra_options.specs.declared.options.Options.{Options}
+use Rattle.lra_commands.specs.Crates.{lra_analyse_source.SourceReports.IsAnalysisReport, lra_options.declared.options.Options.Options, lra_resolution_spec.Refuse.Refuse, lra_syntax.Grammar.Spells}
 use Rattle.lra_report.specs.{RefusalText.refusal_text, Report.Report, ReportText.unknown_count}
-use Rattle.lra_syntax.specs.Grammar.{Spells}
-use Rattle.lra_resolution_spec.specs.Refuse.{Refuse}
-use Rattle.lra_analyse_source.specs.SourceReports.{IsAnalysisReport}
 use Rattle.lra_command_answers.specs.declared.status.Status.TheVariants.{Proved, Unknown, Refused}
 use Rattle.lra_command_answers.specs.{Statuses.Ends, Statuses.reported, declared.status.Status.Status}
 use Rattle.lra_command_answers.proofs.ToldWays.{IsTelling}

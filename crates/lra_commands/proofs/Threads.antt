@@ -1,8 +1,8 @@
 -- From what a source of several threads must get to what is claimed of its report.
 use Rattle.std.proofs.Common.{ℕ, List, length, subst, inl, inr}
 use Rattle.std.specs.{Io.KnownBytes.Appends, Prelude.Option}
-use Rattle.lra_threads_fixpoint.proofs.FlagLemmas.{settles}
-use Rattle.lra_threads_analysis.specs.Found.{IsThreadResultOf, thread_finding}
+use Rattle.lra_commands.proofs.Crates.lra_threads_fixpoint.FlagLemmas.{settles}
+use Rattle.lra_commands.specs.Crates.lra_threads_analysis.Found.{IsThreadResultOf, thread_finding}
 use Rattle.lra_threads_source.specs.ThreadsReports.{shared_program, threads_plan}
 use Rattle.lra_threads_source.proofs.{Sound.threads_sound, Strained.unflagged_defined, Strained.flagged_strain}
 use Rattle.lra_command_line.specs.{ParsedCommand.Asks, declared.commands.Command.TheVariants.Threads}

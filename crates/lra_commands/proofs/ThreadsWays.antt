@@ -3,11 +3,10 @@ use Rattle.std.proofs.Common.{◌≡◌, ◌≤◌, ◌<◌, ℕ, List, ◌++◌
 use Rattle.std.proofs.{lemmas.Grind.common_steps, lemmas.List.take-append-le}
 use Rattle.std.specs.Prelude.{Some}
 use Rattle.lra_base.specs.{Places.place_after, Places.greatest_length, declared.refusals.Cause.Cause, declared.refusals.Cause.TheVariants.TooLong, declared.refusals.Place.Place}
-use Rattle.lra_syntax.specs.{Grammar.Spells, Trees.FileTree}
-use Rattle.lra_resolution_spec.specs.RefuseThreads.{RefuseThreads, AcceptsThreads, NotParsed, too_long, bad_token, bad_text, unread, bad_tree}
+use Rattle.lra_commands.specs.Crates.lra_resolution_spec.RefuseThreads.{RefuseThreads, AcceptsThreads, NotParsed, too_long, bad_token, bad_text, unread, bad_tree}
+use Rattle.lra_commands.specs.Crates.{lra_front_end.ThreadsClaims.HasThreadsRefusal, lra_syntax.Grammar.Spells, lra_syntax.Trees.FileTree}
 use Rattle.lra_report.specs.{RefusalText.refusal_text, ReportText.unknown_count}
-use Rattle.lra_front_end.specs.ThreadsClaims.{HasThreadsRefusal}
-use Rattle.lra_front_end.proofs.ThreadsEachAnswer.{each_answer}
+use Rattle.lra_commands.proofs.Crates.lra_front_end.ThreadsEachAnswer.{each_answer}
 use Rattle.lra_threads_source.specs.{ThreadsReports.IsThreadsReportOf, ThreadsText.ThreadsReport, ThreadsText.threads_text}
 use Rattle.lra_command_answers.specs.{Statuses.Ends, Statuses.reported, Statuses.refused, Statuses.source_statuses, declared.status.Status.Status, declared.status.Status.TheVariants.Refused}
 use Rattle.lra_command_answers.proofs.{Answering.IsAnswering, Answering.small, Answering.past, ToldWays.not_past}

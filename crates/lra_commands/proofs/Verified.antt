@@ -1,13 +1,11 @@
 -- From what an input must get that is verified to what is claimed of it.
 use Rattle.std.proofs.Common.{◌≡◌, ◌∙◌, ℕ, ℤ, List, length, subst, sym}
 use Rattle.std.specs.{Io.KnownBytes.Appends, Prelude.Option, Prelude.None, Prelude.Some, Prelude.slice_get}
-use Rattle.lra_linear_spec.specs.Descriptions.{LinearRow}
-use Rattle.lra_resolution_spec.specs.Resolve.{resolve}
-use Rattle.lra_program.specs.{Program.Program, Run.At, Sites.Site, Sites.sites_of}
-use Rattle.lra_operations.specs.Agree.{point_of}
-use Rattle.lra_certificate_spec.specs.Certificates.{Certificate, state_or_empty}
-use Rattle.lra_certificate_spec.specs.Claims.{VerifyAnswer, verified, source_refused, paths_refused, line_refused, VerifiesTo, IsVerified, RowsHoldAt, RowsHold}
-use Rattle.lra_certificate_spec.proofs.{CertificatesHold.certificates_hold, OneProgram.accepted_of}
+use Rattle.lra_commands.specs.Crates.lra_certificate_spec.Certificates.{Certificate, state_or_empty}
+use Rattle.lra_commands.specs.Crates.lra_certificate_spec.Claims.{VerifyAnswer, verified, source_refused, paths_refused, line_refused, VerifiesTo, IsVerified, RowsHoldAt, RowsHold}
+use Rattle.lra_commands.specs.Crates.lra_program.Sites.{Site, sites_of}
+use Rattle.lra_commands.specs.Crates.{lra_linear_spec.Descriptions.LinearRow, lra_operations.Agree.point_of, lra_program.Program.Program, lra_program.Run.At, lra_resolution_spec.Resolve.resolve}
+use Rattle.lra_commands.proofs.Crates.{lra_certificate_spec.CertificatesHold.certificates_hold, lra_certificate_spec.OneProgram.accepted_of}
 use Rattle.lra_command_line.specs.{ParsedCommand.Asks, declared.commands.Command.TheVariants.Plain, declared.commands.PlainCommand.TheVariants.Verify}
 use Rattle.lra_commands.specs.CertificateAnswer.{AnswersCertificate, verify_answer_text, answer_status, verified_text}
 use Rattle.lra_commands.specs.{OutputClaims.IsVerifiedInAllRuns, OutputClaims.WritesVerified, Run.IsInput, Run.WritesAnswer}

@@ -2,7 +2,7 @@
 -- from which that may fail, or its refusal. Assertions are asked for by the number of their point, from 1.
 use Rattle.std.specs.Fmt.{decimal}
 use Rattle.std.specs.Prelude.{◌≡◌, ◌⊎◌, ℕ, suc, List, ◌++◌, codes, Bool, true, false}
-use Rattle.lra_row_text.specs.Texts.{text_line}
+use Rattle.lra_commands.specs.Crates.lra_row_text.Texts.{text_line}
 use Rattle.lra_report.specs.{BackText.BackReport, BackText.back_text, RefusalText.refusal_text}
 use Rattle.lra_back_source.specs.BackReports.{CanGoBack, IsBackReportOf, IsBackRefusalOf}
 use Rattle.lra_back_source.specs.declared.refusals.BackRefusal.{BackRefusal}

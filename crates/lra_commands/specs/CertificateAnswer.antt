@@ -1,11 +1,11 @@
 -- What an input must get that is to be a certificate.
 use Rattle.std.specs.Fmt.{decimal}
 use Rattle.std.specs.Prelude.{◌≡◌, ◌≤◌, ◌⊎◌, ℕ, List, ◌∷◌, ◌++◌, length, codes}
-use Rattle.lra_row_text.specs.Texts.{text_line}
+use Rattle.lra_commands.specs.Crates.lra_certificate_spec.Claims.{VerifyAnswer, verified, source_refused, paths_refused}
+use Rattle.lra_commands.specs.Crates.lra_certificate_spec.Claims.{line_refused, VerifiesTo, IsCertificate}
+use Rattle.lra_commands.specs.Crates.lra_certificate_spec.Claims.{greatest_certificate}
+use Rattle.lra_commands.specs.Crates.{lra_certificate_spec.Judged.fault_name, lra_row_text.Texts.text_line}
 use Rattle.lra_report.specs.RefusalText.{refusal_text}
-use Rattle.lra_certificate_spec.specs.Claims.{VerifyAnswer, verified, source_refused, paths_refused, line_refused}
-use Rattle.lra_certificate_spec.specs.Claims.{VerifiesTo, IsCertificate, greatest_certificate}
-use Rattle.lra_certificate_spec.specs.Judged.{fault_name}
 use Rattle.lra_command_answers.specs.Statuses.{printed, refused}
 use Rattle.lra_command_answers.specs.declared.status.Status.{Status}
 use Rattle.lra_command_answers.specs.declared.status.Status.TheVariants.{Proved, Refused}

@@ -1,13 +1,12 @@
 -- What a source must get that is to be certified: its certificate, or its refusal.
 use Rattle.std.specs.Fmt.{decimal}
 use Rattle.std.specs.Prelude.{◌≡◌, ◌⊎◌, ℕ, suc, List, ◌++◌, codes}
-use Rattle.lra_row_text.specs.Texts.{text_line}
+use Rattle.lra_commands.specs.Crates.lra_analyse_source.SourceReports.{IsAnalysisReport}
+use Rattle.lra_commands.specs.Crates.lra_certificate_spec.Claims.{IsProgram, program_of}
+use Rattle.lra_commands.specs.Crates.lra_certify.declared.failures.StrainedAt.TheVariants.{Edge, Assertion}
+use Rattle.lra_commands.specs.Crates.lra_paths.Paths.{HasTooManyPaths}
+use Rattle.lra_commands.specs.Crates.{lra_front_end.Claims.HasRefusal, lra_row_text.Texts.text_line}
 use Rattle.lra_report.specs.{RefusalText.refusal_text, Report.Report}
-use Rattle.lra_front_end.specs.Claims.{HasRefusal}
-use Rattle.lra_paths.specs.Paths.{HasTooManyPaths}
-use Rattle.lra_certificate_spec.specs.Claims.{IsProgram, program_of}
-use Rattle.lra_certify.specs.declared.failures.StrainedAt.TheVariants.{Edge, Assertion}
-use Rattle.lra_analyse_source.specs.SourceReports.{IsAnalysisReport}
 use Rattle.lra_certify_source.specs.Assertions.{unknown_assertions}
 use Rattle.lra_certify_source.specs.Certified.{IsCertificateOf, IsCertifyRefusalOf}
 use Rattle.lra_certify_source.specs.declared.refusals.CertifyRefusal.TheVariants.{Source, Paths, Strained}

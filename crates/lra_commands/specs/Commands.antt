@@ -13,7 +13,7 @@ use Rattle.lra_commands.specs.CertifyAnswer.{AnswersCertify, AllowedCertifyStatu
 use Rattle.lra_commands.specs.ScriptAnswer.{AnswersScript, AllowedScriptStatuses, script_statuses}
 use Rattle.lra_commands.specs.ThreadsAnswer.{AnswersThreads, AllowedThreadsStatuses}
 use Rattle.lra_commands.specs.{SampleAnswer.AnswersSample, SourceAnswer.AnswersSource, SourceAnswer.written_report}
-use Rattle.lra_certificate_spec.specs.Claims.{greatest_certificate}
+use Rattle.lra_commands.specs.Crates.lra_certificate_spec.Claims.{greatest_certificate}
 
 -- the most bytes that a command takes of its input, where it reads it
 abbrev pub limit_of : Command → Option ℕ

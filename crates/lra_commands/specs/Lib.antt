@@ -12,3 +12,5 @@ pub mod Commands
 pub mod Run
 pub mod OutputClaims
 pub mod Prepared
+-- The crates below
+pub mod Crates

@@ -3,25 +3,31 @@ use Rattle.std.specs.Prelude.{◌≡◌, ◌≤◌, ℕ, suc, ℤ, List, [], len
 use Rattle.std.specs.Prelude.{pos, option_map, slice_get, Contains}
 use Rattle.std.specs.{Io.KnownBytes.Appends, List.AllByRecursion}
 use Rattle.lra_base.specs.declared.refusals.Place.{Place}
-use Rattle.lra_options.specs.{declared.options.Domain.TheVariants.Poly, declared.options.Options.Options}
-use Rattle.lra_syntax.specs.{Grammar.Spells, Trees.FileTree}
-use Rattle.lra_resolution_spec.specs.{Refuse.Accepts, RefuseThreads.AcceptsThreads, Resolve.resolve}
-use Rattle.lra_program.specs.{Program.Program, Run.At, Run.Fails, Sites.Site, Sites.sites_of}
-use Rattle.lra_operations.specs.{Agree.IsInlinedTree, Agree.point_of, Tree.Node}
-use Rattle.lra_linear_spec.specs.Descriptions.{LinearRow, Con}
-use Rattle.lra_domain.specs.Abstraction.{Abstraction}
-use Rattle.lra_front_end.specs.Stages.{HasConstants}
-use Rattle.lra_analysis_spec.specs.Analysis.{ExactIteration, IsSolution}
-use Rattle.lra_analysis_spec.specs.Operations.{exact_operations, lossy_operations}
-use Rattle.lra_analysis_spec.specs.{Accesses.JudgesAccesses, Fits.Judges, Fits.JudgesIf, Pass.PassResult, Plan.plan_of}
+use Rattle.lra_commands.specs.Crates.lra_analyse_source.SourceReports.{ForOptions, IsAnalysisReport}
+use Rattle.lra_commands.specs.Crates.lra_analysis_spec.Accesses.{JudgesAccesses}
+use Rattle.lra_commands.specs.Crates.lra_analysis_spec.Analysis.{ExactIteration, IsSolution}
+use Rattle.lra_commands.specs.Crates.lra_analysis_spec.Fits.{Judges, JudgesIf}
+use Rattle.lra_commands.specs.Crates.lra_analysis_spec.Operations.{exact_operations, lossy_operations}
+use Rattle.lra_commands.specs.Crates.lra_certificate_spec.Certificates.{ListedAssertion, Certificate}
+use Rattle.lra_commands.specs.Crates.lra_certificate_spec.Claims.{IsCertificate, greatest_certificate, program_of}
+use Rattle.lra_commands.specs.Crates.lra_linear_spec.Descriptions.{LinearRow, Con}
+use Rattle.lra_commands.specs.Crates.lra_operations.Agree.{IsInlinedTree, point_of}
+use Rattle.lra_commands.specs.Crates.lra_program.Sites.{Site, sites_of}
+use Rattle.lra_commands.specs.Crates.lra_report_build.AnalysisResults.{reported_all, reported_of}
+use Rattle.lra_commands.specs.Crates.lra_resolution_spec.RefuseThreads.{AcceptsThreads}
+use Rattle.lra_commands.specs.Crates.lra_threads_analysis.Found.{IsThreadResultOf}
+use Rattle.lra_commands.specs.Crates.lra_threads_fixpoint.Rounds.{AreThreadResults}
+use Rattle.lra_commands.specs.Crates.{lra_analysis_spec.Pass.PassResult, lra_analysis_spec.Plan.plan_of}
+use Rattle.lra_commands.specs.Crates.{lra_domain.Abstraction.Abstraction, lra_front_end.Stages.HasConstants}
+use Rattle.lra_commands.specs.Crates.{lra_operations.Tree.Node, lra_options.declared.options.Domain.TheVariants.Poly}
+use Rattle.lra_commands.specs.Crates.{lra_options.declared.options.Options.Options, lra_program.Program.Program}
+use Rattle.lra_commands.specs.Crates.{lra_program.Run.At, lra_program.Run.Fails, lra_report_build.Shown.AreShown}
+use Rattle.lra_commands.specs.Crates.{lra_resolution_spec.Refuse.Accepts, lra_resolution_spec.Resolve.resolve}
+use Rattle.lra_commands.specs.Crates.{lra_syntax.Grammar.Spells, lra_syntax.Trees.FileTree}
 use Rattle.lra_report.specs.BackText.{BackReport, back_text}
 use Rattle.lra_report.specs.Report.{HasSamePointsAt, Invariant, PointReport, Report, IsRight, IsSound}
 use Rattle.lra_report.specs.{Listing.Lists, ReportText.unknown_count}
-use Rattle.lra_report_build.specs.{AnalysisResults.reported_all, AnalysisResults.reported_of, Shown.AreShown}
 use Rattle.lra_sample.specs.{Sample.sample_source, Summary.summary_text}
-use Rattle.lra_analyse_source.specs.SourceReports.{ForOptions, IsAnalysisReport}
-use Rattle.lra_certificate_spec.specs.Certificates.{ListedAssertion, Certificate}
-use Rattle.lra_certificate_spec.specs.Claims.{IsCertificate, greatest_certificate, program_of}
 use Rattle.lra_certify_source.specs.Certified.{IsCertificateOf, IsCertificateWith}
 use Rattle.lra_certify_source.specs.{Assertions.unknown_assertions, Settings.certify_options}
 use Rattle.lra_back_source.specs.BackReports.{ReportCoversFailingRuns, IsBackReportOf, IsDefinedBack, IsProvedAtFirst}
@@ -29,8 +35,6 @@ use Rattle.lra_back_source.specs.BackReports.{StrainsAt}
 use Rattle.lra_threads_source.specs.ThreadsReports.{AreDefinedThreads, HoldsInInterleavings, IsThreadsReportOf}
 use Rattle.lra_threads_source.specs.ThreadsReports.{StrainsAtNumber, shared_program, threads_plan}
 use Rattle.lra_threads_source.specs.ThreadsText.{ThreadsReport, threads_text}
-use Rattle.lra_threads_fixpoint.specs.Rounds.{AreThreadResults}
-use Rattle.lra_threads_analysis.specs.Found.{IsThreadResultOf}
 use Rattle.lra_command_line.specs.ParsedCommand.{default_options}
 use Rattle.lra_command_answers.specs.{declared.status.Status.Status, declared.status.Status.TheVariants.Proved}
 use Rattle.lra_commands.specs.CertificateAnswer.{verified_text, AnswersCertificate}

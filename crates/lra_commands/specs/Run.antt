@@ -2,7 +2,7 @@
 use Rattle.std.specs.Io.KnownBytes.{Appends, Consumes, IsAtEnd}
 use Rattle.std.specs.Prelude.{◌≡◌, ◌≢◌, ◌≤◌, ◌<◌, ◌⊎◌, ◌+◌, ℕ, List, length, codes, Option, None, Some}
 use Rattle.lra_io.specs.{Causes.AppendsPart, Causes.Rose, ReadErrors.LosesPrefix}
-use Rattle.lra_row_text.specs.Texts.{text_line}
+use Rattle.lra_commands.specs.Crates.lra_row_text.Texts.{text_line}
 use Rattle.lra_command_line.specs.ParsedCommand.{Asks, AsksFor, AsksNone}
 use Rattle.lra_command_line.specs.declared.commands.Command.{Command}
 use Rattle.lra_commands.specs.Commands.{AnswersInput}

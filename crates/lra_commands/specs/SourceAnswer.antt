@@ -1,9 +1,9 @@
 -- What a source must get: the text of its one refusal, or what is written of a report of it that states an analysis.
 use Rattle.std.specs.Prelude.{◌≡◌, ℕ, zero, suc, List}
-use Rattle.lra_options.specs.declared.options.Options.{Options}
+use Rattle.lra_commands.specs.Crates.lra_analyse_source.SourceReports.{IsAnalysisReport}
+use Rattle.lra_commands.specs.Crates.lra_options.declared.options.Options.{Options}
 use Rattle.lra_report.specs.{Report.Report, ReportText.report_text, ReportText.unknown_count}
 use Rattle.lra_report_json.specs.ReportJson.{report_json}
-use Rattle.lra_analyse_source.specs.SourceReports.{IsAnalysisReport}
 use Rattle.lra_command_line.specs.declared.commands.Format.{Format}
 use Rattle.lra_command_line.specs.declared.commands.Format.TheVariants.{Lines, Json}
 use Rattle.lra_command_answers.specs.SourceAnswers.{AnswersSourceWith}

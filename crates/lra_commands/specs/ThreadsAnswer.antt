@@ -2,10 +2,10 @@
 -- these two options of the iteration.
 use Rattle.std.specs.Prelude.{◌≡◌, ◌⊎◌, ℕ, List}
 use Rattle.lra_base.specs.{declared.refusals.Cause.Cause, declared.refusals.Place.Place}
-use Rattle.lra_syntax.specs.{Grammar.Spells, Trees.FileTree}
-use Rattle.lra_resolution_spec.specs.RefuseThreads.{RefuseThreads, AcceptsThreads}
+use Rattle.lra_commands.specs.Crates.lra_front_end.ThreadsClaims.{HasThreadsRefusal}
+use Rattle.lra_commands.specs.Crates.lra_resolution_spec.RefuseThreads.{RefuseThreads, AcceptsThreads}
+use Rattle.lra_commands.specs.Crates.{lra_syntax.Grammar.Spells, lra_syntax.Trees.FileTree}
 use Rattle.lra_report.specs.{RefusalText.refusal_text, ReportText.unknown_count}
-use Rattle.lra_front_end.specs.ThreadsClaims.{HasThreadsRefusal}
 use Rattle.lra_threads_source.specs.ThreadsReports.{IsThreadsReportOf}
 use Rattle.lra_threads_source.specs.ThreadsText.{ThreadsReport, threads_text}
 use Rattle.lra_command_answers.specs.Statuses.{refused, reported}

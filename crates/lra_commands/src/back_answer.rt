@@ -1,7 +1,7 @@
 // What a source must get that is gone back over from one of its assertions.
 ghost use Rattle.std.specs.Fmt.{decimal};
 ghost use Rattle.std.specs.Prelude.{◌≡◌, ◌≤◌, ◌<◌, ◌+◌, ◌++◌, ◌^◌, codes, length, IfOk, OnOk, string_bytes};
-ghost use Rattle.lra_row_text.specs.Texts.{text_line};
+ghost use Rattle.lra_commands.specs.Crates.lra_row_text.Texts.{text_line};
 ghost use Rattle.lra_report.specs.BackText as written;
 ghost use Rattle.lra_report.specs.View.{back_report_of};
 ghost use Rattle.lra_commands.specs.BackAnswer.{AnswersBack, back_refused_text, back_status};

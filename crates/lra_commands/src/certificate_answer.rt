@@ -1,13 +1,12 @@
 // What an input must get that is to be a certificate.
 ghost use Rattle.std.specs.Fmt.{decimal};
 ghost use Rattle.std.specs.Prelude.{◌≡◌, ◌++◌, codes, IfOk, OnOk, string_bytes};
-ghost use Rattle.lra_row_text.specs.Texts.{text_line};
-ghost use Rattle.lra_verify.specs.RefusalViews.{refusal_view};
+ghost use Rattle.lra_commands.specs.Crates.{lra_row_text.Texts.text_line, lra_verify.RefusalViews.refusal_view};
 ghost use Rattle.lra_commands.specs.CertificateAnswer.{AnswersCertificate, verify_answer_text, verified_text};
 
+use lra_certify_source::{VerifyError, VerifyRefusal, verify};
 use lra_command_answers::{Answer, Status};
 use lra_report::refusal_text;
-use lra_verify::{VerifyError, VerifyRefusal, verify};
 use std::alloc::{AllocError, Global};
 use std::fmt::Write;
 

@@ -1,7 +1,7 @@
 // What a source must get that is to be certified.
 ghost use Rattle.std.specs.Fmt.{decimal};
 ghost use Rattle.std.specs.Prelude.{◌≡◌, ◌<◌, ◌+◌, ◌++◌, ◌^◌, suc, codes, length, IfOk, OnOk, string_bytes};
-ghost use Rattle.lra_row_text.specs.Texts.{text_line};
+ghost use Rattle.lra_commands.specs.Crates.lra_row_text.Texts.{text_line};
 ghost use Rattle.lra_certify_source.specs.Certified.{HasSmallPoint};
 ghost use Rattle.lra_commands.specs.CertifyAnswer.{AnswersCertify, refused_text};
 

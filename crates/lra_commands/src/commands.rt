@@ -11,9 +11,9 @@ use crate::script_answer::answer_script;
 use crate::source_answer::answer_source;
 use crate::threads_answer::answer_threads;
 use lra_base::GREATEST_LENGTH;
+use lra_certify_source::GREATEST_CERTIFICATE;
 use lra_command_answers::Answer;
 use lra_command_line::{Command, PlainCommand};
-use lra_verify::GREATEST_CERTIFICATE;
 use std::alloc::{AllocError, Global};
 
 /// The most bytes that a command takes of its input, where it reads it.

@@ -8,7 +8,7 @@ ghost use Rattle.lra_commands.specs.{BackAnswer.OneBackRefusal, SourceAnswer.One
 pub fn one_written_report()
     ensures { OneWrittenReport }
 {
-    lra_front_end::one_answer();
+    lra_command_answers::one_answer();
 }
 
 /// Each input that is to be a certificate must get one text and one status.

@@ -16,4 +16,6 @@ mod top_call;
 
 pub use law::{each_certificate_answer, one_back_refusal, one_written_report};
 pub use lra_command_answers::Status;
+pub use lra_command_line::{Request, read_request};
+pub use lra_io::{MemSink, MemSource};
 pub use top_call::run;

@@ -6,12 +6,12 @@ ghost use Rattle.lra_sample.specs.{Sample.sample_source, Summary.summary_text};
 ghost use Rattle.lra_commands.specs.{SampleAnswer.AnswersSample, SourceAnswer.report_status};
 
 use crate::source_answer::status_of;
-use lra_analyse_source::analyse_source;
 use lra_base::SourceError;
 use lra_command_answers::{Answer, answer_refusal};
 use lra_command_line::default_options;
 use lra_report::Report;
 use lra_sample::{program, summary};
+use lra_threads_source::analyse_source;
 use std::alloc::{AllocError, Global};
 
 /// What is reported about the report of a sample source, and its status.

@@ -4,13 +4,12 @@ ghost use Rattle.lra_report.specs.ReportText.{unknown_count};
 ghost use Rattle.lra_report.specs.View as view;
 ghost use Rattle.lra_commands.specs.SourceAnswer.{AnswersSource, report_status, written_report};
 
-use lra_analyse_source::analyse_source;
 use lra_base::SourceError;
 use lra_command_answers::{Answer, Status, answer_refusal};
 use lra_command_line::Format;
-use lra_options::Options;
-use lra_report::{Report, text};
+use lra_report::{Options, Report, text};
 use lra_report_json::json_text;
+use lra_threads_source::analyse_source;
 use std::alloc::{AllocError, Global};
 
 /// The status of a report in which so many verdicts are unknown.

@@ -6,7 +6,7 @@ ghost use Rattle.lra_command_line.specs.ParsedCommand.{Asks, AsksNone, IsRejecte
 ghost use Rattle.lra_command_line.specs.declared.commands.Command.TheVariants.{Analyse, Sample, Back, Threads, Plain};
 ghost use Rattle.lra_command_line.specs.declared.commands.PlainCommand.TheVariants.{Certify, Verify};
 ghost use Rattle.lra_command_line.specs.{declared.commands.Command.Command, declared.commands.Format.Format};
-ghost use Rattle.lra_options.specs.declared.options.Options.{Options};
+ghost use Rattle.lra_commands.specs.Crates.lra_options.declared.options.Options.{Options};
 ghost use Rattle.lra_command_answers.specs.Statuses.{Ends, reported, answered, silent, faults};
 ghost use Rattle.lra_commands.specs.Commands.{limit_of, asked_limit, AllowedStatuses};
 ghost use Rattle.lra_commands.specs.OutputClaims.{WritesReport, HoldsInAllRuns, IsWrittenUnlessFlagged};

@@ -3,11 +3,11 @@ use Rattle.std.proofs.Common.{◌≡◌, ℕ, zero, suc, ◌<◌, Bool, true, fa
 use Rattle.std.proofs.lemmas.List.Elements.{Contains-append_cases, Contains-append_left, Contains-append_right, Contains-get_or}
 use Rattle.std.proofs.{Common.inr, lemmas.Bool.Decides.Decides-int_eq, lemmas.List.get_or-map, lemmas.List.length-map, lemmas.List.get_or_default}
 use Rattle.std.specs.{List.Contains, List.filter, Ordering.int_eq, Prelude.◌&&◌}
-use Rattle.lra_bits.specs.{Matrix.unmarked, TruthValues.IsSubset, TruthValues.both}
-use Rattle.lra_linear_spec.specs.Vectors.{entry, dot, product, blend}
-use Rattle.lra_linear_spec.specs.{Canonical.IsCanonical, Cones.all_rows, Cones.AreDual, Descriptions.LinearRow, Descriptions.system_of, LowestTerms.IsLowest}
-use Rattle.lra_linear_spec.proofs.Membership.{NoRepeat, contains_none, contains_cases, contains_head, contains_tail, filter_has, filter_from}
-use Rattle.lra_linear_spec.proofs.{CanonicalForms.no_repeat, DoubleDescription.pair, Saturation.NotAdjacent}
+use Rattle.lra_cone.specs.Crates.lra_linear_spec.Vectors.{entry, dot, product, blend}
+use Rattle.lra_cone.specs.Crates.{lra_bits.Matrix.unmarked, lra_bits.TruthValues.IsSubset, lra_bits.TruthValues.both, lra_linear_spec.Canonical.IsCanonical, lra_linear_spec.Cones.all_rows}
+use Rattle.lra_cone.specs.Crates.{lra_linear_spec.Cones.AreDual, lra_linear_spec.Descriptions.LinearRow, lra_linear_spec.Descriptions.system_of, lra_linear_spec.LowestTerms.IsLowest}
+use Rattle.lra_cone.proofs.Crates.lra_linear_spec.Membership.{NoRepeat, contains_none, contains_cases, contains_head, contains_tail, filter_has, filter_from}
+use Rattle.lra_cone.proofs.Crates.{lra_linear_spec.CanonicalForms.no_repeat, lra_linear_spec.DoubleDescription.pair, lra_linear_spec.Saturation.NotAdjacent}
 use Rattle.lra_double_description.specs.Pairs.{HasThird, both_tight, IsAdjacentPair, AreApart, ArePairs, pair_sum, AreCombined, pair_tight_rows}
 use Rattle.lra_double_description.specs.{Steps.is_inside, Steps.outside_marks, declared.pairs.Pair.Pair}
 use Rattle.lra_cone.specs.Cones.{tight_values, saturation_rows}

@@ -1,14 +1,13 @@
 -- Two rays of a cone that share few tight rows have a third ray that is tight wherever both are.
 use Rattle.std.proofs.Common.{◌≡◌, ℕ, suc, ◌+◌, ◌-◌, ◌<◌, Bool, true, false, cond, List, [], ◌∷◌, length, get_or, refl, ap, sym, ◌∙◌, subst, arith, pos, ℤ, inl, inr}
-use Rattle.std.proofs.lemmas.List.Elements.{Contains-get_or}
+use Rattle.std.proofs.{lemmas.Bool.and_from, lemmas.List.Elements.Contains-get_or}
 use Rattle.std.specs.{List.Contains, Ordering.int_eq, Prelude.◌&&◌}
-use Rattle.lra_bits.specs.TruthValues.{IsSubset, both, true_count}
-use Rattle.lra_linear_spec.specs.{Descriptions.LinearRow, Descriptions.system_of, Vectors.entry, Vectors.product}
-use Rattle.lra_linear_spec.proofs.Membership.{contains_head, contains_none, contains_tail}
+use Rattle.lra_cone.specs.Crates.lra_bits.TruthValues.{IsSubset, both, true_count}
+use Rattle.lra_cone.specs.Crates.{lra_linear_spec.Descriptions.LinearRow, lra_linear_spec.Descriptions.system_of, lra_linear_spec.Vectors.entry, lra_linear_spec.Vectors.product}
+use Rattle.lra_cone.proofs.Crates.lra_linear_spec.Membership.{contains_head, contains_none, contains_tail}
 use Rattle.lra_double_description.specs.{Pairs.HasThird, Pairs.both_tight, Thirds.FewHaveThird}
 use Rattle.lra_cone.specs.Cones.{ConeContent, IsCone, tight_values, saturation_rows}
 use Rattle.lra_cone.proofs.ThirdRays.{AreTight, third_ray}
-use Rattle.std.proofs.lemmas.Bool.{and_from}
 use Rattle.lra_cone.proofs.TightRows.{either_tight, row_at, rows_length, subset_from, tight_either, with_cases, zero_yes}
 
 -- ---- the rows that are tight at both

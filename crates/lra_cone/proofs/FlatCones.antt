@@ -1,6 +1,6 @@
 -- What is reported about a cone's lists with a line across.
 use Rattle.std.proofs.Common.{◌≡◌, ℕ, ◌<◌, Bool, List, [], length, get_or, map, take, refl, pos, ℤ, inl, inr}
-use Rattle.lra_linear_spec.specs.Vectors.{product}
+use Rattle.lra_cone.specs.Crates.lra_linear_spec.Vectors.{product}
 use Rattle.lra_double_description.specs.Strains.{IsFlatteningError}
 use Rattle.lra_double_description.specs.{Steps.IsTurned, declared.line_step.Across.Across, declared.strained.Family.TheVariants.Lines, declared.strained.Family.TheVariants.Rays}
 use Rattle.lra_double_description.specs.declared.strained.ConeError as C

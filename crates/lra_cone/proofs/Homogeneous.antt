@@ -2,8 +2,9 @@
 -- first column takes it out of the others, and the column's number follows from the rest.
 use Rattle.std.proofs.Common.{List, [], ap, arith, inl, inr, length, neg_ℤ, negsuc, pos, refl, suc, zero, ℕ, ℤ, ◌*ℤ◌, ◌+ℤ◌, ◌<◌, ◌∙◌, ◌∷◌, ◌≡◌, ◌⊎◌, sym}
 use Rattle.std.proofs.lemmas.Int.{ints}
-use Rattle.lra_linear_spec.specs.Vectors.{dot, entry, zeros}
-use Rattle.lra_linear_spec.proofs.{Lines.zeros_length, OneSpelling.dot_zeros, Products.dot_linear, Ring.ring, Ring.v, Ring.⊖, Ring.◌⊕◌, Ring.◌⊗◌, Signs.no_product, Signs.not_both}
+use Rattle.lra_cone.specs.Crates.lra_linear_spec.Vectors.{dot, entry, zeros}
+use Rattle.lra_cone.proofs.Crates.{lra_linear_spec.Lines.zeros_length, lra_linear_spec.OneSpelling.dot_zeros, lra_linear_spec.Products.dot_linear, lra_linear_spec.Ring.ring, lra_linear_spec.Ring.v}
+use Rattle.lra_cone.proofs.Crates.{lra_linear_spec.Ring.⊖, lra_linear_spec.Ring.◌⊕◌, lra_linear_spec.Ring.◌⊗◌, lra_linear_spec.Signs.no_product, lra_linear_spec.Signs.not_both}
 
 -- ---- numbers other than 0
 pub zero_or : (z : ℤ) → (z ≡ pos 0) ⊎ ¬ (z ≡ pos 0)

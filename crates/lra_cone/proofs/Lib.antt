@@ -15,3 +15,5 @@ pub mod WholeSpace
 pub mod PositiveCone
 pub mod RowsTaken
 pub mod TakenBack
+-- The crates below
+pub mod Crates

@@ -2,11 +2,15 @@
 use Rattle.std.proofs.Common.{◌≡◌, ◌∙◌, ℕ, zero, suc, ◌+◌, ◌<◌, ◌≤◌, ◌⊎◌, inl, inr, ℤ, pos, neg_ℤ, ◌+ℤ◌, ◌*ℤ◌, ◌<ℤ◌, Bool, true, false, cond, List, [], ◌∷◌, ◌++◌, map, ap, refl, subst, sym, arith}
 use Rattle.std.proofs.{Common.Result, Common.Ok, Common.Err, Common.unsigned_abs, lemmas.Int.ints, lemmas.List.append-nil}
 use Rattle.std.specs.List.{Contains}
-use Rattle.lra_linear_spec.specs.{CheckedArithmetic.checked_product, CheckedArithmetic.checked_product_from, ConeStrain.row_limit, Cones.both_ways, Descriptions.LinearRow, OperationStrain.unit_row}
-use Rattle.lra_linear_spec.specs.{Range.InRange, Range.in_range, Vectors.dot, Vectors.entry, Vectors.negated, Vectors.product, Vectors.zeros, declared.Excess.Excess}
-use Rattle.lra_linear_spec.proofs.UnitRows.{unit_here, unit_length, unit_other}
-use Rattle.lra_linear_spec.proofs.{CanonicalForms.too_many, CheckedArithmetic.in_range_yes, DoubleDescription.Flat, DoubleDescription.Flats, DoubleDescription.LineCase, Lines.signed_from}
-use Rattle.lra_linear_spec.proofs.{LowestTerms.primitive_at, Membership.contains_none, Membership.map_from, Products.entry_negated, Products.negated_twice, Ring.ring, Ring.v, Ring.◌⊕◌, Ring.◌⊗◌}
+use Rattle.lra_cone.specs.Crates.lra_linear_spec.CheckedArithmetic.{checked_product, checked_product_from}
+use Rattle.lra_cone.specs.Crates.lra_linear_spec.Vectors.{dot, entry, negated, product, zeros}
+use Rattle.lra_cone.specs.Crates.{lra_linear_spec.ConeStrain.row_limit, lra_linear_spec.Cones.both_ways, lra_linear_spec.Descriptions.LinearRow, lra_linear_spec.OperationStrain.unit_row}
+use Rattle.lra_cone.specs.Crates.{lra_linear_spec.Range.InRange, lra_linear_spec.Range.in_range, lra_linear_spec.declared.Excess.Excess}
+use Rattle.lra_cone.proofs.Crates.lra_linear_spec.DoubleDescription.{Flat, Flats, LineCase}
+use Rattle.lra_cone.proofs.Crates.lra_linear_spec.Ring.{ring, v, ◌⊕◌, ◌⊗◌}
+use Rattle.lra_cone.proofs.Crates.lra_linear_spec.UnitRows.{unit_here, unit_length, unit_other}
+use Rattle.lra_cone.proofs.Crates.{lra_linear_spec.CanonicalForms.too_many, lra_linear_spec.CheckedArithmetic.in_range_yes, lra_linear_spec.Lines.signed_from, lra_linear_spec.LowestTerms.primitive_at}
+use Rattle.lra_cone.proofs.Crates.{lra_linear_spec.Membership.contains_none, lra_linear_spec.Membership.map_from, lra_linear_spec.Products.entry_negated, lra_linear_spec.Products.negated_twice}
 use Rattle.lra_double_description.specs.declared.strained.Strained.TheVariants.{Product, Pair, TooMany}
 use Rattle.lra_double_description.specs.{declared.strained.Family.Family, declared.strained.Family.TheVariants.Lines, declared.strained.Family.TheVariants.Rays, declared.strained.Strained.Strained}
 use Rattle.lra_cone.specs.{Cones.columns_from, Cones.unit_lines, Cones.whole_space, Strains.IsMember, Strains.IsStrain}

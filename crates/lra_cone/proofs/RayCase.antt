@@ -3,17 +3,22 @@
 use Rattle.std.proofs.Common.{◌≡◌, ◌≢◌, ℕ, Bool, true, false, List, [], ◌∷◌, ◌++◌, length, refl, ap, sym, ◌∙◌, subst, pos, negsuc, ℤ, ◌+ℤ◌, ◌*ℤ◌, neg_ℤ, ◌≤ℤ◌, ◌<ℤ◌, arith, inl, inr, ◌⊎◌, int_le}
 use Rattle.std.proofs.{lemmas.Int.ints, lemmas.List.Elements.Contains-append_cases, lemmas.List.Elements.Contains-append_left, lemmas.List.Elements.Contains-append_right}
 use Rattle.std.specs.List.{Contains, filter}
-use Rattle.lra_linear_spec.specs.{Canonical.IsCanonical, ConeStrain.IsIntersection, Cones.Generated, Cones.Solves, Cones.both_ways, Cones.all_rows, Cones.AreDual, Descriptions.HoldsWith}
-use Rattle.lra_linear_spec.specs.{LowestTerms.IsPrimitive, LowestTerms.IsLowest, Vectors.entry, Vectors.dot, Vectors.product, Vectors.negated, Vectors.signed_sum}
-use Rattle.lra_linear_spec.proofs.Combinations.{generated_row, generated_zero, generated_same, generated_plus, generated_times, generated_divided}
-use Rattle.lra_linear_spec.proofs.LinearMaps.{bent, generated_right, generated_through, generated_bent, generated_nonneg}
-use Rattle.lra_linear_spec.proofs.Membership.{NoRepeat, contains_cases, contains_head, contains_tail, contains_split, contains_middle, filter_has, filter_from}
-use Rattle.lra_linear_spec.proofs.Products.{entry_blend, blend_length, row_same, dot_linear, dot_same, dot_scale, dot_plus, dot_negated, negated_dot, negated_length, entry_negated}
-use Rattle.lra_linear_spec.proofs.Signs.{as_nat, no_product, no_factor, cancel_same, positive_is_nonnegative, between_opposites, zero_at_least, cases_sign, above_zero, le_yes, le_said}
-use Rattle.lra_linear_spec.proofs.{AdjacentPairs.adjacent_pairs_suffice, CanonicalForms.lines_are_all, CanonicalForms.ray_extreme, Descriptions.holds_at_least, DoubleDescription.pair}
-use Rattle.lra_linear_spec.proofs.{DoubleDescription.StepOf, Duality.dual_step, FlatRows.generated_flat, Lines.signed_from, Lines.signed_multiple, Lines.in_lines, Lines.in_lines_negated}
-use Rattle.lra_linear_spec.proofs.{Lines.lines_generated, LowestTerms.same_multiple, Redundancy.drop_keeps, Redundancy.redundant_tight, Redundancy.kept_pointed, Redundancy.pair_pointed, Ring.ring}
-use Rattle.lra_linear_spec.proofs.{Ring.v, Ring.⊖, Ring.◌⊕◌, Ring.◌⊗◌, Ring.mul_nonnegative, Saturation.NotAdjacent, Saturation.TightToo, Saturation.Beside, Saturation.AdjacentStep}
+use Rattle.lra_cone.specs.Crates.lra_linear_spec.Cones.{Generated, Solves, both_ways, all_rows, AreDual}
+use Rattle.lra_cone.specs.Crates.lra_linear_spec.LowestTerms.{IsPrimitive, IsLowest}
+use Rattle.lra_cone.specs.Crates.lra_linear_spec.Vectors.{entry, dot, product, negated, signed_sum}
+use Rattle.lra_cone.specs.Crates.{lra_linear_spec.Canonical.IsCanonical, lra_linear_spec.ConeStrain.IsIntersection, lra_linear_spec.Descriptions.HoldsWith}
+use Rattle.lra_cone.proofs.Crates.lra_linear_spec.CanonicalForms.{lines_are_all, ray_extreme}
+use Rattle.lra_cone.proofs.Crates.lra_linear_spec.Combinations.{generated_row, generated_zero, generated_same, generated_plus, generated_times, generated_divided}
+use Rattle.lra_cone.proofs.Crates.lra_linear_spec.LinearMaps.{bent, generated_right, generated_through, generated_bent, generated_nonneg}
+use Rattle.lra_cone.proofs.Crates.lra_linear_spec.Lines.{signed_from, signed_multiple, in_lines, in_lines_negated, lines_generated}
+use Rattle.lra_cone.proofs.Crates.lra_linear_spec.Membership.{NoRepeat, contains_cases, contains_head, contains_tail, contains_split, contains_middle, filter_has, filter_from}
+use Rattle.lra_cone.proofs.Crates.lra_linear_spec.Products.{entry_blend, blend_length, row_same, dot_linear, dot_same, dot_scale, dot_plus, dot_negated, negated_dot, negated_length, entry_negated}
+use Rattle.lra_cone.proofs.Crates.lra_linear_spec.Redundancy.{drop_keeps, redundant_tight, kept_pointed, pair_pointed}
+use Rattle.lra_cone.proofs.Crates.lra_linear_spec.Ring.{ring, v, ⊖, ◌⊕◌, ◌⊗◌, mul_nonnegative}
+use Rattle.lra_cone.proofs.Crates.lra_linear_spec.Saturation.{NotAdjacent, TightToo, Beside, AdjacentStep}
+use Rattle.lra_cone.proofs.Crates.lra_linear_spec.Signs.{as_nat, no_product, no_factor, cancel_same, positive_is_nonnegative, between_opposites, zero_at_least, cases_sign, above_zero, le_yes, le_said}
+use Rattle.lra_cone.proofs.Crates.{lra_linear_spec.AdjacentPairs.adjacent_pairs_suffice, lra_linear_spec.Descriptions.holds_at_least, lra_linear_spec.DoubleDescription.pair}
+use Rattle.lra_cone.proofs.Crates.{lra_linear_spec.DoubleDescription.StepOf, lra_linear_spec.Duality.dual_step, lra_linear_spec.FlatRows.generated_flat, lra_linear_spec.LowestTerms.same_multiple}
 use Rattle.lra_double_description.proofs.PairLists.{not_below}
 
 -- ---- the step

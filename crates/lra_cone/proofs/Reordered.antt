@@ -2,9 +2,9 @@
 use Rattle.std.proofs.Common.{ℕ, List, ◌∷◌, ◌++◌, neg_ℤ, sym, subst, ℤ, inl, inr}
 use Rattle.std.proofs.lemmas.List.Elements.{Contains-append_cases, Contains-append_left, Contains-append_right}
 use Rattle.std.specs.List.{Contains}
-use Rattle.lra_linear_spec.specs.{Canonical.IsCanonical, Cones.both_ways, Cones.all_rows, Cones.AreDual, Vectors.entry}
-use Rattle.lra_linear_spec.proofs.Membership.{NoRepeat, Split, contains_head, contains_tail, contains_split}
-use Rattle.lra_linear_spec.proofs.{Combinations.generated_row, LinearMaps.generated_through}
+use Rattle.lra_cone.specs.Crates.{lra_linear_spec.Canonical.IsCanonical, lra_linear_spec.Cones.both_ways, lra_linear_spec.Cones.all_rows, lra_linear_spec.Cones.AreDual, lra_linear_spec.Vectors.entry}
+use Rattle.lra_cone.proofs.Crates.lra_linear_spec.Membership.{NoRepeat, Split, contains_head, contains_tail, contains_split}
+use Rattle.lra_cone.proofs.Crates.{lra_linear_spec.Combinations.generated_row, lra_linear_spec.LinearMaps.generated_through}
 use Rattle.lra_cone.proofs.RayCase.{other_place, beside_place, rows_same}
 
 pub same_rows : (lines rays others : List (List ℤ)) → ((t : List ℤ) → Contains rays t → Contains others t) → (t : List ℤ) → Contains (all_rows lines rays) t → Contains (all_rows lines others) t

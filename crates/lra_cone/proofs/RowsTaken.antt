@@ -3,8 +3,9 @@ use Rattle.std.proofs.Common.{◌≡◌, ℕ, suc, ◌<◌, ◌+◌, List, [], �
 use Rattle.std.proofs.lemmas.List.{append_assoc, append-nil}
 use Rattle.std.proofs.lemmas.List.Elements.{Contains-append_cases, Contains-append_left, Contains-append_right}
 use Rattle.std.specs.List.{Contains}
-use Rattle.lra_linear_spec.specs.declared.Cause.TheVariants.{Excess, TooMany}
-use Rattle.lra_linear_spec.specs.{Cones.AreDual, Cones.all_rows, Descriptions.LinearRow, Descriptions.system_of, Strain.Loss, Strain.Strains, Strain.IsStrained, declared.Cause.Cause}
+use Rattle.lra_cone.specs.Crates.lra_linear_spec.Strain.{Loss, Strains, IsStrained}
+use Rattle.lra_cone.specs.Crates.{lra_linear_spec.Cones.AreDual, lra_linear_spec.Cones.all_rows, lra_linear_spec.Descriptions.LinearRow, lra_linear_spec.Descriptions.system_of}
+use Rattle.lra_cone.specs.Crates.{lra_linear_spec.declared.Cause.Cause, lra_linear_spec.declared.Cause.TheVariants.Excess, lra_linear_spec.declared.Cause.TheVariants.TooMany}
 use Rattle.lra_systems.specs.LinearSystems.{rows_by_kind}
 use Rattle.lra_double_description.specs.{Strains.cause_of, declared.strained.Strained.Strained}
 use Rattle.lra_double_description.specs.declared.strained.ConeError.TheVariants as of_cone

@@ -4,12 +4,13 @@ use Rattle.std.proofs.lemmas.List.{get_or-map, length-map, get_or_default, lengt
 use Rattle.std.proofs.lemmas.List.Elements.{Contains-append_cases, Contains-append_left, Contains-append_right, Contains-get_or}
 use Rattle.std.proofs.{Common.inl, Common.inr, Common.◌⊎◌, lemmas.Bool.Decides.Decides-int_eq, lemmas.Int.ints}
 use Rattle.std.specs.{List.Contains, List.All, Ordering.int_eq, Prelude.Some, Prelude.None}
-use Rattle.lra_bits.specs.Matrix.{Matrix, unmarked}
-use Rattle.lra_linear_spec.specs.Cones.{all_rows, both_ways, with_row}
-use Rattle.lra_linear_spec.specs.{Canonical.IsCanonical, ConeStrain.IsIntersection, ConeStrain.row_limit, Descriptions.LinearRow, Descriptions.system_of, Vectors.product, Vectors.negated}
-use Rattle.lra_linear_spec.proofs.Membership.{contains_cases, contains_head, contains_tail}
-use Rattle.lra_linear_spec.proofs.{DoubleDescription.LineCase, FlatRows.flats_from, FlatRows.member_primitive, LineCase.line_case_kept, LineCase.line_case_dual, Lines.signed_from, Lines.in_lines}
-use Rattle.lra_linear_spec.proofs.{Lines.in_lines_negated, Products.negated_length, Products.dot_negated, Products.negated_twice, Signs.between_opposites}
+use Rattle.lra_cone.specs.Crates.{lra_bits.Matrix.Matrix, lra_bits.Matrix.unmarked, lra_linear_spec.Canonical.IsCanonical, lra_linear_spec.ConeStrain.IsIntersection}
+use Rattle.lra_cone.specs.Crates.{lra_linear_spec.ConeStrain.row_limit, lra_linear_spec.Cones.all_rows, lra_linear_spec.Cones.both_ways, lra_linear_spec.Cones.with_row}
+use Rattle.lra_cone.specs.Crates.{lra_linear_spec.Descriptions.LinearRow, lra_linear_spec.Descriptions.system_of, lra_linear_spec.Vectors.product, lra_linear_spec.Vectors.negated}
+use Rattle.lra_cone.proofs.Crates.lra_linear_spec.Membership.{contains_cases, contains_head, contains_tail}
+use Rattle.lra_cone.proofs.Crates.{lra_linear_spec.DoubleDescription.LineCase, lra_linear_spec.FlatRows.flats_from, lra_linear_spec.FlatRows.member_primitive, lra_linear_spec.LineCase.line_case_kept}
+use Rattle.lra_cone.proofs.Crates.{lra_linear_spec.LineCase.line_case_dual, lra_linear_spec.Lines.signed_from, lra_linear_spec.Lines.in_lines, lra_linear_spec.Lines.in_lines_negated}
+use Rattle.lra_cone.proofs.Crates.{lra_linear_spec.Products.negated_length, lra_linear_spec.Products.dot_negated, lra_linear_spec.Products.negated_twice, lra_linear_spec.Signs.between_opposites}
 use Rattle.lra_cone.specs.{Cones.ConeContent, Cones.IsCone, Cones.tight_values, Cones.saturation_rows, Cones.cone_saturation, Strains.TooManyRays}
 use Rattle.lra_double_description.specs.Pairs.{HaveOneWidth, IsAdjacentPair, ArePairs, AreCombined, pair_tight_rows, IsCut}
 use Rattle.lra_double_description.specs.Steps.{IsLastAcross, IsTurned, AreFlatLines, AreFlatRays, lengthened_rows, flat_matrix, outside_marks, is_inside, inside_count}

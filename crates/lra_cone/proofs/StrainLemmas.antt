@@ -3,17 +3,18 @@ use Rattle.std.proofs.Common.{◌≡◌, ◌≢◌, ℕ, zero, suc, ◌+◌, ◌
 use Rattle.std.proofs.{Common.inl, Common.inr, Common.◌⊎◌, Common.int_lt, Common.Ok, Common.Err, lemmas.Int.ints, lemmas.List.get_or-map, lemmas.List.get_or-take, lemmas.List.length-map}
 use Rattle.std.proofs.{lemmas.List.length-append, lemmas.List.Elements.Contains-append_left, lemmas.List.Elements.Contains-append_right, lemmas.List.Elements.Contains-get_or}
 use Rattle.std.specs.List.{Contains}
-use Rattle.lra_bits.specs.Matrix.{Matrix}
-use Rattle.lra_linear_spec.specs.declared.Excess as E
-use Rattle.lra_linear_spec.specs.{CheckedArithmetic.checked_blend, ConeStrain.HasTooMany, ConeStrain.PairPasses, ConeStrain.ProductPasses, Cones.all_rows, Cones.both_ways, Descriptions.LinearRow}
-use Rattle.lra_linear_spec.specs.{Echelon.IsEchelon, Vectors.entry, Vectors.product, Vectors.negated, declared.Cause.Cause}
-use Rattle.lra_linear_spec.specs.declared.Cause.TheVariants as cause
-use Rattle.lra_linear_spec.proofs.{Combinations.generated_row, Combinations.generated_same, LinearMaps.generated_right, Lines.in_lines, Lines.in_lines_negated, LowestTerms.lowest_exists}
-use Rattle.lra_linear_spec.proofs.{Membership.contains_split, Products.entry_negated, Products.dot_negated, Products.negated_twice, Signs.not_both}
-use Rattle.lra_double_description.specs.Pairs.{IsAdjacentPair, ArePairs, pair_sum, AreCombined}
+use Rattle.lra_cone.specs.Crates.lra_linear_spec.ConeStrain.{HasTooMany, PairPasses, ProductPasses}
+use Rattle.lra_cone.specs.Crates.lra_linear_spec.Vectors.{entry, product, negated}
+use Rattle.lra_cone.specs.Crates.{lra_bits.Matrix.Matrix, lra_linear_spec.CheckedArithmetic.checked_blend, lra_linear_spec.Cones.all_rows, lra_linear_spec.Cones.both_ways}
+use Rattle.lra_cone.specs.Crates.{lra_linear_spec.Descriptions.LinearRow, lra_linear_spec.Echelon.IsEchelon, lra_linear_spec.declared.Cause.Cause}
+use Rattle.lra_cone.specs.Crates.lra_linear_spec.declared.Excess as E
+use Rattle.lra_cone.specs.Crates.lra_linear_spec.declared.Cause.TheVariants as cause
+use Rattle.lra_cone.proofs.Crates.lra_linear_spec.Products.{entry_negated, dot_negated, negated_twice}
+use Rattle.lra_cone.proofs.Crates.{lra_linear_spec.Combinations.generated_row, lra_linear_spec.Combinations.generated_same, lra_linear_spec.LinearMaps.generated_right, lra_linear_spec.Lines.in_lines}
+use Rattle.lra_cone.proofs.Crates.{lra_linear_spec.Lines.in_lines_negated, lra_linear_spec.LowestTerms.lowest_exists, lra_linear_spec.Membership.contains_split, lra_linear_spec.Signs.not_both}
 use Rattle.lra_double_description.specs.Strains.{cause_of, StandsAt, IsProductError, strained_pair, IsFlatteningError, NamesPair, IsCutError}
-use Rattle.lra_double_description.specs.declared.strained.Family.TheVariants.{Lines, Rays}
 use Rattle.lra_double_description.specs.declared.strained.Strained.TheVariants.{Product, Pair, TooMany}
+use Rattle.lra_double_description.specs.{Pairs.IsAdjacentPair, Pairs.ArePairs, Pairs.pair_sum, Pairs.AreCombined, declared.strained.Family.TheVariants.Lines, declared.strained.Family.TheVariants.Rays}
 use Rattle.lra_double_description.specs.{Steps.IsTurned, Steps.flattening, Steps.inside_count, declared.line_step.Across.Across, declared.strained.Family.Family, declared.strained.Strained.Strained}
 use Rattle.lra_double_description.specs.declared.pairs.Pair as Q
 use Rattle.lra_double_description.specs.declared.strained.ConeError as C

@@ -1,8 +1,7 @@
 -- A row that was added, and is removed again.
 use Rattle.std.proofs.Common.{◌≡◌, ◌∙◌, ◌-◌, ◌++◌, ◌∷◌, [], ℕ, ℤ, List, ap, arith, length, subst, sym, take}
 use Rattle.std.proofs.{Math.Seq.take-append_seam, lemmas.List.length-append}
-use Rattle.lra_bits.specs.Matrix.{Matrix}
-use Rattle.lra_linear_spec.specs.declared.ConKind.{ConKind}
+use Rattle.lra_cone.specs.Crates.{lra_bits.Matrix.Matrix, lra_linear_spec.declared.ConKind.ConKind}
 use Rattle.lra_systems.specs.LinearSystems.{LinearSystem, constraints}
 use Rattle.lra_cone.specs.Cones.{IsCone, cone_saturation}
 

@@ -1,7 +1,7 @@
 -- What holds of a cone once a row was to be added, by what came of it.
 use Rattle.std.proofs.Common.{◌≡◌, ◌++◌, ◌∷◌, [], suc, ap, Result, Ok, Err}
 use Rattle.std.specs.Result.{OnErr, OnOk}
-use Rattle.lra_linear_spec.specs.{ConeStrain.IsIntersection, Cones.all_rows, Descriptions.LinearRow}
+use Rattle.lra_cone.specs.Crates.{lra_linear_spec.ConeStrain.IsIntersection, lra_linear_spec.Cones.all_rows, lra_linear_spec.Descriptions.LinearRow}
 use Rattle.lra_double_description.specs.declared.strained.ConeError.{ConeError}
 use Rattle.lra_cone.specs.Cones.{ConeContent, IsTakenIn}
 

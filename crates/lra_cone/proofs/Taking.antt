@@ -3,10 +3,13 @@ use Rattle.std.proofs.Common.{◌≡◌, ℕ, zero, suc, ◌+◌, ◌<◌, ◌�
 use Rattle.std.proofs.Common.{◌*ℤ◌, neg_ℤ, ◌<ℤ◌, inl, inr, ◌⊎◌}
 use Rattle.std.proofs.{lemmas.Bool.Decides.Decides-int_eq, lemmas.List.take-map, lemmas.List.get_or_default, lemmas.List.Elements.Contains-append_cases, lemmas.List.Elements.Contains-append_left}
 use Rattle.std.specs.{List.Contains, Ordering.int_eq}
-use Rattle.lra_linear_spec.specs.{Cones.with_row, Descriptions.LinearRow, Descriptions.system_of, LowestTerms.IsPrimitive, Vectors.entry, Vectors.product, Vectors.negated}
-use Rattle.lra_linear_spec.proofs.{DoubleDescription.Flat, DoubleDescription.Flats, DoubleDescription.LineCase, FlatRows.flat_dot, Membership.contains_none, Membership.contains_cases}
-use Rattle.lra_linear_spec.proofs.{Membership.contains_head, Membership.contains_tail, Products.dot_negated, Products.dot_linear, Products.dot_same, Products.dot_scale, Ring.ring, Ring.v, Ring.⊖}
-use Rattle.lra_linear_spec.proofs.{Ring.◌⊕◌, Ring.◌⊗◌, Signs.as_nat, Signs.positive_nat, Signs.no_product, Signs.no_factor, Signs.positive_is_nonnegative}
+use Rattle.lra_cone.specs.Crates.lra_linear_spec.Vectors.{entry, product, negated}
+use Rattle.lra_cone.specs.Crates.{lra_linear_spec.Cones.with_row, lra_linear_spec.Descriptions.LinearRow, lra_linear_spec.Descriptions.system_of, lra_linear_spec.LowestTerms.IsPrimitive}
+use Rattle.lra_cone.proofs.Crates.lra_linear_spec.DoubleDescription.{Flat, Flats, LineCase}
+use Rattle.lra_cone.proofs.Crates.lra_linear_spec.Membership.{contains_none, contains_cases, contains_head, contains_tail}
+use Rattle.lra_cone.proofs.Crates.lra_linear_spec.Products.{dot_negated, dot_linear, dot_same, dot_scale}
+use Rattle.lra_cone.proofs.Crates.lra_linear_spec.Signs.{as_nat, positive_nat, no_product, no_factor, positive_is_nonnegative}
+use Rattle.lra_cone.proofs.Crates.{lra_linear_spec.FlatRows.flat_dot, lra_linear_spec.Ring.ring, lra_linear_spec.Ring.v, lra_linear_spec.Ring.⊖, lra_linear_spec.Ring.◌⊕◌, lra_linear_spec.Ring.◌⊗◌}
 use Rattle.lra_double_description.specs.{Steps.IsTurned, Steps.IsFlattened, Steps.AreFlattened, Steps.AreFlatLines, Steps.AreFlatRays, Steps.lengthened_rows, declared.line_step.Across.Across}
 use Rattle.lra_cone.specs.Cones.{tight_values, saturation_rows}
 use Rattle.lra_cone.proofs.TightRows.{with_has, with_later, values_end}

@@ -4,11 +4,13 @@
 use Rattle.std.proofs.Common.{List, [], ap, arith, get_or, inl, inr, length, negsuc, pos, refl, subst, suc, sym, zero, ℕ, ℤ, ◌*ℤ◌, ◌*◌, ◌++◌, ◌+ℤ◌, ◌+◌, ◌<◌, ◌∙◌, ◌∷◌, ◌≡◌, ◌≤ℤ◌, ◌≤◌, ◌⊎◌}
 use Rattle.std.proofs.{lemmas.Int.ints, lemmas.List.length-append, lemmas.List.Elements.Contains-append_left, lemmas.List.Elements.Contains-append_right}
 use Rattle.std.specs.List.{Contains}
-use Rattle.lra_linear_spec.specs.Cones.{AreDual, Described, Solves, all_rows, both_ways}
-use Rattle.lra_linear_spec.specs.Vectors.{blend, dot, entry, product, signed_sum, sum_of}
-use Rattle.lra_linear_spec.proofs.Products.{blend_length, dot_add, dot_linear, dot_plus, dot_same, dot_scale, dot_zero, entry_blend, product_comm}
-use Rattle.lra_linear_spec.proofs.{LinearMaps.sum_nonneg, Lines.described_generated, Membership.contains_cases, Membership.contains_head, Membership.contains_none, Membership.contains_tail}
-use Rattle.lra_linear_spec.proofs.{Ring.mul_nonnegative, Ring.ring, Ring.v, Ring.◌⊕◌, Ring.◌⊗◌, Saturation.TightToo, Saturation.tight_sum, Signs.add_nonnegative, Signs.no_product, Signs.zero_at_least}
+use Rattle.lra_cone.specs.Crates.lra_linear_spec.Cones.{AreDual, Described, Solves, all_rows, both_ways}
+use Rattle.lra_cone.specs.Crates.lra_linear_spec.Vectors.{blend, dot, entry, product, signed_sum, sum_of}
+use Rattle.lra_cone.proofs.Crates.lra_linear_spec.Membership.{contains_cases, contains_head, contains_none, contains_tail}
+use Rattle.lra_cone.proofs.Crates.lra_linear_spec.Products.{blend_length, dot_add, dot_linear, dot_plus, dot_same, dot_scale, dot_zero, entry_blend, product_comm}
+use Rattle.lra_cone.proofs.Crates.lra_linear_spec.Ring.{mul_nonnegative, ring, v, ◌⊕◌, ◌⊗◌}
+use Rattle.lra_cone.proofs.Crates.lra_linear_spec.Signs.{add_nonnegative, no_product, zero_at_least}
+use Rattle.lra_cone.proofs.Crates.{lra_linear_spec.LinearMaps.sum_nonneg, lra_linear_spec.Lines.described_generated, lra_linear_spec.Saturation.TightToo, lra_linear_spec.Saturation.tight_sum}
 use Rattle.lra_canonical.specs.Reduced.{SolvesAll}
 use Rattle.lra_canonical.proofs.Solutions.{signed_spanned, solves_all, spanned_solved}
 use Rattle.lra_cone.proofs.Homogeneous.{Vanish, as_forms, forms_many, other_factor, root, zero_or}

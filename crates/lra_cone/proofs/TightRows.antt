@@ -1,11 +1,12 @@
 -- Which rows are tight at a ray, as truth values.
 use Rattle.std.proofs.Common.{◌≡◌, ℕ, zero, suc, ◌<◌, Bool, true, false, List, [], ◌∷◌, ◌++◌, length, get_or, refl, ap, sym, ◌∙◌, arith, pos, ℤ, neg_ℤ, inl, inr, ◌⊎◌}
+use Rattle.std.proofs.lemmas.Bool.{and_from}
 use Rattle.std.proofs.{lemmas.Bool.and_parts, lemmas.Bool.Decides.Decides-int_eq, lemmas.Int.ints}
 use Rattle.std.specs.{List.Contains, Ordering.int_eq}
-use Rattle.std.proofs.lemmas.Bool.{and_from}
-use Rattle.lra_bits.specs.{Matrix.unmarked, TruthValues.IsSubset, TruthValues.both}
-use Rattle.lra_linear_spec.specs.{Cones.with_row, Descriptions.LinearRow, Descriptions.system_of, Vectors.entry, Vectors.dot, Vectors.product, Vectors.negated}
-use Rattle.lra_linear_spec.proofs.{Membership.contains_cases, Membership.contains_head, Membership.contains_tail, Membership.contains_none, Products.negated_dot, Widening.zero_said}
+use Rattle.lra_cone.specs.Crates.{lra_bits.Matrix.unmarked, lra_bits.TruthValues.IsSubset, lra_bits.TruthValues.both, lra_linear_spec.Cones.with_row, lra_linear_spec.Descriptions.LinearRow}
+use Rattle.lra_cone.specs.Crates.{lra_linear_spec.Descriptions.system_of, lra_linear_spec.Vectors.entry, lra_linear_spec.Vectors.dot, lra_linear_spec.Vectors.product, lra_linear_spec.Vectors.negated}
+use Rattle.lra_cone.proofs.Crates.lra_linear_spec.Membership.{contains_cases, contains_head, contains_tail, contains_none}
+use Rattle.lra_cone.proofs.Crates.{lra_linear_spec.Products.negated_dot, lra_linear_spec.Widening.zero_said}
 use Rattle.lra_cone.specs.Cones.{tight_values, saturation_rows}
 
 pub zero_yes : (z : ℤ) → z ≡ pos 0 → int_eq z (pos 0) ≡ true

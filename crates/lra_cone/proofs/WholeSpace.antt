@@ -2,12 +2,16 @@
 use Rattle.std.proofs.Common.{◌≡◌, ℕ, zero, suc, ◌+◌, ◌-◌, ◌<◌, ◌≤◌, List, [], ◌∷◌, ◌++◌, length, map, slice_set, refl, ap, sym, ◌∙◌, subst, arith, pos, ℤ, ◌+ℤ◌, ◌*ℤ◌, ◌≤ℤ◌, ◌<ℤ◌, unsigned_abs, inl}
 use Rattle.std.proofs.{Common.inr, Common.◌⊎◌, lemmas.Bool.cases_lt, lemmas.Int.ints, lemmas.List.append_assoc}
 use Rattle.std.specs.List.{Contains}
-use Rattle.lra_linear_spec.specs.{Canonical.IsCanonical, Cones.Generated, Cones.both_ways, Cones.all_rows, Cones.AreDual, Descriptions.LinearRow, Echelon.Before, Echelon.IsEchelon}
-use Rattle.lra_linear_spec.specs.{OperationStrain.unit_row, Vectors.entry, Vectors.dot, Vectors.negated, Vectors.zeros, Vectors.behind_zero, Vectors.units}
-use Rattle.lra_linear_spec.proofs.Lines.{signed_from, in_lines, in_lines_negated, generated_described, whole_described}
-use Rattle.lra_linear_spec.proofs.Membership.{contains_none, contains_cases, contains_head, contains_tail, split_none, map_has, map_from}
-use Rattle.lra_linear_spec.proofs.{Combinations.generated_row, LinearMaps.generated_through, LowestTerms.primitive_at, OneSpelling.dot_zeros, Products.negated_dot, Products.negated_length}
-use Rattle.lra_linear_spec.proofs.{Products.entry_past, Ring.ring, Ring.v, Ring.◌⊕◌, Ring.◌⊗◌, Signs.between_opposites, UnitRows.unit_here, UnitRows.unit_length, UnitRows.unit_other}
+use Rattle.lra_cone.specs.Crates.lra_linear_spec.Cones.{Generated, both_ways, all_rows, AreDual}
+use Rattle.lra_cone.specs.Crates.lra_linear_spec.Echelon.{Before, IsEchelon}
+use Rattle.lra_cone.specs.Crates.lra_linear_spec.Vectors.{entry, dot, negated, zeros, behind_zero, units}
+use Rattle.lra_cone.specs.Crates.{lra_linear_spec.Canonical.IsCanonical, lra_linear_spec.Descriptions.LinearRow, lra_linear_spec.OperationStrain.unit_row}
+use Rattle.lra_cone.proofs.Crates.lra_linear_spec.Lines.{signed_from, in_lines, in_lines_negated, generated_described, whole_described}
+use Rattle.lra_cone.proofs.Crates.lra_linear_spec.Membership.{contains_none, contains_cases, contains_head, contains_tail, split_none, map_has, map_from}
+use Rattle.lra_cone.proofs.Crates.lra_linear_spec.Products.{negated_dot, negated_length, entry_past}
+use Rattle.lra_cone.proofs.Crates.{lra_linear_spec.Combinations.generated_row, lra_linear_spec.LinearMaps.generated_through, lra_linear_spec.LowestTerms.primitive_at}
+use Rattle.lra_cone.proofs.Crates.{lra_linear_spec.OneSpelling.dot_zeros, lra_linear_spec.Ring.ring, lra_linear_spec.Ring.v, lra_linear_spec.Ring.◌⊕◌, lra_linear_spec.Ring.◌⊗◌}
+use Rattle.lra_cone.proofs.Crates.{lra_linear_spec.Signs.between_opposites, lra_linear_spec.UnitRows.unit_here, lra_linear_spec.UnitRows.unit_length, lra_linear_spec.UnitRows.unit_other}
 use Rattle.lra_canonical.proofs.Solutions.{behind_zero_from}
 use Rattle.lra_cone.specs.Cones.{IsCone, columns_from, unit_lines, whole_space}
 

@@ -1,10 +1,11 @@
 -- A cone as contracts see it, and what its lists say.
 use Rattle.std.specs.Ordering.{int_eq}
 use Rattle.std.specs.Prelude.{◌≡◌, ℕ, zero, suc, ◌≤◌, ℤ, pos, Bool, List, [], ◌∷◌, ◌++◌, length, map}
-use Rattle.lra_bits.specs.Matrix.{Matrix}
-use Rattle.lra_linear_spec.specs.ConeStrain.{IsIntersection, row_limit}
-use Rattle.lra_linear_spec.specs.{Canonical.IsCanonical, Cones.all_rows, Cones.AreDual, Descriptions.LinearRow}
-use Rattle.lra_linear_spec.specs.{Descriptions.system_of, OperationStrain.unit_row, Vectors.product}
+use Rattle.lra_cone.specs.Crates.lra_linear_spec.ConeStrain.{IsIntersection, row_limit}
+use Rattle.lra_cone.specs.Crates.lra_linear_spec.Cones.{all_rows, AreDual}
+use Rattle.lra_cone.specs.Crates.lra_linear_spec.Descriptions.{LinearRow, system_of}
+use Rattle.lra_cone.specs.Crates.{lra_bits.Matrix.Matrix, lra_linear_spec.Canonical.IsCanonical}
+use Rattle.lra_cone.specs.Crates.{lra_linear_spec.OperationStrain.unit_row, lra_linear_spec.Vectors.product}
 
 -- The rows added so far, each an inequality or an equality, and the lines and rays. Each row has one column more
 -- than there are dimensions.

@@ -1,7 +1,8 @@
 -- Conversions of lists: the cone of the rows that were added one by one.
 use Rattle.std.specs.List.{Contains}
 use Rattle.std.specs.Prelude.{◌≡◌, ◌⊎◌, ℕ, suc, List, [], ◌∷◌, ◌++◌}
-use Rattle.lra_linear_spec.specs.{Descriptions.LinearRow, Strain.Loss, Strain.Strains}
+use Rattle.lra_cone.specs.Crates.lra_linear_spec.Descriptions.{LinearRow}
+use Rattle.lra_cone.specs.Crates.lra_linear_spec.Strain.{Loss, Strains}
 use Rattle.lra_cone.specs.{Cones.ConeContent, Losses.IfLost}
 
 -- After those added all these were tried in their order. Each was added, and is kept; or it was left out after

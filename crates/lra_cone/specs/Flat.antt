@@ -1,6 +1,6 @@
 -- What comes of a cone's lists with a line across: each other row is combined with that line.
 use Rattle.std.specs.Prelude.{◌≡◌, ◌⊎◌, ℕ, ℤ, pos, Bool, List, [], take, slice_index_or}
-use Rattle.lra_bits.specs.Matrix.{Matrix}
+use Rattle.lra_cone.specs.Crates.lra_bits.Matrix.{Matrix}
 use Rattle.lra_double_description.specs.Steps.{IsTurned, AreFlatLines, AreFlatRays, flat_matrix}
 use Rattle.lra_double_description.specs.Strains.{NamesFlattening}
 use Rattle.lra_double_description.specs.declared.strained.Family.TheVariants.{Lines, Rays}

@@ -4,3 +4,5 @@ pub mod Strains
 pub mod Flat
 pub mod Losses
 pub mod Conversions
+-- The crates below
+pub mod Crates

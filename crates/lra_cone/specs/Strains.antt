@@ -1,10 +1,11 @@
 -- What is reported where a cone doesn't take a row in: the rows of the cone with which a number passes the range, or
 -- how many rays there would be.
 use Rattle.std.specs.Prelude.{◌≡◌, ℕ, suc, ◌⊎◌, neg_ℤ, ℤ, Bool, List, Err}
-use Rattle.lra_linear_spec.specs.declared.Excess as E
-use Rattle.lra_linear_spec.specs.CheckedArithmetic.{checked_product, checked_blend}
-use Rattle.lra_linear_spec.specs.ConeStrain.{PairAcross, HasTooMany}
-use Rattle.lra_linear_spec.specs.{Cones.all_rows, Vectors.product, Vectors.negated}
+use Rattle.lra_cone.specs.Crates.lra_linear_spec.declared.Excess as E
+use Rattle.lra_cone.specs.Crates.lra_linear_spec.CheckedArithmetic.{checked_product, checked_blend}
+use Rattle.lra_cone.specs.Crates.lra_linear_spec.ConeStrain.{PairAcross, HasTooMany}
+use Rattle.lra_cone.specs.Crates.lra_linear_spec.Cones.{all_rows}
+use Rattle.lra_cone.specs.Crates.lra_linear_spec.Vectors.{product, negated}
 use Rattle.lra_double_description.specs.declared.strained.Family.TheVariants.{Lines, Rays}
 use Rattle.lra_double_description.specs.declared.strained.Strained.TheVariants.{Product, Pair, TooMany}
 use Rattle.lra_double_description.specs.{Strains.StandsAt, declared.strained.Family.Family}

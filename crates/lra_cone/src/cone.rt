@@ -2,21 +2,21 @@
 
 ghost use Rattle.std.specs.Prelude.{◌≡◌, ◌≢◌, ◌++◌, ◌∷◌, [], suc, pos, ◌<◌, ◌≤◌, slice_index_or, Some, length, map};
 ghost use Rattle.std.specs.{List.All, Prelude.IfOk, Prelude.IfErr, Prelude.OnOk, Prelude.OnErr};
-ghost use Rattle.lra_linear_spec.specs.{ConeStrain.IsIntersection, Cones.all_rows, Descriptions.inequality};
-ghost use Rattle.lra_linear_spec.specs.{Kinds.is_equality, Polyhedra.positivity, Range.InRange, Vectors.product};
+ghost use Rattle.lra_cone.specs.Crates.lra_linear_spec.ConeStrain.{IsIntersection};
+ghost use Rattle.lra_cone.specs.Crates.{lra_linear_spec.Cones.all_rows, lra_linear_spec.Descriptions.inequality};
+ghost use Rattle.lra_cone.specs.Crates.{lra_linear_spec.Kinds.is_equality, lra_linear_spec.Polyhedra.positivity};
+ghost use Rattle.lra_cone.specs.Crates.{lra_linear_spec.Range.InRange, lra_linear_spec.Vectors.product};
 ghost use Rattle.lra_systems.specs.{Dimensions.too_many_dimensions, LinearSystems.constraints};
 ghost use Rattle.lra_cone.specs.Cones.{ConeContent, IsCone, IsTakenIn, cone_saturation, saturation_rows, whole_space};
 ghost use Rattle.lra_cone.specs.{Flat.AreFlat, Flat.IsFlatError, Strains.IsConeError};
 ghost use Rattle.lra_double_description.specs.{Pairs.IsCut, Steps.IsLastAcross, Thirds.FewHaveThird};
 
-use lra_bits::SatMatrix;
-use lra_canonical::remove_marked;
+use lra_canonical::{SatMatrix, remove_marked};
 use lra_double_description::{
     ConeError, Cut, Family, RAY_LIMIT, Strained, cut_rays, flat_lines, flat_rays, flat_saturation,
     last_across, multiply_all, orient_line,
 };
-use lra_row::Row;
-use lra_systems::{ConKind, ConSys, unit};
+use lra_systems::{ConKind, ConSys, Row, unit};
 use std::alloc::{AllocError, Global};
 use std::marker::Model;
 

@@ -1,15 +1,14 @@
 //! Rows added one by one; those that exceed a limit of the cone are left out.
 
 ghost use Rattle.std.specs.Prelude.{◌≡◌, ◌++◌, ◌∷◌, [], List, suc, length, ◌<◌, IfOk, OnOk};
-ghost use Rattle.lra_linear_spec.specs.{Descriptions.LinearRow, Kinds.is_equality};
+ghost use Rattle.lra_cone.specs.Crates.{lra_linear_spec.Descriptions.LinearRow, lra_linear_spec.Kinds.is_equality};
 ghost use Rattle.lra_systems.specs.{Dimensions.too_many_dimensions, LinearSystems.constraints};
 ghost use Rattle.lra_cone.specs.Conversions.{IsConversion};
 
 use crate::cone::Cone;
 use crate::losses::Loss;
 use lra_double_description::ConeError;
-use lra_row::Row;
-use lra_systems::{ConKind, ConSys};
+use lra_systems::{ConKind, ConSys, Row};
 use std::alloc::{AllocError, Global};
 
 /// The cone of the rows that were added, those of them that came after its first, and the losses of the others.

@@ -11,4 +11,4 @@ pub use cone::{Cone, positive_cone};
 pub use conversions::{Conversion, take_rows};
 pub use losses::{Loss, LossRow};
 pub use lra_double_description::{ConeError, Family, Member, RAY_LIMIT, Strained};
-pub use lra_systems::ConKind;
+pub use lra_systems::{Cause, ConKind, ConSys};

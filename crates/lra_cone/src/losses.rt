@@ -2,12 +2,10 @@
 
 ghost use Rattle.std.specs.Prelude.{◌≡◌, IfOk};
 ghost use Rattle.lra_systems.specs.LinearSystems.{constraints};
-ghost use Rattle.lra_linear_spec.specs.Kinds.{is_equality};
-ghost use Rattle.lra_linear_spec.specs.Strain as told;
+ghost use Rattle.lra_cone.specs.Crates.lra_linear_spec.Kinds.{is_equality};
+ghost use Rattle.lra_cone.specs.Crates.lra_linear_spec.Strain as told;
 
-use lra_linear_spec::Cause;
-use lra_row::Row;
-use lra_systems::{ConKind, ConSys};
+use lra_systems::{Cause, ConKind, ConSys, Row};
 use std::alloc::{AllocError, Global};
 use std::marker::Model;
 
@@ -19,7 +17,7 @@ pub struct LossRow {
 }
 
 impl Model for LossRow {
-    ghost use Rattle.lra_linear_spec.specs.Descriptions.{LinearRow};
+    ghost use Rattle.lra_cone.specs.Crates.lra_linear_spec.Descriptions.{LinearRow};
 
     ghost Value = { LinearRow };
 
@@ -44,7 +42,7 @@ pub struct Loss {
 }
 
 impl Model for Loss {
-    ghost use Rattle.lra_linear_spec.specs.Strain as told;
+    ghost use Rattle.lra_cone.specs.Crates.lra_linear_spec.Strain as told;
 
     ghost Value = { told.Loss };
 

@@ -2,9 +2,10 @@
 
 ghost use Rattle.std.specs.List.{Contains};
 ghost use Rattle.std.specs.Prelude.{◌≡◌, ◌≢◌, [], suc, map, ◌<◌, IfOk};
-ghost use Rattle.lra_linear_spec.specs.Descriptions.{LinearRow, Con, Gen};
-ghost use Rattle.lra_linear_spec.specs.Points.{IsWithin, SameSet};
-ghost use Rattle.lra_linear_spec.specs.{OperationStrain.with_positivity, Strain.Strains};
+ghost use Rattle.lra_conversions.specs.Crates.lra_linear_spec.Descriptions.{LinearRow, Con, Gen};
+ghost use Rattle.lra_conversions.specs.Crates.lra_linear_spec.OperationStrain.{with_positivity};
+ghost use Rattle.lra_conversions.specs.Crates.lra_linear_spec.Points.{IsWithin, SameSet};
+ghost use Rattle.lra_conversions.specs.Crates.lra_linear_spec.Strain.{Strains};
 ghost use Rattle.lra_systems.specs.Dimensions.{too_many_dimensions};
 ghost use Rattle.lra_systems.specs.LinearSystems.{constraints, generators, FitKinds};
 ghost use Rattle.lra_descriptions.specs.ShownLists.{AreGeneratorsOf, AreConstraintsOf, dual_kind};

@@ -4,3 +4,5 @@
 mod conversions;
 
 pub use conversions::{constrain, generate};
+pub use lra_descriptions::nothing;
+pub use lra_systems::GenSys;

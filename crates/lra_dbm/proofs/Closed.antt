@@ -1,13 +1,13 @@
 -- The five steps close.
 use Rattle.std.proofs.Common.{◌≡◌, ℕ, ◌+◌, ◌*◌, ◌-◌, ◌/◌, ◌%◌, ◌<◌, ◌≤◌, inl, inr, ℤ, pos, List, length, Option, None, Some, refl, sym, ap, ◌∙◌, arith, false}
+use Rattle.std.proofs.lemmas.Bool.{or_parts}
 use Rattle.std.proofs.{lemmas.Bool.Decides.eqb_tells, lemmas.Int.ints}
 use Rattle.std.specs.Prelude.{◌+ℤ◌, ◌-ℤ◌, neg_ℤ}
-use Rattle.lra_linear_spec.specs.Vectors.{entry}
+use Rattle.lra_dbm.specs.Crates.lra_linear_spec.Vectors.{entry}
 use Rattle.lra_dbm.specs.Steps.{Progress, shortest, rounded, all_rounded, strengthened_at, row_strengthened, all_strengthened}
 use Rattle.lra_dbm.specs.Tight.{Entries, opposite, signed_value, with_sign, IsStore}
 use Rattle.lra_dbm.specs.{Cells.Cells, Cells.cell, Cells.outside, Cells.entries, Cells.IsMatrix, Entry.◌⊑◌, Entry.◌⊞◌, Entry.half_of, Entry.within_range, Entry.passes_range}
 use Rattle.lra_dbm.proofs.Lowering.{Comes, comes_here, comes_on, lowered_comes, lowered_at, lowered_kept, in_turn_keeps, in_turn_each, enter_matrix, enter_lowers, enter_at, enter_kept, half_fits}
-use Rattle.std.proofs.lemmas.Bool.{or_parts}
 use Rattle.lra_dbm.proofs.Lowering.{within_range_fits, le_within_range, within_range_same}
 use Rattle.lra_dbm.proofs.{CellLemmas.opposite_below, CellLemmas.entries_inside, CellLemmas.inside_or_out, EntryLemmas.le_same, EntryLemmas.le_none, EntryLemmas.le_trans, EntryLemmas.sum_grows}
 use Rattle.lra_dbm.proofs.{Paths.shortest_kept, Stores.parity_of, Strong.opposite_twice, Strong.half_bounds, Strong.halves_grow, Ways.IsTightlyClosed, Ways.Below}

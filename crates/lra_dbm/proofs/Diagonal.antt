@@ -2,7 +2,7 @@
 use Rattle.std.proofs.Common.{◌≡◌, ℕ, ◌*◌, ◌<◌, ◌≤◌, inl, inr, ℤ, pos, Option, None, Some, refl, sym, ap, ◌∙◌, arith, Bool, true, false, cond}
 use Rattle.std.proofs.lemmas.Int.{ints, clamps}
 use Rattle.std.specs.Prelude.{◌+ℤ◌}
-use Rattle.lra_linear_spec.specs.Range.{in_range}
+use Rattle.lra_dbm.specs.Crates.lra_linear_spec.Range.{in_range}
 use Rattle.lra_dbm.specs.Steps.{Progress, rounded, all_rounded, bounds_sum, strengthened_at, row_strengthened, all_strengthened}
 use Rattle.lra_dbm.specs.{Cells.cell, Cells.entries, Cells.IsMatrix, Entry.◌⊑◌, Entry.◌⊞◌, Entry.lesser, Entry.half_of, Entry.within_range, Tight.opposite}
 use Rattle.lra_dbm.proofs.{CellLemmas.opposite_below, CellLemmas.entries_inside, CellLemmas.written_cases, Closed.rounded_comes, Closed.strengthened_comes, EntryLemmas.le_same, EntryLemmas.le_trans}

@@ -1,15 +1,15 @@
 -- What lowering an entry does: the step of which closing is made.
 use Rattle.std.proofs.Common.{◌≡◌, ℕ, zero, suc, ◌*◌, ◌<◌, inl, inr, ℤ, Option, None, Some, refl, sym, ap, ◌∙◌, arith, Bool, true, false, cond, subst}
+use Rattle.std.proofs.lemmas.Bool.{or_parts}
 use Rattle.std.proofs.{lemmas.Bool.Decides.leb_tells, lemmas.Int.ints}
 use Rattle.std.specs.Prelude.{not, unsigned_abs, ◌^◌}
-use Rattle.std.proofs.lemmas.Bool.{or_parts}
 use borrow.Author.Count.{below_more}
 use Rattle.lra_dbm.specs.Entry.{◌⊑◌, lesser, EntryInRange, half_of, within_range, passes_range}
 use Rattle.lra_dbm.specs.{Cells.Cells, Cells.cell, Cells.entries, Cells.entered, Cells.IsMatrix, Steps.Progress, Steps.in_turn, Steps.lowered, Tight.Entries, Tight.opposite}
 use Rattle.lra_dbm.proofs.CellLemmas.{entries_inside, length-written, written_twin, written_same, written_cases}
 use Rattle.lra_dbm.proofs.EntryLemmas.{le_refl, le_same, le_none, le_trans, le_antisym, lesser_left, lesser_right, lesser_is, le_lesser}
 use Rattle.lra_dbm.proofs.{Strong.opposite_twice, Strong.half_bounds, Ways.Below}
-use Rattle.lra_linear_spec.specs.Range.{in_range}
+use Rattle.lra_dbm.specs.Crates.lra_linear_spec.Range.{in_range}
 
 pub lesser_fits : (a b : Option ℤ) → EntryInRange a → EntryInRange b → EntryInRange (lesser a b)
 lesser_fits a b f g = elim (lesser_is a b) [ inl e ↦ subst (λ (z : Option ℤ). EntryInRange z) (sym e) f | inr e ↦ subst (λ (z : Option ℤ). EntryInRange z) (sym e) g ]

@@ -1,15 +1,14 @@
 -- Rewriting the two rows of a variable to which a number is added.
 use Rattle.std.proofs.Common.{◌≡◌, ◌≢◌, ℕ, zero, suc, ◌+◌, ◌*◌, ◌/◌, ◌<◌, ◌^◌, ◌⊎◌, inl, inr, ℤ, pos, length, Option, None, Some, refl, sym, ap, ◌∙◌, subst, arith, cond, Bool, true, false}
+use Rattle.std.proofs.lemmas.Bool.{or_parts}
 use Rattle.std.proofs.{lemmas.Bool.Decides.eqb_tells, lemmas.Bool.Decides.leb_tells, lemmas.Int.ints}
 use Rattle.std.specs.Prelude.{◌==◌, ◌&&◌, ◌||◌, ◌-ℤ◌, neg_ℤ, unsigned_abs}
 use Rattle.lra_dbm.specs.Entry.{◌⊞◌, EntryInRange, within_range, passes_range}
 use Rattle.lra_dbm.specs.Shifting.{added_to, origin, shifted, shifted_within, passes_at, ShiftPasses, ShiftedTo, RowGiven}
 use Rattle.lra_dbm.specs.{Cells.Cells, Cells.size, Cells.entries, Cells.written, Cells.IsMatrix, Steps.any_below, Tight.Entries, Tight.opposite}
 use Rattle.lra_dbm.proofs.CellLemmas.{opposite_below, inside_or_out, length-written, written_twin, written_same, written_cases}
-use Rattle.lra_dbm.proofs.Clears.{in_pair, half_opposite, opposite_plus, opposite_minus}
-use Rattle.std.proofs.lemmas.Bool.{or_parts}
+use Rattle.lra_dbm.proofs.{Clears.in_pair, Clears.half_opposite, Clears.opposite_plus, Clears.opposite_minus, Paths.any_true}
 use Rattle.lra_dbm.proofs.{EntryLemmas.le_same, EntryLemmas.le_trans, Lowering.within_range_fits, Lowering.within_range_same, Strong.opposite_twice}
-use Rattle.lra_dbm.proofs.Paths.{any_true}
 
 -- ---- one more entry of a row
 

@@ -2,7 +2,7 @@
 use Rattle.std.proofs.Common.{◌≡◌, ℕ, zero, suc, ◌+◌, ◌*◌, ◌/◌, ◌%◌, ◌<◌, ◌⊎◌, inl, inr, ℤ, pos, List, [], ◌∷◌, length, Option, None, Some, refl, sym, ap, ◌∙◌, arith}
 use Rattle.std.proofs.lemmas.Int.{ints, clamps, by_lt_z}
 use Rattle.std.specs.{Int.int_div_euclid, Int.int_min, Int.int_max, Prelude.◌+ℤ◌, Prelude.◌-ℤ◌, Prelude.◌≤ℤ◌, Prelude.◌<ℤ◌, Prelude.neg_ℤ}
-use Rattle.lra_linear_spec.specs.Vectors.{entry}
+use Rattle.lra_dbm.specs.Crates.lra_linear_spec.Vectors.{entry}
 use Rattle.lra_dbm.specs.{Entry.◌⊑◌, Entry.◌⊞◌, Entry.lesser, Tight.Entries, Tight.opposite, Tight.signed_value, Tight.with_sign, Tight.IsStore, Tight.IsTight}
 use Rattle.lra_dbm.proofs.EntryLemmas.{le_refl, le_same, le_trans, sum_grows, sum_swap, lesser_left, lesser_right, lesser_is, le_lesser}
 use Rattle.lra_dbm.proofs.{Strong.opposite_twice, Strong.half_bounds, Ways.IsTightlyClosed}

@@ -1,5 +1,6 @@
 -- Closing gives the tight matrix with the same stores.
 use Rattle.std.proofs.Common.{◌≡◌, ℕ, zero, suc, ◌*◌, ◌<◌, ◌≤◌, inl, inr, ℤ, pos, List, Option, None, Some, refl, sym, ap, ◌∙◌, arith, Bool, true, false, cond, subst}
+use Rattle.std.proofs.lemmas.Bool.{or_parts}
 use Rattle.std.proofs.{Math.Path.fun_ext, lemmas.Bool.Decides.leb_tells, lemmas.Int.ints}
 use Rattle.std.specs.Prelude.{neg_ℤ}
 use borrow.Author.Count.{below_more}
@@ -10,7 +11,6 @@ use Rattle.lra_dbm.proofs.Closed.{difference, difference_closed, store_below, be
 use Rattle.lra_dbm.proofs.Closed.{all_strengthened_kept, all_upper, shortest_below}
 use Rattle.lra_dbm.proofs.EntryLemmas.{le_same, le_none, le_trans, le_antisym, sum_grows, sum_swap, lesser_left, le_lesser}
 use Rattle.lra_dbm.proofs.{CellLemmas.opposite_below, CellLemmas.entries_inside, Diagonal.all_rounded_diagonal, Diagonal.strengthened_diagonal, Lowering.Comes, Lowering.comes_on}
-use Rattle.std.proofs.lemmas.Bool.{or_parts}
 use Rattle.lra_dbm.proofs.{Lowering.le_within_range, Lowering.within_range_same, Paths.beyond, Paths.beyond_self, Paths.any_true, Paths.negative_absurd, Paths.shortest_comes}
 use Rattle.lra_dbm.proofs.{Paths.shortest_closed, Stores.tightly_closed_is_tight, Strong.opposite_twice, Strong.strengthened_closed, Ways.IsTightlyClosed, Ways.Below, Ways.IsClosed, Ways.strengthened}
 

@@ -1,7 +1,7 @@
 -- Entries of a matrix: a whole number, or none if the entry is infinite.
 use Rattle.std.specs.Int.{int_min, int_div_euclid}
 use Rattle.std.specs.Prelude.{ℤ, pos, ◌+ℤ◌, Option, None, Some, Bool, false, not, cond, IfSome}
-use Rattle.lra_linear_spec.specs.Range.{InRange, in_range}
+use Rattle.lra_dbm.specs.Crates.lra_linear_spec.Range.{InRange, in_range}
 use Rattle.lra_domain.specs.Bounds.{AtMost}
 
 infix 4 ◌⊑◌

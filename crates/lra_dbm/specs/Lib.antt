@@ -8,3 +8,5 @@ pub mod Closure
 pub mod Clearing
 pub mod Shifting
 pub mod Answers
+-- The crates below
+pub mod Crates

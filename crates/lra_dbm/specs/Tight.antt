@@ -2,7 +2,7 @@
 -- A variable x_k stands twice: signed variable 2k is +x_k, and 2k + 1 is -x_k.
 use Rattle.std.specs.Prelude.{◌≡◌, ℕ, zero, suc, ◌+◌, ◌*◌, ◌-◌, ◌<◌, ◌%◌, ◌/◌, ℤ, neg_ℤ, ◌-ℤ◌, ◌≤ℤ◌, Option, Some, List}
 use Rattle.std.specs.Prelude.{length}
-use Rattle.lra_linear_spec.specs.Vectors.{entry}
+use Rattle.lra_dbm.specs.Crates.lra_linear_spec.Vectors.{entry}
 use Rattle.lra_dbm.specs.Entry.{◌⊑◌}
 
 -- the entry at i and j bounds v_j - v_i from above, for the signed variables v

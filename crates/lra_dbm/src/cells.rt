@@ -4,9 +4,9 @@ ghost use Rattle.std.specs.Prelude.{◌≡◌, ◌≤◌, ◌<◌, ◌^◌, ◌*
 ghost use Rattle.lra_dbm.specs.Cells.{size, row_place, place, cell, entries, written, entered, IsMatrix};
 ghost use Rattle.lra_dbm.specs.Entry.{◌⊞◌, lesser, half_of, within_range, passes_range};
 ghost use Rattle.lra_dbm.specs.{Steps.is_negative, Tight.opposite};
-ghost use Rattle.lra_linear_spec.specs.Range.{InRange};
+ghost use Rattle.lra_dbm.specs.Crates.lra_linear_spec.Range.{InRange};
 
-use lra_row::add;
+use lra_domain::add;
 
 /// The signed variable of the other sign.
 #[tactic(auto, using(crate::proofs::CellLemmas::opposite_below), unfolding(crate::specs::Tight::opposite))]

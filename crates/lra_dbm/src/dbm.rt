@@ -2,7 +2,7 @@
 
 ghost use Rattle.std.specs.Prelude.{◌≡◌, ◌≤◌, ◌<◌, ◌+◌, ◌-◌, ◌^◌, ◌*◌, ◌↔◌, pos, Some, ℕ, IsTrue, IfOk, OnOk, OnErr};
 ghost use Rattle.std.specs.Prelude.{unsigned_abs};
-ghost use Rattle.lra_linear_spec.specs.Range.{InRange};
+ghost use Rattle.lra_dbm.specs.Crates.lra_linear_spec.Range.{InRange};
 ghost use Rattle.lra_dbm.specs.Answers.{is_empty, is_flagged};
 ghost use Rattle.lra_dbm.specs.Cells.{IsMatrix, entered, entry_at, outside, forgotten, first_entries, size};
 ghost use Rattle.lra_dbm.specs.Pointwise.{AreSmall, CellsWithin, greater_cells, stable_cells, finite_cells};

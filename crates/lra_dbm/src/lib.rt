@@ -11,3 +11,4 @@ mod steps;
 
 pub use cells::opposite;
 pub use dbm::{Closing, Dbm};
+pub use lra_domain::add;

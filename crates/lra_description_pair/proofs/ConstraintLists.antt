@@ -4,19 +4,22 @@ use Rattle.std.proofs.Common.{zero, ◌↔◌, Result, Ok, Err, IfOk}
 use Rattle.std.proofs.lemmas.List.Elements.{Contains-append_cases, Contains-append_left, Contains-append_right}
 use Rattle.std.proofs.{lemmas.Int.ints, lemmas.List.length-replicate, lemmas.List.Sorted.Contains-permutation, lemmas.List.Sorted.IsPermutation-sym, lemmas.List.Sorted.length_permutation}
 use Rattle.std.specs.List.{Contains}
-use Rattle.lra_linear_spec.specs.Descriptions.{LinearRow, Con, Gen, inequality, rows_as, system_of, HoldsWith}
-use Rattle.lra_linear_spec.specs.Vectors.{entry, dot, product, negated, zeros}
-use Rattle.lra_linear_spec.specs.{Canonical.IsCanonical, Cones.both_ways, Cones.all_rows, Cones.AreDual, Kinds.is_equality, Kinds.is_line, OperationStrain.unit_row, Points.IsWithin, Points.SameSet}
-use Rattle.lra_linear_spec.specs.{Points.IsEmptySet, Polyhedra.positivity, Polyhedra.falsity, Strain.Loss, Strain.Strains, declared.ConKind.ConKind, declared.ConKind.TheVariants.Ge}
-use Rattle.lra_linear_spec.specs.{declared.ConKind.TheVariants.Eq, declared.GenKind.GenKind, declared.GenKind.TheVariants.Point, declared.GenKind.TheVariants.Ray, declared.GenKind.TheVariants.Line}
-use Rattle.lra_linear_spec.proofs.Descriptions.{system_from, system_has, gen_generated, generated_gen, dual_same_points, dual_flipped}
-use Rattle.lra_linear_spec.proofs.Membership.{contains_head, contains_tail, contains_none, contains_cases}
-use Rattle.lra_linear_spec.proofs.{CanonicalForms.no_repeat, Combinations.generated_row, LinearMaps.generated_nonneg, Lines.signed_zero, OneSpelling.given_from, OneSpelling.falsity_never}
-use Rattle.lra_linear_spec.proofs.{OneSpelling.given_has, Products.negated_dot, Products.dot_negated, Signs.between_opposites}
-use Rattle.lra_linear_spec.proofs.Signs.{opposite_of_zero}
-use Rattle.lra_canonical.proofs.Orders.{ascends}
-use Rattle.lra_canonical.specs.declared.order.Order.TheVariants.{Inequalities}
-use Rattle.lra_systems.specs.LinearSystems.{LinearSystem, generators, constraints, rows_by_kind, FitsKind, FitKinds}
+use Rattle.lra_description_pair.specs.Crates.lra_linear_spec.Cones.{both_ways, all_rows, AreDual}
+use Rattle.lra_description_pair.specs.Crates.lra_linear_spec.Descriptions.{LinearRow, Con, Gen, inequality, rows_as, system_of, HoldsWith}
+use Rattle.lra_description_pair.specs.Crates.lra_linear_spec.Points.{IsWithin, SameSet, IsEmptySet}
+use Rattle.lra_description_pair.specs.Crates.lra_linear_spec.Vectors.{entry, dot, product, negated, zeros}
+use Rattle.lra_description_pair.specs.Crates.lra_linear_spec.declared.ConKind.TheVariants.{Ge, Eq}
+use Rattle.lra_description_pair.specs.Crates.lra_linear_spec.declared.GenKind.TheVariants.{Point, Ray, Line}
+use Rattle.lra_description_pair.specs.Crates.lra_systems.LinearSystems.{LinearSystem, generators, constraints, rows_by_kind, FitsKind, FitKinds}
+use Rattle.lra_description_pair.specs.Crates.{lra_canonical.declared.order.Order.TheVariants.Inequalities, lra_linear_spec.Canonical.IsCanonical, lra_linear_spec.Kinds.is_equality}
+use Rattle.lra_description_pair.specs.Crates.{lra_linear_spec.Kinds.is_line, lra_linear_spec.OperationStrain.unit_row, lra_linear_spec.Polyhedra.positivity, lra_linear_spec.Polyhedra.falsity}
+use Rattle.lra_description_pair.specs.Crates.{lra_linear_spec.Strain.Loss, lra_linear_spec.Strain.Strains, lra_linear_spec.declared.ConKind.ConKind, lra_linear_spec.declared.GenKind.GenKind}
+use Rattle.lra_description_pair.proofs.Crates.lra_linear_spec.Descriptions.{system_from, system_has, gen_generated, generated_gen, dual_same_points, dual_flipped}
+use Rattle.lra_description_pair.proofs.Crates.lra_linear_spec.Membership.{contains_head, contains_tail, contains_none, contains_cases}
+use Rattle.lra_description_pair.proofs.Crates.lra_linear_spec.OneSpelling.{given_from, falsity_never, given_has}
+use Rattle.lra_description_pair.proofs.Crates.{lra_canonical.Orders.ascends, lra_linear_spec.CanonicalForms.no_repeat, lra_linear_spec.Combinations.generated_row}
+use Rattle.lra_description_pair.proofs.Crates.{lra_linear_spec.LinearMaps.generated_nonneg, lra_linear_spec.Lines.signed_zero, lra_linear_spec.Products.negated_dot}
+use Rattle.lra_description_pair.proofs.Crates.{lra_linear_spec.Products.dot_negated, lra_linear_spec.Signs.between_opposites, lra_linear_spec.Signs.opposite_of_zero}
 use Rattle.lra_cone.specs.{Cones.ConeContent, Cones.IsCone, Conversions.IsConversion, Losses.IfLost}
 use Rattle.lra_descriptions.specs.ShownLists.{without, ShowsConstraints, HasConstraints, AreConstraintsOf, dual_kind, IsSeenValid, IsValid, ShowsValid}
 use Rattle.lra_cone.proofs.RayCase.{system_same}

@@ -3,16 +3,19 @@ use Rattle.std.proofs.Common.{◌≡◌, ℕ, suc, ◌+◌, true, false, List, [
 use Rattle.std.proofs.lemmas.List.Elements.{Contains-append_cases, Contains-append_left, Contains-append_right}
 use Rattle.std.proofs.{lemmas.Int.ints, lemmas.List.length-append, lemmas.List.length-replicate}
 use Rattle.std.specs.List.{Contains}
-use Rattle.lra_linear_spec.specs.Cones.{Generated, both_ways, all_rows, AreDual}
-use Rattle.lra_linear_spec.specs.Descriptions.{LinearRow, Con, Gen, inequality, rows_as, system_of}
-use Rattle.lra_linear_spec.specs.{Canonical.IsCanonical, Kinds.is_line, Points.IsPoint, Points.SameSet, Points.IsEmptySet, Polyhedra.positivity, Polyhedra.falsity, Vectors.entry, Vectors.dot}
-use Rattle.lra_linear_spec.specs.{Vectors.product, Vectors.negated, declared.GenKind.GenKind, declared.GenKind.TheVariants.Point, declared.GenKind.TheVariants.Ray, declared.GenKind.TheVariants.Line}
-use Rattle.lra_linear_spec.proofs.Descriptions.{con_solves, con_cons, con_tail, dual_same_points}
-use Rattle.lra_linear_spec.proofs.{LinearMaps.generated_nonneg, Lines.signed_from, Lines.signed_zero, Lines.in_lines, Lines.in_lines_negated, Membership.contains_head, Membership.contains_none}
-use Rattle.lra_linear_spec.proofs.{OneSpelling.positivity_product, OneSpelling.falsity_never, Polyhedra.con_gen, Products.entry_negated, Products.negated_dot, Signs.between_opposites}
-use Rattle.lra_canonical.proofs.Orders.{ascends}
-use Rattle.lra_canonical.specs.declared.order.Order.TheVariants.{Generators}
-use Rattle.lra_systems.specs.LinearSystems.{LinearSystem, generators, rows_by_kind, FitKinds}
+use Rattle.lra_description_pair.specs.Crates.lra_linear_spec.Cones.{Generated, both_ways, all_rows, AreDual}
+use Rattle.lra_description_pair.specs.Crates.lra_linear_spec.Descriptions.{LinearRow, Con, Gen, inequality, rows_as, system_of}
+use Rattle.lra_description_pair.specs.Crates.lra_linear_spec.Points.{IsPoint, SameSet, IsEmptySet}
+use Rattle.lra_description_pair.specs.Crates.lra_linear_spec.Vectors.{entry, dot, product, negated}
+use Rattle.lra_description_pair.specs.Crates.lra_linear_spec.declared.GenKind.TheVariants.{Point, Ray, Line}
+use Rattle.lra_description_pair.specs.Crates.lra_systems.LinearSystems.{LinearSystem, generators, rows_by_kind, FitKinds}
+use Rattle.lra_description_pair.specs.Crates.{lra_canonical.declared.order.Order.TheVariants.Generators, lra_linear_spec.Canonical.IsCanonical, lra_linear_spec.Kinds.is_line}
+use Rattle.lra_description_pair.specs.Crates.{lra_linear_spec.Polyhedra.positivity, lra_linear_spec.Polyhedra.falsity, lra_linear_spec.declared.GenKind.GenKind}
+use Rattle.lra_description_pair.proofs.Crates.lra_linear_spec.Descriptions.{con_solves, con_cons, con_tail, dual_same_points}
+use Rattle.lra_description_pair.proofs.Crates.lra_linear_spec.Lines.{signed_from, signed_zero, in_lines, in_lines_negated}
+use Rattle.lra_description_pair.proofs.Crates.{lra_canonical.Orders.ascends, lra_linear_spec.LinearMaps.generated_nonneg, lra_linear_spec.Membership.contains_head}
+use Rattle.lra_description_pair.proofs.Crates.{lra_linear_spec.Membership.contains_none, lra_linear_spec.OneSpelling.positivity_product, lra_linear_spec.OneSpelling.falsity_never}
+use Rattle.lra_description_pair.proofs.Crates.{lra_linear_spec.Polyhedra.con_gen, lra_linear_spec.Products.entry_negated, lra_linear_spec.Products.negated_dot, lra_linear_spec.Signs.between_opposites}
 use Rattle.lra_cone.specs.Cones.{ConeContent, IsCone}
 use Rattle.lra_descriptions.specs.ShownLists.{points_of, ListsGenerators, ShowsGenerators, HasGenerators, AreGeneratorsOf}
 use Rattle.lra_cone.proofs.Reordered.{dual_again, canonical_again}

@@ -2,14 +2,15 @@
 use Rattle.std.proofs.Common.{◌≡◌, ◌≢◌, ℕ, zero, suc, ◌<◌, ◌≤◌, Bool, take, Result, Ok, Err, IfOk, List, [], ◌∷◌, ◌++◌, length, map, refl, ap, sym, ◌∙◌, subst, arith, ℤ, inl, inr}
 use Rattle.std.proofs.{lemmas.List.take_all, lemmas.List.Elements.Contains-append_cases}
 use Rattle.std.specs.List.{Contains}
-use Rattle.lra_linear_spec.specs.Descriptions.{LinearRow, AreGenerators, Gen, system_of}
-use Rattle.lra_linear_spec.specs.{Kinds.is_equality, OperationStrain.FromGeneratorsStrains, OperationStrain.with_positivity, Points.IsEmptySet, Polyhedra.Polyhedron, Strain.Loss, Strain.Strains}
-use Rattle.lra_linear_spec.specs.{Vectors.entry, declared.Cause.Cause, declared.ConKind.ConKind, declared.GenKind.GenKind, declared.GenKind.TheVariants.Point}
-use Rattle.lra_systems.specs.LinearSystems.{LinearSystem, constraints, generators, rows_by_kind, FitKinds}
-use Rattle.lra_systems.proofs.Generators.{fitting_are_generators}
+use Rattle.lra_description_pair.specs.Crates.lra_linear_spec.Descriptions.{LinearRow, AreGenerators, Gen, system_of}
+use Rattle.lra_description_pair.specs.Crates.lra_linear_spec.OperationStrain.{FromGeneratorsStrains, with_positivity}
+use Rattle.lra_description_pair.specs.Crates.lra_systems.LinearSystems.{LinearSystem, constraints, generators, rows_by_kind, FitKinds}
+use Rattle.lra_description_pair.specs.Crates.{lra_linear_spec.Kinds.is_equality, lra_linear_spec.Points.IsEmptySet, lra_linear_spec.Polyhedra.Polyhedron, lra_linear_spec.Strain.Loss}
+use Rattle.lra_description_pair.specs.Crates.{lra_linear_spec.Strain.Strains, lra_linear_spec.Vectors.entry, lra_linear_spec.declared.Cause.Cause, lra_linear_spec.declared.ConKind.ConKind}
+use Rattle.lra_description_pair.specs.Crates.{lra_linear_spec.declared.GenKind.GenKind, lra_linear_spec.declared.GenKind.TheVariants.Point}
+use Rattle.lra_description_pair.proofs.Crates.{lra_linear_spec.Descriptions.gen_generated, lra_linear_spec.Membership.contains_none, lra_systems.Generators.fitting_are_generators}
 use Rattle.lra_cone.specs.{Cones.ConeContent, Cones.IsCone, Cones.whole_space, Conversions.IsConversion, Losses.IfLost}
 use Rattle.lra_descriptions.specs.ShownLists.{ShowsConstraints, ShowsValid, dual_kind}
-use Rattle.lra_linear_spec.proofs.{Descriptions.gen_generated, Membership.contains_none}
 use Rattle.lra_description_pair.proofs.PairLosses.{own_strain, from_generators_strain}
 use Rattle.lra_description_pair.proofs.{ConstraintLists.constrained, ConstraintLists.some_point, GeneratorLists.nothing_generated, OwnRows.given_length}
 use Rattle.lra_descriptions.proofs.SeveralKinds.{dual_given}

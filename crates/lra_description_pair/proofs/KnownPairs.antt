@@ -3,11 +3,12 @@ use Rattle.std.proofs.Common.{◌≡◌, ◌∙◌, ◌≤◌, ℕ, ℤ, suc, po
 use Rattle.std.proofs.lemmas.List.Elements.{Contains-append_cases, Contains-append_left, Contains-append_right}
 use Rattle.std.proofs.{lemmas.List.length-map, lemmas.List.Sorted.Contains-permutation, lemmas.List.Sorted.IsPermutation-sym}
 use Rattle.std.specs.{List.All, List.Contains, Prelude.Result, Prelude.Ok, Prelude.Err, Prelude.IfOk, Prelude.Bool}
-use Rattle.lra_bits.specs.{Matrix.Matrix, Transposed.AreColumns}
-use Rattle.lra_linear_spec.specs.Cones.{AreDual, all_rows, both_ways}
-use Rattle.lra_linear_spec.specs.{Descriptions.system_of, Polyhedra.positivity, Vectors.entry, Vectors.negated, Vectors.product, declared.ConKind.ConKind, declared.GenKind.GenKind}
-use Rattle.lra_linear_spec.proofs.{Lines.in_lines, Lines.in_lines_negated, Membership.contains_none, Products.negated_dot, Products.product_comm, Signs.between_opposites}
-use Rattle.lra_systems.specs.LinearSystems.{LinearSystem, constraints, generators}
+use Rattle.lra_description_pair.specs.Crates.lra_systems.LinearSystems.{LinearSystem, constraints, generators}
+use Rattle.lra_description_pair.specs.Crates.{lra_bits.Matrix.Matrix, lra_bits.Transposed.AreColumns, lra_linear_spec.Cones.AreDual, lra_linear_spec.Cones.all_rows, lra_linear_spec.Cones.both_ways}
+use Rattle.lra_description_pair.specs.Crates.{lra_linear_spec.Descriptions.system_of, lra_linear_spec.Polyhedra.positivity, lra_linear_spec.Vectors.entry, lra_linear_spec.Vectors.negated}
+use Rattle.lra_description_pair.specs.Crates.{lra_linear_spec.Vectors.product, lra_linear_spec.declared.ConKind.ConKind, lra_linear_spec.declared.GenKind.GenKind}
+use Rattle.lra_description_pair.proofs.Crates.{lra_linear_spec.Lines.in_lines, lra_linear_spec.Lines.in_lines_negated, lra_linear_spec.Membership.contains_none, lra_linear_spec.Products.negated_dot}
+use Rattle.lra_description_pair.proofs.Crates.{lra_linear_spec.Products.product_comm, lra_linear_spec.Signs.between_opposites}
 use Rattle.lra_cone.specs.Cones.{ConeContent, IsCone}
 use Rattle.lra_descriptions.specs.ShownLists.{ShowsConstraints, ShowsGenerators, directions_of, points_of, without}
 use Rattle.lra_descriptions.specs.Tightness.{GoesWith, saturation_of, tight_at, tight_matrix}

@@ -11,3 +11,5 @@ pub mod PairLosses
 pub mod GeneratorPairs
 pub mod MadeLemmas
 pub mod KnownPairs
+-- The crates below
+pub mod Crates

@@ -1,10 +1,12 @@
 -- What rows and generators that were tried say of the polyhedron that is made of them.
 use Rattle.std.proofs.Common.{◌≡◌, ◌∙◌, ℕ, zero, suc, List, [], ◌∷◌, ◌++◌, ap, drop, inl, inr, refl, subst, sym, take}
 use Rattle.std.specs.List.{Contains}
-use Rattle.lra_linear_spec.specs.{Descriptions.Con, Descriptions.Gen, Descriptions.LinearRow, OperationStrain.FromGeneratorsStrains, OperationStrain.FromRowsStrains, OperationStrain.with_positivity}
-use Rattle.lra_linear_spec.specs.{Points.IsWithin, Points.PointSet, Polyhedra.IsPolyhedron, Polyhedra.IsPolyhedronOf, Polyhedra.Polyhedron, Strain.Loss, Strain.Strains, declared.ConKind.ConKind}
-use Rattle.lra_linear_spec.proofs.Membership.{contains_cases, contains_head, contains_none, contains_tail}
-use Rattle.lra_systems.specs.LinearSystems.{LinearSystem, constraints}
+use Rattle.lra_description_pair.specs.Crates.lra_linear_spec.OperationStrain.{FromGeneratorsStrains, FromRowsStrains, with_positivity}
+use Rattle.lra_description_pair.specs.Crates.lra_linear_spec.Polyhedra.{IsPolyhedron, IsPolyhedronOf, Polyhedron}
+use Rattle.lra_description_pair.specs.Crates.lra_systems.LinearSystems.{LinearSystem, constraints}
+use Rattle.lra_description_pair.specs.Crates.{lra_linear_spec.Descriptions.Con, lra_linear_spec.Descriptions.Gen, lra_linear_spec.Descriptions.LinearRow, lra_linear_spec.Points.IsWithin}
+use Rattle.lra_description_pair.specs.Crates.{lra_linear_spec.Points.PointSet, lra_linear_spec.Strain.Loss, lra_linear_spec.Strain.Strains, lra_linear_spec.declared.ConKind.ConKind}
+use Rattle.lra_description_pair.proofs.Crates.lra_linear_spec.Membership.{contains_cases, contains_head, contains_none, contains_tail}
 use Rattle.lra_cone.specs.{Cones.ConeContent, Conversions.IsConversion, Losses.IfLost}
 use Rattle.lra_description_pair.specs.TakenPoints.{AreTaken, IsMadeOfPoints, IsOfFirst, IsOfPoints, most_kept}
 use Rattle.lra_description_pair.specs.{KeptRows.IsOfSome, Made.IsMadeFor, Made.IsMadeOfGenerators, Made.IsMadeOfRows, OwnLists.IsPositive, TriedRows.IsMadeOf, TriedRows.IsOfTried}

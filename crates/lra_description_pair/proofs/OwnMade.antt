@@ -1,9 +1,10 @@
 -- The own list, from what the code has made on the way, and the matrix of its rays.
 use Rattle.std.proofs.Common.{◌≡◌, ◌∙◌, ◌+◌, ◌<◌, ◌++◌, ◌∷◌, ℕ, zero, suc, Bool, true, false, List, [], ap, arith, get_or, length, map, refl, subst, sym, ℤ}
 use Rattle.std.proofs.lemmas.List.{ext_get_or, get_or-map, length-append, length-map}
-use Rattle.lra_bits.specs.Matrix.{Matrix, unmarked}
-use Rattle.lra_linear_spec.specs.{Descriptions.LinearRow, Descriptions.rows_as, Descriptions.rows_of, Echelon.IsEchelonOf, Vectors.product}
-use Rattle.lra_canonical.specs.{Echelons.HaveWidth, Echelons.SameEqualities, Irredundant.AreKept, Irredundant.IsSaturation, Irredundant.WithoutRedundant}
+use Rattle.lra_description_pair.specs.Crates.lra_canonical.Echelons.{HaveWidth, SameEqualities}
+use Rattle.lra_description_pair.specs.Crates.lra_canonical.Irredundant.{AreKept, IsSaturation, WithoutRedundant}
+use Rattle.lra_description_pair.specs.Crates.lra_linear_spec.Descriptions.{LinearRow, rows_as, rows_of}
+use Rattle.lra_description_pair.specs.Crates.{lra_bits.Matrix.Matrix, lra_bits.Matrix.unmarked, lra_linear_spec.Echelon.IsEchelonOf, lra_linear_spec.Vectors.product}
 use Rattle.lra_cone.specs.Cones.{ConeContent, IsCone}
 use Rattle.lra_descriptions.specs.Tightness.{tight_at, tight_matrix}
 use Rattle.lra_descriptions.proofs.TightLemmas.{tight_values_are}

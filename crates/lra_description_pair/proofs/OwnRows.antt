@@ -3,14 +3,14 @@ use Rattle.std.specs.{List.Contains, Ordering.int_eq, Prelude.◌≢◌}
 use Rattle.std.proofs.Common.{◌≡◌, ℕ, zero, suc, ◌+◌, ◌<◌, ◌≤◌, Bool, true, false, cond, nat_lt, ◌==◌, List, [], ◌∷◌, ◌++◌, length, get_or, take, refl, ap, sym, ◌∙◌, subst, arith, pos, ℤ, inl, inr}
 use Rattle.std.proofs.lemmas.List.Elements.{All-contains, All-from_get_or, Contains-get_or, Contains-append_cases}
 use Rattle.std.proofs.{lemmas.Bool.eqb-true, lemmas.Bool.Decides.Decides-int_eq, lemmas.List.take_all, lemmas.List.take_more, lemmas.List.get_or_default}
-use Rattle.lra_linear_spec.specs.{Descriptions.LinearRow, Descriptions.rows_of, Echelon.IsEchelonOf, Reduction.ReductionPasses, Strain.tight_rows, Strain.IsOwnForm, Vectors.product}
-use Rattle.lra_linear_spec.proofs.{Descriptions.system_has, Membership.contains_none, Membership.contains_cases, Membership.contains_head, Membership.contains_tail, Spans.echelon_rows_at_most}
-use Rattle.lra_bits.specs.{Matrix.Matrix, Matrix.unmarked, TruthValues.value_at}
-use Rattle.lra_canonical.specs.{Echelons.HaveWidth, Echelons.IsEchelonExcess, Reduced.IsReductionExcess, Reduced.IsReducedBy}
-use Rattle.lra_row.specs.{declared.error.RowError.RowError, declared.error.RowError.TheVariants.Excess, declared.error.RowError.TheVariants.Memory}
-use Rattle.lra_systems.specs.LinearSystems.{rows_by_kind}
+use Rattle.lra_description_pair.specs.Crates.lra_row.declared.error.RowError.TheVariants.{Excess, Memory}
+use Rattle.lra_description_pair.specs.Crates.{lra_bits.Matrix.Matrix, lra_bits.Matrix.unmarked, lra_bits.TruthValues.value_at, lra_canonical.Echelons.HaveWidth, lra_canonical.Echelons.IsEchelonExcess}
+use Rattle.lra_description_pair.specs.Crates.{lra_canonical.Reduced.IsReductionExcess, lra_canonical.Reduced.IsReducedBy, lra_double_description.Steps.IsFilled, lra_linear_spec.Descriptions.LinearRow}
+use Rattle.lra_description_pair.specs.Crates.{lra_linear_spec.Descriptions.rows_of, lra_linear_spec.Echelon.IsEchelonOf, lra_linear_spec.Reduction.ReductionPasses, lra_linear_spec.Strain.tight_rows}
+use Rattle.lra_description_pair.specs.Crates.{lra_linear_spec.Strain.IsOwnForm, lra_linear_spec.Vectors.product, lra_row.declared.error.RowError.RowError, lra_systems.LinearSystems.rows_by_kind}
+use Rattle.lra_description_pair.proofs.Crates.lra_linear_spec.Membership.{contains_none, contains_cases, contains_head, contains_tail}
+use Rattle.lra_description_pair.proofs.Crates.{lra_linear_spec.Descriptions.system_has, lra_linear_spec.Spans.echelon_rows_at_most}
 use Rattle.lra_cone.specs.Cones.{ConeContent, IsCone, tight_values, saturation_rows, cone_saturation}
-use Rattle.lra_double_description.specs.Steps.{IsFilled}
 use Rattle.lra_cone.proofs.TightRows.{rows_length, row_at}
 use Rattle.lra_description_pair.specs.OwnLists.{loose_rows, TellsTight, AllTellTight, AreReducedBy, AreParts, AnyReductionExcess, IsOwnExcess, tight_value}
 use Rattle.lra_description_pair.proofs.TightRows.{tight_in, loose_in, rows_from, reduced_append}

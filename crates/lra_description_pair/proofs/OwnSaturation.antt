@@ -4,18 +4,19 @@ use Rattle.std.proofs.Common.{◌≡◌, ℕ, zero, suc, ◌+◌, ◌<◌, ◌�
 use Rattle.std.proofs.lemmas.List.Elements.{Contains-append_cases, Contains-append_left, Contains-append_right, Contains-get_or, All-contains}
 use Rattle.std.proofs.{Common.◌⊎◌, lemmas.Int.ints, lemmas.List.length-append}
 use Rattle.std.specs.List.{Contains}
-use Rattle.lra_linear_spec.specs.Descriptions.{LinearRow, Gen, rows_as, rows_of, system_of}
-use Rattle.lra_linear_spec.specs.{Cones.Generated, Cones.Solves, Cones.both_ways, Cones.all_rows, Strain.is_tight_at, Strain.tight_rows, Vectors.entry, Vectors.dot, Vectors.product, Vectors.negated}
-use Rattle.lra_linear_spec.proofs.Descriptions.{FromGiven, system_from, system_has, system_has_negated, gen_generated, generated_gen}
-use Rattle.lra_linear_spec.proofs.Membership.{contains_none, contains_cases, contains_head, contains_tail}
-use Rattle.lra_linear_spec.proofs.{LinearMaps.generated_nonneg, LinearMaps.generated_through, Lines.in_lines, Lines.signed_from, OneSpelling.given_from, Products.negated_dot, Products.product_comm}
-use Rattle.lra_linear_spec.proofs.{Products.dot_same, Products.dot_scale, Products.dot_plus, Ring.ring, Ring.v, Ring.◌⊕◌, Ring.◌⊗◌, Signs.between_opposites, Signs.no_product}
-use Rattle.lra_linear_spec.proofs.Signs.{opposite_of_zero}
-use Rattle.lra_linear_spec.proofs.Products.{dot_zero_row}
-use Rattle.lra_bits.specs.Matrix.{Matrix}
-use Rattle.lra_canonical.specs.Irredundant.{IsSaturation, IsIrredundant, Solutions}
-use Rattle.lra_canonical.specs.{Echelons.HaveWidth, Echelons.SameEqualities, Reduced.IsEchelonForm, Reduced.SolvesAll, Reduced.IsReducedBy}
-use Rattle.lra_canonical.proofs.Solutions.{farkas, all_widths, solves_all, spanned_solved, reduced_same}
+use Rattle.lra_description_pair.specs.Crates.lra_canonical.Irredundant.{IsSaturation, IsIrredundant, Solutions}
+use Rattle.lra_description_pair.specs.Crates.lra_linear_spec.Cones.{Generated, Solves, both_ways, all_rows}
+use Rattle.lra_description_pair.specs.Crates.lra_linear_spec.Descriptions.{LinearRow, Gen, rows_as, rows_of, system_of}
+use Rattle.lra_description_pair.specs.Crates.lra_linear_spec.Vectors.{entry, dot, product, negated}
+use Rattle.lra_description_pair.specs.Crates.{lra_bits.Matrix.Matrix, lra_canonical.Echelons.HaveWidth, lra_canonical.Echelons.SameEqualities, lra_canonical.Reduced.IsEchelonForm}
+use Rattle.lra_description_pair.specs.Crates.{lra_canonical.Reduced.SolvesAll, lra_canonical.Reduced.IsReducedBy, lra_linear_spec.Strain.is_tight_at, lra_linear_spec.Strain.tight_rows}
+use Rattle.lra_description_pair.proofs.Crates.lra_canonical.Solutions.{farkas, all_widths, solves_all, spanned_solved, reduced_same}
+use Rattle.lra_description_pair.proofs.Crates.lra_linear_spec.Descriptions.{FromGiven, system_from, system_has, system_has_negated, gen_generated, generated_gen}
+use Rattle.lra_description_pair.proofs.Crates.lra_linear_spec.Membership.{contains_none, contains_cases, contains_head, contains_tail}
+use Rattle.lra_description_pair.proofs.Crates.lra_linear_spec.Products.{negated_dot, product_comm, dot_same, dot_scale, dot_plus, dot_zero_row}
+use Rattle.lra_description_pair.proofs.Crates.{lra_linear_spec.LinearMaps.generated_nonneg, lra_linear_spec.LinearMaps.generated_through, lra_linear_spec.Lines.in_lines}
+use Rattle.lra_description_pair.proofs.Crates.{lra_linear_spec.Lines.signed_from, lra_linear_spec.OneSpelling.given_from, lra_linear_spec.Ring.ring, lra_linear_spec.Ring.v, lra_linear_spec.Ring.◌⊕◌}
+use Rattle.lra_description_pair.proofs.Crates.{lra_linear_spec.Ring.◌⊗◌, lra_linear_spec.Signs.between_opposites, lra_linear_spec.Signs.no_product, lra_linear_spec.Signs.opposite_of_zero}
 use Rattle.lra_cone.specs.Cones.{ConeContent, IsCone}
 use Rattle.lra_descriptions.proofs.SeveralKinds.{system_append, system_rays, system_lines}
 use Rattle.lra_cone.proofs.Stepped.{line_tight}

@@ -2,17 +2,21 @@
 use Rattle.std.proofs.Common.{◌≡◌, ◌≢◌, ◌≤◌, ℕ, suc, Bool, true, false, List, [], ◌∷◌, ◌++◌, length, drop, refl, ap, sym, ◌∙◌, subst, arith, pos, ℤ, neg_ℤ, ◌<ℤ◌, ◌≤ℤ◌, inl, inr}
 use Rattle.std.proofs.{lemmas.Int.ints, lemmas.List.Elements.Contains-append_left, lemmas.List.Elements.Contains-append_right}
 use Rattle.std.specs.List.{Contains, All}
-use Rattle.lra_linear_spec.specs.Descriptions.{LinearRow, AreGenerators, Con, Gen, inequality, rows_as, system_of}
-use Rattle.lra_linear_spec.specs.Polyhedra.{Polyhedron, HasPoint, IsPolyhedron, IsPolyhedronOf, IsWithoutPoint, positivity, falsity}
-use Rattle.lra_linear_spec.specs.{Canonical.IsCanonical, Canonical.IsCanonicalOf, ConeStrain.row_limit, Cones.AreDual, Cones.Generated, Cones.both_ways, Cones.all_rows, Kinds.is_equality}
-use Rattle.lra_linear_spec.specs.{Kinds.is_line, LowestTerms.IsPrimitive, OperationStrain.unit_row, Points.PointSet, Points.IsPoint, Points.SameSet, Points.IsEmptySet, Representable.KeepsLimit}
-use Rattle.lra_linear_spec.specs.{Vectors.entry, Vectors.dot, Vectors.product, Vectors.negated, declared.ConKind.ConKind, declared.ConKind.TheVariants.Ge, declared.GenKind.GenKind}
-use Rattle.lra_linear_spec.proofs.Descriptions.{con_none, dual_flipped, system_from, gen_generated}
-use Rattle.lra_linear_spec.proofs.{Combinations.generated_row, LinearMaps.separated, LinearMaps.generated_nonneg, Lines.in_lines, Lines.zeros_length, LowestTerms.primitive_at}
-use Rattle.lra_linear_spec.proofs.{Membership.contains_head, Membership.contains_none, Membership.each_one, Membership.split_one, OneSpelling.dual_same_cone, OneSpelling.falsity_never}
-use Rattle.lra_linear_spec.proofs.{OneSpelling.positivity_product, Polyhedra.con_gen, Products.dot_minus, Products.entry_negated, Products.negated_dot}
-use Rattle.lra_linear_spec.proofs.Signs.{opposite_of_zero}
-use Rattle.lra_systems.specs.LinearSystems.{LinearSystem, constraints, generators, rows_by_kind, FitKinds}
+use Rattle.lra_description_pair.specs.Crates.lra_linear_spec.Cones.{AreDual, Generated, both_ways, all_rows}
+use Rattle.lra_description_pair.specs.Crates.lra_linear_spec.Descriptions.{LinearRow, AreGenerators, Con, Gen, inequality, rows_as, system_of}
+use Rattle.lra_description_pair.specs.Crates.lra_linear_spec.Polyhedra.{Polyhedron, HasPoint, IsPolyhedron, IsPolyhedronOf, IsWithoutPoint, positivity, falsity}
+use Rattle.lra_description_pair.specs.Crates.lra_linear_spec.Vectors.{entry, dot, product, negated}
+use Rattle.lra_description_pair.specs.Crates.lra_systems.LinearSystems.{LinearSystem, constraints, generators, rows_by_kind, FitKinds}
+use Rattle.lra_description_pair.specs.Crates.{lra_linear_spec.Canonical.IsCanonical, lra_linear_spec.Canonical.IsCanonicalOf, lra_linear_spec.ConeStrain.row_limit, lra_linear_spec.Kinds.is_equality}
+use Rattle.lra_description_pair.specs.Crates.{lra_linear_spec.Kinds.is_line, lra_linear_spec.LowestTerms.IsPrimitive, lra_linear_spec.OperationStrain.unit_row, lra_linear_spec.Points.PointSet}
+use Rattle.lra_description_pair.specs.Crates.{lra_linear_spec.Points.IsPoint, lra_linear_spec.Points.SameSet, lra_linear_spec.Points.IsEmptySet, lra_linear_spec.Representable.KeepsLimit}
+use Rattle.lra_description_pair.specs.Crates.{lra_linear_spec.declared.ConKind.ConKind, lra_linear_spec.declared.ConKind.TheVariants.Ge, lra_linear_spec.declared.GenKind.GenKind}
+use Rattle.lra_description_pair.proofs.Crates.lra_linear_spec.Descriptions.{con_none, dual_flipped, system_from, gen_generated}
+use Rattle.lra_description_pair.proofs.Crates.lra_linear_spec.Membership.{contains_head, contains_none, each_one, split_one}
+use Rattle.lra_description_pair.proofs.Crates.lra_linear_spec.OneSpelling.{dual_same_cone, falsity_never, positivity_product}
+use Rattle.lra_description_pair.proofs.Crates.{lra_linear_spec.Combinations.generated_row, lra_linear_spec.LinearMaps.separated, lra_linear_spec.LinearMaps.generated_nonneg}
+use Rattle.lra_description_pair.proofs.Crates.{lra_linear_spec.Lines.in_lines, lra_linear_spec.Lines.zeros_length, lra_linear_spec.LowestTerms.primitive_at, lra_linear_spec.Polyhedra.con_gen}
+use Rattle.lra_description_pair.proofs.Crates.{lra_linear_spec.Products.dot_minus, lra_linear_spec.Products.entry_negated, lra_linear_spec.Products.negated_dot, lra_linear_spec.Signs.opposite_of_zero}
 use Rattle.lra_description_pair.proofs.GeneratorLists.{at_least_zero, generators_shown, listed_counted, listed_generators, listed_have, flat_rows, nothing_generated, same_points}
 use Rattle.lra_description_pair.proofs.{ConstraintLists.listed_facets, ConstraintLists.listed_hold, ConstraintLists.nothing_is, ConstraintLists.same_constraints, OwnRows.all_width}
 use Rattle.lra_cone.specs.Cones.{ConeContent, IsCone}

@@ -3,13 +3,16 @@ use Rattle.std.proofs.Common.{◌≡◌, ◌≢◌, ℕ, zero, suc, ◌<◌, Boo
 use Rattle.std.proofs.lemmas.List.{append-nil, get_or_default}
 use Rattle.std.proofs.lemmas.List.Elements.{Contains-append_cases, Contains-append_left, Contains-append_right}
 use Rattle.std.specs.{List.Contains, Option.IfNone}
-use Rattle.lra_linear_spec.specs.Strain.{Loss, Strains, IsStrained, OwnReductionPasses, OwnTooMany}
-use Rattle.lra_linear_spec.specs.{Canonical.IsCanonicalOf, Cones.with_row, Cones.AreDual, Cones.all_rows, Descriptions.LinearRow, Descriptions.Con, Descriptions.inequality, Descriptions.system_of}
-use Rattle.lra_linear_spec.specs.{OperationStrain.with_positivity, OperationStrain.FromRowsStrains, OperationStrain.FromGeneratorsStrains, Points.PointSet, Points.IsWithin, Polyhedra.Polyhedron}
-use Rattle.lra_linear_spec.specs.{Polyhedra.IsPolyhedronOf, Polyhedra.positivity, Vectors.negated, declared.Cause.Cause, declared.Cause.TheVariants.Excess, declared.Cause.TheVariants.TooMany}
-use Rattle.lra_linear_spec.proofs.Membership.{contains_head, contains_tail, contains_none, contains_cases}
-use Rattle.lra_linear_spec.proofs.{Combinations.generated_row, Descriptions.con_none, Descriptions.system_has, Descriptions.system_has_negated, LinearMaps.generated_through}
-use Rattle.lra_systems.specs.LinearSystems.{rows_by_kind}
+use Rattle.lra_description_pair.specs.Crates.lra_linear_spec.Descriptions.{LinearRow, Con, inequality, system_of}
+use Rattle.lra_description_pair.specs.Crates.lra_linear_spec.OperationStrain.{with_positivity, FromRowsStrains, FromGeneratorsStrains}
+use Rattle.lra_description_pair.specs.Crates.lra_linear_spec.Polyhedra.{Polyhedron, IsPolyhedronOf, positivity}
+use Rattle.lra_description_pair.specs.Crates.lra_linear_spec.Strain.{Loss, Strains, IsStrained, OwnReductionPasses, OwnTooMany}
+use Rattle.lra_description_pair.specs.Crates.{lra_linear_spec.Canonical.IsCanonicalOf, lra_linear_spec.Cones.with_row, lra_linear_spec.Cones.AreDual, lra_linear_spec.Cones.all_rows}
+use Rattle.lra_description_pair.specs.Crates.{lra_linear_spec.Points.PointSet, lra_linear_spec.Points.IsWithin, lra_linear_spec.Vectors.negated, lra_linear_spec.declared.Cause.Cause}
+use Rattle.lra_description_pair.specs.Crates.{lra_linear_spec.declared.Cause.TheVariants.Excess, lra_linear_spec.declared.Cause.TheVariants.TooMany, lra_systems.LinearSystems.rows_by_kind}
+use Rattle.lra_description_pair.proofs.Crates.lra_linear_spec.Descriptions.{con_none, system_has, system_has_negated}
+use Rattle.lra_description_pair.proofs.Crates.lra_linear_spec.Membership.{contains_head, contains_tail, contains_none, contains_cases}
+use Rattle.lra_description_pair.proofs.Crates.{lra_linear_spec.Combinations.generated_row, lra_linear_spec.LinearMaps.generated_through}
 use Rattle.lra_cone.specs.{Cones.ConeContent, Cones.IsCone, Conversions.IsConversion, Losses.IfLost}
 use Rattle.lra_cone.proofs.TightRows.{with_later}
 use Rattle.lra_description_pair.specs.OwnLists.{IsOwnLoss, IsOwnCause, IsPositive, TellsOwnLoss}

@@ -3,9 +3,9 @@ use Rattle.std.proofs.Common.{◌≡◌, ℕ, suc, ◌+◌, ◌≤◌, Bool, tru
 use Rattle.std.proofs.lemmas.List.Elements.{Contains-append_cases, Contains-append_left, Contains-append_right}
 use Rattle.std.proofs.{lemmas.List.length-append, lemmas.List.Sorted.Contains-permutation, lemmas.List.Sorted.IsPermutation-sym, lemmas.List.Sorted.length_permutation}
 use Rattle.std.specs.{List.Contains, List.Sorted.IsPermutation, Ordering.is_eq}
-use Rattle.lra_linear_spec.specs.{Canonical.IsCanonical, RowOrder.row_cmp, Vectors.entry}
-use Rattle.lra_linear_spec.proofs.CanonicalForms.{no_repeat}
-use Rattle.lra_linear_spec.proofs.Membership.{NoRepeat, Split, at_most, contains_cases, contains_head, contains_tail, contains_split}
+use Rattle.lra_description_pair.specs.Crates.{lra_linear_spec.Canonical.IsCanonical, lra_linear_spec.RowOrder.row_cmp, lra_linear_spec.Vectors.entry}
+use Rattle.lra_description_pair.proofs.Crates.lra_linear_spec.CanonicalForms.{no_repeat}
+use Rattle.lra_description_pair.proofs.Crates.lra_linear_spec.Membership.{NoRepeat, Split, at_most, contains_cases, contains_head, contains_tail, contains_split}
 use Rattle.lra_descriptions.specs.ShownLists.{points_of, directions_of, without}
 use Rattle.lra_descriptions.proofs.Parted.{points_from, directions_from, parted, parted_length, without_from}
 use Rattle.lra_cone.proofs.RayCase.{other_place, beside_place}

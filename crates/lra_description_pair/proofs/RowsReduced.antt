@@ -2,8 +2,7 @@
 use Rattle.std.proofs.Common.{◌≡◌, ℕ, suc, ◌+◌, ◌<◌, ◌≤◌, List, [], ◌∷◌, ◌++◌, length, get_or, set, take, refl, sym, ◌∙◌, subst, arith, ℤ}
 use Rattle.std.proofs.lemmas.List.{get_or_default, get_or-set_other, length-set, take_all}
 use Rattle.std.proofs.{Math.Seq.take-append_seam, Math.Seq.take-suc-set, lemmas.List.Elements.All-contains}
-use Rattle.lra_canonical.specs.{Echelons.HaveWidth, Reduced.IsReducedBy, Reduced.IsReductionExcess}
-use Rattle.lra_row.specs.declared.error.RowError.{RowError}
+use Rattle.lra_description_pair.specs.Crates.{lra_canonical.Echelons.HaveWidth, lra_canonical.Reduced.IsReducedBy, lra_canonical.Reduced.IsReductionExcess, lra_row.declared.error.RowError.RowError}
 use Rattle.lra_description_pair.specs.OwnLists.{AreReducedBy, AnyReductionExcess}
 use Rattle.lra_description_pair.proofs.OwnRows.{reduced_more, some_excess, width_more}
 

@@ -1,12 +1,11 @@
 -- Rows that are tight at all rays of a cone, and the others.
 use Rattle.std.proofs.Common.{◌≡◌, ℕ, zero, suc, ◌<◌, Bool, true, false, cond, List, [], ◌∷◌, ◌++◌, length, get_or, refl, ap, sym, ◌∙◌, subst, arith, pos, ℤ, inl, inr, ◌⊎◌}
+use Rattle.std.proofs.lemmas.Bool.{false_from_ne_true}
 use Rattle.std.proofs.{lemmas.Bool.cases_lt, lemmas.Bool.Decides.Decides-int_eq, lemmas.List.append-nil, lemmas.List.get_or_default, lemmas.List.Elements.Contains-get_or}
 use Rattle.std.specs.{List.Contains, Ordering.int_eq}
-use Rattle.std.proofs.lemmas.Bool.{false_from_ne_true}
-use Rattle.lra_linear_spec.specs.{Descriptions.LinearRow, Descriptions.rows_of, Strain.is_tight_at, Strain.tight_rows, Vectors.product}
-use Rattle.lra_linear_spec.proofs.Membership.{contains_none, contains_cases, contains_head, contains_tail}
-use Rattle.lra_canonical.specs.Reduced.{IsReducedBy}
-use Rattle.lra_bits.specs.TruthValues.{value_at}
+use Rattle.lra_description_pair.specs.Crates.{lra_bits.TruthValues.value_at, lra_canonical.Reduced.IsReducedBy, lra_linear_spec.Descriptions.LinearRow, lra_linear_spec.Descriptions.rows_of}
+use Rattle.lra_description_pair.specs.Crates.{lra_linear_spec.Strain.is_tight_at, lra_linear_spec.Strain.tight_rows, lra_linear_spec.Vectors.product}
+use Rattle.lra_description_pair.proofs.Crates.lra_linear_spec.Membership.{contains_none, contains_cases, contains_head, contains_tail}
 use Rattle.lra_description_pair.specs.OwnLists.{loose_rows, TellsTight, AllTellTight, AreReducedBy, AreParts}
 
 -- ---- tight at all rays

@@ -5,3 +5,5 @@ pub mod Made
 pub mod TriedRows
 -- Generators that were added to a cone.
 pub mod TakenPoints
+-- The crates below
+pub mod Crates

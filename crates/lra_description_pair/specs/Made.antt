@@ -1,9 +1,10 @@
 -- What is made of lists, and what was lost.
 use Rattle.std.specs.Prelude.{◌≡◌, ℕ, List, []}
-use Rattle.lra_linear_spec.specs.Descriptions.{Con, Gen, LinearRow}
-use Rattle.lra_linear_spec.specs.OperationStrain.{FromGeneratorsStrains, FromRowsStrains}
-use Rattle.lra_linear_spec.specs.Polyhedra.{IsPolyhedron, IsPolyhedronOf, Polyhedron}
-use Rattle.lra_linear_spec.specs.{Points.IsWithin, Points.PointSet, Strain.Loss}
+use Rattle.lra_description_pair.specs.Crates.lra_linear_spec.Descriptions.{Con, Gen, LinearRow}
+use Rattle.lra_description_pair.specs.Crates.lra_linear_spec.OperationStrain.{FromGeneratorsStrains, FromRowsStrains}
+use Rattle.lra_description_pair.specs.Crates.lra_linear_spec.Points.{IsWithin, PointSet}
+use Rattle.lra_description_pair.specs.Crates.lra_linear_spec.Polyhedra.{IsPolyhedron, IsPolyhedronOf, Polyhedron}
+use Rattle.lra_description_pair.specs.Crates.lra_linear_spec.Strain.{Loss}
 use Rattle.lra_cone.specs.Losses.{IfLost}
 
 -- P is made for the set of n dimensions. Whatever was lost, it has all points of the set; without a loss it has no

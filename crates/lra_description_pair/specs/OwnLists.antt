@@ -3,16 +3,18 @@
 -- others are reduced by it.
 use Rattle.std.specs.Prelude.{◌≡◌, ◌↔◌, ℕ, suc, ◌+◌, ◌<◌, ◌≤◌, ℤ, pos, Bool, true, cond, List, [], ◌∷◌, ◌++◌, length}
 use Rattle.std.specs.{List.Contains, Prelude.slice_index_or, Prelude.nat_lt}
-use Rattle.lra_linear_spec.specs.Descriptions.{LinearRow, inequality, system_of}
-use Rattle.lra_linear_spec.specs.Reduction.{ReductionPasses}
-use Rattle.lra_linear_spec.specs.Strain.{Loss, is_tight_at, tight_rows, OwnReductionPasses, OwnTooMany}
-use Rattle.lra_linear_spec.specs.{Canonical.IsCanonicalOf, Polyhedra.positivity, Vectors.product, declared.Cause.Cause}
-use Rattle.lra_linear_spec.specs.declared.Cause.TheVariants as of_cause
-use Rattle.lra_bits.specs.{Matrix.Matrix, TruthValues.value_at}
+use Rattle.lra_description_pair.specs.Crates.lra_linear_spec.Canonical.{IsCanonicalOf}
+use Rattle.lra_description_pair.specs.Crates.lra_linear_spec.Descriptions.{LinearRow, inequality, system_of}
+use Rattle.lra_description_pair.specs.Crates.lra_linear_spec.Reduction.{ReductionPasses}
+use Rattle.lra_description_pair.specs.Crates.lra_linear_spec.Strain.{Loss, is_tight_at, tight_rows, OwnReductionPasses}
+use Rattle.lra_description_pair.specs.Crates.lra_linear_spec.Strain.{OwnTooMany}
+use Rattle.lra_description_pair.specs.Crates.lra_row.declared.error.RowError.TheVariants.{Excess, Memory}
+use Rattle.lra_description_pair.specs.Crates.{lra_bits.Matrix.Matrix, lra_bits.TruthValues.value_at}
+use Rattle.lra_description_pair.specs.Crates.{lra_canonical.Reduced.IsReducedBy, lra_linear_spec.Polyhedra.positivity}
+use Rattle.lra_description_pair.specs.Crates.{lra_linear_spec.Vectors.product, lra_linear_spec.declared.Cause.Cause}
+use Rattle.lra_description_pair.specs.Crates.{lra_row.declared.error.RowError.RowError}
+use Rattle.lra_description_pair.specs.Crates.lra_linear_spec.declared.Cause.TheVariants as of_cause
 use Rattle.lra_descriptions.specs.Tightness.{tight_matrix}
-use Rattle.lra_canonical.specs.Reduced.{IsReducedBy}
-use Rattle.lra_row.specs.declared.error.RowError.{RowError}
-use Rattle.lra_row.specs.declared.error.RowError.TheVariants.{Excess, Memory}
 use Rattle.lra_cone.specs.Cones.{ConeContent}
 
 -- ---- tight rows and the others

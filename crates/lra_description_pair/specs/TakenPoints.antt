@@ -1,10 +1,12 @@
 -- What becomes of generators, some of them points, that are tried from nothing.
 use Rattle.std.specs.Prelude.{◌≡◌, ◌≢◌, ◌⊎◌, ℕ, suc, List, [], take}
-use Rattle.lra_linear_spec.specs.Descriptions.{AreGenerators, Con, Gen, LinearRow}
-use Rattle.lra_linear_spec.specs.Polyhedra.{IsPolyhedronOf, Polyhedron}
-use Rattle.lra_linear_spec.specs.{OperationStrain.with_positivity, Points.IsEmptySet, Points.IsWithin, Strain.Loss}
-use Rattle.lra_linear_spec.specs.{Strain.Strains, declared.ConKind.ConKind}
-use Rattle.lra_systems.specs.LinearSystems.{LinearSystem, constraints}
+use Rattle.lra_description_pair.specs.Crates.lra_linear_spec.Descriptions.{AreGenerators, Con, Gen, LinearRow}
+use Rattle.lra_description_pair.specs.Crates.lra_linear_spec.OperationStrain.{with_positivity}
+use Rattle.lra_description_pair.specs.Crates.lra_linear_spec.Points.{IsEmptySet, IsWithin}
+use Rattle.lra_description_pair.specs.Crates.lra_linear_spec.Polyhedra.{IsPolyhedronOf, Polyhedron}
+use Rattle.lra_description_pair.specs.Crates.lra_linear_spec.Strain.{Loss, Strains}
+use Rattle.lra_description_pair.specs.Crates.lra_linear_spec.declared.ConKind.{ConKind}
+use Rattle.lra_description_pair.specs.Crates.lra_systems.LinearSystems.{LinearSystem, constraints}
 use Rattle.lra_cone.specs.{Cones.ConeContent, Conversions.IsConversion, Losses.IfLost}
 use Rattle.lra_descriptions.specs.ShownLists.{ShowsConstraints, ShowsValid}
 use Rattle.lra_description_pair.specs.TriedRows.{IsOfTried, OwnListStrains}

@@ -1,8 +1,9 @@
 -- What becomes of rows that are tried after others: those that exceed a limit are left out, and the polyhedron is that
 -- of all others; but where the canonical list of these exceeds a limit is that of all points.
 use Rattle.std.specs.Prelude.{◌≡◌, ◌≢◌, ◌⊎◌, ℕ, List, [], drop}
-use Rattle.lra_linear_spec.specs.Polyhedra.{IsPolyhedronOf, Polyhedron}
-use Rattle.lra_linear_spec.specs.{Descriptions.Con, Descriptions.LinearRow, Strain.Loss, declared.Cause.Cause}
+use Rattle.lra_description_pair.specs.Crates.lra_linear_spec.Descriptions.{Con, LinearRow}
+use Rattle.lra_description_pair.specs.Crates.lra_linear_spec.Polyhedra.{IsPolyhedronOf, Polyhedron}
+use Rattle.lra_description_pair.specs.Crates.{lra_linear_spec.Strain.Loss, lra_linear_spec.declared.Cause.Cause}
 use Rattle.lra_cone.specs.{Cones.ConeContent, Cones.IsCone, Conversions.IsConversion}
 use Rattle.lra_description_pair.specs.OwnLists.{IsOwnCause, TellsOwnLoss}
 

@@ -3,19 +3,18 @@
 ghost use Rattle.std.specs.Prelude.{◌≡◌, ◌++◌, ◌∷◌, [], ℕ, List, ℤ, ◌+◌, ◌<◌, ◌≤◌, length, IfOk, IfErr, OnOk};
 ghost use Rattle.std.specs.Prelude.{slice_index_or};
 ghost use Rattle.lra_cone.specs.Cones.{IsCone};
-ghost use Rattle.lra_double_description.specs.Steps.{IsFilled};
-ghost use Rattle.lra_linear_spec.specs.{ConeStrain.row_limit, Descriptions.rows_of};
-ghost use Rattle.lra_canonical.specs.{Echelons.HaveWidth, Reduced.IsEchelonForm};
+ghost use Rattle.lra_description_pair.specs.Crates.lra_canonical.Echelons.{HaveWidth};
+ghost use Rattle.lra_description_pair.specs.Crates.lra_canonical.Reduced.{IsEchelonForm};
+ghost use Rattle.lra_description_pair.specs.Crates.lra_double_description.Steps.{IsFilled};
+ghost use Rattle.lra_description_pair.specs.Crates.lra_linear_spec.ConeStrain.{row_limit};
+ghost use Rattle.lra_description_pair.specs.Crates.lra_linear_spec.Descriptions.{rows_of};
+ghost use Rattle.lra_description_pair.specs.Crates.lra_systems.Dimensions.{too_many_dimensions};
 ghost use Rattle.lra_description_pair.specs.OwnLists.{TellsTight, AreParts, AreReducedBy, AnyReductionExcess};
 ghost use Rattle.lra_description_pair.specs.OwnLists.{IsOwnCause, IsOwnList, IsOwnExcess, columns_of, tight_value};
 ghost use Rattle.lra_descriptions.specs.Tightness.{tight_matrix};
-ghost use Rattle.lra_systems.specs.Dimensions.{too_many_dimensions};
 
-use lra_bits::{BitRow, SatMatrix};
-use lra_canonical::{drop_redundant, echelon, reduce};
-use lra_cone::{Cone, RAY_LIMIT};
-use lra_linear_spec::Cause;
-use lra_row::{Row, RowError};
+use lra_cone::{Cause, Cone, RAY_LIMIT};
+use lra_descriptions::{BitRow, Row, RowError, SatMatrix, drop_redundant, echelon, reduce};
 use std::alloc::{AllocError, Global};
 
 // Whether the row at the place is tight at this ray; past the rays stand lines, at which each row is.

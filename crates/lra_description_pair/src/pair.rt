@@ -2,15 +2,17 @@
 
 ghost use Rattle.std.specs.List.{Contains};
 ghost use Rattle.std.specs.Prelude.{◌≡◌, ◌∷◌, ◌++◌, ◌<◌, ◌≤◌, [], length, drop, IfOk, IfSome, IfNone, ◌≢◌, take, OnOk};
-ghost use Rattle.lra_linear_spec.specs.Descriptions.{AreGenerators, Con, Gen, inequality};
-ghost use Rattle.lra_linear_spec.specs.OperationStrain.{with_positivity};
-ghost use Rattle.lra_linear_spec.specs.Polyhedra.{IsPolyhedron, IsPolyhedronOf, falsity};
-ghost use Rattle.lra_linear_spec.specs.{ConeStrain.row_limit, Points.IsEmptySet, Representable.KeepsLimit};
-ghost use Rattle.lra_systems.specs.Dimensions.{too_many_dimensions};
-ghost use Rattle.lra_systems.specs.LinearSystems.{constraints, generators, FitKinds};
+ghost use Rattle.lra_description_pair.specs.Crates.lra_linear_spec.ConeStrain.{row_limit};
+ghost use Rattle.lra_description_pair.specs.Crates.lra_linear_spec.Descriptions.{AreGenerators, Con, Gen, inequality};
+ghost use Rattle.lra_description_pair.specs.Crates.lra_linear_spec.OperationStrain.{with_positivity};
+ghost use Rattle.lra_description_pair.specs.Crates.lra_linear_spec.Points.{IsEmptySet};
+ghost use Rattle.lra_description_pair.specs.Crates.lra_linear_spec.Polyhedra.{IsPolyhedron, IsPolyhedronOf, falsity};
+ghost use Rattle.lra_description_pair.specs.Crates.lra_linear_spec.Representable.{KeepsLimit};
+ghost use Rattle.lra_description_pair.specs.Crates.lra_systems.Dimensions.{too_many_dimensions};
+ghost use Rattle.lra_description_pair.specs.Crates.lra_systems.LinearSystems.{constraints, generators, FitKinds};
 ghost use Rattle.lra_cone.specs.Cones.{IsCone};
-ghost use Rattle.lra_linear_spec.specs.declared.Cause as told;
-ghost use Rattle.lra_linear_spec.specs.declared.GenKind.TheVariants.{Point};
+ghost use Rattle.lra_description_pair.specs.Crates.lra_linear_spec.declared.Cause as told;
+ghost use Rattle.lra_description_pair.specs.Crates.lra_linear_spec.declared.GenKind.TheVariants.{Point};
 ghost use Rattle.lra_description_pair.specs.OwnLists.{IsOwnCause, IsOwnList, IsOwnLoss, IsPositive, TellsOwnLoss};
 ghost use Rattle.lra_description_pair.specs.OwnLists.{TurnsTo, columns_of};
 ghost use Rattle.lra_description_pair.specs.TakenPoints.{AreTaken, IsMadeOfPoints, IsOfFirst, IsOfPoints, most_kept};
@@ -21,14 +23,11 @@ ghost use Rattle.lra_descriptions.specs.Tightness.{saturation_of, tight_matrix};
 
 use crate::own::{MarkedOwn, limit_own_list};
 use crate::valid::valid_list;
-use lra_bits::{BitRow, SatMatrix};
-use lra_cone::{Cone, Conversion, Loss, positive_cone, take_rows};
+use lra_cone::{Cause, ConSys, Cone, Conversion, Loss, positive_cone, take_rows};
 use lra_descriptions::{
-    KnownConstraints, KnownGenerators, dual_rows, generator_list, has_point, known_constraints,
-    known_generators, nothing,
+    BitRow, GenSys, KnownConstraints, KnownGenerators, SatMatrix, TOO_MANY_DIMENSIONS, dual_rows,
+    generator_list, has_point, known_constraints, known_generators, nothing, unit,
 };
-use lra_linear_spec::Cause;
-use lra_systems::{ConSys, GenSys, TOO_MANY_DIMENSIONS, unit};
 use std::alloc::{AllocError, Global};
 use std::marker::Model;
 
@@ -52,8 +51,9 @@ impl Drop for DescriptionPair {
 
 impl Model for DescriptionPair {
     ghost use Rattle.std.specs.Prelude.{◌≡◌};
-    ghost use Rattle.lra_linear_spec.specs.{Polyhedra.Polyhedron, Polyhedra.IsPolyhedron, Representable.KeepsLimit};
-    ghost use Rattle.lra_systems.specs.LinearSystems.{constraints, generators, FitKinds};
+    ghost use Rattle.lra_description_pair.specs.Crates.lra_linear_spec.Polyhedra.{Polyhedron, IsPolyhedron};
+    ghost use Rattle.lra_description_pair.specs.Crates.lra_linear_spec.Representable.{KeepsLimit};
+    ghost use Rattle.lra_description_pair.specs.Crates.lra_systems.LinearSystems.{constraints, generators, FitKinds};
     ghost use Rattle.lra_descriptions.specs.Tightness.{saturation_of};
 
     ghost Value = { Polyhedron };

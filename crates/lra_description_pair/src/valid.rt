@@ -1,13 +1,13 @@
 //! Constraints that hold at each of the generators.
 
 ghost use Rattle.std.specs.Prelude.{◌≡◌, ◌≢◌, [], ◌<◌, IfOk};
-ghost use Rattle.lra_systems.specs.{Dimensions.too_many_dimensions, LinearSystems.constraints};
+ghost use Rattle.lra_description_pair.specs.Crates.lra_systems.Dimensions.{too_many_dimensions};
+ghost use Rattle.lra_description_pair.specs.Crates.lra_systems.LinearSystems.{constraints};
 ghost use Rattle.lra_cone.specs.Cones.{IsCone};
 ghost use Rattle.lra_descriptions.specs.ShownLists.{ShowsValid, ShowsConstraints};
 
-use lra_cone::Conversion;
-use lra_descriptions::{constraint_list, valid_rows};
-use lra_systems::{ConKind, ConSys, unit};
+use lra_cone::{ConKind, ConSys, Conversion};
+use lra_descriptions::{constraint_list, unit, valid_rows};
 use std::alloc::{AllocError, Global};
 
 /// The constraints of the cone; after a loss those of its lines and rays that are seen to be valid on all rows, which

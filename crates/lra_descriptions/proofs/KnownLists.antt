@@ -5,9 +5,9 @@ use Rattle.std.proofs.lemmas.List.{take_all, take_more}
 use Rattle.std.proofs.lemmas.List.Elements.{All-contains, All-from_get_or, All-push, All-take, Contains-append_right}
 use Rattle.std.proofs.lemmas.List.Sorted.{All-permutation, length_permutation}
 use Rattle.std.specs.{List.All, List.Contains, List.Sorted.IsPermutation, List.Sorted.IsSorted, Prelude.Result, Prelude.Ok, Prelude.Err, Prelude.IfOk}
-use Rattle.lra_bits.specs.Matrix.{Matrix}
-use Rattle.lra_linear_spec.specs.{RowOrder.row_cmp, declared.GenKind.TheVariants.Point, declared.GenKind.TheVariants.Ray, declared.GenKind.TheVariants.Line}
-use Rattle.lra_linear_spec.proofs.Membership.{contains_head, contains_tail}
+use Rattle.lra_descriptions.specs.Crates.lra_linear_spec.declared.GenKind.TheVariants.{Point, Ray, Line}
+use Rattle.lra_descriptions.specs.Crates.{lra_bits.Matrix.Matrix, lra_linear_spec.RowOrder.row_cmp}
+use Rattle.lra_descriptions.proofs.Crates.lra_linear_spec.Membership.{contains_head, contains_tail}
 use Rattle.lra_canonical.specs.{MarkedRows.AreToldBy, MarkedRows.bits_in, MarkedRows.rows_in, declared.order.Marked.Marked}
 use Rattle.lra_canonical.proofs.MarkedOrder.{row_at, rows_length, rows_shuffled, told_bits, told_shuffled}
 use Rattle.lra_descriptions.specs.{ShownLists.directions_of, ShownLists.points_of, ShownLists.ShowsGenerators, Tightness.GoesWith, Tightness.TellsFirst, declared.known.KnownGenerators.KnownGenerators}

@@ -4,3 +4,5 @@ pub mod Parted
 pub mod Validity
 pub mod KnownLists
 pub mod TightLemmas
+-- The crates below
+pub mod Crates

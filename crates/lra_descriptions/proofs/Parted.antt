@@ -4,11 +4,13 @@ use Rattle.std.proofs.lemmas.List.Elements.{All-contains, All-from_get_or, Conta
 use Rattle.std.proofs.{Common.inl, Common.inr, Common.◌⊎◌, lemmas.Int.ints, lemmas.List.append-nil, lemmas.List.take_more, lemmas.List.Sorted.Contains-permutation, lemmas.List.Sorted.All-permutation}
 use Rattle.std.specs.declared.cmp.Ordering.TheVariants.{Less, Equal, Greater}
 use Rattle.std.specs.{List.Contains, List.All, List.Sorted.IsPermutation, List.Sorted.IsSorted, Ordering.is_eq, Prelude.Result, Prelude.Ok, Prelude.Err, Prelude.IfOk, declared.cmp.Ordering.Ordering}
-use Rattle.lra_linear_spec.specs.{Polyhedra.positivity, RowOrder.row_cmp, RowOrder.inequality_cmp, Vectors.entry, declared.ConKind.ConKind, declared.ConKind.TheVariants.Ge}
-use Rattle.lra_linear_spec.specs.{declared.ConKind.TheVariants.Eq, declared.GenKind.GenKind, declared.GenKind.TheVariants.Point, declared.GenKind.TheVariants.Ray, declared.GenKind.TheVariants.Line}
+use Rattle.lra_descriptions.specs.Crates.lra_linear_spec.RowOrder.{row_cmp, inequality_cmp}
+use Rattle.lra_descriptions.specs.Crates.lra_linear_spec.declared.ConKind.TheVariants.{Ge, Eq}
+use Rattle.lra_descriptions.specs.Crates.lra_linear_spec.declared.GenKind.TheVariants.{Point, Ray, Line}
+use Rattle.lra_descriptions.specs.Crates.{lra_linear_spec.Polyhedra.positivity, lra_linear_spec.Vectors.entry, lra_linear_spec.declared.ConKind.ConKind, lra_linear_spec.declared.GenKind.GenKind}
 use Rattle.lra_systems.specs.LinearSystems.{LinearSystem}
-use Rattle.lra_linear_spec.proofs.{Membership.contains_none, Membership.contains_cases, Membership.contains_head, Membership.contains_tail, RowOrder.row_cmp_total}
-use Rattle.lra_row.proofs.OrderLemmas.{row_cmp_ties}
+use Rattle.lra_descriptions.proofs.Crates.lra_linear_spec.Membership.{contains_none, contains_cases, contains_head, contains_tail}
+use Rattle.lra_descriptions.proofs.Crates.{lra_linear_spec.RowOrder.row_cmp_total, lra_row.OrderLemmas.row_cmp_ties}
 use Rattle.lra_canonical.proofs.Orders.{tied_itself}
 use Rattle.lra_descriptions.specs.ShownLists.{points_of, directions_of, without, ShowsGenerators, ShowsConstraints}
 

@@ -1,9 +1,11 @@
 -- Lists whose rows are of several kinds.
 use Rattle.std.proofs.Common.{◌≡◌, Bool, true, false, List, [], ◌∷◌, ◌++◌, length, map, replicate, refl, ap, ◌∙◌, arith, ℤ}
 use Rattle.std.specs.List.{Contains}
-use Rattle.lra_linear_spec.specs.{Cones.both_ways, Cones.with_row, Descriptions.LinearRow, Descriptions.rows_as, Descriptions.system_of, Kinds.is_equality, Kinds.is_line, Vectors.negated}
-use Rattle.lra_linear_spec.specs.{declared.GenKind.GenKind, declared.GenKind.TheVariants.Point, declared.GenKind.TheVariants.Ray, declared.GenKind.TheVariants.Line}
-use Rattle.lra_linear_spec.proofs.Membership.{contains_head, contains_tail}
+use Rattle.lra_descriptions.specs.Crates.lra_linear_spec.Descriptions.{LinearRow, rows_as, system_of}
+use Rattle.lra_descriptions.specs.Crates.lra_linear_spec.Kinds.{is_equality, is_line}
+use Rattle.lra_descriptions.specs.Crates.lra_linear_spec.declared.GenKind.TheVariants.{Point, Ray, Line}
+use Rattle.lra_descriptions.specs.Crates.{lra_linear_spec.Cones.both_ways, lra_linear_spec.Cones.with_row, lra_linear_spec.Vectors.negated, lra_linear_spec.declared.GenKind.GenKind}
+use Rattle.lra_descriptions.proofs.Crates.lra_linear_spec.Membership.{contains_head, contains_tail}
 use Rattle.lra_systems.specs.LinearSystems.{rows_by_kind, FitsKind, FitKinds}
 use Rattle.lra_descriptions.specs.ShownLists.{dual_kind}
 

@@ -3,9 +3,10 @@ use Rattle.std.proofs.Common.{◌≡◌, ◌∙◌, ℕ, ◌<◌, ◌+◌, ℤ, 
 use Rattle.std.proofs.lemmas.Bool.Decides.{Decides-int_eq}
 use Rattle.std.proofs.lemmas.List.{append-nil, ext_get_or, get_or-map, get_or_append_left, length-append, length-map}
 use Rattle.std.specs.{List.All, List.Contains, Ordering.int_eq}
-use Rattle.lra_bits.specs.{Matrix.Matrix, Transposed.AreColumns, TruthValues.value_at}
-use Rattle.lra_linear_spec.specs.{Descriptions.LinearRow, Kinds.is_equality, Kinds.is_line, Vectors.product, declared.ConKind.ConKind, declared.GenKind.GenKind}
-use Rattle.lra_linear_spec.proofs.{Membership.contains_head, Membership.contains_tail, Products.product_comm}
+use Rattle.lra_descriptions.specs.Crates.lra_linear_spec.Kinds.{is_equality, is_line}
+use Rattle.lra_descriptions.specs.Crates.{lra_bits.Matrix.Matrix, lra_bits.Transposed.AreColumns, lra_bits.TruthValues.value_at, lra_linear_spec.Descriptions.LinearRow}
+use Rattle.lra_descriptions.specs.Crates.{lra_linear_spec.Vectors.product, lra_linear_spec.declared.ConKind.ConKind, lra_linear_spec.declared.GenKind.GenKind}
+use Rattle.lra_descriptions.proofs.Crates.{lra_linear_spec.Membership.contains_head, lra_linear_spec.Membership.contains_tail, lra_linear_spec.Products.product_comm}
 use Rattle.lra_systems.specs.LinearSystems.{LinearSystem, constraints, generators, rows_by_kind}
 use Rattle.lra_descriptions.specs.Tightness.{GoesWith, TellsFirst, saturated, saturation_of, tight_at, tight_matrix}
 

@@ -3,8 +3,9 @@ use Rattle.std.proofs.Common.{◌≡◌, ◌≢◌, ℕ, zero, suc, ◌+◌, ◌
 use Rattle.std.proofs.lemmas.List.Elements.{All-contains, Contains-append_cases, Contains-append_left, Contains-append_right}
 use Rattle.std.proofs.{Common.Result, Common.Ok, Common.Err, Math.Seq.take_all, Math.Seq.take-suc, lemmas.List.get_or_default}
 use Rattle.std.specs.List.{All, Contains}
-use Rattle.lra_linear_spec.specs.{CheckedArithmetic.checked_product, Descriptions.LinearRow, Descriptions.HoldsWith, Vectors.product, declared.GenKind.GenKind, declared.GenKind.TheVariants.Point}
-use Rattle.lra_linear_spec.proofs.Membership.{all_from, contains_cases, contains_head, contains_none, contains_tail, each_one}
+use Rattle.lra_descriptions.specs.Crates.{lra_linear_spec.CheckedArithmetic.checked_product, lra_linear_spec.Descriptions.LinearRow, lra_linear_spec.Descriptions.HoldsWith}
+use Rattle.lra_descriptions.specs.Crates.{lra_linear_spec.Vectors.product, lra_linear_spec.declared.GenKind.GenKind, lra_linear_spec.declared.GenKind.TheVariants.Point}
+use Rattle.lra_descriptions.proofs.Crates.lra_linear_spec.Membership.{all_from, contains_cases, contains_head, contains_none, contains_tail, each_one}
 use Rattle.lra_systems.specs.LinearSystems.{rows_by_kind}
 use Rattle.lra_systems.proofs.LinearRows.{given_pushed, all_given}
 use Rattle.lra_descriptions.specs.ShownLists.{IsSeenValid}

@@ -2,3 +2,5 @@
 pub mod ShownLists
 -- Which rows are tight at which others.
 pub mod Tightness
+-- The crates below
+pub mod Crates

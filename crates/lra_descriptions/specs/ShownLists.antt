@@ -3,13 +3,19 @@ use Rattle.std.specs.Prelude.{◌≡◌, ◌≢◌, ◌↔◌, ◌⊎◌, ℕ, s
 use Rattle.std.specs.Prelude.{◌++◌, length, replicate, IsOk}
 use Rattle.std.specs.{List.Contains, List.Sorted.IsPermutation, List.Sorted.IsSorted, Ordering.is_eq}
 use Rattle.lra_systems.specs.LinearSystems.{LinearSystem}
-use Rattle.lra_linear_spec.specs.Descriptions.{LinearRow, inequality, rows_as, system_of, HoldsWith, Con, Gen}
-use Rattle.lra_linear_spec.specs.RowOrder.{row_cmp, inequality_cmp, Ascends}
-use Rattle.lra_linear_spec.specs.declared.ConKind.TheVariants.{Ge, Eq}
-use Rattle.lra_linear_spec.specs.declared.GenKind.TheVariants.{Point, Ray, Line}
-use Rattle.lra_linear_spec.specs.{Canonical.IsCanonical, CheckedArithmetic.checked_product, Cones.all_rows}
-use Rattle.lra_linear_spec.specs.{Cones.AreDual, Points.IsEmptySet, Polyhedra.positivity, Polyhedra.falsity}
-use Rattle.lra_linear_spec.specs.{Vectors.entry, Vectors.product, declared.ConKind.ConKind, declared.GenKind.GenKind}
+use Rattle.lra_descriptions.specs.Crates.lra_linear_spec.Canonical.{IsCanonical}
+use Rattle.lra_descriptions.specs.Crates.lra_linear_spec.CheckedArithmetic.{checked_product}
+use Rattle.lra_descriptions.specs.Crates.lra_linear_spec.Cones.{all_rows, AreDual}
+use Rattle.lra_descriptions.specs.Crates.lra_linear_spec.Descriptions.{LinearRow, inequality, rows_as, system_of}
+use Rattle.lra_descriptions.specs.Crates.lra_linear_spec.Descriptions.{HoldsWith, Con, Gen}
+use Rattle.lra_descriptions.specs.Crates.lra_linear_spec.Points.{IsEmptySet}
+use Rattle.lra_descriptions.specs.Crates.lra_linear_spec.Polyhedra.{positivity, falsity}
+use Rattle.lra_descriptions.specs.Crates.lra_linear_spec.RowOrder.{row_cmp, inequality_cmp, Ascends}
+use Rattle.lra_descriptions.specs.Crates.lra_linear_spec.Vectors.{entry, product}
+use Rattle.lra_descriptions.specs.Crates.lra_linear_spec.declared.ConKind.{ConKind}
+use Rattle.lra_descriptions.specs.Crates.lra_linear_spec.declared.ConKind.TheVariants.{Ge, Eq}
+use Rattle.lra_descriptions.specs.Crates.lra_linear_spec.declared.GenKind.{GenKind}
+use Rattle.lra_descriptions.specs.Crates.lra_linear_spec.declared.GenKind.TheVariants.{Point, Ray, Line}
 
 -- ---- generators, as they are shown
 -- Points, rays and lines, each in order, that are the canonical description of the solutions of the system; column 0 of

@@ -1,8 +1,8 @@
 -- Which rows are tight at which others: where their product is 0.
 use Rattle.std.specs.Prelude.{◌≡◌, ◌<◌, ℕ, ℤ, pos, Bool, true, List, [], length, map, replicate, slice_index_or}
 use Rattle.std.specs.{List.Contains, Ordering.int_eq}
-use Rattle.lra_bits.specs.Matrix.{Matrix}
-use Rattle.lra_linear_spec.specs.{Descriptions.LinearRow, Vectors.product}
+use Rattle.lra_descriptions.specs.Crates.lra_linear_spec.Descriptions.{LinearRow}
+use Rattle.lra_descriptions.specs.Crates.{lra_bits.Matrix.Matrix, lra_linear_spec.Vectors.product}
 
 -- for each of the columns, whether the row has product 0 with it
 abbrev pub tight_at : List (List ℤ) → List ℤ → List Bool

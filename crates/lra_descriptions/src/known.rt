@@ -2,18 +2,16 @@
 
 ghost use Rattle.std.specs.Prelude.{◌≡◌, ◌++◌, ◌∷◌, [], ◌<◌, ◌≤◌, suc, length, replicate, IfOk, OnOk, ℕ, ℤ, Bool, true};
 ghost use Rattle.std.specs.{List.All, Prelude.cond, Prelude.List};
-ghost use Rattle.lra_linear_spec.specs.Polyhedra.{positivity};
-ghost use Rattle.lra_linear_spec.specs.declared.GenKind.TheVariants.{Point, Ray, Line};
+ghost use Rattle.lra_descriptions.specs.Crates.lra_linear_spec.Polyhedra.{positivity};
+ghost use Rattle.lra_descriptions.specs.Crates.lra_linear_spec.declared.GenKind.TheVariants.{Point, Ray, Line};
 ghost use Rattle.lra_systems.specs.Dimensions.{too_many_dimensions};
 ghost use Rattle.lra_canonical.specs.MarkedRows.{bits_in, rows_in, AreToldBy};
 ghost use Rattle.lra_descriptions.specs.ShownLists.{points_of, directions_of, without, ShowsConstraints};
 ghost use Rattle.lra_descriptions.specs.{ShownLists.ShowsGenerators, Tightness.GoesWith, Tightness.TellsFirst};
 
 use crate::shown::{are_same, is_point, push_constraints, push_generators};
-use lra_bits::{BitRow, SatMatrix};
-use lra_canonical::{Marked, Order, order_marked};
-use lra_row::Row;
-use lra_systems::{ConKind, ConSys, GenKind, GenSys};
+use lra_canonical::{BitRow, Marked, Order, SatMatrix, order_marked};
+use lra_systems::{ConKind, ConSys, GenKind, GenSys, Row};
 use std::alloc::{AllocError, Global};
 
 /// Constraints, and a row of the matrix for each.

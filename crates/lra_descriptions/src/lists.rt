@@ -2,13 +2,15 @@
 
 ghost use Rattle.std.specs.List.{All, Contains};
 ghost use Rattle.std.specs.Prelude.{◌≡◌, ◌↔◌, ◌∷◌, [], ℤ, List, suc, length, map, ◌<◌, IsTrue, IsFalse, IfOk};
-ghost use Rattle.lra_linear_spec.specs.{Kinds.is_equality, OperationStrain.unit_row, Vectors.negated};
-ghost use Rattle.lra_linear_spec.specs.{declared.ConKind.TheVariants.Ge, declared.GenKind.TheVariants.Point};
+ghost use Rattle.lra_descriptions.specs.Crates.lra_linear_spec.Kinds.{is_equality};
+ghost use Rattle.lra_descriptions.specs.Crates.lra_linear_spec.OperationStrain.{unit_row};
+ghost use Rattle.lra_descriptions.specs.Crates.lra_linear_spec.Vectors.{negated};
+ghost use Rattle.lra_descriptions.specs.Crates.lra_linear_spec.declared.ConKind.TheVariants.{Ge};
+ghost use Rattle.lra_descriptions.specs.Crates.lra_linear_spec.declared.GenKind.TheVariants.{Point};
 ghost use Rattle.lra_systems.specs.{Dimensions.too_many_dimensions, LinearSystems.constraints};
 ghost use Rattle.lra_descriptions.specs.ShownLists.{dual_kind, IsSeenValid};
 
-use lra_row::Row;
-use lra_systems::{ConKind, ConSys, GenKind, GenSys, unit};
+use lra_systems::{ConKind, ConSys, GenKind, GenSys, Row, unit};
 use std::alloc::{AllocError, Global};
 
 // What is asked of the product of a constraint with such a generator.

@@ -2,15 +2,15 @@
 
 ghost use Rattle.std.specs.Prelude.{◌≡◌, ◌++◌, ◌<◌, suc, pos, int_lt, length, replicate, IfOk, OnOk};
 ghost use Rattle.std.specs.{List.All, List.Sorted.IsPermutation, List.Sorted.IsSorted, Ordering.is_eq};
-ghost use Rattle.lra_linear_spec.specs.declared.GenKind.TheVariants.{Point, Ray, Line};
-ghost use Rattle.lra_linear_spec.specs.{Polyhedra.positivity, RowOrder.row_cmp, Vectors.entry};
+ghost use Rattle.lra_descriptions.specs.Crates.lra_linear_spec.Polyhedra.{positivity};
+ghost use Rattle.lra_descriptions.specs.Crates.lra_linear_spec.declared.GenKind.TheVariants.{Point, Ray, Line};
+ghost use Rattle.lra_descriptions.specs.Crates.{lra_linear_spec.RowOrder.row_cmp, lra_linear_spec.Vectors.entry};
 ghost use Rattle.lra_descriptions.specs.ShownLists.{points_of, directions_of, without, ShowsGenerators};
 ghost use Rattle.lra_descriptions.specs.ShownLists.{ShowsConstraints};
 ghost use Rattle.lra_systems.specs.Dimensions.{too_many_dimensions};
 
 use lra_canonical::{Order, canonical_order};
-use lra_row::Row;
-use lra_systems::{ConKind, ConSys, GenKind, GenSys};
+use lra_systems::{ConKind, ConSys, GenKind, GenSys, Row};
 use std::alloc::{AllocError, Global};
 
 // Whether column 0 is above 0.

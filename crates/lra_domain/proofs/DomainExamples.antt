@@ -2,7 +2,7 @@
 use Rattle.std.specs.Prelude.{pos, negsuc, [], ◌∷◌, refl}
 use Rattle.std.proofs.Common.{inr, inl, lit<}
 use Rattle.lra_domain.specs.{Actions.Leads, Actions.assign, Actions.embed, Actions.remove_last, Rank.RankBelow}
-use Rattle.lra_linear_spec.specs.Descriptions.{Holds, equality}
+use Rattle.lra_domain.specs.Crates.lra_linear_spec.Descriptions.{Holds, equality}
 
 -- y = x + 1 at x = 4, y = 0
 pub assign_example : Leads (assign 1 (record { constant = pos 1; coefficients = pos 1 ∷ pos 0 ∷ [] }))

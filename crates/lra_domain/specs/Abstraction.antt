@@ -3,7 +3,7 @@
 use Rattle.std.specs.Prelude.{◌≡◌, ℕ, ℤ, List, Option, ◌⊎◌}
 use Rattle.lra_linear_forms.specs.Form.{Form}
 use Rattle.lra_systems.specs.LinearSystems.{LinearSystem}
-use Rattle.lra_linear_spec.specs.declared.ConKind.{ConKind}
+use Rattle.lra_domain.specs.Crates.lra_linear_spec.declared.ConKind.{ConKind}
 use Rattle.lra_domain.specs.Actions.{Action, Within}
 use Rattle.lra_domain.specs.declared.Exactness.TheVariants.{Exact, Flagged}
 use Rattle.lra_domain.specs.{declared.Exactness.Exactness, declared.Included.Included, declared.Included.TheVariants.No}

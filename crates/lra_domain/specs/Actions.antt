@@ -1,7 +1,7 @@
 -- What the least changes of a value do to stores.
 use Rattle.std.specs.Prelude.{◌≡◌, ◌≤◌, ◌<◌, ℕ, ◌+◌, ◌-◌, ℤ, List, ◌++◌, length, take, slice_set}
 use Rattle.lra_linear_forms.specs.Form.{Form, form_value, HoldsAt}
-use Rattle.lra_linear_spec.specs.declared.ConKind.{ConKind}
+use Rattle.lra_domain.specs.Crates.lra_linear_spec.declared.ConKind.{ConKind}
 
 -- every store of the first is one of the second
 abbrev pub Within : (List ℤ → Type 0) → (List ℤ → Type 0) → Type 0

@@ -3,7 +3,7 @@
 use Rattle.std.specs.Prelude.{◌≡◌, ◌≤◌, ℕ, ℤ, List, [], length, None, ⊤}
 use Rattle.std.proofs.Common.{refl, subst, sym, ◌∙◌, arith}
 use Rattle.lra_linear_forms.specs.Form.{form_value}
-use Rattle.lra_linear_spec.specs.declared.ConKind.{ConKind}
+use Rattle.lra_domain.specs.Crates.lra_linear_spec.declared.ConKind.{ConKind}
 use Rattle.lra_systems.specs.LinearSystems.{LinearSystem}
 use Rattle.lra_domain.specs.Actions.{Action, ActionFits, Leads, Within, KeepsStores, HoldsStores}
 use Rattle.lra_domain.specs.declared.Included.TheVariants.{Yes, No, Wide}

@@ -3,7 +3,7 @@
 use Rattle.std.specs.Prelude.{◌≡◌, ◌≢◌, ◌↔◌, ◌≤◌, ℕ, ℤ, List, [], length, Option, None}
 use Rattle.lra_linear_forms.specs.Form.{Form, form_value}
 use Rattle.lra_systems.specs.LinearSystems.{LinearSystem}
-use Rattle.lra_linear_spec.specs.declared.ConKind.{ConKind}
+use Rattle.lra_domain.specs.Crates.lra_linear_spec.declared.ConKind.{ConKind}
 use Rattle.lra_domain.specs.Actions.{Action, Leads, Within}
 use Rattle.lra_domain.specs.declared.Included.TheVariants.{Yes, No}
 use Rattle.lra_domain.specs.{Abstraction.Abstraction, Bounds.IsBetween, Parts.SomePartHolds, declared.Mode.Mode}

@@ -11,3 +11,5 @@ pub mod ExactDomains
 pub mod Backward
 -- What others may do to a store, and what a value becomes for them.
 pub mod Interference
+-- The crates below
+pub mod Crates

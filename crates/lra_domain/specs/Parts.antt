@@ -1,7 +1,7 @@
 -- Where the rows of a part hold. A store x1, .., xn is the point 1, x1, .., xn of the rows' columns.
 -- And how many parts there may be.
 use Rattle.std.specs.Prelude.{ℕ, ℤ, pos, List, [], ◌∷◌, ◌⊎◌}
-use Rattle.lra_linear_spec.specs.{Descriptions.Con, declared.ConKind.ConKind}
+use Rattle.lra_domain.specs.Crates.{lra_linear_spec.Descriptions.Con, lra_linear_spec.declared.ConKind.ConKind}
 use Rattle.lra_systems.specs.LinearSystems.{LinearSystem, constraints}
 
 -- all rows of some part hold at the store

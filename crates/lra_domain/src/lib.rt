@@ -14,6 +14,8 @@ pub use changes::{Change, change_all};
 pub use domain::{BaseDomain, Domain, ExactParts};
 pub use flags::worse;
 pub use interference::{Interfere, NoInterference};
+pub use lra_linear_forms::{LinExpr, Test, add, mul};
+pub use lra_systems::{ConKind, ConSys, Row};
 
 /// Whether a result is the defined one, or only covers it because a number or a count passed its limit.
 #[derive(Clone, Copy, Debug, PartialEq, Eq)]

@@ -6,7 +6,7 @@ use Rattle.std.specs.Ordering.{int_eq}
 use Rattle.lra_bits.specs.{Matrix.Matrix, TruthValues.value_at}
 use Rattle.lra_bits.proofs.Lengthening.{lengthened_more}
 use Rattle.lra_double_description.specs.Steps.{IsFilled, lengthened_rows, is_inside, outside_marks}
-use Rattle.lra_linear_spec.specs.Descriptions.{HoldsWith}
+use Rattle.lra_double_description.specs.Crates.lra_linear_spec.Descriptions.{HoldsWith}
 use Rattle.lra_double_description.proofs.PairLists.{accepted}
 
 -- ---- values that were true, set one after the other

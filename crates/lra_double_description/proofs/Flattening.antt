@@ -1,8 +1,9 @@
 -- A row combined with a line, from the sum that is formed.
 use Rattle.std.proofs.Common.{◌≡◌, ℕ, ◌+◌, ◌-◌, ◌<◌, List, [], ◌∷◌, ◌++◌, length, get_or, take, drop, ap, sym, ◌∙◌, subst, pos, ℤ, ◌+ℤ◌, ◌*ℤ◌, neg_ℤ, arith, inr}
 use Rattle.std.proofs.lemmas.List.{take_more, length-take-le, append_assoc, take_all, length-drop, get_or_default}
-use Rattle.lra_linear_spec.specs.{LowestTerms.IsLowest, Vectors.entry, Vectors.negated, Vectors.blend}
-use Rattle.lra_linear_spec.proofs.{Products.entry_blend, Products.blend_length, Products.entry_negated, Ring.ring, Ring.v, Ring.⊖, Ring.◌⊕◌, Ring.◌⊗◌}
+use Rattle.lra_double_description.specs.Crates.{lra_linear_spec.LowestTerms.IsLowest, lra_linear_spec.Vectors.entry, lra_linear_spec.Vectors.negated, lra_linear_spec.Vectors.blend}
+use Rattle.lra_double_description.proofs.Crates.lra_linear_spec.Products.{entry_blend, blend_length, entry_negated}
+use Rattle.lra_double_description.proofs.Crates.lra_linear_spec.Ring.{ring, v, ⊖, ◌⊕◌, ◌⊗◌}
 use Rattle.lra_double_description.specs.{Steps.IsFlattened, Steps.AreFlattened, Steps.PushesFlattened, Steps.AreFlatLines, declared.line_step.Across.Across}
 
 -- a row with a product above 0

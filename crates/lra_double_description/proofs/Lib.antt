@@ -6,3 +6,5 @@ pub mod Flattening
 pub mod Cuts
 pub mod Thirds
 pub mod PairsBelow
+-- The crates below
+pub mod Crates

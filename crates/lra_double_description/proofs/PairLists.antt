@@ -4,9 +4,9 @@ use Rattle.std.proofs.lemmas.List.Elements.{Contains-append_cases, Contains-appe
 use Rattle.std.proofs.{Common.int_lt, lemmas.Bool.cases_lt, lemmas.Bool.Decides.Decides-int_eq, lemmas.Int.ints, lemmas.List.take_more, lemmas.List.get_or_past}
 use Rattle.std.specs.List.{Contains}
 use Rattle.lra_bits.specs.TruthValues.{both}
-use Rattle.lra_linear_spec.specs.{Descriptions.HoldsWith, LowestTerms.IsLowest}
-use Rattle.lra_linear_spec.proofs.Membership.{contains_none, contains_cases, contains_head, contains_tail}
-use Rattle.lra_linear_spec.proofs.Signs.{le_yes, le_said}
+use Rattle.lra_double_description.specs.Crates.{lra_linear_spec.Descriptions.HoldsWith, lra_linear_spec.LowestTerms.IsLowest}
+use Rattle.lra_double_description.proofs.Crates.lra_linear_spec.Membership.{contains_none, contains_cases, contains_head, contains_tail}
+use Rattle.lra_double_description.proofs.Crates.lra_linear_spec.Signs.{le_yes, le_said}
 use Rattle.lra_bits.proofs.Pairs.{both_length}
 use Rattle.lra_double_description.specs.Pairs.{HasThird, NoThird, TellsAdjacent, both_tight, IsAdjacentPair, AreApart, IsBefore, ArePairs, pair_sum, AreCombined}
 use Rattle.lra_double_description.specs.{Steps.is_inside, Steps.inside_count, Strains.IsPairError, Strains.ArePairsError, declared.pairs.Pair.Pair}

@@ -2,8 +2,8 @@
 use Rattle.std.proofs.Common.{◌≡◌, ◌∙◌, ℕ, zero, suc, ◌+◌, ◌<◌, refl, arith, List, [], ◌∷◌, ◌++◌, length, get_or, map, take, ap, sym, subst, ℤ, Result, Err}
 use Rattle.std.proofs.{lemmas.List.get_or_default, lemmas.List.map-append, lemmas.List.take_more, lemmas.List.Elements.All-append}
 use Rattle.std.specs.List.{All}
-use Rattle.lra_linear_spec.specs.declared.Excess as E
-use Rattle.lra_linear_spec.specs.{CheckedArithmetic.checked_product, Range.InRange, Vectors.product}
+use Rattle.lra_double_description.specs.Crates.lra_linear_spec.declared.Excess as E
+use Rattle.lra_double_description.specs.Crates.{lra_linear_spec.CheckedArithmetic.checked_product, lra_linear_spec.Range.InRange, lra_linear_spec.Vectors.product}
 use Rattle.lra_double_description.specs.{Strains.NamesProduct, declared.strained.Family.Family, declared.strained.Strained.TheVariants.Product}
 
 -- those with the first rows, and one more

@@ -4,3 +4,5 @@ pub mod Pairs
 pub mod Strains
 pub mod Thirds
 pub mod Below
+-- The crates below
+pub mod Crates

@@ -4,7 +4,8 @@ use Rattle.std.specs.Prelude.{◌≡◌, ◌≢◌, ℕ, ◌<◌, ◌⊎◌, ℤ
 use Rattle.std.specs.Prelude.{◌≤◌, List, [], ◌∷◌, ◌++◌, length, slice_index_or}
 use Rattle.std.specs.{List.Contains, Ordering.int_eq}
 use Rattle.lra_bits.specs.{Matrix.Matrix, Matrix.unmarked, TruthValues.IsSubset, TruthValues.both}
-use Rattle.lra_linear_spec.specs.{ConeStrain.row_limit, LowestTerms.IsLowest, Vectors.blend}
+use Rattle.lra_double_description.specs.Crates.lra_linear_spec.ConeStrain.{row_limit}
+use Rattle.lra_double_description.specs.Crates.{lra_linear_spec.LowestTerms.IsLowest, lra_linear_spec.Vectors.blend}
 use Rattle.lra_double_description.specs.Steps.{lengthened_rows, outside_marks, inside_count}
 use Rattle.lra_double_description.specs.{declared.pairs.Pair.Pair, declared.ray_step.Cut.Cut}
 

@@ -5,9 +5,10 @@ use Rattle.std.specs.Prelude.{Bool, true, false, cond, List, [], ◌∷◌, ◌+
 use Rattle.std.specs.Prelude.{Result, Ok, Option, Some, None, slice_index_or}
 use Rattle.lra_bits.specs.{Matrix.Matrix, TruthValues.value_at}
 pub use Rattle.lra_bits.specs.Matrix.{lengthened_rows}
-use Rattle.lra_linear_spec.specs.declared.Excess as E
-use Rattle.lra_linear_spec.specs.Vectors.{entry, negated}
-use Rattle.lra_linear_spec.specs.{CheckedArithmetic.checked_blend, LowestTerms.IsPrimitive}
+use Rattle.lra_double_description.specs.Crates.lra_linear_spec.declared.Excess as E
+use Rattle.lra_double_description.specs.Crates.lra_linear_spec.CheckedArithmetic.{checked_blend}
+use Rattle.lra_double_description.specs.Crates.lra_linear_spec.LowestTerms.{IsPrimitive}
+use Rattle.lra_double_description.specs.Crates.lra_linear_spec.Vectors.{entry, negated}
 use Rattle.lra_double_description.specs.declared.line_step.Across.{Across}
 
 -- of the first n products, the last that isn't 0, if there is one

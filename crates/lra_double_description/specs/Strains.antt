@@ -2,10 +2,12 @@
 -- would be.
 use Rattle.std.specs.Prelude.{◌≡◌, ℕ, ◌+◌, ◌<◌, ◌⊎◌, neg_ℤ, ℤ, pos, int_lt, Bool, cond, List, [], length, Result, Err}
 use Rattle.std.specs.{List.Contains, Prelude.slice_index_or}
-use Rattle.lra_linear_spec.specs.declared.Excess as E
-use Rattle.lra_linear_spec.specs.CheckedArithmetic.{checked_product, checked_blend}
-use Rattle.lra_linear_spec.specs.{ConeStrain.row_limit, declared.Cause.Cause, declared.Cause.TheVariants.Excess}
-use Rattle.lra_linear_spec.specs.declared.Cause.TheVariants as cause
+use Rattle.lra_double_description.specs.Crates.lra_linear_spec.declared.Excess as E
+use Rattle.lra_double_description.specs.Crates.lra_linear_spec.CheckedArithmetic.{checked_product, checked_blend}
+use Rattle.lra_double_description.specs.Crates.lra_linear_spec.ConeStrain.{row_limit}
+use Rattle.lra_double_description.specs.Crates.lra_linear_spec.declared.Cause.{Cause}
+use Rattle.lra_double_description.specs.Crates.lra_linear_spec.declared.Cause.TheVariants.{Excess}
+use Rattle.lra_double_description.specs.Crates.lra_linear_spec.declared.Cause.TheVariants as cause
 use Rattle.lra_bits.specs.Matrix.{Matrix}
 use Rattle.lra_double_description.specs.Steps.{flattening, inside_count}
 use Rattle.lra_double_description.specs.declared.strained.Family.TheVariants.{Lines, Rays}

@@ -2,7 +2,8 @@
 
 ghost use Rattle.std.specs.Prelude.{◌≡◌, ◌≢◌, ◌<◌, ◌++◌, ◌∷◌, [], suc, pos, length, take, replicate, true, false, IfOk};
 ghost use Rattle.std.specs.{List.All, Prelude.IfErr, Prelude.OnOk, Prelude.slice_index_or};
-ghost use Rattle.lra_linear_spec.specs.{Kinds.is_equality, Range.InRange, Vectors.negated};
+ghost use Rattle.lra_double_description.specs.Crates.lra_linear_spec.Kinds.{is_equality};
+ghost use Rattle.lra_double_description.specs.Crates.{lra_linear_spec.Range.InRange, lra_linear_spec.Vectors.negated};
 ghost use Rattle.lra_row.specs.Rows.{IsExcessOf};
 ghost use Rattle.lra_double_description.specs.Steps.{IsTurned, IsFlattened, flattening, PushesFlattened, AreFlatLines};
 ghost use Rattle.lra_double_description.specs.Steps.{AreFlatRays, flat_matrix};
@@ -12,8 +13,7 @@ ghost use Rattle.lra_double_description.specs.declared.strained.Family.TheVarian
 use crate::saturation::{lengthen, one_more, push_lengthened};
 use crate::strained::{ConeError, Family, Member, Strained};
 use lra_bits::{BitRow, SatMatrix};
-use lra_linear_spec::{ConKind, Excess};
-use lra_row::{Row, RowError, opposite, push_copies};
+use lra_row::{ConKind, Excess, Row, RowError, opposite, push_copies};
 use std::alloc::{AllocError, Global};
 
 /// The line at a place in both directions; `product`, that of the row with `up`, is above 0.

@@ -1,7 +1,7 @@
 //! The products of a row with the rows of a cone.
 
 ghost use Rattle.std.specs.{List.All, Prelude.◌≡◌, Prelude.length, Prelude.map, Prelude.IfOk, Prelude.IfErr};
-ghost use Rattle.lra_linear_spec.specs.{Range.InRange, Vectors.product};
+ghost use Rattle.lra_double_description.specs.Crates.{lra_linear_spec.Range.InRange, lra_linear_spec.Vectors.product};
 ghost use Rattle.lra_double_description.specs.{Steps.IsLastAcross, Strains.IsProductError};
 
 use crate::strained::{ConeError, Family, Member, Strained};

@@ -3,7 +3,10 @@
 
 ghost use Rattle.std.specs.List.{All};
 ghost use Rattle.std.specs.Prelude.{◌≡◌, ◌<◌, ◌≤◌, ◌^◌, ◌+◌, ◌++◌, length, map, replicate, false, IfOk, IfErr};
-ghost use Rattle.lra_linear_spec.specs.{ConeStrain.row_limit, Kinds.is_equality, LowestTerms.IsLowest, Range.InRange};
+ghost use Rattle.lra_double_description.specs.Crates.lra_linear_spec.ConeStrain.{row_limit};
+ghost use Rattle.lra_double_description.specs.Crates.lra_linear_spec.Kinds.{is_equality};
+ghost use Rattle.lra_double_description.specs.Crates.lra_linear_spec.LowestTerms.{IsLowest};
+ghost use Rattle.lra_double_description.specs.Crates.lra_linear_spec.Range.{InRange};
 ghost use Rattle.lra_double_description.specs.Pairs.{HaveOneWidth, pair_sum, AreCombined, IsCut};
 ghost use Rattle.lra_double_description.specs.Steps.{outside_marks, inside_count};
 ghost use Rattle.lra_double_description.specs.Strains.{IsPairError, ArePairsError, IsCutError};
@@ -13,8 +16,7 @@ use crate::pairs::{Pair, adjacent_pairs};
 use crate::saturation::mark_tight;
 use crate::strained::{ConeError, Family, Member, Strained};
 use lra_bits::{BitRow, SatMatrix};
-use lra_linear_spec::ConKind;
-use lra_row::{Row, RowError, opposite};
+use lra_row::{ConKind, Row, RowError, opposite};
 use std::alloc::{AllocError, Global};
 
 /// The most rays of a cone, and the most inequalities of a description.

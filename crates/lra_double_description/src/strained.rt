@@ -3,7 +3,7 @@
 ghost use Rattle.std.specs.Prelude.{◌≡◌};
 ghost use Rattle.lra_double_description.specs.Strains.{cause_of};
 
-use lra_linear_spec::{Cause, Excess};
+use lra_row::{Cause, Excess};
 use std::alloc::{AllocError, AllocFailed};
 use thiserror::Error;
 

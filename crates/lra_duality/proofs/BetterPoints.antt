@@ -3,7 +3,7 @@ use Rattle.std.proofs.Common.{◌≡◌, ◌∙◌, ℤ, pos, negsuc, ◌*ℤ◌
 use Rattle.std.proofs.{lemmas.Cmp.int_ranked, lemmas.Int.ints, lemmas.Int.to_z-of_z}
 use Rattle.std.specs.declared.cmp.Ordering.TheVariants.{Less, Equal, Greater}
 use Rattle.std.specs.{Bool.◌==◌, Int.w128, Int.cast_signed, Int.cast_unsigned, Ordering.int_cmp, Ordering.ordering_index, Ordering.MatchOrdering, declared.cmp.Ordering.Ordering}
-use Rattle.lra_linear_spec.specs.Range.{InRange}
+use Rattle.lra_duality.specs.Crates.lra_linear_spec.Range.{InRange}
 
 -- a number as 128 bits hold it
 abbrev pub stored : ℤ → ℤ

@@ -1,8 +1,8 @@
 -- Worked examples of inclusion, and of the greatest value of a form, in two dimensions, x1 and x2.
 use Rattle.std.proofs.Common.{◌≡◌, All, List, [], ◌∷◌, pos, ℤ, refl, ◌-◌, ◌^◌, false, true, inl, inr, arith}
 use Rattle.std.proofs.{lemmas.Int.ints, lemmas.List.Elements.All-nil, lemmas.List.Elements.All-cons}
-use Rattle.lra_linear_spec.specs.Descriptions.{LinearRow, generator, line, inequality, equality}
-use Rattle.lra_linear_spec.proofs.LowestTerms.{primitive_at}
+use Rattle.lra_duality.specs.Crates.lra_linear_spec.Descriptions.{LinearRow, generator, line, inequality, equality}
+use Rattle.lra_duality.proofs.Crates.lra_linear_spec.LowestTerms.{primitive_at}
 use Rattle.lra_duality.specs.Maxima.{DoesNotImprove, IsAtMost, IsBelow, IsMaximum, OfPoint, StaysInRange}
 use Rattle.lra_duality.specs.declared.inclusion.Inclusion.TheVariants.{No, Wide}
 use Rattle.lra_duality.specs.{Inclusions.Satisfies, Inclusions.SatisfiesAll, Inclusions.IsInclusion, declared.maximum.Maximum.TheVariants.At, declared.maximum.Maximum.TheVariants.Unbounded}

@@ -2,18 +2,18 @@
 use Rattle.std.proofs.Common.{◌≡◌, ◌≢◌, ◌↔◌, ℕ, zero, suc, ◌+◌, ◌<◌, ◌≤◌, ◌&&◌, Bool, true, false, List, [], ◌∷◌, ◌++◌, length, get_or, map, ap, refl, sym, ◌∙◌, subst, ℤ, pos, arith, IsTrue}
 use Rattle.std.proofs.lemmas.List.{get_or-map, length-map, length-append}
 use Rattle.std.specs.{List.Contains, Ordering.int_eq}
-use Rattle.lra_bits.specs.{Matrix.Matrix, TruthValues.both, TruthValues.IsSubset}
-use Rattle.lra_linear_spec.specs.Descriptions.{LinearRow, inequality, lines_of, rays_of, system_of}
-use Rattle.lra_linear_spec.specs.Polyhedra.{HasPoint, IsPolyhedron, Polyhedron, positivity}
-use Rattle.lra_linear_spec.specs.{ConeStrain.row_limit, Kinds.is_equality, Vectors.entry, Vectors.product, declared.ConKind.ConKind, declared.ConKind.TheVariants.Ge, declared.GenKind.GenKind}
-use Rattle.lra_linear_spec.proofs.{Products.product_comm, Saturation.TightToo}
+use Rattle.lra_duality.specs.Crates.lra_linear_spec.Descriptions.{LinearRow, inequality, lines_of, rays_of, system_of}
+use Rattle.lra_duality.specs.Crates.lra_linear_spec.Polyhedra.{HasPoint, IsPolyhedron, Polyhedron, positivity}
+use Rattle.lra_duality.specs.Crates.lra_linear_spec.Vectors.{entry, product}
+use Rattle.lra_duality.specs.Crates.lra_systems.LinearSystems.{LinearSystem, constraints, generators, rows_by_kind}
+use Rattle.lra_duality.specs.Crates.{lra_bits.Matrix.Matrix, lra_bits.TruthValues.both, lra_bits.TruthValues.IsSubset, lra_linear_spec.ConeStrain.row_limit, lra_linear_spec.Kinds.is_equality}
+use Rattle.lra_duality.specs.Crates.{lra_linear_spec.declared.ConKind.ConKind, lra_linear_spec.declared.ConKind.TheVariants.Ge, lra_linear_spec.declared.GenKind.GenKind}
+use Rattle.lra_duality.proofs.Crates.{lra_linear_spec.Products.product_comm, lra_linear_spec.Saturation.TightToo, lra_systems.FirstMembers.front}
 use Rattle.lra_cone.specs.Cones.{IsCone, ConeContent, cone_saturation as by_rays, saturation_rows, tight_values}
 use Rattle.lra_descriptions.specs.ShownLists.{dual_kind}
 use Rattle.lra_descriptions.proofs.SeveralKinds.{dual_given}
 use Rattle.lra_cone.proofs.TightRows.{rows_append, subset_from, subset_said}
-use Rattle.lra_systems.specs.LinearSystems.{LinearSystem, constraints, generators, rows_by_kind}
 use Rattle.lra_duality.specs.Saturations.{IsCovered, IsCoveredAt, saturated, saturation_of}
-use Rattle.lra_systems.proofs.FirstMembers.{front}
 use Rattle.lra_duality.proofs.{KeptCones.fewer_rays, KeptCones.with_some, KeptFacets.alone_cone, KeptFacets.covered_cone, SaturationLemmas.given_length, StartLemmas.rays_more, StartLemmas.rays_same}
 
 -- ---- tight rows by values

@@ -2,18 +2,21 @@
 use Rattle.std.proofs.Common.{◌≡◌, ◌≢◌, ◌⊎◌, ℕ, zero, suc, ◌<◌, Bool, true, false, List, [], ◌∷◌, ◌++◌, length, ap, get_or, refl, sym, ◌∙◌, subst, ℤ, pos, negsuc, neg_ℤ, ◌+ℤ◌, ◌*ℤ◌, ◌<ℤ◌, ◌≤ℤ◌, inl}
 use Rattle.std.proofs.{Common.inr, Common.arith, lemmas.Int.ints, lemmas.List.Elements.All-contains}
 use Rattle.std.specs.List.{All, Contains}
-use Rattle.lra_linear_spec.specs.{Descriptions.LinearRow, Descriptions.rows_as, Descriptions.inequality, Descriptions.system_of, Kinds.is_line, Points.IsPoint, Polyhedra.HasPoint}
-use Rattle.lra_linear_spec.specs.{Polyhedra.IsPolyhedron, Polyhedra.Polyhedron, Polyhedra.positivity, Vectors.blend, Vectors.entry, Vectors.negated, Vectors.product, declared.GenKind.GenKind}
-use Rattle.lra_linear_spec.proofs.Descriptions.{FromGiven, gen_generated, generated_gen, system_from, system_has, system_has_negated}
-use Rattle.lra_linear_spec.proofs.{Combinations.generated_row, LinearMaps.generated_nonneg, Lines.zeros_length, Membership.contains_head, Membership.contains_none, OneSpelling.positivity_product}
-use Rattle.lra_linear_spec.proofs.{Polyhedra.con_gen, Polyhedra.generators_are_generators, Products.dot_linear, Products.dot_negated, Products.dot_same, Products.entry_blend, Products.entry_negated}
-use Rattle.lra_linear_spec.proofs.{Products.product_comm, Ring.mul_nonnegative, Ring.ring, Ring.v, Ring.⊖, Ring.◌⊕◌, Ring.◌⊗◌, SetOperations.has_vertex, SetOperations.valid_on_rows}
-use Rattle.lra_linear_spec.proofs.Signs.{difference, in_order}
-use Rattle.lra_systems.specs.LinearSystems.{LinearSystem, generators, rows_by_kind}
+use Rattle.lra_duality.specs.Crates.lra_linear_spec.Descriptions.{LinearRow, rows_as, inequality, system_of}
+use Rattle.lra_duality.specs.Crates.lra_linear_spec.Polyhedra.{HasPoint, IsPolyhedron, Polyhedron, positivity}
+use Rattle.lra_duality.specs.Crates.lra_linear_spec.Vectors.{blend, entry, negated, product}
+use Rattle.lra_duality.specs.Crates.lra_systems.LinearSystems.{LinearSystem, generators, rows_by_kind}
+use Rattle.lra_duality.specs.Crates.{lra_linear_spec.Kinds.is_line, lra_linear_spec.Points.IsPoint, lra_linear_spec.declared.GenKind.GenKind}
+use Rattle.lra_duality.proofs.Crates.lra_linear_spec.Descriptions.{FromGiven, gen_generated, generated_gen, system_from, system_has, system_has_negated}
+use Rattle.lra_duality.proofs.Crates.lra_linear_spec.Products.{dot_linear, dot_negated, dot_same, entry_blend, entry_negated, product_comm}
+use Rattle.lra_duality.proofs.Crates.lra_linear_spec.Ring.{mul_nonnegative, ring, v, ⊖, ◌⊕◌, ◌⊗◌}
+use Rattle.lra_duality.proofs.Crates.{lra_linear_spec.Combinations.generated_row, lra_linear_spec.LinearMaps.generated_nonneg, lra_linear_spec.Lines.zeros_length}
+use Rattle.lra_duality.proofs.Crates.{lra_linear_spec.Membership.contains_head, lra_linear_spec.Membership.contains_none, lra_linear_spec.OneSpelling.positivity_product}
+use Rattle.lra_duality.proofs.Crates.{lra_linear_spec.Polyhedra.con_gen, lra_linear_spec.Polyhedra.generators_are_generators, lra_linear_spec.SetOperations.has_vertex}
+use Rattle.lra_duality.proofs.Crates.{lra_linear_spec.SetOperations.valid_on_rows, lra_linear_spec.Signs.difference, lra_linear_spec.Signs.in_order, lra_systems.FirstMembers.err_from}
 use Rattle.lra_duality.specs.Maxima.{DoesNotImprove, Improves, IsAtMost, IsGreatestValue, IsMaximum, IsUnbounded, OfPoint, TellsMaximum}
 use Rattle.lra_duality.specs.declared.maximum.Maximum.{Maximum}
 use Rattle.lra_duality.specs.declared.maximum.Maximum.TheVariants.{Empty, Wide, Unbounded, At}
-use Rattle.lra_systems.proofs.FirstMembers.{err_from}
 use Rattle.lra_duality.proofs.{InclusionLemmas.has_member, PolyhedronLemmas.empty_where_none}
 
 -- ---- the inequality that the form is at most num / den

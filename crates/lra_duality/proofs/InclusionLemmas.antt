@@ -2,15 +2,16 @@
 use Rattle.std.proofs.Common.{◌≡◌, ◌≤ℤ◌, ℕ, Bool, true, false, List, [], ◌∷◌, ap, refl, sym, ◌∙◌, subst, ℤ, inl, inr, arith, pos, cond}
 use Rattle.std.proofs.{lemmas.Int.ints, lemmas.List.Elements.All-contains, lemmas.List.Elements.Contains-append_right}
 use Rattle.std.specs.{Cmp.signed_Decides, List.All, List.Contains, Ordering.int_eq, Prelude.◌||◌, Prelude.int_le, Prelude.◌↔◌, Prelude.IsTrue}
-use Rattle.lra_linear_spec.specs.{Descriptions.LinearRow, Descriptions.Con, Descriptions.HoldsWith, Kinds.is_equality, Kinds.is_line, Points.IsWithin, Polyhedra.Polyhedron, Polyhedra.IsPolyhedron}
-use Rattle.lra_linear_spec.specs.{Vectors.product, Widening.holds_with, declared.ConKind.ConKind, declared.GenKind.GenKind}
-use Rattle.lra_linear_spec.proofs.Membership.{contains_head, contains_none, list_all_at, list_all_from}
-use Rattle.lra_linear_spec.proofs.{Polyhedra.con_gen, Widening.holds_on_generators, Widening.valid_decides}
+use Rattle.lra_duality.specs.Crates.lra_linear_spec.Descriptions.{LinearRow, Con, HoldsWith}
+use Rattle.lra_duality.specs.Crates.lra_linear_spec.Polyhedra.{Polyhedron, IsPolyhedron}
+use Rattle.lra_duality.specs.Crates.lra_systems.LinearSystems.{LinearSystem, constraints, generators, rows_by_kind}
+use Rattle.lra_duality.specs.Crates.{lra_linear_spec.Kinds.is_equality, lra_linear_spec.Kinds.is_line, lra_linear_spec.Points.IsWithin, lra_linear_spec.Vectors.product}
+use Rattle.lra_duality.specs.Crates.{lra_linear_spec.Widening.holds_with, lra_linear_spec.declared.ConKind.ConKind, lra_linear_spec.declared.GenKind.GenKind, lra_systems.FirstPlaces.FirstAt}
+use Rattle.lra_duality.proofs.Crates.lra_linear_spec.Membership.{contains_head, contains_none, list_all_at, list_all_from}
+use Rattle.lra_duality.proofs.Crates.{lra_linear_spec.Polyhedra.con_gen, lra_linear_spec.Widening.holds_on_generators, lra_linear_spec.Widening.valid_decides, lra_systems.FirstMembers.err_from}
 use Rattle.lra_duality.specs.declared.inclusion.Inclusion.TheVariants.{Yes, No, Wide}
 use Rattle.lra_duality.specs.{Inclusions.Satisfies, Inclusions.SatisfiesAll, Inclusions.IsInclusion, Inclusions.IsReply, Inclusions.TellsInclusion, declared.inclusion.Inclusion.Inclusion}
-use Rattle.lra_systems.specs.{FirstPlaces.FirstAt, LinearSystems.LinearSystem, LinearSystems.constraints, LinearSystems.generators, LinearSystems.rows_by_kind}
-use Rattle.lra_systems.specs.declared.membership.MembershipAnswer as H
-use Rattle.lra_systems.proofs.FirstMembers.{err_from}
+use Rattle.lra_duality.specs.Crates.lra_systems.declared.membership.MembershipAnswer as H
 
 pub has_member : {A : Type 0} (Before Here : A → Type 0) (list : List A) (place : ℕ) (f : FirstAt Before Here list place) → Contains list f.member
 has_member {A = A} Before Here list place f = subst (λ (l : List A). Contains l f.member) (sym f.is)

@@ -1,8 +1,8 @@
 -- Lists with their kinds, one after the other.
 use Rattle.std.proofs.Common.{◌≡◌, ℕ, Bool, List, [], ◌∷◌, ◌++◌, length, ap, sym, ◌∙◌, subst, arith, ℤ, take, ◌≤◌}
 use Rattle.std.proofs.lemmas.List.{take_all}
-use Rattle.lra_linear_spec.specs.{Descriptions.LinearRow, Kinds.is_equality, declared.ConKind.ConKind, declared.GenKind.GenKind}
-use Rattle.lra_systems.specs.LinearSystems.{LinearSystem, constraints, rows_by_kind, FitKinds}
+use Rattle.lra_duality.specs.Crates.lra_systems.LinearSystems.{LinearSystem, constraints, rows_by_kind, FitKinds}
+use Rattle.lra_duality.specs.Crates.{lra_linear_spec.Descriptions.LinearRow, lra_linear_spec.Kinds.is_equality, lra_linear_spec.declared.ConKind.ConKind, lra_linear_spec.declared.GenKind.GenKind}
 use Rattle.lra_descriptions.proofs.SeveralKinds.{fit_append, given_append}
 
 -- as the code states it

@@ -2,14 +2,16 @@
 use Rattle.std.proofs.Common.{◌≡◌, ◌≢◌, ◌≤◌, ℕ, suc, Bool, [], true, false, List, ◌∷◌, ◌++◌, length, cond, ap, sym, ◌∙◌, subst, refl, ℤ, pos, ◌≤ℤ◌, ◌<ℤ◌, ◌⊎◌, inl, inr, arith}
 use Rattle.std.proofs.{lemmas.Int.ints, lemmas.List.Elements.Contains-append_cases, lemmas.List.Elements.Contains-append_left, lemmas.List.Elements.Contains-append_right}
 use Rattle.std.specs.List.{Contains}
-use Rattle.lra_linear_spec.specs.Descriptions.{LinearRow, inequality, rows_as, lines_of, rays_of, system_of}
-use Rattle.lra_linear_spec.specs.{Canonical.IsCanonical, ConeStrain.row_limit, Cones.AreDual, Cones.Generated, Cones.both_ways, Cones.all_rows, Polyhedra.HasPoint, Polyhedra.IsPolyhedron}
-use Rattle.lra_linear_spec.specs.{Polyhedra.Polyhedron, Polyhedra.positivity, Vectors.entry, Vectors.product, declared.ConKind.ConKind}
-use Rattle.lra_systems.specs.LinearSystems.{LinearSystem, constraints}
-use Rattle.lra_linear_spec.proofs.Lines.{in_lines, in_lines_negated, signed_from, zeros_length}
-use Rattle.lra_linear_spec.proofs.OneSpelling.{columns_of, dual_same_cone, given_from, given_has, positivity_product}
-use Rattle.lra_linear_spec.proofs.{Combinations.generated_row, Descriptions.dual_flipped, Descriptions.system_from, Descriptions.system_there, Membership.contains_cases, Membership.contains_head}
-use Rattle.lra_linear_spec.proofs.{Membership.contains_tail, Polyhedra.generators_lines, Polyhedra.generators_rays, Products.product_comm}
+use Rattle.lra_duality.specs.Crates.lra_linear_spec.Cones.{AreDual, Generated, both_ways, all_rows}
+use Rattle.lra_duality.specs.Crates.lra_linear_spec.Descriptions.{LinearRow, inequality, rows_as, lines_of, rays_of, system_of}
+use Rattle.lra_duality.specs.Crates.lra_linear_spec.Polyhedra.{HasPoint, IsPolyhedron, Polyhedron, positivity}
+use Rattle.lra_duality.specs.Crates.{lra_linear_spec.Canonical.IsCanonical, lra_linear_spec.ConeStrain.row_limit, lra_linear_spec.Vectors.entry, lra_linear_spec.Vectors.product}
+use Rattle.lra_duality.specs.Crates.{lra_linear_spec.declared.ConKind.ConKind, lra_systems.LinearSystems.LinearSystem, lra_systems.LinearSystems.constraints}
+use Rattle.lra_duality.proofs.Crates.lra_linear_spec.Descriptions.{dual_flipped, system_from, system_there}
+use Rattle.lra_duality.proofs.Crates.lra_linear_spec.Membership.{contains_cases, contains_head, contains_tail}
+use Rattle.lra_duality.proofs.Crates.lra_linear_spec.OneSpelling.{columns_of, dual_same_cone, given_from, given_has, positivity_product}
+use Rattle.lra_duality.proofs.Crates.{lra_linear_spec.Combinations.generated_row, lra_linear_spec.Lines.in_lines, lra_linear_spec.Lines.in_lines_negated, lra_linear_spec.Lines.signed_from}
+use Rattle.lra_duality.proofs.Crates.{lra_linear_spec.Lines.zeros_length, lra_linear_spec.Polyhedra.generators_lines, lra_linear_spec.Polyhedra.generators_rays, lra_linear_spec.Products.product_comm}
 use Rattle.lra_cone.specs.Cones.{IsCone, ConeContent}
 use Rattle.lra_duality.proofs.PolyhedronLemmas.{rows_width}
 

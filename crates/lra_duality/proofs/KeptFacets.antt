@@ -2,14 +2,19 @@
 use Rattle.std.proofs.Common.{◌≡◌, ◌≤◌, suc, true, false, [], List, ◌∷◌, ◌++◌, length, ap, sym, ◌∙◌, subst, refl, ℤ, pos, neg_ℤ, ◌<ℤ◌, ◌≤ℤ◌, inl, inr, arith}
 use Rattle.std.proofs.{lemmas.Int.ints, lemmas.List.Elements.Contains-append_cases, lemmas.List.Elements.Contains-append_left, lemmas.List.Elements.Contains-append_right}
 use Rattle.std.specs.List.{Contains}
-use Rattle.lra_linear_spec.specs.Descriptions.{LinearRow, inequality, rows_as, lines_of, rays_of, system_of}
-use Rattle.lra_linear_spec.specs.{Canonical.IsCanonical, ConeStrain.row_limit, Cones.AreDual, Cones.Generated, Cones.all_rows, Cones.both_ways, Polyhedra.HasPoint, Polyhedra.Polyhedron}
-use Rattle.lra_linear_spec.specs.{Polyhedra.positivity, RowOrder.Ascends, RowOrder.inequality_cmp, Vectors.dot, Vectors.entry, Vectors.negated, Vectors.product}
-use Rattle.lra_linear_spec.proofs.Membership.{NoRepeat, contains_cases, contains_head, contains_none, contains_split, contains_tail}
-use Rattle.lra_linear_spec.proofs.OneSpelling.{given_from, given_has, positivity_product}
-use Rattle.lra_linear_spec.proofs.{Descriptions.dual_flipped, Descriptions.in_all_rows, Descriptions.in_system, FlatRows.generated_flat, Lines.in_lines, Lines.in_lines_negated, Lines.signed_from}
-use Rattle.lra_linear_spec.proofs.{Polyhedra.generators_lines, Polyhedra.generators_rays, Products.dot_negated, Products.product_comm, Redundancy.drop_keeps, Redundancy.redundant_tight}
-use Rattle.lra_linear_spec.proofs.{RowOrder.inequality_cmp_total, RowOrder.never_both, Saturation.TightToo, SetOperations.has_vertex, Signs.between_opposites}
+use Rattle.lra_duality.specs.Crates.lra_linear_spec.Cones.{AreDual, Generated, all_rows, both_ways}
+use Rattle.lra_duality.specs.Crates.lra_linear_spec.Descriptions.{LinearRow, inequality, rows_as, lines_of, rays_of, system_of}
+use Rattle.lra_duality.specs.Crates.lra_linear_spec.Polyhedra.{HasPoint, Polyhedron, positivity}
+use Rattle.lra_duality.specs.Crates.lra_linear_spec.Vectors.{dot, entry, negated, product}
+use Rattle.lra_duality.specs.Crates.{lra_linear_spec.Canonical.IsCanonical, lra_linear_spec.ConeStrain.row_limit, lra_linear_spec.RowOrder.Ascends, lra_linear_spec.RowOrder.inequality_cmp}
+use Rattle.lra_duality.proofs.Crates.lra_linear_spec.Descriptions.{dual_flipped, in_all_rows, in_system}
+use Rattle.lra_duality.proofs.Crates.lra_linear_spec.Lines.{in_lines, in_lines_negated, signed_from}
+use Rattle.lra_duality.proofs.Crates.lra_linear_spec.Membership.{NoRepeat, contains_cases, contains_head, contains_none, contains_split, contains_tail}
+use Rattle.lra_duality.proofs.Crates.lra_linear_spec.OneSpelling.{given_from, given_has, positivity_product}
+use Rattle.lra_duality.proofs.Crates.lra_linear_spec.Polyhedra.{generators_lines, generators_rays}
+use Rattle.lra_duality.proofs.Crates.{lra_linear_spec.FlatRows.generated_flat, lra_linear_spec.Products.dot_negated, lra_linear_spec.Products.product_comm, lra_linear_spec.Redundancy.drop_keeps}
+use Rattle.lra_duality.proofs.Crates.{lra_linear_spec.Redundancy.redundant_tight, lra_linear_spec.RowOrder.inequality_cmp_total, lra_linear_spec.RowOrder.never_both}
+use Rattle.lra_duality.proofs.Crates.{lra_linear_spec.Saturation.TightToo, lra_linear_spec.SetOperations.has_vertex, lra_linear_spec.Signs.between_opposites}
 use Rattle.lra_cone.specs.Cones.{IsCone}
 use Rattle.lra_cone.proofs.{RayCase.beside_place, RayCase.rows_same, Reordered.canonical_again, Reordered.dual_again}
 use Rattle.lra_duality.proofs.KeptCones.{positivity_generated}

@@ -12,3 +12,5 @@ pub mod StartLemmas
 pub mod KeptCones
 pub mod KeptFacets
 pub mod FacetLemmas
+-- The crates below
+pub mod Crates

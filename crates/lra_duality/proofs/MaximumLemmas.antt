@@ -4,16 +4,19 @@ use Rattle.std.proofs.Common.{IsErr, IsOk, unsigned_abs, int_div, Bool, true, fa
 use Rattle.std.proofs.Math.Nat.{mul-div_cancel', dvd_of_mul-dvd-mul_right, mul-dvd-mul_right, one-dvd}
 use Rattle.std.proofs.{lemmas.Int.ints, lemmas.Int.unsigned_abs-mul, lemmas.List.get_or_default, lemmas.List.Elements.All-contains, lemmas.Nat.Gcd.dvd_antisymm}
 use Rattle.std.specs.{Int.◌∣◌, Int.IsGcd, List.All}
-use Rattle.lra_linear_spec.specs.{CheckedArithmetic.checked_product, CheckedArithmetic.checked_product_from, Descriptions.LinearRow, Kinds.is_line, LowestTerms.IsPrimitive, Range.InRange}
-use Rattle.lra_linear_spec.specs.{Range.in_range, Vectors.entry, Vectors.negated, Vectors.product, declared.Excess.Excess, declared.GenKind.GenKind, declared.GenKind.TheVariants.Point}
-use Rattle.lra_linear_spec.proofs.CheckedArithmetic.{checked_product_value, checked_product_in_range}
-use Rattle.lra_linear_spec.proofs.Signs.{as_nat, cancel_same, divide_nonnegative, positive_is_nonnegative, positive_nat, positive_part, times_positive, difference, in_order}
-use Rattle.lra_linear_spec.proofs.{LowestTerms.signed_quotient_is, Membership.all_from, Ring.mul_nonnegative, Ring.ring, Ring.v, Ring.⊖, Ring.◌⊕◌, Ring.◌⊗◌}
+use Rattle.lra_duality.specs.Crates.lra_linear_spec.CheckedArithmetic.{checked_product, checked_product_from}
+use Rattle.lra_duality.specs.Crates.lra_systems.LinearSystems.{LinearSystem, generators, rows_by_kind}
+use Rattle.lra_duality.specs.Crates.{lra_linear_spec.Descriptions.LinearRow, lra_linear_spec.Kinds.is_line, lra_linear_spec.LowestTerms.IsPrimitive, lra_linear_spec.Range.InRange}
+use Rattle.lra_duality.specs.Crates.{lra_linear_spec.Range.in_range, lra_linear_spec.Vectors.entry, lra_linear_spec.Vectors.negated, lra_linear_spec.Vectors.product}
+use Rattle.lra_duality.specs.Crates.{lra_linear_spec.declared.Excess.Excess, lra_linear_spec.declared.GenKind.GenKind, lra_linear_spec.declared.GenKind.TheVariants.Point}
+use Rattle.lra_duality.proofs.Crates.lra_linear_spec.CheckedArithmetic.{checked_product_value, checked_product_in_range}
+use Rattle.lra_duality.proofs.Crates.lra_linear_spec.Ring.{mul_nonnegative, ring, v, ⊖, ◌⊕◌, ◌⊗◌}
+use Rattle.lra_duality.proofs.Crates.lra_linear_spec.Signs.{as_nat, cancel_same, divide_nonnegative, positive_is_nonnegative, positive_nat, positive_part, times_positive, difference, in_order}
+use Rattle.lra_duality.proofs.Crates.lra_systems.FirstMembers.{front, first_at, one_more, none_yet, all_gone_through}
+use Rattle.lra_duality.proofs.Crates.{lra_linear_spec.LowestTerms.signed_quotient_is, lra_linear_spec.Membership.all_from}
 use Rattle.lra_row.proofs.{Ratio.apart, RowLemmas.quotient_signed}
-use Rattle.lra_systems.specs.LinearSystems.{LinearSystem, generators, rows_by_kind}
 use Rattle.lra_duality.specs.Maxima.{OfPoint, IsAtMost, IsBelow, HasValue, IsGreatest, IsMaximum, StaysInRange, DoesNotImprove}
 use Rattle.lra_duality.specs.declared.maximum.Maximum.TheVariants.{At}
-use Rattle.lra_systems.proofs.FirstMembers.{front, first_at, one_more, none_yet, all_gone_through}
 
 -- ---- a checked product
 pub value_of_ok : (form row : List ℤ) (z : ℤ) → checked_product form row ≡ Ok z → z ≡ product form row

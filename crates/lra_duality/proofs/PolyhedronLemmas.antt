@@ -2,11 +2,13 @@
 use Rattle.std.proofs.Common.{◌≡◌, ◌≢◌, ℕ, suc, true, false, List, [], ◌∷◌, length, ap, sym, ◌∙◌, subst, ℤ, inl, inr}
 use Rattle.std.proofs.lemmas.List.Elements.{Contains-append_cases, Contains-append_left, Contains-append_right}
 use Rattle.std.specs.List.{Contains}
-use Rattle.lra_linear_spec.specs.Descriptions.{Con, LinearRow, inequality, rows_as, system_of}
-use Rattle.lra_linear_spec.specs.{Cones.both_ways, Points.IsPoint, Points.IsEmptySet, Polyhedra.Polyhedron, Polyhedra.IsPolyhedron, Polyhedra.HasPoint, Polyhedra.falsity, Vectors.entry}
-use Rattle.lra_linear_spec.proofs.Membership.{contains_head, contains_none, each_one}
-use Rattle.lra_linear_spec.proofs.{Combinations.generated_row, Descriptions.generated_gen, Descriptions.system_from, Lines.in_lines, Lines.zeros_length, OneSpelling.falsity_never}
-use Rattle.lra_linear_spec.proofs.{OneSpelling.given_from, Polyhedra.con_gen, Products.negated_length, SetOperations.has_vertex}
+use Rattle.lra_duality.specs.Crates.lra_linear_spec.Descriptions.{Con, LinearRow, inequality, rows_as, system_of}
+use Rattle.lra_duality.specs.Crates.lra_linear_spec.Polyhedra.{Polyhedron, IsPolyhedron, HasPoint, falsity}
+use Rattle.lra_duality.specs.Crates.{lra_linear_spec.Cones.both_ways, lra_linear_spec.Points.IsPoint, lra_linear_spec.Points.IsEmptySet, lra_linear_spec.Vectors.entry}
+use Rattle.lra_duality.proofs.Crates.lra_linear_spec.Descriptions.{generated_gen, system_from}
+use Rattle.lra_duality.proofs.Crates.lra_linear_spec.Membership.{contains_head, contains_none, each_one}
+use Rattle.lra_duality.proofs.Crates.{lra_linear_spec.Combinations.generated_row, lra_linear_spec.Lines.in_lines, lra_linear_spec.Lines.zeros_length, lra_linear_spec.OneSpelling.falsity_never}
+use Rattle.lra_duality.proofs.Crates.{lra_linear_spec.OneSpelling.given_from, lra_linear_spec.Polyhedra.con_gen, lra_linear_spec.Products.negated_length, lra_linear_spec.SetOperations.has_vertex}
 
 -- ---- without a point
 pub falsity_is_empty : (n : ℕ) (rows : List LinearRow) → rows ≡ inequality (falsity n) ∷ [] → IsEmptySet n (Con rows)

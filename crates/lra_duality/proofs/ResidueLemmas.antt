@@ -4,8 +4,9 @@ use Rattle.std.proofs.Common.{◌*ℤ◌, ◌*◌, ◌+ℤ◌, ◌+◌, ◌<ℤ�
 use Rattle.std.proofs.lemmas.Int.{fits_signed_mul, int_rem_euclid_is, ints, to_z-of_z, unsigned_abs-mul}
 use Rattle.std.proofs.{Math.Dec.eqb-suc-zero, Math.Nat.add-mod-mod, Math.Nat.mul-le-mul, Math.Nat.mul-le-mul_right, lemmas.List.take_all}
 use Rattle.std.specs.{Int.int_div_euclid, Int.int_rem_euclid, Int.w128, List.All, Prelude.◌↔◌, Prelude.IsTrue}
-use Rattle.lra_linear_spec.specs.{Range.InRange, Vectors.product}
-use Rattle.lra_linear_spec.proofs.{Products.product_none, Ring.ring, Ring.v, Ring.⊖, Ring.◌⊕◌, Ring.◌⊗◌}
+use Rattle.lra_duality.specs.Crates.{lra_linear_spec.Range.InRange, lra_linear_spec.Vectors.product}
+use Rattle.lra_duality.proofs.Crates.lra_linear_spec.Products.{product_none}
+use Rattle.lra_duality.proofs.Crates.lra_linear_spec.Ring.{ring, v, ⊖, ◌⊕◌, ◌⊗◌}
 use Rattle.lra_row.proofs.Ratio.{euclid, rem_bounds}
 use Rattle.lra_duality.specs.Residues.{IsMultiple, IsResidue}
 

@@ -2,10 +2,8 @@
 use Rattle.std.proofs.Common.{Bool, List, [], ap, arith, get_or, length, map, pos, refl, suc, sym, take, ℕ, ℤ, ◌<◌, ◌∙◌, ◌∷◌, ◌≡◌, ◌≤◌}
 use Rattle.std.proofs.lemmas.List.{take_all}
 use Rattle.std.specs.Ordering.{int_eq}
-use Rattle.lra_bits.specs.{Matrix.Matrix, TruthValues.value_at}
-use Rattle.lra_linear_spec.specs.{Descriptions.LinearRow, Vectors.product}
-use Rattle.lra_double_description.specs.Steps.{IsFilled}
-use Rattle.lra_systems.specs.LinearSystems.{LinearSystem, rows_by_kind}
+use Rattle.lra_duality.specs.Crates.{lra_bits.Matrix.Matrix, lra_bits.TruthValues.value_at, lra_double_description.Steps.IsFilled, lra_linear_spec.Descriptions.LinearRow}
+use Rattle.lra_duality.specs.Crates.{lra_linear_spec.Vectors.product, lra_systems.LinearSystems.LinearSystem, lra_systems.LinearSystems.rows_by_kind}
 use Rattle.lra_duality.specs.Saturations.{saturated, saturation_of}
 
 -- ---- one row

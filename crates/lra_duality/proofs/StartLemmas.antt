@@ -2,16 +2,15 @@
 use Rattle.std.proofs.Common.{◌≡◌, ◌≢◌, IsTrue, ℕ, suc, ◌+◌, ◌<◌, ◌≤◌, add-one, Bool, true, false, cond, List, [], ◌∷◌, ◌++◌, length, take, drop, get_or, map, ap, refl, sym, ◌∙◌, subst, ℤ, pos, arith}
 use Rattle.std.proofs.lemmas.List.{append-nil, ext_get_or, length-map, take_all, get_or-map}
 use Rattle.std.specs.Ordering.{int_eq}
-use Rattle.lra_bits.specs.{Matrix.Matrix, TruthValues.value_at}
-use Rattle.lra_linear_spec.specs.Descriptions.{LinearRow, inequality, lines_of, rays_of}
-use Rattle.lra_linear_spec.specs.{ConeStrain.row_limit, Kinds.is_line, Polyhedra.positivity, Vectors.entry, Vectors.product, declared.GenKind.GenKind}
-use Rattle.lra_linear_spec.proofs.OneSpelling.{positivity_product}
+use Rattle.lra_duality.specs.Crates.lra_linear_spec.Descriptions.{LinearRow, inequality, lines_of, rays_of}
+use Rattle.lra_duality.specs.Crates.lra_linear_spec.Vectors.{entry, product}
+use Rattle.lra_duality.specs.Crates.{lra_bits.Matrix.Matrix, lra_bits.TruthValues.value_at, lra_double_description.Steps.IsFilled, lra_linear_spec.ConeStrain.row_limit, lra_linear_spec.Kinds.is_line}
+use Rattle.lra_duality.specs.Crates.{lra_linear_spec.Polyhedra.positivity, lra_linear_spec.declared.GenKind.GenKind, lra_systems.Dimensions.too_many_dimensions, lra_systems.LinearSystems.rows_by_kind}
+use Rattle.lra_duality.proofs.Crates.lra_linear_spec.OneSpelling.{positivity_product}
+use Rattle.lra_duality.proofs.Crates.lra_systems.FirstMembers.{front, front_length, given_more, given_split, member}
 use Rattle.lra_cone.specs.Cones.{cone_saturation as by_rays, saturation_rows, tight_values}
-use Rattle.lra_double_description.specs.Steps.{IsFilled}
-use Rattle.lra_systems.specs.{Dimensions.too_many_dimensions, LinearSystems.rows_by_kind}
 use Rattle.lra_duality.specs.{Incremental.MayGoOn, Incremental.MayTurn, Saturations.column, Saturations.saturated, Saturations.saturation_of}
 use Rattle.lra_duality.proofs.SaturationLemmas.{given_length}
-use Rattle.lra_systems.proofs.FirstMembers.{front, front_length, given_more, given_split, member}
 
 -- ---- lines and others
 parted : {K : Type 0} (equal : K → Bool) (f : List LinearRow → List (List ℤ)) → ((xs : List LinearRow) (g : LinearRow) → f (xs ++ g ∷ []) ≡ f xs ++ f (g ∷ [])) →

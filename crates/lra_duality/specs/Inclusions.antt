@@ -2,15 +2,16 @@
 -- in their order. The first pair whose product passes the range, or which violates the row, decides.
 use Rattle.std.specs.List.{All}
 use Rattle.std.specs.Prelude.{◌≡◌, ℕ, false, List, IsTrue, IsOk, IsErr}
-use Rattle.lra_linear_spec.specs.declared.Excess as E
-use Rattle.lra_linear_spec.specs.OperationStrain.{InclusionStrains}
-use Rattle.lra_linear_spec.specs.{CheckedArithmetic.checked_product, Descriptions.LinearRow, Descriptions.Con}
-use Rattle.lra_linear_spec.specs.{Points.IsWithin, Polyhedra.Polyhedron, Widening.holds_with}
-use Rattle.lra_systems.specs.declared.membership.MembershipAnswer as H
-use Rattle.lra_systems.specs.declared.membership.MembershipAnswer.TheVariants as holds
+use Rattle.lra_duality.specs.Crates.lra_linear_spec.declared.Excess as E
+use Rattle.lra_duality.specs.Crates.lra_linear_spec.CheckedArithmetic.{checked_product}
+use Rattle.lra_duality.specs.Crates.lra_linear_spec.Descriptions.{LinearRow, Con}
+use Rattle.lra_duality.specs.Crates.lra_linear_spec.OperationStrain.{InclusionStrains}
+use Rattle.lra_duality.specs.Crates.{lra_linear_spec.Points.IsWithin, lra_linear_spec.Polyhedra.Polyhedron}
+use Rattle.lra_duality.specs.Crates.{lra_linear_spec.Widening.holds_with, lra_systems.FirstPlaces.FirstAt}
+use Rattle.lra_duality.specs.Crates.lra_systems.declared.membership.MembershipAnswer as H
+use Rattle.lra_duality.specs.Crates.lra_systems.declared.membership.MembershipAnswer.TheVariants as holds
 use Rattle.lra_duality.specs.declared.inclusion.Inclusion.{Inclusion}
 use Rattle.lra_duality.specs.declared.inclusion.Inclusion.TheVariants.{Yes, No, Wide}
-use Rattle.lra_systems.specs.FirstPlaces.{FirstAt}
 
 -- ---- a generator and a row
 -- the product stays in the range, and the row holds with the generator

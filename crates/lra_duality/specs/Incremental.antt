@@ -1,7 +1,7 @@
 -- Polyhedra whose two lists at hand make a cone, which further rows are added to.
 use Rattle.std.specs.Prelude.{◌<◌, ◌≤◌, ◌+◌, ℕ, List, length}
-use Rattle.lra_linear_spec.specs.{ConeStrain.row_limit, Descriptions.LinearRow}
-use Rattle.lra_systems.specs.Dimensions.{too_many_dimensions}
+use Rattle.lra_duality.specs.Crates.lra_systems.Dimensions.{too_many_dimensions}
+use Rattle.lra_duality.specs.Crates.{lra_linear_spec.ConeStrain.row_limit, lra_linear_spec.Descriptions.LinearRow}
 
 -- these generators make the cone of the constraints: there is one, and they are no more than a cone may have rays,
 -- though lines are counted with them

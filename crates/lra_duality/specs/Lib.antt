@@ -8,3 +8,5 @@ pub mod Saturations
 pub mod Incremental
 -- The constraints of tests.
 pub mod Rows
+-- The crates below
+pub mod Crates

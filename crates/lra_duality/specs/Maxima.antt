@@ -2,15 +2,17 @@
 -- cn at a point is its product with the point's row, divided by the point's divisor.
 use Rattle.std.specs.Prelude.{◌≡◌, ◌≢◌, ℕ, ◌⊎◌, ℤ, pos, ◌*ℤ◌, ◌<ℤ◌, ◌≤ℤ◌, Bool, true, false, cond, ⊤, List, [], ◌∷◌}
 use Rattle.std.specs.{List.All, Prelude.IsOk, Prelude.IsErr}
-use Rattle.lra_linear_spec.specs.declared.Excess as E
-use Rattle.lra_linear_spec.specs.Vectors.{entry, negated, product}
-use Rattle.lra_linear_spec.specs.{CheckedArithmetic.checked_product, Descriptions.LinearRow, Descriptions.Con}
-use Rattle.lra_linear_spec.specs.{LowestTerms.IsPrimitive, OperationStrain.MaximiseStrains, Points.IsPoint}
-use Rattle.lra_linear_spec.specs.{Points.IsEmptySet, Polyhedra.Polyhedron, Range.InRange}
+use Rattle.lra_duality.specs.Crates.lra_linear_spec.declared.Excess as E
+use Rattle.lra_duality.specs.Crates.lra_linear_spec.CheckedArithmetic.{checked_product}
+use Rattle.lra_duality.specs.Crates.lra_linear_spec.Descriptions.{LinearRow, Con}
+use Rattle.lra_duality.specs.Crates.lra_linear_spec.OperationStrain.{MaximiseStrains}
+use Rattle.lra_duality.specs.Crates.lra_linear_spec.Points.{IsPoint, IsEmptySet}
+use Rattle.lra_duality.specs.Crates.lra_linear_spec.Vectors.{entry, negated, product}
+use Rattle.lra_duality.specs.Crates.{lra_linear_spec.LowestTerms.IsPrimitive, lra_linear_spec.Polyhedra.Polyhedron}
+use Rattle.lra_duality.specs.Crates.{lra_linear_spec.Range.InRange, lra_systems.FirstPlaces.FirstAt}
 use Rattle.lra_linear_forms.specs.Form.{Form, form_row}
 use Rattle.lra_duality.specs.declared.maximum.Maximum.{Maximum}
 use Rattle.lra_duality.specs.declared.maximum.Maximum.TheVariants.{Empty, Wide, Unbounded, At}
-use Rattle.lra_systems.specs.FirstPlaces.{FirstAt}
 
 -- the form's row, or the row of its opposite: the least value of a form is, with its sign turned, the greatest of that
 abbrev pub directed : Form → Bool → List ℤ

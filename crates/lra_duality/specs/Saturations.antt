@@ -1,7 +1,9 @@
 -- Which constraints of a polyhedron are tight at which of its generators.
 use Rattle.std.specs.Prelude.{◌≡◌, ◌<◌, ℕ, Bool, false, List, [], length, map, slice_index_or}
-use Rattle.lra_bits.specs.{Matrix.Matrix, TruthValues.value_at, TruthValues.IsSubset}
-use Rattle.lra_linear_spec.specs.{Kinds.is_equality, declared.ConKind.ConKind, declared.ConKind.TheVariants.Ge}
+use Rattle.lra_duality.specs.Crates.lra_bits.TruthValues.{value_at, IsSubset}
+use Rattle.lra_duality.specs.Crates.lra_linear_spec.Kinds.{is_equality}
+use Rattle.lra_duality.specs.Crates.lra_linear_spec.declared.ConKind.{ConKind}
+use Rattle.lra_duality.specs.Crates.{lra_bits.Matrix.Matrix, lra_linear_spec.declared.ConKind.TheVariants.Ge}
 pub use Rattle.lra_descriptions.specs.Tightness.{saturated, saturation_of}
 
 -- a column of the matrix

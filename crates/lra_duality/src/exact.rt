@@ -2,7 +2,7 @@
 
 ghost use Rattle.std.specs.Prelude.{◌≡◌, ◌↔◌, pos, ◌<ℤ◌, ◌≤ℤ◌, ◌^◌, IsTrue, length};
 ghost use Rattle.std.specs.{Int.int_rem_euclid, List.All, Ordering.int_eq};
-ghost use Rattle.lra_linear_spec.specs.{Range.InRange, Vectors.product};
+ghost use Rattle.lra_duality.specs.Crates.{lra_linear_spec.Range.InRange, lra_linear_spec.Vectors.product};
 ghost use Rattle.lra_duality.specs.Residues.{IsMultiple, IsResidue};
 
 use lra_row::Row;

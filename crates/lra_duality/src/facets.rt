@@ -2,21 +2,20 @@
 
 ghost use Rattle.std.specs.Prelude.{◌≡◌, ◌≢◌, ◌↔◌, ◌+◌, ◌<◌, ◌≤◌, ◌∷◌, ◌++◌, [], length, List, IsTrue, IfOk, IfSome};
 ghost use Rattle.std.specs.Prelude.{IfNone};
-ghost use Rattle.lra_linear_spec.specs.Descriptions.{LinearRow, lines_of, rays_of};
-ghost use Rattle.lra_linear_spec.specs.{ConeStrain.row_limit, Polyhedra.IsPolyhedron};
+ghost use Rattle.lra_duality.specs.Crates.lra_linear_spec.ConeStrain.{row_limit};
+ghost use Rattle.lra_duality.specs.Crates.lra_linear_spec.Descriptions.{LinearRow, lines_of, rays_of};
+ghost use Rattle.lra_duality.specs.Crates.lra_linear_spec.Polyhedra.{IsPolyhedron};
+ghost use Rattle.lra_duality.specs.Crates.lra_systems.Dimensions.{too_many_dimensions};
+ghost use Rattle.lra_duality.specs.Crates.lra_systems.LinearSystems.{constraints, generators};
 ghost use Rattle.lra_cone.specs.Cones.{IsCone, cone_saturation as by_rays};
-ghost use Rattle.lra_systems.specs.Dimensions.{too_many_dimensions};
-ghost use Rattle.lra_systems.specs.LinearSystems.{constraints, generators};
 ghost use Rattle.lra_duality.specs.Incremental.{MayTurn};
 ghost use Rattle.lra_duality.specs.Saturations.{saturation_of, IsCovered, IsCoveredAt};
 
 use crate::saturation::mark_saturated;
 use crate::start::{fits, leaves_room};
-use lra_bits::{BitRow, SatMatrix};
-use lra_cone::Cone;
-use lra_descriptions::dual_rows;
+use lra_cone::{ConKind, ConSys, Cone};
+use lra_descriptions::{BitRow, GenSys, SatMatrix, dual_rows, unit};
 use lra_row::Row;
-use lra_systems::{ConKind, ConSys, GenSys, unit};
 use std::alloc::{AllocError, Global};
 
 // The equalities among the constraints.

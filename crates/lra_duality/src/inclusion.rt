@@ -1,14 +1,14 @@
 //! Inclusion of polyhedra.
 
 ghost use Rattle.std.specs.{List.All, Prelude.◌≡◌, Prelude.length};
-ghost use Rattle.lra_linear_spec.specs.Kinds.{is_equality};
-ghost use Rattle.lra_linear_spec.specs.{Descriptions.LinearRow, Vectors.product, Widening.holds_with};
-ghost use Rattle.lra_systems.specs.LinearSystems.{rows_by_kind, constraints, generators};
+ghost use Rattle.lra_duality.specs.Crates.lra_systems.LinearSystems.{rows_by_kind, constraints, generators};
+ghost use Rattle.lra_duality.specs.Crates.{lra_linear_spec.Descriptions.LinearRow, lra_linear_spec.Kinds.is_equality};
+ghost use Rattle.lra_duality.specs.Crates.{lra_linear_spec.Vectors.product, lra_linear_spec.Widening.holds_with};
 ghost use Rattle.lra_duality.specs.Inclusions.{IsReply, IsInclusion};
 
-use lra_linear_spec::ConKind;
+use lra_cone::{ConKind, ConSys};
+use lra_descriptions::{GenSys, MembershipAnswer};
 use lra_row::Row;
-use lra_systems::{ConSys, GenSys, MembershipAnswer};
 
 /// Whether each point of one polyhedron is in another. The generators of the one are tried in their order, with each
 /// the constraints of the other in theirs; the first pair that doesn't hold decides. Where its product passes the range

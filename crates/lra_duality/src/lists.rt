@@ -1,11 +1,12 @@
 //! Lists that the operations take in.
 
 ghost use Rattle.std.specs.Prelude.{◌≡◌, ◌++◌, ◌∷◌, [], suc, length, IfOk};
-ghost use Rattle.lra_systems.specs.LinearSystems.{constraints, generators, FitKinds};
+ghost use Rattle.lra_duality.specs.Crates.lra_systems.LinearSystems.{constraints, generators, FitKinds};
 ghost use Rattle.lra_duality.specs.Rows.{test_row};
 
+use lra_cone::ConSys;
+use lra_descriptions::{GenSys, TOO_MANY_DIMENSIONS};
 use lra_linear_forms::Test;
-use lra_systems::{ConSys, GenSys, TOO_MANY_DIMENSIONS};
 use std::alloc::{AllocError, Global};
 
 /// The constraints of the first list, then those of the second.

@@ -4,15 +4,16 @@ ghost use Rattle.std.specs.Prelude.{◌≡◌, ◌↔◌, ◌<◌, [], length, L
 ghost use Rattle.std.specs.Prelude.{IsTrue, MatchOption, slice_index_or, unsigned_abs};
 ghost use Rattle.std.specs.{Int.IsGcd, List.All, Option.SomeIff};
 ghost use Rattle.lra_linear_forms.specs.Form.{AddsInRange, form_row};
-ghost use Rattle.lra_linear_spec.specs.CheckedArithmetic.{checked_product, checked_product_from};
-ghost use Rattle.lra_linear_spec.specs.{Descriptions.LinearRow, Range.InRange, Vectors.entry, Vectors.product};
-ghost use Rattle.lra_systems.specs.{FirstPlaces.FirstAt, LinearSystems.generators};
+ghost use Rattle.lra_duality.specs.Crates.lra_linear_spec.CheckedArithmetic.{checked_product, checked_product_from};
+ghost use Rattle.lra_duality.specs.Crates.lra_linear_spec.Vectors.{entry, product};
+ghost use Rattle.lra_duality.specs.Crates.{lra_linear_spec.Descriptions.LinearRow, lra_linear_spec.Range.InRange};
+ghost use Rattle.lra_duality.specs.Crates.{lra_systems.FirstPlaces.FirstAt, lra_systems.LinearSystems.generators};
 ghost use Rattle.lra_duality.specs.Maxima.{StaysInRange, PassesRange, Improves, DoesNotImprove, IsAtMost, IsBelow};
 ghost use Rattle.lra_duality.specs.Maxima.{IsGreatest, IsMaximum, ValueInRange, directed};
 
+use lra_descriptions::GenSys;
 use lra_linear_forms::LinExpr;
 use lra_row::{Row, add, gcd, mul, opposite, ratio_cmp};
-use lra_systems::GenSys;
 use std::cmp::Ordering;
 
 /// The greatest value of a form on a polyhedron, or why there is none. Places are those of generators, from 0.

@@ -1,13 +1,13 @@
 //! Which constraints are tight at which generators.
 
 ghost use Rattle.std.specs.Prelude.{◌≡◌, suc, length, IfOk};
-ghost use Rattle.lra_systems.specs.LinearSystems.{constraints, generators};
+ghost use Rattle.lra_duality.specs.Crates.lra_systems.LinearSystems.{constraints, generators};
 ghost use Rattle.lra_duality.specs.Saturations.{saturated, saturation_of};
 
 use crate::exact::saturates;
-use lra_bits::{BitRow, SatMatrix};
+use lra_cone::ConSys;
+use lra_descriptions::{BitRow, GenSys, SatMatrix};
 use lra_row::Row;
-use lra_systems::{ConSys, GenSys};
 use std::alloc::{AllocError, Global};
 
 /// For each of the generators, whether the row has product 0 with it.

@@ -2,20 +2,18 @@
 
 ghost use Rattle.std.specs.Ordering.{int_eq};
 ghost use Rattle.std.specs.Prelude.{◌≡◌, ◌∷◌, ◌+◌, ◌<◌, ◌≤◌, suc, pos, length, List, IsTrue, IfOk, IfSome, IfNone};
-ghost use Rattle.lra_linear_spec.specs.Descriptions.{LinearRow, inequality, lines_of, rays_of};
-ghost use Rattle.lra_linear_spec.specs.Polyhedra.{IsPolyhedron, positivity};
-ghost use Rattle.lra_linear_spec.specs.{ConeStrain.row_limit, Vectors.entry};
-ghost use Rattle.lra_bits.specs.TruthValues.{value_at};
+ghost use Rattle.lra_duality.specs.Crates.lra_linear_spec.Descriptions.{LinearRow, inequality, lines_of, rays_of};
+ghost use Rattle.lra_duality.specs.Crates.lra_linear_spec.Polyhedra.{IsPolyhedron, positivity};
+ghost use Rattle.lra_duality.specs.Crates.lra_systems.LinearSystems.{constraints, generators};
+ghost use Rattle.lra_duality.specs.Crates.{lra_bits.TruthValues.value_at, lra_linear_spec.ConeStrain.row_limit};
+ghost use Rattle.lra_duality.specs.Crates.{lra_linear_spec.Vectors.entry, lra_systems.Dimensions.too_many_dimensions};
 ghost use Rattle.lra_cone.specs.Cones.{cone_saturation as by_rays};
-ghost use Rattle.lra_systems.specs.Dimensions.{too_many_dimensions};
-ghost use Rattle.lra_systems.specs.LinearSystems.{constraints, generators};
 ghost use Rattle.lra_duality.specs.{Incremental.MayGoOn, Saturations.column, Saturations.saturation_of};
 
 use crate::lists::join_rows;
-use lra_bits::{BitRow, SatMatrix};
-use lra_cone::{Cone, RAY_LIMIT};
+use lra_cone::{ConKind, ConSys, Cone, RAY_LIMIT};
+use lra_descriptions::{BitRow, GenSys, SatMatrix, TOO_MANY_DIMENSIONS, unit};
 use lra_row::Row;
-use lra_systems::{ConKind, ConSys, GenSys, TOO_MANY_DIMENSIONS, unit};
 use std::alloc::{AllocError, Global};
 
 // The lines among the generators.

@@ -1,8 +1,8 @@
 -- The meaning of gauges: a value has all stores of its dimensions or none, and bounds a number beside them that no
 -- change touches.
 use Rattle.std.specs.Prelude.{◌≡◌, ℕ, zero, suc, ◌-◌, ◌<◌, ◌≤◌, max, ℤ, List, [], ◌∷◌, length, None, ⊤}
-use Rattle.lra_systems.specs.LinearSystems.{LinearSystem}
-use Rattle.lra_linear_spec.specs.declared.ConKind.{ConKind}
+use Rattle.lra_example_domain.specs.Crates.lra_linear_spec.declared.ConKind.{ConKind}
+use Rattle.lra_example_domain.specs.Crates.lra_systems.LinearSystems.{LinearSystem}
 use Rattle.lra_domain.specs.Actions.{dims_after, HoldsStores, KeepsStores}
 use Rattle.lra_domain.specs.declared.Included.TheVariants.{Yes, No, Wide}
 use Rattle.lra_domain.specs.{Abstraction.Abstraction, declared.Included.Included}

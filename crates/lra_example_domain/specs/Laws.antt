@@ -3,7 +3,7 @@ use Rattle.std.proofs.Common.{◌≡◌, ℕ, zero, suc, max, ◌<◌, ◌≤◌
 use Rattle.std.proofs.Common.{Option, None, pos, replicate}
 use Rattle.std.proofs.{Math.Nat.max-le, lemmas.List.length-replicate}
 use Rattle.lra_domain.specs.{Actions.Within, Bounds.IsBetween, Laws.Laws, Laws.BaseLaws}
-use Rattle.lra_linear_forms.specs.Form.{form_value}
+use Rattle.lra_example_domain.specs.Crates.lra_linear_forms.Form.{form_value}
 use Rattle.lra_example_domain.specs.Abstraction.{ExampleGamma, Under, IsExample, example_parts, example_abstraction}
 use Rattle.lra_example_domain.specs.{Bounds.unbounded, declared.example.ExampleDomain.ExampleDomain}
 

@@ -1,3 +1,5 @@
 pub mod Bounds
 pub mod Abstraction
 pub mod Laws
+-- The crates below
+pub mod Crates

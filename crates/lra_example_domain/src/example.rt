@@ -4,9 +4,9 @@ ghost use Rattle.std.specs.Prelude.{◌≡◌, ℤ, List};
 ghost use Rattle.lra_example_domain.specs.Abstraction.{example_abstraction};
 
 use crate::bounds::{UNBOUNDED, compare, grow_bounds, join_bounds};
-use lra_domain::{BaseDomain, Domain, ExactParts, Exactness, Grown, Included, Mode, Rank};
-use lra_linear_forms::{LinExpr, Test};
-use lra_systems::ConSys;
+use lra_domain::{
+    BaseDomain, ConSys, Domain, ExactParts, Exactness, Grown, Included, LinExpr, Mode, Rank, Test,
+};
 use std::alloc::{AllocError, Global};
 
 /// All stores of some dimensions, or none if the bound is 0; the bound is of a number beside the stores.

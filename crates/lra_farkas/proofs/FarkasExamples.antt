@@ -2,9 +2,11 @@
 use Rattle.std.proofs.Common.{◌≡◌, ℕ, suc, ℤ, pos, negsuc, ◌+ℤ◌, ◌*ℤ◌, ◌≤ℤ◌, ◌<ℤ◌, List, [], ◌∷◌, length, refl, sym, ◌∙◌, subst, inl, inr, arith}
 use Rattle.std.proofs.lemmas.Int.{ints}
 use Rattle.std.specs.declared.cmp.Ordering.TheVariants.{Less}
-use Rattle.lra_linear_spec.specs.{Descriptions.LinearRow, Descriptions.equality, Descriptions.inequality, Descriptions.Con, Descriptions.Holds, Points.IsEmptySet, RowOrder.row_cmp, Vectors.entry}
-use Rattle.lra_linear_spec.proofs.Descriptions.{con_none, con_cons, con_head, con_tail}
-use Rattle.lra_linear_spec.proofs.{Membership.contains_none, Membership.contains_cases, Ring.ring, Ring.v, Ring.◌⊕◌, Ring.◌⊗◌}
+use Rattle.lra_farkas.specs.Crates.lra_linear_spec.Descriptions.{LinearRow, equality, inequality, Con, Holds}
+use Rattle.lra_farkas.specs.Crates.{lra_linear_spec.Points.IsEmptySet, lra_linear_spec.RowOrder.row_cmp, lra_linear_spec.Vectors.entry}
+use Rattle.lra_farkas.proofs.Crates.lra_linear_spec.Descriptions.{con_none, con_cons, con_head, con_tail}
+use Rattle.lra_farkas.proofs.Crates.lra_linear_spec.Membership.{contains_none, contains_cases}
+use Rattle.lra_farkas.proofs.Crates.lra_linear_spec.Ring.{ring, v, ◌⊕◌, ◌⊗◌}
 use Rattle.lra_multipliers.specs.Multipliers.{IsFarkasCertificate}
 use Rattle.lra_farkas.specs.MultiplierRows.{multiplier_rows, AreAsWide}
 use Rattle.lra_farkas.proofs.ShownPoints.{points_show}

@@ -2,13 +2,15 @@
 use Rattle.std.proofs.Common.{◌≡◌, ◌≢◌, ◌⊎◌, ℕ, suc, ◌<◌, ◌≤◌, ℤ, true, false, List, [], ◌∷◌, ◌++◌, length, drop, Some, Result, refl, ap, sym, ◌∙◌, subst, arith, inl, inr}
 use Rattle.std.proofs.{lemmas.List.Elements.All-contains, lemmas.List.Elements.Contains-append_left, lemmas.Option.same_Some, lemmas.Option.none-some, lemmas.Result.err_from_is_err_and}
 use Rattle.std.specs.{List.All, List.Contains, Prelude.slice_get, Prelude.IfErr, Result.IsErrAnd}
-use Rattle.lra_linear_spec.specs.Polyhedra.{Polyhedron, HasPoint, IsPolyhedron, IsPolyhedronOf}
-use Rattle.lra_linear_spec.specs.{Cones.both_ways, Descriptions.LinearRow, Descriptions.generator, Descriptions.rows_as, Descriptions.Con, Kinds.is_equality, Kinds.is_line}
-use Rattle.lra_linear_spec.specs.{OperationStrain.FromRowsStrains, Points.IsPoint, Points.IsEmptySet, Strain.Loss, Vectors.entry, declared.ConKind.ConKind, declared.GenKind.GenKind}
-use Rattle.lra_linear_spec.proofs.Membership.{contains_none, contains_head, contains_tail, contains_cases}
-use Rattle.lra_linear_spec.proofs.{Combinations.generated_row, Polyhedra.con_gen, Polyhedra.cone_gen}
+use Rattle.lra_farkas.specs.Crates.lra_linear_spec.Descriptions.{LinearRow, generator, rows_as, Con}
+use Rattle.lra_farkas.specs.Crates.lra_linear_spec.Kinds.{is_equality, is_line}
+use Rattle.lra_farkas.specs.Crates.lra_linear_spec.Polyhedra.{Polyhedron, HasPoint, IsPolyhedron, IsPolyhedronOf}
+use Rattle.lra_farkas.specs.Crates.{lra_linear_spec.Cones.both_ways, lra_linear_spec.OperationStrain.FromRowsStrains, lra_linear_spec.Points.IsPoint, lra_linear_spec.Points.IsEmptySet}
+use Rattle.lra_farkas.specs.Crates.{lra_linear_spec.Strain.Loss, lra_linear_spec.Vectors.entry, lra_linear_spec.declared.ConKind.ConKind, lra_linear_spec.declared.GenKind.GenKind}
+use Rattle.lra_farkas.proofs.Crates.lra_linear_spec.Membership.{contains_none, contains_head, contains_tail, contains_cases}
+use Rattle.lra_farkas.proofs.Crates.lra_linear_spec.Polyhedra.{con_gen, cone_gen}
+use Rattle.lra_farkas.proofs.Crates.{lra_duality.PolyhedronLemmas.falsity_is_empty, lra_duality.SaturationLemmas.given_length, lra_linear_spec.Combinations.generated_row}
 use Rattle.lra_systems.specs.LinearSystems.{LinearSystem, rows_by_kind, generators, constraints}
-use Rattle.lra_duality.proofs.{PolyhedronLemmas.falsity_is_empty, SaturationLemmas.given_length}
 use Rattle.lra_poly.specs.Outcomes.{IfExact, IfFlagged, IsOfRows}
 use Rattle.lra_poly.specs.{declared.outcome.Outcome.Outcome, declared.outcome.Outcome.TheVariants.Exact, declared.outcome.Outcome.TheVariants.Flagged}
 use Rattle.lra_multipliers.specs.Multipliers.{Multipliers, IsFarkasCertificate, IsCheckWide, IsAnswer, yes}

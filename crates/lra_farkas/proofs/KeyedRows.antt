@@ -3,7 +3,8 @@ use Rattle.std.proofs.Common.{◌≡◌, ℕ, suc, ◌<◌, ◌+◌, ℤ, List, 
 use Rattle.std.proofs.lemmas.List.Sorted.{All-permutation, Contains-permutation, IsPermutation-map, IsPermutation-sym}
 use Rattle.std.proofs.{lemmas.List.take_more, lemmas.List.map-append, lemmas.Option.get_or_from_slice_get}
 use Rattle.std.specs.{List.All, List.Sorted.IsPermutation, Prelude.slice_get, Prelude.IfErr}
-use Rattle.lra_linear_spec.specs.{Descriptions.LinearRow, Descriptions.Con, Kinds.is_equality, Points.IsPoint, Polyhedra.Polyhedron, Polyhedra.IsPolyhedronOf, declared.ConKind.ConKind}
+use Rattle.lra_farkas.specs.Crates.{lra_linear_spec.Descriptions.LinearRow, lra_linear_spec.Descriptions.Con, lra_linear_spec.Kinds.is_equality, lra_linear_spec.Points.IsPoint}
+use Rattle.lra_farkas.specs.Crates.{lra_linear_spec.Polyhedra.Polyhedron, lra_linear_spec.Polyhedra.IsPolyhedronOf, lra_linear_spec.declared.ConKind.ConKind}
 use Rattle.lra_systems.specs.LinearSystems.{LinearSystem, rows_by_kind, constraints}
 use Rattle.lra_systems.proofs.LinearRows.{constraints_pushed, given_more}
 use Rattle.lra_farkas.specs.declared.first.MultipliersFailure.TheVariants.{NotImplied, Strained, Memory}

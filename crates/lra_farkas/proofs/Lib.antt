@@ -6,3 +6,5 @@ pub mod ListedRows
 pub mod KeyedRows
 pub mod FirstPoints
 pub mod FarkasExamples
+-- The crates below
+pub mod Crates

@@ -3,11 +3,12 @@ use Rattle.std.proofs.Common.{◌≡◌, ℕ, suc, ◌<◌, ◌≤◌, ◌+◌, 
 use Rattle.std.proofs.lemmas.List.{take_more, map-append, drop_more, drop_all, append-nil, length-map}
 use Rattle.std.proofs.lemmas.List.FromFn.{map-range_with_len_more}
 use Rattle.std.specs.List.{range_with_len}
-use Rattle.lra_linear_spec.specs.Descriptions.{LinearRow, equality, inequality, rows_of}
-use Rattle.lra_linear_spec.specs.{Kinds.is_equality, OperationStrain.unit_row, Vectors.entry, declared.ConKind.ConKind, declared.ConKind.TheVariants.Ge, declared.ConKind.TheVariants.Eq}
+use Rattle.lra_farkas.specs.Crates.lra_linear_spec.Descriptions.{LinearRow, equality, inequality, rows_of}
+use Rattle.lra_farkas.specs.Crates.lra_linear_spec.declared.ConKind.TheVariants.{Ge, Eq}
+use Rattle.lra_farkas.specs.Crates.{lra_linear_spec.Kinds.is_equality, lra_linear_spec.OperationStrain.unit_row, lra_linear_spec.Vectors.entry, lra_linear_spec.declared.ConKind.ConKind}
 use Rattle.lra_systems.specs.LinearSystems.{LinearSystem, constraints, rows_by_kind}
 use Rattle.lra_systems.proofs.LinearRows.{constraints_pushed}
-use Rattle.lra_description_pair.proofs.OwnRows.{rows_of_given}
+use Rattle.lra_farkas.proofs.Crates.lra_description_pair.OwnRows.{rows_of_given}
 use Rattle.lra_multipliers.specs.Columns.{first_of}
 use Rattle.lra_farkas.specs.MultiplierRows.{balance_row, inequality_columns, multiplier_dims, sign_row, multiplier_rows}
 use Rattle.lra_farkas.specs.RowsByKinds.{columns_by_kinds}

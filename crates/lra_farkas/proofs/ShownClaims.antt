@@ -2,13 +2,15 @@
 use Rattle.std.proofs.Common.{◌≡◌, ℕ, zero, suc, ◌<◌, ◌-◌, ℤ, pos, neg_ℤ, ◌+ℤ◌, ◌*ℤ◌, ◌≤ℤ◌, ◌<ℤ◌, negsuc, Bool, true, false, List, [], ◌∷◌, length, refl, ap, sym, ◌∙◌, subst, arith, inl, inr}
 use Rattle.std.proofs.lemmas.Int.{ints}
 use Rattle.std.specs.List.{Contains}
-use Rattle.lra_linear_spec.specs.Vectors.{entry, product, negated, blend, sum_of, signed_sum}
-use Rattle.lra_linear_spec.specs.{Descriptions.LinearRow, Descriptions.rows_of, Descriptions.system_of, Descriptions.Con, Descriptions.HoldsWith, Polyhedra.positivity, Polyhedra.falsity}
-use Rattle.lra_linear_spec.proofs.Membership.{contains_head, contains_tail, contains_cases}
-use Rattle.lra_linear_spec.proofs.Products.{entry_negated, negated_length, entry_blend, blend_length, dot_same, dot_plus, dot_scale}
-use Rattle.lra_linear_spec.proofs.{Descriptions.solves_con, Descriptions.system_from, Lines.zeros_length, Lines.entry_zeros, OneSpelling.positivity_product, OneSpelling.dot_zeros, OneSpelling.far}
-use Rattle.lra_linear_spec.proofs.{Ring.ring, Ring.v, Ring.⊖, Ring.◌⊕◌, Ring.◌⊗◌, Ring.mul_nonnegative, Signs.above_zero, Signs.zero_at_least, Signs.add_nonnegative}
-use Rattle.lra_canonical.proofs.Solutions.{farkas, sum_none}
+use Rattle.lra_farkas.specs.Crates.lra_linear_spec.Descriptions.{LinearRow, rows_of, system_of, Con, HoldsWith}
+use Rattle.lra_farkas.specs.Crates.lra_linear_spec.Polyhedra.{positivity, falsity}
+use Rattle.lra_farkas.specs.Crates.lra_linear_spec.Vectors.{entry, product, negated, blend, sum_of, signed_sum}
+use Rattle.lra_farkas.proofs.Crates.lra_linear_spec.Membership.{contains_head, contains_tail, contains_cases}
+use Rattle.lra_farkas.proofs.Crates.lra_linear_spec.Products.{entry_negated, negated_length, entry_blend, blend_length, dot_same, dot_plus, dot_scale}
+use Rattle.lra_farkas.proofs.Crates.lra_linear_spec.Ring.{ring, v, ⊖, ◌⊕◌, ◌⊗◌, mul_nonnegative}
+use Rattle.lra_farkas.proofs.Crates.{lra_canonical.Solutions.farkas, lra_canonical.Solutions.sum_none, lra_linear_spec.Descriptions.solves_con, lra_linear_spec.Descriptions.system_from}
+use Rattle.lra_farkas.proofs.Crates.{lra_linear_spec.Lines.zeros_length, lra_linear_spec.Lines.entry_zeros, lra_linear_spec.OneSpelling.positivity_product, lra_linear_spec.OneSpelling.dot_zeros}
+use Rattle.lra_farkas.proofs.Crates.{lra_linear_spec.OneSpelling.far, lra_linear_spec.Signs.above_zero, lra_linear_spec.Signs.zero_at_least, lra_linear_spec.Signs.add_nonnegative}
 use Rattle.lra_multipliers.specs.Multipliers.{Multipliers, AreSigned, IsFarkasCertificate}
 use Rattle.lra_farkas.specs.MultiplierRows.{AreAsWide, WhatHoldsIsShown, WhatHoldsAtPointsIsShown, NoPointIsShown}
 

@@ -3,12 +3,13 @@ use Rattle.std.proofs.Common.{◌≡◌, ℕ, zero, suc, ◌<◌, ◌≤◌, ◌
 use Rattle.std.proofs.lemmas.List.Elements.{Contains-append_cases, Contains-append_left, Contains-append_right}
 use Rattle.std.proofs.{lemmas.Bool.cases_lt, lemmas.Int.ints, lemmas.List.FromFn.length-range_with_len, lemmas.List.FromFn.get_or-range_with_len}
 use Rattle.std.specs.List.{Contains, range_with_len}
-use Rattle.lra_description_pair.proofs.TightRows.{rows_from}
-use Rattle.lra_linear_spec.specs.Descriptions.{LinearRow, equality, rows_of, Con, Holds}
-use Rattle.lra_linear_spec.specs.{OperationStrain.unit_row, Points.IsPoint, Polyhedra.positivity, Vectors.entry, Vectors.dot, Vectors.product, Vectors.signed_sum}
-use Rattle.lra_linear_spec.proofs.Membership.{contains_none, contains_head, contains_tail, contains_cases, map_has, map_from}
-use Rattle.lra_linear_spec.proofs.{Lines.entry_zeros, Products.entry_past, Ring.ring, Ring.v, Ring.⊖, Ring.◌⊕◌, Ring.◌⊗◌, UnitRows.unit_product}
-use Rattle.lra_linear_spec.proofs.Spans.{sum_zero}
+use Rattle.lra_farkas.proofs.Crates.lra_linear_spec.Membership.{contains_none, contains_head, contains_tail, contains_cases, map_has, map_from}
+use Rattle.lra_farkas.proofs.Crates.lra_linear_spec.Ring.{ring, v, ⊖, ◌⊕◌, ◌⊗◌}
+use Rattle.lra_farkas.proofs.Crates.lra_linear_spec.UnitRows.{unit_product}
+use Rattle.lra_farkas.proofs.Crates.{lra_description_pair.TightRows.rows_from, lra_linear_spec.Lines.entry_zeros, lra_linear_spec.Products.entry_past, lra_linear_spec.Spans.sum_zero}
+use Rattle.lra_farkas.specs.Crates.lra_linear_spec.Descriptions.{LinearRow, equality, rows_of, Con, Holds}
+use Rattle.lra_farkas.specs.Crates.lra_linear_spec.Vectors.{entry, dot, product, signed_sum}
+use Rattle.lra_farkas.specs.Crates.{lra_linear_spec.OperationStrain.unit_row, lra_linear_spec.Points.IsPoint, lra_linear_spec.Polyhedra.positivity}
 use Rattle.lra_multipliers.specs.{Columns.first_of, Multipliers.IsSigned, Multipliers.AreSigned, Multipliers.IsFarkasCertificate}
 use Rattle.lra_multipliers.proofs.CheckSteps.{first_past}
 use Rattle.lra_farkas.specs.MultiplierRows.{balance_row, inequality_columns, multiplier_dims, sign_row, multiplier_rows, AreAsWide, PointsShow}

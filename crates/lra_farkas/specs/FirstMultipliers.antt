@@ -1,8 +1,9 @@
 -- The first multipliers that show a claim, and why there are none.
 use Rattle.std.specs.{List.All, Prelude.◌≡◌, Prelude.◌⊎◌, Prelude.ℤ, Prelude.List, Prelude.Some, Prelude.slice_get}
-use Rattle.lra_linear_spec.specs.Descriptions.{LinearRow, generator, Con}
-use Rattle.lra_linear_spec.specs.Polyhedra.{Polyhedron, IsPolyhedronOf}
-use Rattle.lra_linear_spec.specs.{OperationStrain.FromRowsStrains, Points.IsEmptySet, Range.InRange, Strain.Loss}
+use Rattle.lra_farkas.specs.Crates.lra_linear_spec.Descriptions.{LinearRow, generator, Con}
+use Rattle.lra_farkas.specs.Crates.lra_linear_spec.Polyhedra.{Polyhedron, IsPolyhedronOf}
+use Rattle.lra_farkas.specs.Crates.{lra_linear_spec.OperationStrain.FromRowsStrains, lra_linear_spec.Points.IsEmptySet}
+use Rattle.lra_farkas.specs.Crates.{lra_linear_spec.Range.InRange, lra_linear_spec.Strain.Loss}
 use Rattle.lra_multipliers.specs.Multipliers.{Multipliers, IsCheckWide}
 use Rattle.lra_farkas.specs.MultiplierRows.{multiplier_dims, multiplier_rows, point_of}
 use Rattle.lra_farkas.specs.declared.first.MultipliersFailure.{MultipliersFailure}

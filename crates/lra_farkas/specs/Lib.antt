@@ -3,3 +3,5 @@ pub mod MultiplierRows
 pub mod FirstMultipliers
 pub mod RowsByKinds
 pub mod KeyedRows
+-- The crates below
+pub mod Crates

@@ -2,9 +2,10 @@
 -- 0, that of 1 >= 0 in column 1, and then those of the premises, in their order.
 use Rattle.std.specs.List.{Contains, range_with_len}
 use Rattle.std.specs.Prelude.{◌≡◌, ◌↔◌, ◌<◌, ℕ, suc, ℤ, pos, ◌≤ℤ◌, neg_ℤ, List, [], ◌∷◌, ◌++◌, map, length, cond}
-use Rattle.lra_linear_spec.specs.Descriptions.{LinearRow, equality, inequality, rows_of, Con}
-use Rattle.lra_linear_spec.specs.Points.{IsPoint, IsEmptySet, IsWithin}
-use Rattle.lra_linear_spec.specs.{OperationStrain.unit_row, Polyhedra.falsity, Vectors.entry, Vectors.product}
+use Rattle.lra_farkas.specs.Crates.lra_linear_spec.Descriptions.{LinearRow, equality, inequality, rows_of, Con}
+use Rattle.lra_farkas.specs.Crates.lra_linear_spec.Points.{IsPoint, IsEmptySet, IsWithin}
+use Rattle.lra_farkas.specs.Crates.lra_linear_spec.Vectors.{entry, product}
+use Rattle.lra_farkas.specs.Crates.{lra_linear_spec.OperationStrain.unit_row, lra_linear_spec.Polyhedra.falsity}
 use Rattle.lra_multipliers.specs.{Columns.first_of, Multipliers.Multipliers, Multipliers.IsFarkasCertificate}
 
 -- In this column, the multiple of the claim is the sum of 1 >= 0, which has a column 0 alone, and the premises.

@@ -1,9 +1,10 @@
 -- The rows of the polyhedron of all multipliers as they are made of a list's rows and kinds, and what converting
 -- them reports.
 use Rattle.std.specs.Prelude.{ℕ, suc, List, [], ◌∷◌, cond}
-use Rattle.lra_linear_spec.specs.Descriptions.{Con, LinearRow}
-use Rattle.lra_linear_spec.specs.OperationStrain.{FromRowsStrains}
-use Rattle.lra_linear_spec.specs.{Kinds.is_equality, Points.IsEmptySet, Strain.Loss, declared.ConKind.ConKind}
+use Rattle.lra_farkas.specs.Crates.lra_linear_spec.Descriptions.{Con, LinearRow}
+use Rattle.lra_farkas.specs.Crates.lra_linear_spec.OperationStrain.{FromRowsStrains}
+use Rattle.lra_farkas.specs.Crates.{lra_linear_spec.Kinds.is_equality, lra_linear_spec.Points.IsEmptySet}
+use Rattle.lra_farkas.specs.Crates.{lra_linear_spec.Strain.Loss, lra_linear_spec.declared.ConKind.ConKind}
 use Rattle.lra_farkas.specs.declared.first.MultipliersFailure.{MultipliersFailure}
 use Rattle.lra_farkas.specs.declared.first.MultipliersFailure.TheVariants.{NotImplied, Strained, Memory}
 

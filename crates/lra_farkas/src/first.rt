@@ -1,8 +1,8 @@
 //! The first multipliers that show a claim.
 
 ghost use Rattle.std.specs.Prelude.{◌≡◌, ◌<◌, suc, length, IfOk, IfErr, Some, slice_get};
-ghost use Rattle.lra_linear_spec.specs.Polyhedra.{IsPolyhedronOf};
-ghost use Rattle.lra_linear_spec.specs.{Descriptions.Con, Descriptions.generator, Points.IsEmptySet};
+ghost use Rattle.lra_farkas.specs.Crates.lra_linear_spec.Descriptions.{Con, generator};
+ghost use Rattle.lra_farkas.specs.Crates.{lra_linear_spec.Points.IsEmptySet, lra_linear_spec.Polyhedra.IsPolyhedronOf};
 ghost use Rattle.lra_systems.specs.{Dimensions.too_many_dimensions, LinearSystems.constraints};
 ghost use Rattle.lra_multipliers.specs.{MultiplierViews.multipliers_view, Multipliers.IsAnswer, Multipliers.yes};
 ghost use Rattle.lra_farkas.specs.FirstMultipliers.{AreFirst, MultipliersInRange, IsMultipliersFailure};
@@ -12,8 +12,7 @@ use crate::orders::{Order, reorder};
 use crate::rows::list_rows;
 use lra_multipliers::{Answer, Multipliers, check};
 use lra_poly::Poly;
-use lra_row::Row;
-use lra_systems::ConSys;
+use lra_systems::{ConSys, Row};
 use std::alloc::{AllocError, Global};
 
 /// Why there are no multipliers.

@@ -11,3 +11,4 @@ mod rows;
 
 pub use first::{MultipliersFailure, multipliers};
 pub use laws::{multipliers_are_points, what_holds_is_shown};
+pub use lra_systems::{ConKind, ConSys, Row, RowError};

@@ -5,9 +5,7 @@ ghost use Rattle.std.specs.{List.All, List.Sorted.IsPermutation};
 ghost use Rattle.lra_systems.specs.{Dimensions.too_many_dimensions, LinearSystems.constraints};
 ghost use Rattle.lra_farkas.specs.KeyedRows.{row_of_keyed};
 
-use lra_linear_spec::ConKind;
-use lra_row::Row;
-use lra_systems::ConSys;
+use lra_systems::{ConKind, ConSys, Row};
 use std::alloc::{AllocError, Global};
 
 /// Which rows come first: inequalities keep their order, equalities are put in the order of their largest entries.

@@ -2,15 +2,14 @@
 
 ghost use Rattle.std.specs.List.{All, range_with_len};
 ghost use Rattle.std.specs.Prelude.{◌≡◌, ◌<◌, ◌++◌, [], ◌∷◌, suc, map, length, pos, IfOk, OnOk};
-ghost use Rattle.lra_linear_spec.specs.{Descriptions.equality, Range.InRange, Vectors.entry};
+ghost use Rattle.lra_farkas.specs.Crates.lra_linear_spec.Descriptions.{equality};
+ghost use Rattle.lra_farkas.specs.Crates.{lra_linear_spec.Range.InRange, lra_linear_spec.Vectors.entry};
 ghost use Rattle.lra_multipliers.specs.Columns.{first_of};
 ghost use Rattle.lra_systems.specs.{Dimensions.too_many_dimensions, LinearSystems.constraints};
 ghost use Rattle.lra_farkas.specs.MultiplierRows.{balance_row, sign_row, multiplier_dims, multiplier_rows};
 ghost use Rattle.lra_farkas.specs.RowsByKinds.{columns_by_kinds};
 
-use lra_linear_spec::ConKind;
-use lra_row::{Row, opposite};
-use lra_systems::{ConSys, TOO_MANY_DIMENSIONS, unit};
+use lra_systems::{ConKind, ConSys, Row, TOO_MANY_DIMENSIONS, opposite, unit};
 use std::alloc::{AllocError, Global};
 
 /// The entries of the rows in a column come last.

@@ -3,8 +3,7 @@ use Rattle.std.proofs.Common.{◌≡◌, ℕ, suc, ◌+◌, ◌*◌, ◌<◌, Bo
 use Rattle.std.proofs.{Math.Nat.suc-mul, lemmas.Result.IfOk-weaker}
 use Rattle.std.specs.Prelude.{IfOk}
 use Rattle.std.specs.Prelude as outcome_or
-use Rattle.lra_analysis_spec.specs.Plan.{Plan}
-use Rattle.lra_domain.specs.{Abstraction.Abstraction, Interference.Interference}
+use Rattle.lra_fixpoint.specs.Crates.{lra_analysis_spec.Plan.Plan, lra_domain.Abstraction.Abstraction, lra_domain.Interference.Interference}
 use Rattle.lra_pass_results.specs.{Outcome.outcome_view, declared.loop_cache.LoopCache.LoopCache, declared.outcome.PassOutcome.PassOutcome}
 use Rattle.lra_pass_stack.specs.Stack.{PassTask, pass_task, IsGrowing, IsMade, IsNarrowing, IsPassFrame, PassStepLeads, MayBePassed}
 use Rattle.lra_pass_stack.specs.StepsLeft.{next_left, place_left, rounds_left, tree_steps, turns_left}

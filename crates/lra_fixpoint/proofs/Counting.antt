@@ -3,13 +3,14 @@
 use Rattle.std.proofs.Common.{◌≡◌, ◌≢◌, ℕ, zero, suc, ◌+◌, ◌-◌, ◌++◌, ◌≤◌, List, [], ◌∷◌, Option, Some, None, Bool, true, false, cond, inl, inr, refl, sym, ap, ◌∙◌, subst, arith}
 use Rattle.std.proofs.{lemmas.Bool.cases_eq, lemmas.Bool.Decides.nat_tests}
 use Rattle.std.specs.{List.Contains, Prelude.slice_get}
-use Rattle.lra_linear_spec.proofs.Membership.{contains_none, contains_head, contains_tail, contains_cases}
-use Rattle.lra_program.specs.{Program.Expr, Program.Cond, Program.Program, Sites.Site, Sites.sites_of}
+use Rattle.lra_fixpoint.proofs.Crates.lra_analysis_spec.Sound.{behind_entries}
+use Rattle.lra_fixpoint.proofs.Crates.lra_linear_spec.Membership.{contains_none, contains_head, contains_tail, contains_cases}
+use Rattle.lra_fixpoint.specs.Crates.lra_analysis_spec.Pass.{PassEntry, value, failing, recorded, PassResult, noted, jumps, Transformer, LoopRoundFrom, AscendingIteration, DescendingIteration}
+use Rattle.lra_fixpoint.specs.Crates.lra_analysis_spec.Pass.{Absorption, nothing_absorbed, PassUnder, ArmsPassUnder}
+use Rattle.lra_fixpoint.specs.Crates.{lra_analysis_spec.Analysis.Iteration, lra_analysis_spec.Operations.Operations, lra_analysis_spec.Plan.Plan, lra_analysis_spec.Plan.Widening}
+use Rattle.lra_fixpoint.specs.Crates.{lra_program.Program.Expr, lra_program.Program.Cond, lra_program.Program.Program, lra_program.Sites.Site, lra_program.Sites.sites_of}
 use Rattle.lra_operations.specs.Tree.{Exit, broken, continued, returned, Node, empty, probe, point, act, check, seq, choose, iterate, catch, leave, select, Arms, no_arms, entry, arm}
 use Rattle.lra_operations.specs.declared.probes.Probe.TheVariants.{InterferencePoint, RecordWrite}
-use Rattle.lra_analysis_spec.specs.Pass.{PassEntry, value, failing, recorded, PassResult, noted, jumps, Transformer, LoopRoundFrom, AscendingIteration, DescendingIteration, Absorption}
-use Rattle.lra_analysis_spec.specs.{Analysis.Iteration, Operations.Operations, Pass.nothing_absorbed, Pass.PassUnder, Pass.ArmsPassUnder, Plan.Plan, Plan.Widening}
-use Rattle.lra_analysis_spec.proofs.Sound.{behind_entries}
 use Rattle.lra_fixpoint.specs.Counts.{values_at, failing_at, AreCounted}
 use Rattle.lra_fixpoint.specs.Numbers.{one_if, values_in, values_in_arms, checks_in, checks_in_arms, asserts_of, IsNumbered}
 

@@ -2,11 +2,13 @@
 use Rattle.std.proofs.Common.{◌≡◌, ℕ, ◌≤◌, [], List, length, Option, Some, None, Bool, true, refl, sym, ◌∙◌, subst}
 use Rattle.std.proofs.lemmas.Option.{same_Some}
 use Rattle.std.specs.{List.Contains, Prelude.ℤ, Prelude.slice_get}
-use Rattle.lra_domain.specs.{Abstraction.Abstraction, Laws.Laws, declared.Exactness.Exactness}
-use Rattle.lra_program.specs.{Program.Program, Run.begun, Sites.Site, Step.State, WellFormed.AreGoodGlobals}
+use Rattle.lra_fixpoint.specs.Crates.{lra_analysis_spec.Analysis.IsSolution, lra_analysis_spec.Analysis.IsUnreachable, lra_analysis_spec.Moves.AreMade, lra_analysis_spec.MovesOf.first_values}
+use Rattle.lra_fixpoint.specs.Crates.{lra_analysis_spec.Operations.lossy_operations, lra_analysis_spec.Pass.PassResult, lra_analysis_spec.Pass.noted, lra_analysis_spec.Pass.Pass}
+use Rattle.lra_fixpoint.specs.Crates.{lra_analysis_spec.Plan.Plan, lra_domain.Abstraction.Abstraction, lra_domain.Laws.Laws, lra_domain.declared.Exactness.Exactness, lra_program.Program.Program}
+use Rattle.lra_fixpoint.specs.Crates.{lra_program.Run.begun, lra_program.Sites.Site, lra_program.Step.State, lra_program.WellFormed.AreGoodGlobals}
 use Rattle.lra_operations.specs.Tree.{Node, ReachesPoint, FailsAt}
-use Rattle.lra_analysis_spec.specs.{Analysis.IsSolution, Analysis.IsUnreachable, Moves.AreMade, MovesOf.first_values, Operations.lossy_operations, Pass.PassResult, Pass.noted, Pass.Pass, Plan.Plan}
-use Rattle.lra_analysis_spec.proofs.{Covers.Covers, Covers.Has, Keeping.first_lead, Keeps.moves_keep, Keeps.pass_covers}
+use Rattle.lra_fixpoint.proofs.Crates.lra_analysis_spec.Keeps.{moves_keep, pass_covers}
+use Rattle.lra_fixpoint.proofs.Crates.{lra_analysis_spec.Covers.Covers, lra_analysis_spec.Covers.Has, lra_analysis_spec.Keeping.first_lead}
 use Rattle.lra_fixpoint.specs.{Counts.failing_at, Counts.AreCounted, Sound.HoldsInTree}
 use Rattle.lra_fixpoint.proofs.Counting.{one_failing, asserts_few}
 

@@ -2,12 +2,14 @@
 use Rattle.std.proofs.Common.{◌≡◌, ◌↔◌, ℕ, ◌<◌, ◌≤◌, [], List, length, Some, None, Bool, true, refl, sym, ◌∙◌, subst}
 use Rattle.std.proofs.lemmas.Option.{same_Some}
 use Rattle.std.specs.{List.Contains, Prelude.ℤ, Prelude.slice_get, Prelude.Option}
-use Rattle.lra_domain.specs.{Abstraction.Abstraction, Interference.Interference, Interference.none, Laws.Laws, declared.Exactness.Exactness}
-use Rattle.lra_program.specs.{Program.Program, Run.begun, Sites.Site, Step.State, Traces.Trace, WellFormed.AreGoodGlobals}
+use Rattle.lra_fixpoint.specs.Crates.lra_analysis_spec.Analysis.{IsSolution, IsUnreachable}
+use Rattle.lra_fixpoint.specs.Crates.lra_analysis_spec.Pass.{recorded, PassResult, noted, PassUnder}
+use Rattle.lra_fixpoint.specs.Crates.{lra_analysis_spec.Instrumented.instrumented, lra_analysis_spec.Moves.AreMade, lra_analysis_spec.MovesOf.first_values}
+use Rattle.lra_fixpoint.specs.Crates.{lra_analysis_spec.Operations.lossy_operations, lra_analysis_spec.Plan.Plan, lra_analysis_spec.UnderInterference.absorbed, lra_domain.Abstraction.Abstraction}
+use Rattle.lra_fixpoint.specs.Crates.{lra_domain.Interference.Interference, lra_domain.Interference.none, lra_domain.Laws.Laws, lra_domain.declared.Exactness.Exactness, lra_program.Program.Program}
+use Rattle.lra_fixpoint.specs.Crates.{lra_program.Run.begun, lra_program.Sites.Site, lra_program.Step.State, lra_program.Traces.Trace, lra_program.WellFormed.AreGoodGlobals}
 use Rattle.lra_operations.specs.{Traces.to_point, Traces.to_failure, Tree.Node}
-use Rattle.lra_analysis_spec.specs.{Analysis.IsSolution, Analysis.IsUnreachable, Instrumented.instrumented, Moves.AreMade, MovesOf.first_values, Operations.lossy_operations, Pass.recorded}
-use Rattle.lra_analysis_spec.specs.{Pass.PassResult, Pass.noted, Pass.PassUnder, Plan.Plan, UnderInterference.absorbed}
-use Rattle.lra_analysis_spec.proofs.{Covers.Has, Keeping.first_lead, Keeps.moves_keep}
+use Rattle.lra_fixpoint.proofs.Crates.{lra_analysis_spec.Covers.Has, lra_analysis_spec.Keeping.first_lead, lra_analysis_spec.Keeps.moves_keep}
 use Rattle.lra_interference_sound.specs.CoversUnder.{MayBecome, stop, after_write, CoversUnder}
 use Rattle.lra_interference_sound.proofs.SoundUnder.{covers_among}
 use Rattle.lra_fixpoint.specs.{Counts.failing_at, Counts.AreCounted, UnderInterference.begins, UnderInterference.RunsUnder, UnderInterference.WritesUnder, UnderInterference.HoldsUnder}

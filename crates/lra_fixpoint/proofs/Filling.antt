@@ -5,9 +5,8 @@ use Rattle.std.proofs.lemmas.Option.{none-some, same_Some, slice_get-get_or}
 use Rattle.std.proofs.{lemmas.Iterator.Adapters.YieldsList-from_vec, lemmas.List.map-append, lemmas.List.Elements.Contains-append_left, lemmas.List.Elements.Contains-push}
 use Rattle.std.specs.Vec.Iter.{into_iter_items, into_iter_len, into_iter_steps}
 use Rattle.std.specs.{Iterator.Yields, List.Contains, Prelude.◌↔◌, Prelude.IsTrue, Prelude.slice_get, Prelude.slice_set, declared.vec.IntoIter.IntoIter}
-use Rattle.lra_domain.specs.Abstraction.{Abstraction}
-use Rattle.lra_analysis_spec.specs.{Analysis.IsUnreachable, Pass.value, Pass.failing}
-use Rattle.lra_analysis_spec.specs.Pass as pass
+use Rattle.lra_fixpoint.specs.Crates.{lra_analysis_spec.Analysis.IsUnreachable, lra_analysis_spec.Pass.value, lra_analysis_spec.Pass.failing, lra_domain.Abstraction.Abstraction}
+use Rattle.lra_fixpoint.specs.Crates.lra_analysis_spec.Pass as pass
 use Rattle.lra_pass_results.specs.declared.outcome.PassEntry.TheVariants.{Value, Failing, Recorded}
 use Rattle.lra_pass_results.specs.{Outcome.entry_view, declared.outcome.PassEntry.PassEntry}
 use Rattle.lra_fixpoint.specs.{Counts.values_at, Counts.failing_at, Counts.AreApart, Tables.AreTabled, Tables.filled_from}

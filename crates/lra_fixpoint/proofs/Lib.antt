@@ -14,3 +14,5 @@ pub mod Widths
 mod LoopNumbers
 -- The written iteration has one solution.
 pub mod OneSolution
+-- The crates below
+pub mod Crates

@@ -1,9 +1,9 @@
 -- Places at loops: what their bodies are passed from, and what comes after a round.
 use Rattle.std.proofs.Common.{◌≡◌, ◌≤◌, ℕ, suc, Option, Some, None, refl, sym, ap, subst, ◌∙◌}
-use Rattle.lra_domain.specs.{Abstraction.Abstraction, Interference.Interference, Rank.RankFits, declared.Exactness.Exactness}
-use Rattle.lra_program.specs.ProgramViews.{cond_view}
+use Rattle.lra_fixpoint.specs.Crates.{lra_analysis_spec.Live.live_after, lra_analysis_spec.LiveLimit.most_live, lra_analysis_spec.Operations.lossy_operations, lra_analysis_spec.Pass.noted}
+use Rattle.lra_fixpoint.specs.Crates.{lra_analysis_spec.Plan.Plan, lra_analysis_spec.Plan.mode_at, lra_analysis_spec.Thresholds.loop_thresholds, lra_domain.Abstraction.Abstraction}
+use Rattle.lra_fixpoint.specs.Crates.{lra_domain.Interference.Interference, lra_domain.Rank.RankFits, lra_domain.declared.Exactness.Exactness, lra_program.ProgramViews.cond_view}
 use Rattle.lra_operations.specs.{Tree.Node, Tree.iterate, TreeViews.node_view}
-use Rattle.lra_analysis_spec.specs.{Live.live_after, LiveLimit.most_live, Operations.lossy_operations, Pass.noted, Plan.Plan, Plan.mode_at, Thresholds.loop_thresholds}
 use Rattle.lra_pass_results.specs.{Dimensions.TreeFits, Heads.IsValued, Heads.GrowsBy, LoopCache.AreRecalled, LoopCache.MayRecall, LoopCache.Remembers, LoopCache.StaysKept, Outcome.headed}
 use Rattle.lra_pass_results.specs.{Outcome.outcome_view, Outcome.AreKept, Outcome.IsEntered, Outcome.IsKept, Outcome.IsPassed, Outcome.IsLoopRound, Outcome.LeavesWith, declared.heads.Growing.Growing}
 use Rattle.lra_pass_results.specs.{declared.loop_cache.LoopCache.LoopCache, declared.outcome.Entered.TheVariants.Again as again, declared.outcome.Entered.TheVariants.Anew}

@@ -2,7 +2,7 @@
 use Rattle.std.proofs.Common.{◌≡◌, ℕ, ◌+◌, ◌≤◌, List, Some, None, Bool, true, false, cond, refl, ap, ◌∙◌, arith}
 use Rattle.std.specs.Prelude.{nat_eq, slice_get, Option}
 use Rattle.lra_operations.specs.Tree.{Node, empty, probe, point, act, check, seq, choose, iterate, catch, leave, select, Arms, no_arms, entry, arm}
-use Rattle.lra_program.specs.Sites.{Site}
+use Rattle.lra_fixpoint.specs.Crates.lra_program.Sites.{Site}
 use Rattle.lra_fixpoint.specs.Numbers.{one_if, values_in, values_in_arms, IsNumbered}
 use Rattle.lra_pass_results.specs.LoopCache.{ArmsHaveLoops, HasLoops}
 use Rattle.lra_fixpoint.proofs.Counting.{one_same}

@@ -2,8 +2,8 @@
 use Rattle.std.proofs.Common.{◌≡◌, ℕ, List, [], ◌∷◌, ◌++◌, map, inl, inr, sym, ap, refl, ◌∙◌, subst}
 use Rattle.std.proofs.lemmas.List.{append-nil, map-append}
 use Rattle.std.specs.{List.Contains, Prelude.◌↔◌}
-use Rattle.lra_linear_spec.proofs.Membership.{contains_none, contains_head, contains_tail, contains_cases}
-use Rattle.lra_analysis_spec.specs.Pass.{PassEntry, value, failing, recorded}
+use Rattle.lra_fixpoint.proofs.Crates.lra_linear_spec.Membership.{contains_none, contains_head, contains_tail, contains_cases}
+use Rattle.lra_fixpoint.specs.Crates.lra_analysis_spec.Pass.{PassEntry, value, failing, recorded}
 use Rattle.lra_pass_results.specs.declared.outcome.PassEntry as entry
 use Rattle.lra_pass_results.specs.{Outcome.entry_view, declared.outcome.PassEntry.TheVariants.Value, declared.outcome.PassEntry.TheVariants.Failing, declared.outcome.PassEntry.TheVariants.Recorded}
 use Rattle.lra_fixpoint.specs.{Tables.note_view, Tables.notes_in, declared.tables.Note.Note}

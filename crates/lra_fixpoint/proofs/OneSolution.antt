@@ -2,11 +2,11 @@
 use Rattle.std.proofs.Common.{◌≡◌, ◌↔◌, ℕ, suc, List, [], ◌∷◌, Option, Some, Bool, true, false, refl, sym, subst}
 use Rattle.std.proofs.lemmas.Option.{same_Some, none-some}
 use Rattle.std.specs.{List.Contains, Prelude.slice_get, Prelude.IsTrue}
-use Rattle.lra_domain.specs.{Abstraction.Abstraction, Laws.SingleLaws}
-use Rattle.lra_program.specs.{Program.Program, Sites.sites_of}
+use Rattle.lra_fixpoint.specs.Crates.lra_analysis_spec.Analysis.{IsUnreachable, IsSolution, ExactIteration}
+use Rattle.lra_fixpoint.specs.Crates.{lra_analysis_spec.Operations.exact_operations, lra_analysis_spec.Pass.PassResult, lra_analysis_spec.Pass.failing, lra_analysis_spec.Plan.Plan}
+use Rattle.lra_fixpoint.specs.Crates.{lra_domain.Abstraction.Abstraction, lra_domain.Laws.SingleLaws, lra_program.Program.Program, lra_program.Sites.sites_of}
 use Rattle.lra_operations.specs.Tree.{Node}
-use Rattle.lra_analysis_spec.specs.{Analysis.IsUnreachable, Analysis.IsSolution, Analysis.ExactIteration, Operations.exact_operations, Pass.PassResult, Pass.failing, Plan.Plan}
-use Rattle.lra_analysis_spec.proofs.OneIteration.{one_written}
+use Rattle.lra_fixpoint.proofs.Crates.lra_analysis_spec.OneIteration.{one_written}
 use Rattle.lra_fixpoint.specs.Numbers.{IsNumbered}
 use Rattle.lra_fixpoint.proofs.Counting.{iteration_fails_once}
 

@@ -1,14 +1,14 @@
 -- What the loops of a pass keep.
 use Rattle.std.proofs.Common.{◌≡◌, ◌≢◌, ℕ, zero, suc, ◌-◌, ◌^◌, ◌<◌, List, [], ◌∷◌, ◌++◌, Option, None, take, drop, refl, sym, ap, subst, ◌∙◌, arith}
 use Rattle.std.specs.Prelude.{slice_index_or}
-use Rattle.lra_domain.specs.Abstraction.{Abstraction, Values, Grew}
-use Rattle.lra_domain.specs.{Interference.Interference, Parts.CapsWithin, Rank.RankFits, Rank.RankBelow, declared.Exactness.Exactness, declared.Mode.TheVariants.Join, declared.Rank.Rank}
-use Rattle.lra_domain.proofs.RankNumbers.{phased, phased_joins, phased_falls}
-use Rattle.lra_program.specs.Program.{Cond}
+use Rattle.lra_fixpoint.specs.Crates.lra_analysis_spec.Operations.{Operations, lossy_operations}
+use Rattle.lra_fixpoint.specs.Crates.lra_analysis_spec.Pass.{AreJoined, PassResult, noted, first_of_call, PassUnder, LoopRoundFrom, AscendingIteration, DescendingIteration}
+use Rattle.lra_fixpoint.specs.Crates.lra_analysis_spec.Plan.{Plan, Widening, standard, limited, by_thresholds, mode_at}
+use Rattle.lra_fixpoint.specs.Crates.{lra_analysis_spec.Thresholds.loop_thresholds, lra_analysis_spec.UnderInterference.absorbed, lra_domain.Abstraction.Abstraction, lra_domain.Abstraction.Values}
+use Rattle.lra_fixpoint.specs.Crates.{lra_domain.Abstraction.Grew, lra_domain.Interference.Interference, lra_domain.Parts.CapsWithin, lra_domain.Rank.RankFits, lra_domain.Rank.RankBelow}
+use Rattle.lra_fixpoint.specs.Crates.{lra_domain.declared.Exactness.Exactness, lra_domain.declared.Mode.TheVariants.Join, lra_domain.declared.Rank.Rank, lra_program.Program.Cond}
+use Rattle.lra_fixpoint.proofs.Crates.lra_domain.RankNumbers.{phased, phased_joins, phased_falls}
 use Rattle.lra_operations.specs.Tree as graph
-use Rattle.lra_analysis_spec.specs.Pass.{AreJoined, PassResult, noted, first_of_call, PassUnder, LoopRoundFrom, AscendingIteration, DescendingIteration}
-use Rattle.lra_analysis_spec.specs.Plan.{Plan, Widening, standard, limited, by_thresholds, mode_at}
-use Rattle.lra_analysis_spec.specs.{Operations.Operations, Operations.lossy_operations, Thresholds.loop_thresholds, UnderInterference.absorbed}
 use Rattle.lra_pass_results.specs.Outcome.{headed, outcome_view, AllHave, AreKept, HasGrown, IsKept, IsLoopRound, JumpsFit, NarrowsTo}
 use Rattle.lra_pass_results.specs.{Heads.IsValued, Heads.GrowsBy, LoopCache.StaysKept, declared.heads.Growing.Growing, declared.loop_cache.LoopCache.LoopCache, declared.outcome.LoopRound.LoopRound}
 use Rattle.lra_pass_stack.specs.Stack.{GrowLoop, HeadLoop, NarrowLoop}

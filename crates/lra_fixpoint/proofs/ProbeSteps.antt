@@ -1,9 +1,10 @@
 -- What is done beside a program's own operations is passed as it is defined.
 use Rattle.std.proofs.Common.{Vec, Global, map, ◌≡◌, ℕ, List, [], ◌∷◌, ◌++◌, Option, refl, sym, ap, subst, ◌∙◌}
 use Rattle.std.proofs.lemmas.List.{map-append}
-use Rattle.lra_domain.specs.{Abstraction.Abstraction, Interference.Interference, declared.Exactness.Exactness}
+use Rattle.lra_fixpoint.specs.Crates.lra_analysis_spec.Pass.{PassEntry, recorded, PassResult, goes_on, noted}
+use Rattle.lra_fixpoint.specs.Crates.lra_domain.Interference.{Interference}
+use Rattle.lra_fixpoint.specs.Crates.{lra_analysis_spec.Plan.Plan, lra_analysis_spec.UnderInterference.absorbed, lra_domain.Abstraction.Abstraction, lra_domain.declared.Exactness.Exactness}
 use Rattle.lra_operations.specs.{Tree.probe, declared.probes.Probe.TheVariants.InterferencePoint, declared.probes.Probe.TheVariants.RecordWrite}
-use Rattle.lra_analysis_spec.specs.{Pass.PassEntry, Pass.recorded, Pass.PassResult, Pass.goes_on, Pass.noted, Plan.Plan, UnderInterference.absorbed}
 use Rattle.lra_pass_results.specs.declared.outcome.PassEntry as entry
 use Rattle.lra_pass_results.specs.{Outcome.ended, Outcome.entry_view, Outcome.outcome_view, Outcome.IsPassed, declared.outcome.PassEntry.TheVariants.Recorded, declared.outcome.PassOutcome.PassOutcome}
 use Rattle.lra_pass_results.proofs.PassSteps.{going_on_fits}

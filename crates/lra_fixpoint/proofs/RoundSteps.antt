@@ -3,8 +3,8 @@ use Rattle.std.proofs.Common.{◌≡◌, ◌≢◌, ℕ, suc, ◌+◌, ◌-◌, 
 use Rattle.std.proofs.{Math.Nat.suc-mul, lemmas.List.Sums.sum_by-append, lemmas.List.Sums.sum_by-cons, lemmas.Nat.mul-le, lemmas.Nat.mul-add-lt, lemmas.Result.IfOk-weaker}
 use Rattle.std.specs.{List.sum_by, Prelude.IfOk, Prelude.option_to_list}
 use Rattle.std.specs.Prelude as outcome_or
-use Rattle.lra_analysis_spec.specs.Plan.{Plan, Widening, mode_at}
-use Rattle.lra_domain.specs.{Abstraction.Abstraction, Rank.RankFits, Rank.RankBelow, declared.Mode.TheVariants.Join, declared.Rank.Rank}
+use Rattle.lra_fixpoint.specs.Crates.lra_analysis_spec.Plan.{Plan, Widening, mode_at}
+use Rattle.lra_fixpoint.specs.Crates.{lra_domain.Abstraction.Abstraction, lra_domain.Rank.RankFits, lra_domain.Rank.RankBelow, lra_domain.declared.Mode.TheVariants.Join, lra_domain.declared.Rank.Rank}
 use Rattle.lra_pass_results.specs.{declared.outcome.PassOutcome.PassOutcome, declared.tree_forms.Loop.Loop}
 use Rattle.lra_pass_stack.specs.StepsLeft.{all_left, most_rounds, next_left, place_left, rounds_left, tree_steps, turns_left}
 use Rattle.lra_pass_stack.specs.{declared.stack.Entering.Entering, declared.stack.Next.TheVariants.Passed, declared.stack.Next.TheVariants.Opens, declared.stack.Next.TheVariants.Again}

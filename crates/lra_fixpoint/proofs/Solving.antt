@@ -1,13 +1,13 @@
 -- What a derivation's values, verdicts and first flag say of the written iteration.
 use Rattle.std.proofs.Common.{◌≡◌, ◌↔◌, ℕ, List, Option, None, Bool, sym, ◌∙◌, subst}
-use Rattle.lra_program.specs.{Program.Program, declared.program.GlobalVariable.GlobalVariable}
+use Rattle.lra_fixpoint.specs.Crates.lra_analysis_spec.Analysis.{LossyIteration, IsSolution}
+use Rattle.lra_fixpoint.specs.Crates.lra_analysis_spec.Pass.{recorded, PassResult, noted, PassUnder}
+use Rattle.lra_fixpoint.specs.Crates.{lra_analysis_spec.MovesOf.first_values, lra_analysis_spec.Operations.lossy_operations, lra_analysis_spec.Plan.Plan, lra_analysis_spec.UnderInterference.absorbed}
+use Rattle.lra_fixpoint.specs.Crates.{lra_analysis_spec.UnderInterference.LossyIterationUnder, lra_domain.Abstraction.Abstraction, lra_domain.Interference.Interference, lra_domain.Laws.Laws}
+use Rattle.lra_fixpoint.specs.Crates.{lra_domain.declared.Exactness.Exactness, lra_program.Program.Program, lra_program.declared.program.GlobalVariable.GlobalVariable, lra_transfer.Changes.Does}
 use Rattle.std.specs.List.{Contains}
-use Rattle.lra_domain.specs.{Abstraction.Abstraction, Interference.Interference, Laws.Laws, declared.Exactness.Exactness}
 use Rattle.lra_operations.specs.Tree.{Node}
-use Rattle.lra_analysis_spec.specs.{Analysis.LossyIteration, Analysis.IsSolution, MovesOf.first_values, Operations.lossy_operations, Pass.recorded, Pass.PassResult, Pass.noted, Pass.PassUnder}
-use Rattle.lra_analysis_spec.specs.{Plan.Plan, UnderInterference.absorbed, UnderInterference.LossyIterationUnder}
-use Rattle.lra_analysis_spec.proofs.Unflagged.{unflagged_is_written, flagged_strains, unflagged_is_written_among, flagged_strains_among}
-use Rattle.lra_transfer.specs.Changes.{Does}
+use Rattle.lra_fixpoint.proofs.Crates.lra_analysis_spec.Unflagged.{unflagged_is_written, flagged_strains, unflagged_is_written_among, flagged_strains_among}
 use Rattle.lra_fixpoint.specs.Solved.{IsSolved, IsSolvedUnder}
 
 pub solved : {V H : Type 0} (m : Abstraction V H) → Laws m → (plan : Plan) (P : Program) (tree : Node) (result : PassResult V) (values : List V) (verdicts : List (ℕ × Bool)) (flagged : Option ℕ) →

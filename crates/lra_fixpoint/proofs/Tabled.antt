@@ -5,11 +5,11 @@ use Rattle.std.proofs.{lemmas.List.length-replicate, lemmas.List.length-set, lem
 use Rattle.std.proofs.{lemmas.List.Elements.Contains-push_cases, lemmas.Option.none-some, lemmas.Option.same_Some, lemmas.Option.slice_get-map, lemmas.Option.slice_get_past}
 use Rattle.std.specs.Prelude.{◌↔◌, IsTrue, slice_get, slice_set, replicate, flat_map, option_map, cond, true, false}
 use Rattle.std.specs.{List.Contains, Option.option_to_list}
-use Rattle.lra_linear_spec.proofs.Membership.{contains_none, contains_head, contains_tail, contains_cases}
-use Rattle.lra_linear_spec.proofs.ListPlaces.{there_within}
-use Rattle.lra_domain.specs.Abstraction.{Abstraction}
-use Rattle.lra_program.specs.{Assertions.assertions_from, Sites.Site}
-use Rattle.lra_analysis_spec.specs.{Analysis.IsUnreachable, Analysis.IsSolution, Pass.PassEntry, Pass.value, Pass.failing, Pass.recorded, Pass.PassResult}
+use Rattle.lra_fixpoint.proofs.Crates.lra_linear_spec.ListPlaces.{there_within}
+use Rattle.lra_fixpoint.proofs.Crates.lra_linear_spec.Membership.{contains_none, contains_head, contains_tail, contains_cases}
+use Rattle.lra_fixpoint.specs.Crates.lra_analysis_spec.Analysis.{IsUnreachable, IsSolution}
+use Rattle.lra_fixpoint.specs.Crates.lra_analysis_spec.Pass.{PassEntry, value, failing, recorded, PassResult}
+use Rattle.lra_fixpoint.specs.Crates.{lra_domain.Abstraction.Abstraction, lra_program.Assertions.assertions_from, lra_program.Sites.Site}
 use Rattle.lra_fixpoint.specs.{Counts.values_at, Counts.failing_at, Counts.AreCounted, Counts.AreApart, Numbers.asserts_of, Tables.AreTabled, Tables.filled_from}
 use Rattle.lra_fixpoint.proofs.Counting.{values_append, failing_append, value_counted, failing_counted, counted_value, counted_failing, one_value, asserts_few}
 

@@ -1,19 +1,19 @@
 -- The value that an iteration has at a point has a dimension for each variable that lives there.
 use Rattle.std.proofs.Common.{◌≡◌, ◌↔◌, ◌<◌, ℕ, zero, suc, ◌-◌, ◌++◌, List, [], ◌∷◌, length, Option, Some, None, Bool, true, false, inl, inr, sym, ap, ◌∙◌, subst}
 use Rattle.std.specs.{List.AllByRecursion, List.Contains, Prelude.slice_get}
-use Rattle.lra_linear_spec.proofs.Membership.{contains_none, contains_cases}
-use Rattle.lra_domain.specs.{Abstraction.Abstraction, Interference.Interference, Laws.Laws, declared.Exactness.Exactness}
-use Rattle.lra_program.specs.{Program.Expr, Program.Cond, Program.Program, Sites.Site}
+use Rattle.lra_fixpoint.proofs.Crates.lra_transfer.OperationWidths.{leaves_dims, changes_dims, value_dims, globals_dims}
+use Rattle.lra_fixpoint.proofs.Crates.{lra_analysis_spec.Caps.all_both, lra_linear_spec.Membership.contains_none, lra_linear_spec.Membership.contains_cases}
+use Rattle.lra_fixpoint.specs.Crates.lra_analysis_spec.Pass.{AreJoined, PassEntry, value, failing, recorded, PassResult, noted, jumps, first_of_call, values_behind, jumps_caught, Transformer}
+use Rattle.lra_fixpoint.specs.Crates.lra_analysis_spec.Pass.{LoopRoundFrom, AscendingIteration, DescendingIteration, Absorption, nothing_absorbed, PassUnder, ArmsPassUnder, MatchesNone, Enters}
+use Rattle.lra_fixpoint.specs.Crates.lra_analysis_spec.Pass.{JoinsRunning, ComesOut, RunsFrom}
+use Rattle.lra_fixpoint.specs.Crates.lra_base.declared.case_labels.CaseLabel.TheVariants.{Case, Default}
+use Rattle.lra_fixpoint.specs.Crates.{lra_analysis_spec.Analysis.LossyIteration, lra_analysis_spec.Analysis.IsSolution, lra_analysis_spec.Live.live_after_op, lra_analysis_spec.Live.live_after}
+use Rattle.lra_fixpoint.specs.Crates.{lra_analysis_spec.Operations.lossy_operations, lra_analysis_spec.Plan.Plan, lra_analysis_spec.Plan.Widening, lra_analysis_spec.UnderInterference.absorbed}
+use Rattle.lra_fixpoint.specs.Crates.{lra_base.declared.case_labels.CaseLabel.CaseLabel, lra_domain.Abstraction.Abstraction, lra_domain.Interference.Interference, lra_domain.Laws.Laws}
+use Rattle.lra_fixpoint.specs.Crates.{lra_domain.declared.Exactness.Exactness, lra_program.Program.Expr, lra_program.Program.Cond, lra_program.Program.Program, lra_program.Sites.Site}
 use Rattle.lra_operations.specs.Tree.{Exit, broken, continued, returned, Node, empty, probe, point, act, check, seq, choose, iterate, catch, leave, select, Arms, no_arms, entry, arm, entries_of}
 use Rattle.lra_operations.specs.declared.probes.Probe.TheVariants.{InterferencePoint, RecordWrite}
-use Rattle.lra_analysis_spec.specs.Analysis.{LossyIteration, IsSolution}
-use Rattle.lra_analysis_spec.specs.Pass.{AreJoined, PassEntry, value, failing, recorded, PassResult, noted, jumps, first_of_call, values_behind, jumps_caught, Transformer, LoopRoundFrom}
-use Rattle.lra_analysis_spec.specs.Pass.{AscendingIteration, DescendingIteration, Absorption, nothing_absorbed, PassUnder, ArmsPassUnder, MatchesNone, Enters, JoinsRunning, ComesOut, RunsFrom}
-use Rattle.lra_analysis_spec.specs.{Live.live_after_op, Live.live_after, Operations.lossy_operations, Plan.Plan, Plan.Widening, UnderInterference.absorbed}
-use Rattle.lra_base.specs.{declared.case_labels.CaseLabel.CaseLabel, declared.case_labels.CaseLabel.TheVariants.Case, declared.case_labels.CaseLabel.TheVariants.Default}
 use Rattle.lra_pass_stack.specs.Stack.{RunHas}
-use Rattle.lra_analysis_spec.proofs.Caps.{all_both}
-use Rattle.lra_transfer.proofs.OperationWidths.{leaves_dims, changes_dims, value_dims, globals_dims}
 use Rattle.lra_fixpoint.specs.Lives.{LiveAt, ArmsHave, PointsHave, AreWide, NotesHave}
 
 module _ (V H : Type 0) (m : Abstraction V H) where

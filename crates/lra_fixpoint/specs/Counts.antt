@@ -1,7 +1,7 @@
 -- How often a number has an entry among those that a pass finds.
 use Rattle.std.specs.Prelude.{◌≡◌, ◌≤◌, ℕ, ◌+◌, List, [], ◌∷◌, Some, None, slice_get}
-use Rattle.lra_program.specs.Sites.{Site}
-use Rattle.lra_analysis_spec.specs.Pass.{PassEntry, value, failing, recorded}
+use Rattle.lra_fixpoint.specs.Crates.lra_analysis_spec.Pass.{PassEntry, value, failing, recorded}
+use Rattle.lra_fixpoint.specs.Crates.lra_program.Sites.{Site}
 use Rattle.lra_fixpoint.specs.Numbers.{one_if, asserts_of}
 
 abbrev pub values_at : {V : Type 0} → ℕ → List (PassEntry V) → ℕ

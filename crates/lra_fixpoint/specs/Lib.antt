@@ -5,3 +5,5 @@ pub mod Tables
 pub mod Solved
 pub mod Sound
 pub mod UnderInterference
+-- The crates below
+pub mod Crates

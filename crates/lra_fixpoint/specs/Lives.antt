@@ -1,11 +1,10 @@
 -- How many variables live at the points of a tree, and values with a dimension for each of them.
 use Rattle.std.specs.{List.Contains, Prelude.◌≡◌, Prelude.◌<◌, Prelude.ℕ, Prelude.List, Prelude.Some, Prelude.slice_get}
-use Rattle.lra_domain.specs.Abstraction.{Abstraction}
+use Rattle.lra_fixpoint.specs.Crates.lra_domain.Abstraction.{Abstraction}
+use Rattle.lra_fixpoint.specs.Crates.{lra_analysis_spec.Live.live_after, lra_program.Sites.Site}
 use Rattle.lra_operations.specs.Tree.{Node, empty, probe, point, act, check, seq, choose, iterate, catch, leave, select}
 use Rattle.lra_operations.specs.Tree.{Arms, no_arms, entry, arm}
 use Rattle.lra_operations.specs.declared.probes.Probe.TheVariants.{InterferencePoint, RecordWrite}
-use Rattle.lra_program.specs.Sites.{Site}
-use Rattle.lra_analysis_spec.specs.Live.{live_after}
 
 -- a point of this number has so many live variables
 abbrev pub LiveAt : List Site → ℕ → ℕ → Type 0

@@ -2,7 +2,7 @@
 use Rattle.std.specs.Prelude.{◌≡◌, ℕ, ◌+◌, ◌<◌, nat_eq, cond, List, Option, Some, None, slice_get, ⊤}
 use Rattle.lra_operations.specs.Tree.{Node, empty, probe, point, act, check, seq, choose, iterate, catch, leave, select}
 use Rattle.lra_operations.specs.Tree.{Arms, no_arms, entry, arm}
-use Rattle.lra_program.specs.Sites.{Site}
+use Rattle.lra_fixpoint.specs.Crates.lra_program.Sites.{Site}
 
 -- 1 where the numbers are equal, else 0
 unfoldable pub one_if : ℕ → ℕ → ℕ

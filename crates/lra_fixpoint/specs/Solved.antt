@@ -1,12 +1,14 @@
 -- What is found of a program by an iteration over its tree.
 use Rattle.std.specs.List.{Contains}
 use Rattle.std.specs.Prelude.{◌≡◌, ◌↔◌, ℕ, List, Option, None, Some, Bool}
-use Rattle.lra_domain.specs.{Abstraction.Abstraction, Interference.Interference}
-use Rattle.lra_program.specs.Program.{Program}
+use Rattle.lra_fixpoint.specs.Crates.lra_analysis_spec.Analysis.{ExactIteration, LossyIteration, StrainsAtPoint}
+use Rattle.lra_fixpoint.specs.Crates.lra_analysis_spec.Analysis.{IsSolution}
+use Rattle.lra_fixpoint.specs.Crates.lra_analysis_spec.Pass.{recorded, PassResult}
+use Rattle.lra_fixpoint.specs.Crates.lra_analysis_spec.UnderInterference.{ExactIterationUnder, LossyIterationUnder}
+use Rattle.lra_fixpoint.specs.Crates.lra_analysis_spec.UnderInterference.{StrainsUnder}
+use Rattle.lra_fixpoint.specs.Crates.{lra_analysis_spec.Plan.Plan, lra_domain.Abstraction.Abstraction}
+use Rattle.lra_fixpoint.specs.Crates.{lra_domain.Interference.Interference, lra_program.Program.Program}
 use Rattle.lra_operations.specs.Tree.{Node}
-use Rattle.lra_analysis_spec.specs.Analysis.{ExactIteration, LossyIteration, StrainsAtPoint, IsSolution}
-use Rattle.lra_analysis_spec.specs.UnderInterference.{ExactIterationUnder, LossyIterationUnder, StrainsUnder}
-use Rattle.lra_analysis_spec.specs.{Pass.recorded, Pass.PassResult, Plan.Plan}
 
 -- values, verdicts and the first flag of a derivation with drops: without a flag it is the written iteration, and the
 -- first flag stands where the written iteration exceeds a limit

@@ -1,10 +1,9 @@
 -- What is found of a program's tree of operations holds in all of the tree's runs.
 use Rattle.std.specs.List.{Contains}
 use Rattle.std.specs.Prelude.{◌≡◌, ℕ, ℤ, List, length, Bool, true, Some, slice_get}
-use Rattle.lra_domain.specs.Abstraction.{Abstraction}
-use Rattle.lra_program.specs.{Program.Program, Run.begun, Step.State}
+use Rattle.lra_fixpoint.specs.Crates.{lra_analysis_spec.Analysis.IsUnreachable, lra_domain.Abstraction.Abstraction}
+use Rattle.lra_fixpoint.specs.Crates.{lra_program.Program.Program, lra_program.Run.begun, lra_program.Step.State}
 use Rattle.lra_operations.specs.Tree.{Node, ReachesPoint, FailsAt}
-use Rattle.lra_analysis_spec.specs.Analysis.{IsUnreachable}
 
 pub record HoldsInTree {V H : Type 0} (m : Abstraction V H) (P : Program) (tree : Node) (values : List V)
     (verdicts : List (ℕ × Bool)) : Type 0 where

@@ -1,8 +1,8 @@
 -- Tables that have what a pass finds at the numbers of the points.
 use Rattle.std.specs.List.{Contains}
 use Rattle.std.specs.Prelude.{◌≡◌, ◌↔◌, ℕ, suc, List, [], ◌∷◌, length, Option, None, Some, Bool, IsTrue, slice_get}
-use Rattle.lra_domain.specs.Abstraction.{Abstraction}
-use Rattle.lra_analysis_spec.specs.{Analysis.IsUnreachable, Pass.PassEntry, Pass.value, Pass.failing, Pass.recorded}
+use Rattle.lra_fixpoint.specs.Crates.lra_analysis_spec.Pass.{PassEntry, value, failing, recorded}
+use Rattle.lra_fixpoint.specs.Crates.{lra_analysis_spec.Analysis.IsUnreachable, lra_domain.Abstraction.Abstraction}
 use Rattle.lra_fixpoint.specs.declared.tables.Note.{Note}
 
 -- a note is the number of the point, the variable's place and the value

@@ -1,11 +1,12 @@
 -- What is found of a program's tree among others holds in all runs of the program's own tree among them.
 use Rattle.std.specs.List.{Contains}
 use Rattle.std.specs.Prelude.{◌≡◌, ◌<◌, ℕ, ℤ, List, [], length, Bool, true, Some, slice_get}
-use Rattle.lra_domain.specs.{Abstraction.Abstraction, Interference.Interference}
-use Rattle.lra_program.specs.{Program.Program, Run.begun, Step.State, Traces.Trace}
+use Rattle.lra_fixpoint.specs.Crates.lra_analysis_spec.Instrumented.{WritesVariable}
+use Rattle.lra_fixpoint.specs.Crates.{lra_analysis_spec.Analysis.IsUnreachable, lra_domain.Abstraction.Abstraction}
+use Rattle.lra_fixpoint.specs.Crates.{lra_domain.Interference.Interference, lra_program.Program.Program}
+use Rattle.lra_fixpoint.specs.Crates.{lra_program.Run.begun, lra_program.Step.State, lra_program.Traces.Trace}
 use Rattle.lra_operations.specs.Traces.{Stop, to_point, to_failure, stopped, RunsUpTo}
 use Rattle.lra_operations.specs.Tree.{Node}
-use Rattle.lra_analysis_spec.specs.{Analysis.IsUnreachable, Instrumented.WritesVariable}
 use Rattle.lra_interference_sound.specs.CoversUnder.{MayBecome}
 
 -- where a run with these draws begins; in its trace each point is named by its number

@@ -2,10 +2,10 @@
 
 ghost use Rattle.std.specs.Prelude.{◌≡◌, IfOk};
 ghost use Rattle.lra_operations.specs.{Tree.broken, Tree.continued, Tree.returned, TreeViews.exit_view};
-ghost use Rattle.lra_analysis_spec.specs.Pass.{jumps_of};
+ghost use Rattle.lra_fixpoint.specs.Crates.lra_analysis_spec.Pass.{jumps_of};
 ghost use Rattle.lra_pass_results.specs.Outcome.{outcome_view, AllHave, Catches};
 
-use lra_domain::Domain;
+use lra_interference_sound::Domain;
 use lra_operations::Exit;
 use lra_pass_results::{PassOutcome, join_all, note};
 use std::alloc::{AllocError, Global};

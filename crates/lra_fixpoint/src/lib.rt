@@ -8,6 +8,7 @@ mod probes;
 mod solution;
 mod tables;
 
+pub use lra_interference_sound::Domain;
 pub use lra_pass_results::Plan;
 pub use solution::{NotedSolution, Solution, analyse, analyse_with};
 pub use tables::Note;

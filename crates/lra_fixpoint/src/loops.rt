@@ -1,10 +1,11 @@
 //! Loops: a head that grows, is narrowed, and is left where the condition is false.
 
 ghost use Rattle.std.specs.Prelude.{◌≡◌, ◌≤◌, ◌<◌, ◌^◌, ◌+◌, ◌*◌, ℕ, suc, Option, true, false, IfOk};
-ghost use Rattle.lra_domain.specs.declared.Exactness.{Exactness};
+ghost use Rattle.lra_fixpoint.specs.Crates.lra_domain.declared.Exactness.{Exactness};
 ghost use Rattle.lra_operations.specs.Tree as graph;
-ghost use Rattle.lra_analysis_spec.specs.{LiveLimit.most_live, Operations.lossy_operations, Pass.noted, Plan.Plan};
-ghost use Rattle.lra_program.specs.ProgramViews.{cond_view};
+ghost use Rattle.lra_fixpoint.specs.Crates.lra_analysis_spec.Operations.{lossy_operations};
+ghost use Rattle.lra_fixpoint.specs.Crates.{lra_analysis_spec.LiveLimit.most_live, lra_analysis_spec.Pass.noted};
+ghost use Rattle.lra_fixpoint.specs.Crates.{lra_analysis_spec.Plan.Plan, lra_program.ProgramViews.cond_view};
 ghost use Rattle.lra_operations.specs.TreeViews.{node_view};
 ghost use Rattle.lra_pass_results.specs.LoopCache.{MayRecall};
 ghost use Rattle.lra_pass_results.specs.Outcome.{ended, headed, outcome_view, AreKept, IsEntered, IsKept, LeavesWith};
@@ -12,13 +13,12 @@ ghost use Rattle.lra_pass_stack.specs.Stack.{PassTask, IsMade, PassStepLeads, Ma
 ghost use Rattle.lra_pass_stack.specs.Stack.{IsLoopDue, IsNarrowed, IsNarrowing, IsWaiting};
 ghost use Rattle.lra_pass_stack.specs.StepsLeft.{next_left, most_rounds, rounds_left, tree_steps, turns_left};
 
-use lra_domain::{Domain, Exactness, Interfere};
+use lra_interference_sound::{Domain, Interfere};
 use lra_pass_results::{
-    Entered, Growing, HeadRound, Loop, LoopCache, LoopRound, PassEntry, PassFindings, PassOutcome,
-    enter_with, grow_by, note, start,
+    Entered, Exactness, Growing, HeadRound, Loop, LoopCache, LoopRound, PassEntry, PassFindings,
+    PassOutcome, enter_with, filter_condition, grow_by, note, start,
 };
 use lra_pass_stack::{Entering, GrowingFrame, Narrowing, NarrowingFrame, Next};
-use lra_transfer::filter_condition;
 use std::alloc::{AllocError, Global};
 
 /// The first value joined with what a round left, and the first flagged point so far.

@@ -1,7 +1,7 @@
 //! The pass over a tree of operations.
 
 ghost use Rattle.std.specs.Prelude.{◌≡◌, ◌≤◌, ◌<◌, ◌^◌, Ok, Err, IfOk, MatchResult};
-ghost use Rattle.lra_analysis_spec.specs.{LiveLimit.most_live, Plan.Plan};
+ghost use Rattle.lra_fixpoint.specs.Crates.{lra_analysis_spec.LiveLimit.most_live, lra_analysis_spec.Plan.Plan};
 ghost use Rattle.lra_operations.specs.TreeViews.{node_view};
 ghost use Rattle.lra_pass_results.specs.Outcome.{outcome_view, IsPassed};
 ghost use Rattle.lra_pass_results.specs.{Dimensions.TreeFits, LoopCache.Remembers, LoopCache.StaysKept};
@@ -13,7 +13,7 @@ ghost use Rattle.lra_pass_stack.specs.declared.stack.Step.TheVariants.{Goes};
 use crate::catches::catch_jumps;
 use crate::loops::{go_on_growing, go_on_narrowing, open_loop};
 use crate::probes::pass_probe;
-use lra_domain::{Domain, Interfere};
+use lra_interference_sound::{Domain, Interfere};
 use lra_pass_results::{LoopCache, PassOutcome, Plan, TreeForm, pass_leaf};
 use lra_pass_stack::{
     Entering, Next, PassFrame, PassStack, Step, go_on_choice, go_on_row, go_on_selection,

@@ -2,10 +2,11 @@
 
 ghost use Rattle.std.specs.Prelude.{◌≡◌, ◌∷◌, [], IfOk};
 ghost use Rattle.lra_operations.specs.{Tree.probe, declared.probes.Probe.TheVariants.InterferencePoint};
-ghost use Rattle.lra_analysis_spec.specs.{Pass.recorded, Pass.goes_on, Plan.Plan};
+ghost use Rattle.lra_fixpoint.specs.Crates.lra_analysis_spec.Pass.{recorded, goes_on};
+ghost use Rattle.lra_fixpoint.specs.Crates.lra_analysis_spec.Plan.{Plan};
 ghost use Rattle.lra_pass_results.specs.Outcome.{outcome_view, IsPassed};
 
-use lra_domain::{Domain, Interfere};
+use lra_interference_sound::{Domain, Interfere};
 use lra_operations::Probe;
 use lra_pass_results::{PassEntry, PassOutcome, note};
 use std::alloc::{AllocError, Global};

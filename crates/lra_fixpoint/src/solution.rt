@@ -1,12 +1,15 @@
 //! What is found of a whole program.
 
 ghost use Rattle.std.specs.Prelude.{◌≡◌, ◌≤◌, map, length, None, IfOk};
-ghost use Rattle.lra_program.specs.{Assertions.assertions_from, Program.Program, WellFormed.AreGoodGlobals};
+ghost use Rattle.lra_fixpoint.specs.Crates.lra_program.Assertions.{assertions_from};
+ghost use Rattle.lra_fixpoint.specs.Crates.{lra_program.Program.Program, lra_program.WellFormed.AreGoodGlobals};
 ghost use Rattle.lra_operations.specs.{Tree.Node, TreeViews.node_view, TreeViews.site_view};
-ghost use Rattle.lra_domain.specs.declared.Exactness.{Exactness};
-ghost use Rattle.lra_analysis_spec.specs.{Analysis.IsSolution, Instrumented.instrumented, LiveLimit.most_live};
-ghost use Rattle.lra_analysis_spec.specs.{MovesOf.first_values, Pass.noted, Plan.Plan};
-ghost use Rattle.lra_transfer.specs.Changes.{Does};
+ghost use Rattle.lra_fixpoint.specs.Crates.lra_analysis_spec.Analysis.{IsSolution};
+ghost use Rattle.lra_fixpoint.specs.Crates.lra_analysis_spec.Instrumented.{instrumented};
+ghost use Rattle.lra_fixpoint.specs.Crates.lra_analysis_spec.MovesOf.{first_values};
+ghost use Rattle.lra_fixpoint.specs.Crates.lra_domain.declared.Exactness.{Exactness};
+ghost use Rattle.lra_fixpoint.specs.Crates.{lra_analysis_spec.LiveLimit.most_live, lra_analysis_spec.Pass.noted};
+ghost use Rattle.lra_fixpoint.specs.Crates.{lra_analysis_spec.Plan.Plan, lra_transfer.Changes.Does};
 ghost use Rattle.lra_pass_results.specs.{Dimensions.TreeFits, Outcome.outcome_view};
 ghost use Rattle.lra_fixpoint.specs.{Counts.AreCounted, Lives.PointsHave, Lives.AreWide, Lives.NotesHave};
 ghost use Rattle.lra_fixpoint.specs.{Numbers.IsNumbered, Solved.IsSolved, Solved.IsSolvedUnder, Sound.HoldsInTree};
@@ -14,12 +17,10 @@ ghost use Rattle.lra_fixpoint.specs.{Tables.note_view, Tables.notes_in, UnderInt
 
 use crate::pass::pass;
 use crate::tables::{Note, number_held, tables_of, take_held};
-use lra_domain::{Domain, Interfere, NoInterference};
-use lra_operations::{InlinedProgram, Site};
-use lra_pass_results::{LoopCache, PassOutcome, Plan, note};
+use lra_interference_sound::{Domain, Interfere, NoInterference};
+use lra_operations::{GlobalVariable, InlinedProgram, Site};
+use lra_pass_results::{LoopCache, PassOutcome, Plan, append_globals, note};
 use lra_pass_stack::Entering;
-use lra_program::GlobalVariable;
-use lra_transfer::append_globals;
 use std::alloc::{AllocError, Global};
 
 /// What is found of a program: the value at each of its points, in the order of their numbers; of each assertion its

@@ -6,7 +6,7 @@ ghost use Rattle.lra_pass_results.specs.Outcome.{entry_view};
 ghost use Rattle.lra_fixpoint.specs.Counts.{AreApart};
 ghost use Rattle.lra_fixpoint.specs.Tables.{note_view, notes_in, AreTabled, filled_from};
 
-use lra_domain::Domain;
+use lra_interference_sound::Domain;
 use lra_pass_results::PassEntry;
 use std::alloc::{AllocError, Global};
 

@@ -1,12 +1,13 @@
 -- Which accesses of arrays are judged to be inside in whole programs, over boxes: by the values at their points.
 use Rattle.std.proofs.Common.{◌≡◌, ℕ, pos, negsuc, List, [], ◌∷◌, None, Some, Bool, true, false, refl, inl, inr, lit<}
-use Rattle.lra_domain.specs.declared.Exactness.TheVariants.{Exact}
-use Rattle.lra_base.specs.declared.number_types.NumberType.TheVariants.{Int, Long}
-use Rattle.lra_base.specs.{Operators.above, Operators.at_least, Operators.below, declared.number_types.NumberType.NumberType, declared.refusals.Place.Place}
-use Rattle.lra_program.specs.Program.{local, Expr, literal, read, input, element, Element, Cond, compare, both_of, either_of}
-use Rattle.lra_program.specs.{Receivers.variable_at, Step.Op, Step.append, Step.store_value, Step.store_element}
-use Rattle.lra_program.specs.Step as step
-use Rattle.lra_operations.specs.{CheckedOperations.accessing_ops, Tree.Node, Tree.empty, Tree.point, Tree.act, Tree.seq, Tree.choose}
+use Rattle.lra_fixpoint_examples.specs.Crates.lra_base.Operators.{above, at_least, below}
+use Rattle.lra_fixpoint_examples.specs.Crates.lra_base.declared.number_types.NumberType.TheVariants.{Int, Long}
+use Rattle.lra_fixpoint_examples.specs.Crates.lra_operations.Tree.{Node, empty, point, act, seq, choose}
+use Rattle.lra_fixpoint_examples.specs.Crates.lra_program.Program.{local, Expr, literal, read, input, element, Element, Cond, compare, both_of, either_of}
+use Rattle.lra_fixpoint_examples.specs.Crates.lra_program.Step.{Op, append, store_value, store_element}
+use Rattle.lra_fixpoint_examples.specs.Crates.{lra_base.declared.number_types.NumberType.NumberType, lra_base.declared.refusals.Place.Place, lra_domain.declared.Exactness.TheVariants.Exact}
+use Rattle.lra_fixpoint_examples.specs.Crates.{lra_operations.CheckedOperations.accessing_ops, lra_program.Receivers.variable_at}
+use Rattle.lra_fixpoint_examples.specs.Crates.lra_program.Step as step
 use Rattle.lra_box.specs.{Abstraction.box_abstraction, Bounds.full_interval, Content.BoxContent, declared.interval.Interval.Interval}
 use Rattle.lra_analysis_spec.specs.Accesses.{AccessJudged, InsideAtPoint, JudgesAccesses, OpInside}
 use Rattle.lra_fixpoint_examples.proofs.{Judged.judged, LoopExamples.boxes, LoopExamples.one, LoopExamples.none, LoopExamples.between, LoopExamples.at_least as from}

@@ -1,10 +1,10 @@
 -- Single definitions of the iteration on small boxes.
 use Rattle.std.proofs.{Common.[], Common.None, Common.Some, Common.refl, Common.inl, Common.inr, Common.◌^◌, Common.◌-◌, Common.arith, lemmas.Int.ints}
-use Rattle.lra_domain.specs.declared.Exactness.TheVariants.{Exact, Flagged}
-use Rattle.lra_base.specs.{Operators.plus, declared.number_types.NumberType.TheVariants.Int, declared.number_types.NumberType.TheVariants.Long}
-use Rattle.lra_program.proofs.RunExamples.{long_variable}
-use Rattle.lra_program.specs.{Program.local, Program.Expr, Program.literal, Program.read, Program.binary, Receivers.variable_at, Step.store_value, Step.truncate_to}
-use Rattle.lra_operations.specs.Tree.{broken, act, seq, leave}
+use Rattle.lra_fixpoint_examples.specs.Crates.lra_program.Program.{local, Expr, literal, read, binary}
+use Rattle.lra_fixpoint_examples.specs.Crates.{lra_base.Operators.plus, lra_base.declared.number_types.NumberType.TheVariants.Int, lra_base.declared.number_types.NumberType.TheVariants.Long}
+use Rattle.lra_fixpoint_examples.specs.Crates.{lra_domain.declared.Exactness.TheVariants.Exact, lra_domain.declared.Exactness.TheVariants.Flagged, lra_operations.Tree.broken, lra_operations.Tree.act}
+use Rattle.lra_fixpoint_examples.specs.Crates.{lra_operations.Tree.seq, lra_operations.Tree.leave, lra_program.Receivers.variable_at, lra_program.Step.store_value, lra_program.Step.truncate_to}
+use Rattle.lra_fixpoint_examples.proofs.Crates.lra_program.RunExamples.{long_variable}
 use Rattle.lra_box.specs.{Abstraction.box_abstraction, Content.BoxContent}
 use Rattle.lra_analysis_spec.specs.{Operations.straining_operations, Pass.goes_on, Pass.jumps, Pass.Pass}
 use Rattle.lra_fixpoint_examples.proofs.{LoopExamples.boxes, LoopExamples.one, LoopExamples.between, LoopExamples.at_least, LoopExamples.narrowed, NestedExamples.two, NestedExamples.nowhere}

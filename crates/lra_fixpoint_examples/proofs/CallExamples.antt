@@ -1,15 +1,16 @@
 -- The iteration over boxes on a call whose `return` cuts the callee's parameter, after which the callee goes on:
 -- long f(long x){ if(input()) return 1; x=2; return x; } int main(void){ long r=f(0); }
 use Rattle.std.proofs.Common.{◌≡◌, ℕ, pos, List, [], ◌∷◌, ◌++◌, length, None, Some, refl, arith, lit<}
-use Rattle.lra_linear_forms.specs.Form.{Form}
-use Rattle.lra_domain.specs.{Actions.assign, declared.Exactness.TheVariants.Exact}
-use Rattle.lra_base.specs.declared.number_types.NumberType.TheVariants.{Int, Long}
-use Rattle.lra_program.proofs.RunExamples.{long_variable}
-use Rattle.lra_program.specs.Program.{local, literal, read, input, nonzero, Call, Function, Program, declaration, statement, no_more, absent}
-use Rattle.lra_program.specs.{Receivers.variable_at, Step.Op, Step.append, Step.store_value, Step.havoc, Step.truncate_to, Value.Argument}
-use Rattle.lra_program.specs.Program as program
-use Rattle.lra_operations.specs.Inlined.{as_declaration, as_given, as_result, is_call, as_statement, as_none, as_if, as_absent, as_assign, as_value, as_return_value, call_node, return_node}
-use Rattle.lra_operations.specs.{Agree.IsInlinedTree, Tree.returned, Tree.Node, Tree.empty, Tree.point, Tree.act, Tree.seq, Tree.choose}
+use Rattle.lra_fixpoint_examples.specs.Crates.lra_operations.Agree.{IsInlinedTree}
+use Rattle.lra_fixpoint_examples.specs.Crates.lra_operations.Inlined.{as_declaration, as_given, as_result, is_call, as_statement, as_none, as_if, as_absent, as_assign, as_value, as_return_value}
+use Rattle.lra_fixpoint_examples.specs.Crates.lra_operations.Inlined.{call_node, return_node}
+use Rattle.lra_fixpoint_examples.specs.Crates.lra_operations.Tree.{returned, Node, empty, point, act, seq, choose}
+use Rattle.lra_fixpoint_examples.specs.Crates.lra_program.Program.{local, literal, read, input, nonzero, Call, Function, Program, declaration, statement, no_more, absent}
+use Rattle.lra_fixpoint_examples.specs.Crates.lra_program.Step.{Op, append, store_value, havoc, truncate_to}
+use Rattle.lra_fixpoint_examples.specs.Crates.{lra_base.declared.number_types.NumberType.TheVariants.Int, lra_base.declared.number_types.NumberType.TheVariants.Long, lra_domain.Actions.assign}
+use Rattle.lra_fixpoint_examples.specs.Crates.{lra_domain.declared.Exactness.TheVariants.Exact, lra_linear_forms.Form.Form, lra_program.Receivers.variable_at, lra_program.Value.Argument}
+use Rattle.lra_fixpoint_examples.proofs.Crates.lra_program.RunExamples.{long_variable}
+use Rattle.lra_fixpoint_examples.specs.Crates.lra_program.Program as program
 use Rattle.lra_box.specs.{Abstraction.BoxTransfersTo, Abstraction.box_abstraction, Bounds.full_interval, Bounds.form, Bounds.IsValidInterval, Content.BoxContent, Tables.stepped}
 use Rattle.lra_box.specs.{declared.interval.Interval.Interval, declared.interval.Side.TheVariants.Low, declared.interval.Side.TheVariants.High}
 use Rattle.lra_box.proofs.ExtremeLemmas.{end_is_extreme}

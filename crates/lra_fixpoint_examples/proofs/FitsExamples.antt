@@ -3,17 +3,18 @@
 use Rattle.std.proofs.Common.{◌≡◌, ◌∙◌, ◌⊎◌, ℕ, ℤ, pos, negsuc, List, [], ◌∷◌, None, Some, Bool, true, false, refl, sym, ap, inl, inr, lit<}
 use Rattle.std.proofs.lemmas.Option.{same_Some}
 use Rattle.std.specs.{List.list_all, Prelude.◌+ℤ◌, Prelude.◌*ℤ◌, Prelude.slice_get}
-use Rattle.lra_linear_spec.specs.{Range.InRange, declared.ConKind.TheVariants.Ge}
-use Rattle.lra_linear_forms.specs.Form.{Form}
-use Rattle.lra_domain.specs.{Actions.test, Moves.make, Moves.first_then, declared.Exactness.TheVariants.Exact}
-use Rattle.lra_base.specs.{NumberTypes.fits, Operators.plus, Operators.over, Operators.below, Operators.above, Operators.differs, declared.number_types.NumberType.TheVariants.Int}
-use Rattle.lra_program.proofs.RunExamples.{main_alone}
-use Rattle.lra_program.specs.Program.{local, Variable, Expr, literal, read, input, binary, Cond, compare, both_of, Program, declaration, statement, no_more, loop, absent}
-use Rattle.lra_program.specs.{Receivers.variable_at, Step.Op, Step.append, Step.store_value}
-use Rattle.lra_program.specs.Program as program
-use Rattle.lra_program.specs.Step as step
-use Rattle.lra_operations.specs.Inlined.{as_declaration, as_fresh, as_given, as_value, as_statement, as_none, as_loop, is_loop, as_assign, as_if, as_nothing, as_absent, loop_node}
-use Rattle.lra_operations.specs.{Agree.IsInlinedTree, CheckedOperations.OpAtPoint, CheckedOperations.computing_ops, Tree.Node, Tree.empty, Tree.point, Tree.act, Tree.seq, Tree.choose}
+use Rattle.lra_fixpoint_examples.specs.Crates.lra_base.Operators.{plus, over, below, above, differs}
+use Rattle.lra_fixpoint_examples.specs.Crates.lra_operations.CheckedOperations.{OpAtPoint, computing_ops}
+use Rattle.lra_fixpoint_examples.specs.Crates.lra_operations.Inlined.{as_declaration, as_fresh, as_given, as_value, as_statement, as_none, as_loop, is_loop, as_assign, as_if, as_nothing, as_absent}
+use Rattle.lra_fixpoint_examples.specs.Crates.lra_operations.Tree.{Node, empty, point, act, seq, choose}
+use Rattle.lra_fixpoint_examples.specs.Crates.lra_program.Program.{local, Variable, Expr, literal, read, input, binary, Cond, compare, both_of, Program, declaration, statement, no_more, loop, absent}
+use Rattle.lra_fixpoint_examples.specs.Crates.lra_program.Step.{Op, append, store_value}
+use Rattle.lra_fixpoint_examples.specs.Crates.{lra_base.NumberTypes.fits, lra_base.declared.number_types.NumberType.TheVariants.Int, lra_domain.Actions.test, lra_domain.Moves.make}
+use Rattle.lra_fixpoint_examples.specs.Crates.{lra_domain.Moves.first_then, lra_domain.declared.Exactness.TheVariants.Exact, lra_linear_forms.Form.Form, lra_linear_spec.Range.InRange}
+use Rattle.lra_fixpoint_examples.specs.Crates.{lra_linear_spec.declared.ConKind.TheVariants.Ge, lra_operations.Agree.IsInlinedTree, lra_operations.Inlined.loop_node, lra_program.Receivers.variable_at}
+use Rattle.lra_fixpoint_examples.proofs.Crates.lra_program.RunExamples.{main_alone}
+use Rattle.lra_fixpoint_examples.specs.Crates.lra_program.Program as program
+use Rattle.lra_fixpoint_examples.specs.Crates.lra_program.Step as step
 use Rattle.lra_box.specs.{Abstraction.box_abstraction, Bounds.full_interval, Bounds.form, Content.BoxContent, Laws.box_laws}
 use Rattle.lra_analysis_spec.specs.{Analysis.IsUnreachable, Analysis.ExactIteration, Fits.LiesIn, Fits.ExprJudged, Fits.GivenJudged, Fits.JudgedAtPoint, Fits.Judges, Fits.IsDivisor, Fits.OpFits}
 use Rattle.lra_analysis_spec.specs.{Judging.AnswersUnlessUnreachable, Moves.AreMade, MovesOf.above_least, MovesOf.below_greatest, Pass.value, Pass.goes_on, Pass.OpTransfer, Pass.Pass}

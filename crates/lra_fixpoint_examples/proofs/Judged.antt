@@ -2,10 +2,9 @@
 use Rattle.std.proofs.Common.{◌≡◌, ◌<◌, ℕ, zero, suc, List, [], ◌∷◌, map, None, Some, refl, sym, ap, subst, inl, inr, arith}
 use Rattle.std.proofs.lemmas.Option.{same_Some, none-some}
 use Rattle.std.specs.Prelude.{Contains, slice_get}
-use Rattle.lra_linear_spec.proofs.Membership.{contains_none, contains_head, contains_tail, contains_cases}
-use Rattle.lra_domain.specs.{declared.Exactness.Exactness, declared.Exactness.TheVariants.Exact}
-use Rattle.lra_program.specs.Step.{Op}
-use Rattle.lra_operations.specs.CheckedOperations.{OpAtPoint}
+use Rattle.lra_fixpoint_examples.proofs.Crates.lra_linear_spec.Membership.{contains_none, contains_head, contains_tail, contains_cases}
+use Rattle.lra_fixpoint_examples.specs.Crates.lra_operations.CheckedOperations.{OpAtPoint}
+use Rattle.lra_fixpoint_examples.specs.Crates.{lra_domain.declared.Exactness.Exactness, lra_domain.declared.Exactness.TheVariants.Exact, lra_program.Step.Op}
 use Rattle.lra_box.specs.Content.{BoxContent}
 use Rattle.lra_analysis_spec.specs.Judging.{Finding, Finds, answer_of, first_flagged, AnswerAtPoint, IsFoundOn}
 use Rattle.lra_fixpoint_examples.proofs.LoopExamples.{boxes}

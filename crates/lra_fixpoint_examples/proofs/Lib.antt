@@ -6,3 +6,5 @@ mod BoxExamples
 mod Judged
 mod FitsExamples
 mod AccessExamples
+-- The crates below
+pub mod Crates

@@ -1,22 +1,20 @@
 -- The iteration over boxes on a loop that counts: int main(void){ long i=0; while(i<10) i=i+1; }
 use Rattle.std.proofs.Common.{◌≡◌, ℕ, pos, negsuc, List, [], ◌∷◌, None, Some, false, refl, arith, lit<, ◌<◌, ◌^◌}
 use Rattle.std.proofs.lemmas.Int.{ints}
-use Rattle.lra_linear_forms.specs.Form.{Form}
-use Rattle.lra_linear_spec.specs.declared.ConKind.TheVariants.{Ge}
-use Rattle.lra_domain.specs.{Actions.assign, Actions.test, declared.Exactness.TheVariants.Exact}
-use Rattle.lra_base.specs.{Operators.plus, Operators.below, declared.number_types.NumberType.TheVariants.Int, declared.number_types.NumberType.TheVariants.Long}
-use Rattle.lra_program.proofs.RunExamples.{long_variable}
-use Rattle.lra_program.specs.Program.{local, Expr, literal, read, binary, Cond, compare, Program, declaration, statement, no_more, loop, absent}
-use Rattle.lra_program.specs.{Receivers.variable_at, Step.append, Step.store_value}
-use Rattle.lra_program.specs.Program as program
-use Rattle.lra_operations.specs.Inlined.{as_declaration, as_given, as_value, as_statement, as_none, as_loop, is_loop, as_assign, as_absent, loop_node}
-use Rattle.lra_operations.specs.{Agree.IsInlinedTree, Tree.continued, Tree.Node, Tree.empty, Tree.point, Tree.act, Tree.seq, Tree.catch}
+use Rattle.lra_fixpoint_examples.specs.Crates.lra_base.declared.number_types.NumberType.TheVariants.{Int, Long}
+use Rattle.lra_fixpoint_examples.specs.Crates.lra_operations.Inlined.{as_declaration, as_given, as_value, as_statement, as_none, as_loop, is_loop, as_assign, as_absent, loop_node}
+use Rattle.lra_fixpoint_examples.specs.Crates.lra_operations.Tree.{continued, Node, empty, point, act, seq, catch}
+use Rattle.lra_fixpoint_examples.specs.Crates.lra_program.Program.{local, Expr, literal, read, binary, Cond, compare, Program, declaration, statement, no_more, loop, absent}
+use Rattle.lra_fixpoint_examples.specs.Crates.{lra_base.Operators.plus, lra_base.Operators.below, lra_domain.Actions.assign, lra_domain.Actions.test, lra_domain.declared.Exactness.TheVariants.Exact}
+use Rattle.lra_fixpoint_examples.specs.Crates.{lra_linear_forms.Form.Form, lra_linear_spec.declared.ConKind.TheVariants.Ge, lra_operations.Agree.IsInlinedTree, lra_options.OptionRows.default_options}
+use Rattle.lra_fixpoint_examples.specs.Crates.{lra_program.Receivers.variable_at, lra_program.Step.append, lra_program.Step.store_value}
+use Rattle.lra_fixpoint_examples.proofs.Crates.lra_program.RunExamples.{long_variable}
+use Rattle.lra_fixpoint_examples.specs.Crates.lra_program.Program as program
 use Rattle.lra_box.specs.{Abstraction.BoxTransfersTo, Abstraction.box_abstraction, Bounds.full_interval, Bounds.crossed, Bounds.form, Bounds.IsValidInterval, Content.BoxContent, Tables.stepped}
 use Rattle.lra_box.specs.{declared.interval.Interval.Interval, declared.interval.Side.TheVariants.Low, declared.interval.Side.TheVariants.High}
 use Rattle.lra_box.proofs.ExtremeLemmas.{end_is_extreme}
 use Rattle.lra_analysis_spec.specs.Pass.{PassEntry, value, PassResult, goes_on, LoopRoundFrom, LoopRoundFromHead, AscendingIteration, DescendingIteration, Pass}
 use Rattle.lra_analysis_spec.specs.{Analysis.ExactIteration, GuardThresholds.guard_thresholds, Operations.Operations, Operations.exact_operations, Plan.Plan, Plan.plan_of, Plan.standard}
-use Rattle.lra_options.specs.OptionRows.{default_options}
 
 abbrev pub boxes : Operations BoxContent BoxContent
 boxes = exact_operations box_abstraction

@@ -3,18 +3,19 @@
 use Rattle.std.proofs.Common.{◌≡◌, ℕ, ◌≤◌, pos, negsuc, List, [], ◌∷◌, ◌++◌, Option, None, Some, false, refl, arith, lit<}
 use Rattle.std.proofs.lemmas.Int.{ints}
 use Rattle.std.specs.List.{Contains}
-use Rattle.lra_linear_forms.specs.Form.{Form}
-use Rattle.lra_linear_spec.specs.declared.ConKind.TheVariants.{Ge}
-use Rattle.lra_domain.specs.{Actions.assign, Actions.test, Bounds.greater, Bounds.stable, Bounds.lesser_low, declared.Exactness.TheVariants.Exact}
-use Rattle.lra_base.specs.{Operators.plus, Operators.below, Operators.equal, declared.number_types.NumberType.TheVariants.Int, declared.number_types.NumberType.TheVariants.Long}
-use Rattle.lra_program.proofs.RunExamples.{long_variable}
-use Rattle.lra_program.specs.Program.{local, Expr, literal, read, input, binary, Cond, compare, nonzero}
-use Rattle.lra_program.specs.{Receivers.variable_at, Receivers.nobody, Receivers.result_receiver, Step.append, Step.store_value, Step.truncate_to, declared.receivers.Receiver.Receiver}
-use Rattle.lra_program.specs.Program as program
-use Rattle.lra_base.specs.Operators as operators
-use Rattle.lra_operations.specs.Inlined.{as_declaration, as_given, as_value, as_statement, as_none, as_loop, is_loop, as_assign, as_absent, as_block, as_if, as_break, as_end_value, as_assert}
-use Rattle.lra_operations.specs.Tree.{broken, continued, returned, Node, empty, point, act, check, seq, choose, catch, leave}
-use Rattle.lra_operations.specs.{Agree.IsInlinedTree, Inlined.loop_node}
+use Rattle.lra_fixpoint_examples.specs.Crates.lra_operations.Inlined.{as_declaration, as_given, as_value, as_statement, as_none, as_loop, is_loop, as_assign, as_absent, as_block, as_if, as_break}
+use Rattle.lra_fixpoint_examples.specs.Crates.lra_operations.Inlined.{as_end_value, as_assert, loop_node}
+use Rattle.lra_fixpoint_examples.specs.Crates.lra_operations.Tree.{broken, continued, returned, Node, empty, point, act, check, seq, choose, catch, leave}
+use Rattle.lra_fixpoint_examples.specs.Crates.lra_program.Program.{local, Expr, literal, read, input, binary, Cond, compare, nonzero}
+use Rattle.lra_fixpoint_examples.specs.Crates.lra_program.Receivers.{variable_at, nobody, result_receiver}
+use Rattle.lra_fixpoint_examples.specs.Crates.lra_program.Step.{append, store_value, truncate_to}
+use Rattle.lra_fixpoint_examples.specs.Crates.{lra_base.Operators.plus, lra_base.Operators.below, lra_base.Operators.equal, lra_base.declared.number_types.NumberType.TheVariants.Int}
+use Rattle.lra_fixpoint_examples.specs.Crates.{lra_base.declared.number_types.NumberType.TheVariants.Long, lra_domain.Actions.assign, lra_domain.Actions.test, lra_domain.Bounds.greater}
+use Rattle.lra_fixpoint_examples.specs.Crates.{lra_domain.Bounds.stable, lra_domain.Bounds.lesser_low, lra_domain.declared.Exactness.TheVariants.Exact, lra_linear_forms.Form.Form}
+use Rattle.lra_fixpoint_examples.specs.Crates.{lra_linear_spec.declared.ConKind.TheVariants.Ge, lra_operations.Agree.IsInlinedTree, lra_program.declared.receivers.Receiver.Receiver}
+use Rattle.lra_fixpoint_examples.proofs.Crates.lra_program.RunExamples.{long_variable}
+use Rattle.lra_fixpoint_examples.specs.Crates.lra_program.Program as program
+use Rattle.lra_fixpoint_examples.specs.Crates.lra_base.Operators as operators
 use Rattle.lra_box.specs.Bounds.{full_interval, crossed, form, IsValidInterval}
 use Rattle.lra_box.specs.{Abstraction.BoxTransfersTo, Abstraction.box_abstraction, Content.BoxContent, Covering.low_within_refl, Covering.high_within_refl, Tables.stepped, Tables.widened_low}
 use Rattle.lra_box.specs.{declared.interval.Interval.Interval, declared.interval.Side.TheVariants.Low, declared.interval.Side.TheVariants.High}

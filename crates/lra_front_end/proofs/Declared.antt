@@ -2,11 +2,12 @@
 use Rattle.std.proofs.Common.{◌≡◌, ℕ, suc, ◌+◌, List, [], ◌∷◌, length, map, refl, arith, length-append}
 use Rattle.std.specs.List.{flat_map}
 use Rattle.lra_base.specs.declared.number_types.NumberType.{NumberType}
-use Rattle.lra_syntax.specs.Trees.{RvalueTree, ScalarOrArrayTree, scalar, array, FunctionTree, GlobalTree}
-use Rattle.lra_syntax.specs.{Labels.name_in, declared.trees.Identifier.Identifier, declared.trees.SignedLiteral.SignedLiteral}
-use Rattle.lra_program.specs.{Program.BlockItems, Sites.live_after_items, WellFormed.items_numbers}
-use Rattle.lra_resolution_spec.specs.Scope as scope
-use Rattle.lra_resolution_spec.specs.{Resolve.resolve_declared, Resolve.variables_by, Scope.Scope, Scope.Binding, Scope.width_of, Scope.width_of_all, Scope.binding_of, Scope.global_entry}
+use Rattle.lra_front_end.specs.Crates.lra_resolution_spec.Resolve.{resolve_declared, variables_by}
+use Rattle.lra_front_end.specs.Crates.lra_resolution_spec.Scope.{Scope, Binding, width_of, width_of_all, binding_of, global_entry}
+use Rattle.lra_front_end.specs.Crates.lra_syntax.Trees.{RvalueTree, ScalarOrArrayTree, scalar, array, FunctionTree, GlobalTree}
+use Rattle.lra_front_end.specs.Crates.{lra_program.Program.BlockItems, lra_program.Sites.live_after_items, lra_program.WellFormed.items_numbers, lra_syntax.Labels.name_in}
+use Rattle.lra_front_end.specs.Crates.{lra_syntax.declared.trees.Identifier.Identifier, lra_syntax.declared.trees.SignedLiteral.SignedLiteral}
+use Rattle.lra_front_end.specs.Crates.lra_resolution_spec.Scope as scope
 
 -- how many variables there are with one more name
 abbrev pub wider : Binding → ℕ → ℕ

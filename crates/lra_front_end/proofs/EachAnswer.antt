@@ -1,8 +1,7 @@
 -- Each source has one answer.
-use Rattle.lra_syntax.specs.Grammar.{Spells}
-use Rattle.lra_resolution_spec.specs.Refuse.{OneAnswer}
+use Rattle.lra_front_end.specs.Crates.{lra_resolution_spec.Refuse.OneAnswer, lra_syntax.Grammar.Spells}
 use Rattle.lra_lex.proofs.OneReadingLemmas.{one_reading}
-use Rattle.lra_parser_spec.proofs.Laws.{spelled_one, spelled_one_fault}
+use Rattle.lra_front_end.proofs.Crates.lra_parser_spec.Laws.{spelled_one, spelled_one_fault}
 use Rattle.lra_front_end.proofs.OneAnswer as law
 
 pub each_answer : OneAnswer Spells

@@ -1,15 +1,15 @@
 -- A name that isn't at fault means a variable that lives, and a call that isn't at fault a function that is there.
 -- Arrays are no variables: a scope has as many of these as it is wide.
 use Rattle.std.proofs.Common.{◌≡◌, ℕ, suc, ◌+◌, zero, ◌≤◌, ◌<◌, List, [], ◌∷◌, ◌++◌, length, take, Option, Some, None, Bool, true, false, not, ◌||◌, nat_eq, refl, ap, ◌∙◌, subst, arith}
+use Rattle.std.proofs.lemmas.Bool.{not-false}
 use Rattle.std.proofs.{lemmas.Bool.eqb-true, lemmas.Option.same_Some, lemmas.Option.none-some}
 use Rattle.std.specs.{List.AllByRecursion, Prelude.is_none, Prelude.◌&&◌, Prelude.option_map, Prelude.slice_get}
-use Rattle.std.proofs.lemmas.Bool.{not-false}
 use Rattle.lra_base.specs.{declared.refusals.Cause.Cause, declared.refusals.Cause.TheVariants.NotArray, declared.refusals.Place.Place}
-use Rattle.lra_syntax.specs.{Trees.FunctionTree, declared.trees.Identifier.Identifier}
-use Rattle.lra_program.specs.{Program.Slot, Program.global, Program.local, Program.Program, WellFormed.IsLive}
-use Rattle.lra_resolution_spec.specs.Scope.{Binding, scalar, array, SymbolEntry, names_in, Scope, newest, width_of, width_of_all, Lookup, found_at, found_among, found_in, found_of, is_array}
-use Rattle.lra_resolution_spec.specs.Scope.{with_local, inner}
-use Rattle.lra_resolution_spec.specs.{NameFaults.fault_if, NameFaults.scalar_faults, NameFaults.use_faults, NameFaults.called_faults, Resolve.variable_or, Resolve.variable}
+use Rattle.lra_front_end.specs.Crates.lra_resolution_spec.NameFaults.{fault_if, scalar_faults, use_faults, called_faults}
+use Rattle.lra_front_end.specs.Crates.lra_resolution_spec.Scope.{Binding, scalar, array, SymbolEntry, names_in, Scope, newest, width_of, width_of_all, Lookup, found_at, found_among, found_in}
+use Rattle.lra_front_end.specs.Crates.lra_resolution_spec.Scope.{found_of, is_array, with_local, inner}
+use Rattle.lra_front_end.specs.Crates.{lra_program.Program.Slot, lra_program.Program.global, lra_program.Program.local, lra_program.Program.Program, lra_program.WellFormed.IsLive}
+use Rattle.lra_front_end.specs.Crates.{lra_resolution_spec.Resolve.variable_or, lra_resolution_spec.Resolve.variable, lra_syntax.Trees.FunctionTree, lra_syntax.declared.trees.Identifier.Identifier}
 use Rattle.lra_front_end.proofs.Declared.{wider, wider_is}
 
 -- lists without faults ---------------------------------------------------------------------------------------------

@@ -1,23 +1,22 @@
 -- What a tree means is good, where nothing of it is at fault and its literals are small.
 use Rattle.std.proofs.Common.{◌≡◌, ℕ, suc, ◌+◌, List, [], ◌∷◌, ◌++◌, length, map, Option, Some, None, Bool, true, false, not, refl, sym, subst, ◌∙◌}
-use Rattle.std.proofs.lemmas.List.{length-map}
+use Rattle.std.proofs.{lemmas.Bool.not-false, lemmas.List.length-map}
 use Rattle.std.specs.{List.AllByRecursion, List.flat_map, Prelude.⊤, Prelude.slice_get}
 use Rattle.lra_base.specs.{declared.case_labels.CaseLabel.CaseLabel, declared.number_types.NumberType.NumberType, declared.refusals.Place.Place}
-use Rattle.lra_syntax.specs.{Functions.function_named, declared.trees.Identifier.Identifier}
-use Rattle.lra_syntax.specs.Trees as tree
-use Rattle.lra_program.specs.WellFormed.{IsGoodExpr, IsGoodCond, IsGoodCall, IsGoodRvalue, IsGoodGiven, IsGoodStmt, AreGoodCases, AreGoodItems, Jumps, no_jumps, in_loop, in_switch}
-use Rattle.lra_program.specs.{Program.Cond, Program.BlockItems, Program.no_more, Program.Function, Program.Program, Sites.live_after_items}
-use Rattle.lra_resolution_spec.specs.NameFaults.{use_faults, named_faults, unary_faults, term_faults, expr_faults, negation_faults, test_faults, conjunction_faults, cond_faults, called_faults}
-use Rattle.lra_resolution_spec.specs.NameFaults.{call_faults, rvalue_faults, assign_faults, given_faults, shape_faults, declarators_faults, init_faults, test_of_for_faults, step_faults, Around}
-use Rattle.lra_resolution_spec.specs.NameFaults.{return_faults, stmt_faults, cases_faults, items_faults}
-use Rattle.lra_resolution_spec.specs.Resolve.{function_place, resolve_unary, resolve_term, resolve_expr, resolve_negation, resolve_test, resolve_all_of, resolve_any_of, resolve_cond, resolve_call}
-use Rattle.lra_resolution_spec.specs.Resolve.{resolve_rvalue, resolve_given, resolve_assign, resolve_declared, resolve_declarators, resolve_init, resolve_for_test, resolve_step, init_count}
-use Rattle.lra_resolution_spec.specs.Resolve.{step_count, stmt_count, declarator_count, resolve_stmt, resolve_cases, resolve_items}
-use Rattle.lra_resolution_spec.specs.Scope.{Scope, binding_of, with_local, declarator_entry, with_declarators, inner, for_scope}
+use Rattle.lra_front_end.specs.Crates.lra_program.Program.{Cond, BlockItems, no_more, Function, Program}
+use Rattle.lra_front_end.specs.Crates.lra_program.WellFormed.{IsGoodExpr, IsGoodCond, IsGoodCall, IsGoodRvalue, IsGoodGiven, IsGoodStmt, AreGoodCases, AreGoodItems, Jumps, no_jumps, in_loop}
+use Rattle.lra_front_end.specs.Crates.lra_resolution_spec.NameFaults.{use_faults, named_faults, unary_faults, term_faults, expr_faults, negation_faults, test_faults, conjunction_faults, cond_faults}
+use Rattle.lra_front_end.specs.Crates.lra_resolution_spec.NameFaults.{called_faults, call_faults, rvalue_faults, assign_faults, given_faults, shape_faults, declarators_faults, init_faults}
+use Rattle.lra_front_end.specs.Crates.lra_resolution_spec.NameFaults.{test_of_for_faults, step_faults, Around, return_faults, stmt_faults, cases_faults, items_faults}
+use Rattle.lra_front_end.specs.Crates.lra_resolution_spec.Resolve.{function_place, resolve_unary, resolve_term, resolve_expr, resolve_negation, resolve_test, resolve_all_of, resolve_any_of}
+use Rattle.lra_front_end.specs.Crates.lra_resolution_spec.Resolve.{resolve_cond, resolve_call, resolve_rvalue, resolve_given, resolve_assign, resolve_declared, resolve_declarators, resolve_init}
+use Rattle.lra_front_end.specs.Crates.lra_resolution_spec.Resolve.{resolve_for_test, resolve_step, init_count, step_count, stmt_count, declarator_count, resolve_stmt, resolve_cases, resolve_items}
+use Rattle.lra_front_end.specs.Crates.lra_resolution_spec.Scope.{Scope, binding_of, with_local, declarator_entry, with_declarators, inner, for_scope}
+use Rattle.lra_front_end.specs.Crates.{lra_program.Sites.live_after_items, lra_program.WellFormed.in_switch, lra_syntax.Functions.function_named, lra_syntax.declared.trees.Identifier.Identifier}
+use Rattle.lra_front_end.specs.Crates.lra_syntax.Trees as tree
 use Rattle.lra_front_end.specs.Literals.{IsSmallUnary, IsSmallTerm, IsSmallExpr, IsSmallNegation, IsSmallTest, IsSmallConjunction, IsSmallCond, IsSmallCall, IsSmallRvalue, IsSmallGiven, IsSmallAssign}
 use Rattle.lra_front_end.specs.Literals.{IsSmallShape, IsSmallDeclarator, IsSmallInit, IsSmallForTest, IsSmallStep, IsSmallStmt, AreSmallCases, AreSmallItems}
 use Rattle.lra_front_end.proofs.Declared.{wider, behind_declared}
-use Rattle.std.proofs.lemmas.Bool.{not-false}
 use Rattle.lra_front_end.proofs.Faultless.{none_left, none_right, none_if, Sees, sees_local, sees_inner, variable_lives, called_is}
 
 module _ (P : Program) where

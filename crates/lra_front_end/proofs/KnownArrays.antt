@@ -3,19 +3,21 @@ use Rattle.std.proofs.Common.{◌≡◌, ℕ, suc, ◌+◌, List, [], ◌∷◌,
 use Rattle.std.proofs.lemmas.List.Elements.{Contains-append_left, Contains-append_right}
 use Rattle.std.specs.{List.AllByRecursion, List.Contains, List.flat_map, Prelude.⊤}
 use Rattle.lra_base.specs.{declared.case_labels.CaseLabel.CaseLabel, declared.number_types.NumberType.NumberType, declared.refusals.Cause.TheVariants.NotArray, declared.refusals.Place.Place}
-use Rattle.lra_syntax.specs.{Functions.functions_of, Functions.function_named, declared.trees.Identifier.Identifier, declared.trees.Parameter.Parameter, declared.trees.SignedLiteral.SignedLiteral}
-use Rattle.lra_syntax.specs.Trees as tree
-use Rattle.lra_program.specs.WellFormed.{Jumps, no_jumps, in_loop, in_switch}
-use Rattle.lra_program.specs.{Program.Cond, Program.BlockItems, Program.no_more, Program.Function, declared.arrays.Array.Array}
-use Rattle.lra_resolution_spec.specs.NameFaults.{fault_if, array_faults, use_faults, named_faults, unary_faults, term_faults, expr_faults, negation_faults, test_faults, conjunction_faults}
-use Rattle.lra_resolution_spec.specs.NameFaults.{cond_faults, called_faults, call_faults, rvalue_faults, assign_faults, given_faults, shape_faults, declarators_faults, init_faults, test_of_for_faults}
-use Rattle.lra_resolution_spec.specs.NameFaults.{step_faults, Around, return_faults, stmt_faults, cases_faults, items_faults, parameters_faults, function_faults, globals_faults, global_names}
-use Rattle.lra_resolution_spec.specs.Resolve.{array_in, array_or, array_named, no_array, resolve_unary, resolve_term, resolve_expr, resolve_negation, resolve_test, resolve_all_of, resolve_any_of}
-use Rattle.lra_resolution_spec.specs.Resolve.{resolve_cond, resolve_call, resolve_rvalue, resolve_given, resolve_assign, resolve_declared, resolve_declarators, resolve_init, resolve_for_test}
-use Rattle.lra_resolution_spec.specs.Resolve.{resolve_step, init_count, step_count, stmt_count, items_count, declarator_count, resolve_stmt, resolve_cases, resolve_items, arrays_by, arrays_in}
-use Rattle.lra_resolution_spec.specs.Scope.{Binding, scalar, array, SymbolEntry, Scope, Lookup, found_of, is_array, array_of, binding_of, with_local, declarator_entry, parameter_entry, global_entry}
-use Rattle.lra_resolution_spec.specs.Scope.{global_entries, with_declarators, inner, for_scope, function_scope}
-use Rattle.lra_resolution_spec.specs.{NameFaults.parts_faults, NameFaults.name_faults, Resolve.resolve_parts, Resolve.resolve, Threads.thread_faults, Threads.thread_program}
+use Rattle.lra_front_end.specs.Crates.lra_program.WellFormed.{Jumps, no_jumps, in_loop, in_switch}
+use Rattle.lra_front_end.specs.Crates.lra_resolution_spec.NameFaults.{fault_if, array_faults, use_faults, named_faults, unary_faults, term_faults, expr_faults, negation_faults, test_faults}
+use Rattle.lra_front_end.specs.Crates.lra_resolution_spec.NameFaults.{conjunction_faults, cond_faults, called_faults, call_faults, rvalue_faults, assign_faults, given_faults, shape_faults}
+use Rattle.lra_front_end.specs.Crates.lra_resolution_spec.NameFaults.{declarators_faults, init_faults, test_of_for_faults, step_faults, Around, return_faults, stmt_faults, cases_faults, items_faults}
+use Rattle.lra_front_end.specs.Crates.lra_resolution_spec.NameFaults.{parameters_faults, function_faults, globals_faults, global_names, parts_faults, name_faults}
+use Rattle.lra_front_end.specs.Crates.lra_resolution_spec.Resolve.{array_in, array_or, array_named, no_array, resolve_unary, resolve_term, resolve_expr, resolve_negation, resolve_test, resolve_all_of}
+use Rattle.lra_front_end.specs.Crates.lra_resolution_spec.Resolve.{resolve_any_of, resolve_cond, resolve_call, resolve_rvalue, resolve_given, resolve_assign, resolve_declared, resolve_declarators}
+use Rattle.lra_front_end.specs.Crates.lra_resolution_spec.Resolve.{resolve_init, resolve_for_test, resolve_step, init_count, step_count, stmt_count, items_count, declarator_count, resolve_stmt}
+use Rattle.lra_front_end.specs.Crates.lra_resolution_spec.Resolve.{resolve_cases, resolve_items, arrays_by, arrays_in, resolve_parts, resolve}
+use Rattle.lra_front_end.specs.Crates.lra_resolution_spec.Scope.{Binding, scalar, array, SymbolEntry, Scope, Lookup, found_of, is_array, array_of, binding_of, with_local, declarator_entry}
+use Rattle.lra_front_end.specs.Crates.lra_resolution_spec.Scope.{parameter_entry, global_entry, global_entries, with_declarators, inner, for_scope, function_scope}
+use Rattle.lra_front_end.specs.Crates.{lra_program.Program.Cond, lra_program.Program.BlockItems, lra_program.Program.no_more, lra_program.Program.Function, lra_program.declared.arrays.Array.Array}
+use Rattle.lra_front_end.specs.Crates.{lra_resolution_spec.Threads.thread_faults, lra_resolution_spec.Threads.thread_program, lra_syntax.Functions.functions_of, lra_syntax.Functions.function_named}
+use Rattle.lra_front_end.specs.Crates.{lra_syntax.declared.trees.Identifier.Identifier, lra_syntax.declared.trees.Parameter.Parameter, lra_syntax.declared.trees.SignedLiteral.SignedLiteral}
+use Rattle.lra_front_end.specs.Crates.lra_syntax.Trees as tree
 use Rattle.lra_front_end.specs.Known.{Knows, CondKnows, CallKnows, RvalueKnows, GivenKnows, known_behind, StmtKnows, CasesKnow, ItemsKnow, HasArrays}
 use Rattle.lra_front_end.proofs.Faultless.{none_left, none_right, none_both, at_place, Each, each_found}
 

@@ -2,9 +2,9 @@
 use Rattle.std.proofs.Common.{[], ◌∷◌, arith, refl}
 use Rattle.std.specs.List.{Contains}
 use Rattle.lra_base.specs.declared.number_types.NumberType.TheVariants.{Int, Long}
-use Rattle.lra_syntax.proofs.TreeSamples.{at}
-use Rattle.lra_program.specs.Program.{local, Expr, literal, element, nonzero, value, Stmt, absent, block, assign, write, call, for, assert, no_more, array, statement}
-use Rattle.lra_program.specs.declared.arrays.Array.{Array}
+use Rattle.lra_front_end.proofs.Crates.lra_syntax.TreeSamples.{at}
+use Rattle.lra_front_end.specs.Crates.lra_program.Program.{local, Expr, literal, element, nonzero, value, Stmt, absent, block, assign, write, call, for, assert, no_more, array, statement}
+use Rattle.lra_front_end.specs.Crates.lra_program.declared.arrays.Array.{Array}
 use Rattle.lra_front_end.specs.Known.{ItemsKnow}
 
 abbrev two_longs : Array

@@ -29,3 +29,5 @@ pub mod ThreadsOneAnswer
 pub mod ThreadsEachAnswer
 pub mod ThreadsSomeAnswer
 mod ThreadsRefuseExamples
+-- The crates below
+pub mod Crates

@@ -3,9 +3,8 @@ use Rattle.std.proofs.Common.{◌≡◌, ℕ, suc, ◌+◌, List, [], ◌∷◌,
 use Rattle.std.proofs.lemmas.Option.{none-some}
 use Rattle.std.specs.Prelude.{nat_lt, if◌then◌else◌}
 use Rattle.lra_base.specs.declared.refusals.Refusal.{Refusal}
-use Rattle.lra_syntax.specs.Labels.{Labelled}
-use Rattle.lra_program.specs.Sites.{Event, comes, one_call_more, event_sites}
-use Rattle.lra_resolution_spec.specs.Refuse.{greatest_live, greatest_points, limit_fault}
+use Rattle.lra_front_end.specs.Crates.lra_resolution_spec.Refuse.{greatest_live, greatest_points, limit_fault}
+use Rattle.lra_front_end.specs.Crates.{lra_program.Sites.Event, lra_program.Sites.comes, lra_program.Sites.one_call_more, lra_program.Sites.event_sites, lra_syntax.Labels.Labelled}
 
 then_case : (many full : Bool) (x y : Refusal) (f g : Option Refusal) → (f ≡ None → g ≡ None) → (if many then Some x else (if full then Some y else f)) ≡ None
     → (if many then Some x else (if full then Some y else g)) ≡ None

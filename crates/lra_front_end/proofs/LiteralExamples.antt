@@ -2,7 +2,7 @@
 use Rattle.std.proofs.Common.{◌≡◌, [], Some, true, false, refl}
 use Rattle.std.specs.Prelude.{codes}
 use Rattle.lra_base.specs.declared.number_types.NumberType.TheVariants.{Int, Long}
-use Rattle.lra_syntax.specs.Trees.{literal, unary, term, value, test, conjunction, assert, statement, no_items, function}
+use Rattle.lra_front_end.specs.Crates.lra_syntax.Trees.{literal, unary, term, value, test, conjunction, assert, statement, no_items, function}
 use Rattle.lra_front_end.specs.Literals.{IsSmallUnary, IsSmallPart}
 
 -- the greatest literal, and the next number

@@ -3,19 +3,20 @@ use Rattle.std.proofs.Common.{◌≡◌, ℕ, zero, suc, ◌+◌, List, [], ◌�
 use Rattle.std.proofs.lemmas.List.{length-map}
 use Rattle.std.specs.{List.AllByRecursion, List.flat_map, Prelude.⊤, Prelude.slice_get}
 use Rattle.lra_base.specs.{declared.number_types.NumberType.NumberType, declared.refusals.Place.Place}
-use Rattle.lra_syntax.specs.Labels.{Labelled, plain_label, label_with, called_of, called_for, assign_label, name_in, names_of, with_names, declarator_labels, init_labels, step_labels, stmt_labels}
-use Rattle.lra_syntax.specs.Labels.{cases_labels, items_labels, live_in_for, function_labels, labels_of, label_at}
-use Rattle.lra_syntax.specs.{Functions.functions_in, Functions.functions_of, Functions.is_main, declared.trees.Identifier.Identifier, declared.trees.Parameter.Parameter}
-use Rattle.lra_syntax.specs.Trees as tree
-use Rattle.lra_program.specs.Sites.{Site, Event, comes, one_call_more, greatest_calls, plain_site, live_after_items, rvalue_events, given_events, stmt_events, cases_events, items_events}
-use Rattle.lra_program.specs.Sites.{function_events, call_events, event_sites, sites_of}
-use Rattle.lra_program.specs.{Program.Call, Program.BlockItems, Program.no_more, Program.Function, Program.Program, ProgramViews.function_or}
-use Rattle.lra_resolution_spec.specs.LiveNames.{globals_named, live_in_call_at, live_at, names_outside, live_names}
-use Rattle.lra_resolution_spec.specs.Resolve.{resolve_call, resolve_rvalue, resolve_given, resolve_assign, resolve_declared, resolve_declarators, resolve_init, resolve_step, init_count, step_count}
-use Rattle.lra_resolution_spec.specs.Resolve.{stmt_count, items_count, declarator_count, resolve_stmt, resolve_cases, resolve_items, resolve_function, variables_by, globals_in, resolve_parts, main_of}
-use Rattle.lra_resolution_spec.specs.Scope.{SymbolEntry, Scope, binding_of, with_local, declarator_entry, with_declarators, inner, for_scope, function_scope}
-use Rattle.lra_resolution_spec.specs.{Resolve.resolve, ShownNames.shown_names, Threads.thread_program}
-use Rattle.lra_resolution_spec.proofs.LabelCounts.{count_stmt, count_declarators, count_items, count_step, count_init}
+use Rattle.lra_front_end.specs.Crates.lra_program.Program.{Call, BlockItems, no_more, Function, Program}
+use Rattle.lra_front_end.specs.Crates.lra_program.Sites.{Site, Event, comes, one_call_more, greatest_calls, plain_site, live_after_items, rvalue_events, given_events, stmt_events, cases_events}
+use Rattle.lra_front_end.specs.Crates.lra_program.Sites.{items_events, function_events, call_events, event_sites, sites_of}
+use Rattle.lra_front_end.specs.Crates.lra_resolution_spec.LiveNames.{globals_named, live_in_call_at, live_at, names_outside, live_names}
+use Rattle.lra_front_end.specs.Crates.lra_resolution_spec.Resolve.{resolve_call, resolve_rvalue, resolve_given, resolve_assign, resolve_declared, resolve_declarators, resolve_init, resolve_step}
+use Rattle.lra_front_end.specs.Crates.lra_resolution_spec.Resolve.{init_count, step_count, stmt_count, items_count, declarator_count, resolve_stmt, resolve_cases, resolve_items, resolve_function}
+use Rattle.lra_front_end.specs.Crates.lra_resolution_spec.Resolve.{variables_by, globals_in, resolve_parts, main_of, resolve}
+use Rattle.lra_front_end.specs.Crates.lra_resolution_spec.Scope.{SymbolEntry, Scope, binding_of, with_local, declarator_entry, with_declarators, inner, for_scope, function_scope}
+use Rattle.lra_front_end.specs.Crates.lra_syntax.Labels.{Labelled, plain_label, label_with, called_of, called_for, assign_label, name_in, names_of, with_names, declarator_labels, init_labels}
+use Rattle.lra_front_end.specs.Crates.lra_syntax.Labels.{step_labels, stmt_labels, cases_labels, items_labels, live_in_for, function_labels, labels_of, label_at}
+use Rattle.lra_front_end.specs.Crates.{lra_program.ProgramViews.function_or, lra_resolution_spec.ShownNames.shown_names, lra_resolution_spec.Threads.thread_program, lra_syntax.Functions.functions_in}
+use Rattle.lra_front_end.specs.Crates.{lra_syntax.Functions.functions_of, lra_syntax.Functions.is_main, lra_syntax.declared.trees.Identifier.Identifier, lra_syntax.declared.trees.Parameter.Parameter}
+use Rattle.lra_front_end.specs.Crates.lra_syntax.Trees as tree
+use Rattle.lra_front_end.proofs.Crates.lra_resolution_spec.LabelCounts.{count_stmt, count_declarators, count_items, count_step, count_init}
 use Rattle.lra_front_end.proofs.{Declared.wider, Declared.wider_is, Declared.name_width, Declared.behind_declared, Declared.names_width, Declared.variables_width, Faultless.at_place}
 
 -- labels one after the other ------------------------------------------------------------------------------------------

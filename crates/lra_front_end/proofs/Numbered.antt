@@ -2,13 +2,14 @@
 use Rattle.std.proofs.Common.{◌≡◌, ℕ, suc, ◌+◌, List, [], ◌∷◌, ◌++◌, length, Option, Some, None, refl, sym, ap, ◌∙◌, subst, arith, length-append, add-one}
 use Rattle.std.specs.List.{range_with_len, flat_map}
 use Rattle.lra_base.specs.{declared.number_types.NumberType.NumberType, declared.refusals.Place.Place}
-use Rattle.lra_syntax.specs.Trees as tree
-use Rattle.lra_program.specs.{Program.BlockItems, Program.no_more, WellFormed.stmt_numbers, WellFormed.cases_numbers, WellFormed.items_numbers, WellFormed.function_numbers}
-use Rattle.lra_resolution_spec.specs.Resolve.{resolve_assign, resolve_declarators, resolve_init, resolve_step, init_count, step_count, stmt_count, items_count, declarator_count, resolve_stmt}
-use Rattle.lra_resolution_spec.specs.Resolve.{resolve_cases, resolve_items, resolve_function, resolve_parts}
-use Rattle.lra_resolution_spec.specs.Scope.{SymbolEntry, Scope, with_local, declarator_entry, with_declarators, inner, for_scope}
-use Rattle.lra_syntax.specs.Labels.{init_labels, step_labels, stmt_labels, cases_labels, live_in_for}
-use Rattle.lra_resolution_spec.proofs.LabelCounts.{count_stmt, count_declarators, count_items, count_step}
+use Rattle.lra_front_end.specs.Crates.lra_syntax.Trees as tree
+use Rattle.lra_front_end.specs.Crates.lra_program.Program.{BlockItems, no_more}
+use Rattle.lra_front_end.specs.Crates.lra_program.WellFormed.{stmt_numbers, cases_numbers, items_numbers, function_numbers}
+use Rattle.lra_front_end.specs.Crates.lra_resolution_spec.Resolve.{resolve_assign, resolve_declarators, resolve_init, resolve_step, init_count, step_count, stmt_count, items_count, declarator_count}
+use Rattle.lra_front_end.specs.Crates.lra_resolution_spec.Resolve.{resolve_stmt, resolve_cases, resolve_items, resolve_function, resolve_parts}
+use Rattle.lra_front_end.specs.Crates.lra_resolution_spec.Scope.{SymbolEntry, Scope, with_local, declarator_entry, with_declarators, inner, for_scope}
+use Rattle.lra_front_end.specs.Crates.lra_syntax.Labels.{init_labels, step_labels, stmt_labels, cases_labels, live_in_for}
+use Rattle.lra_front_end.proofs.Crates.lra_resolution_spec.LabelCounts.{count_stmt, count_declarators, count_items, count_step}
 use Rattle.lra_front_end.proofs.Declared.{declared_numbers}
 
 -- numbers one after the other ----------------------------------------------------------------------------------------

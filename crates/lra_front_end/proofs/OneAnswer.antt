@@ -3,11 +3,11 @@ use Rattle.std.proofs.Common.{◌≡◌, ℕ, ◌≤◌, ◌<◌, List, [], ◌�
 use Rattle.std.proofs.lemmas.Option.{none-some, same_Some}
 use Rattle.std.specs.List.{AllByRecursion}
 use Rattle.lra_base.specs.{declared.refusals.Cause.Cause, declared.refusals.Place.Place, declared.refusals.Refusal.Refusal}
-use Rattle.lra_syntax.specs.{Faults.Language, Faults.IsTree, Faults.IsTextFault, Faults.OneTree, Faults.OneTextFault, Labels.labels_of, Reach.IsRecursive, Reach.IsFirstRecursive, Reach.NotRecursive}
-use Rattle.lra_syntax.specs.{Tokens.Lex, Tokens.OneReading, Trees.FileTree, declared.tokens.Token.Token, declared.trees.Identifier.Identifier}
-use Rattle.lra_resolution_spec.specs.Refuse.{limit_fault, RefusesTree, bad_name, recursive, past_limit, Refuse, too_long, bad_token, bad_text, bad_tree, Accepts, OneAnswer}
-use Rattle.lra_resolution_spec.specs.{NameFaults.name_faults, Resolve.resolve}
-use Rattle.lra_program.specs.Sites.{events_of}
+use Rattle.lra_front_end.specs.Crates.lra_resolution_spec.Refuse.{limit_fault, RefusesTree, bad_name, recursive, past_limit, Refuse, too_long, bad_token, bad_text, bad_tree, Accepts, OneAnswer}
+use Rattle.lra_front_end.specs.Crates.lra_syntax.Faults.{Language, IsTree, IsTextFault, OneTree, OneTextFault}
+use Rattle.lra_front_end.specs.Crates.lra_syntax.Reach.{IsRecursive, IsFirstRecursive, NotRecursive}
+use Rattle.lra_front_end.specs.Crates.{lra_program.Sites.events_of, lra_resolution_spec.NameFaults.name_faults, lra_resolution_spec.Resolve.resolve, lra_syntax.Labels.labels_of, lra_syntax.Tokens.Lex}
+use Rattle.lra_front_end.specs.Crates.{lra_syntax.Tokens.OneReading, lra_syntax.Trees.FileTree, lra_syntax.declared.tokens.Token.Token, lra_syntax.declared.trees.Identifier.Identifier}
 
 pub not_both : {A : Type 0} (x : A) (xs ys : List A) → xs ≡ [] → xs ≡ x ∷ ys → ⊥
 not_both x xs ys e f = cc

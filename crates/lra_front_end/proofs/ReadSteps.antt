@@ -3,9 +3,11 @@ use Rattle.std.proofs.Common.{◌≡◌, ◌≤◌, ◌<◌, ℕ, ℤ, List, len
 use Rattle.std.specs.Result.{IsErrAnd}
 use Rattle.lra_base.specs.{Places.place_after, Places.greatest_length, Refused.IfRefusal, Refused.IfRefused, declared.error.SourceError.SourceError, declared.refusals.Cause.Cause}
 use Rattle.lra_base.specs.{declared.refusals.Cause.TheVariants.TooLong, declared.refusals.Place.Place}
-use Rattle.lra_syntax.specs.{Constants.constants_of, Faults.IsTree, Faults.IsTextFault, Grammar.Spells, Tokens.Lex, Tokens.IsTokenFault, Tokens.OneReading, Trees.FileTree, declared.tokens.Token.Token}
-use Rattle.lra_resolution_spec.specs.Refuse as plain
-use Rattle.lra_resolution_spec.specs.{Refuse.RefusesTree, Refuse.Refuse, Refuse.bad_tree, RefuseThreads.NotParsed, RefuseThreads.too_long, RefuseThreads.bad_token, RefuseThreads.bad_text}
+use Rattle.lra_front_end.specs.Crates.lra_resolution_spec.RefuseThreads.{NotParsed, too_long, bad_token, bad_text}
+use Rattle.lra_front_end.specs.Crates.lra_syntax.Tokens.{Lex, IsTokenFault, OneReading}
+use Rattle.lra_front_end.specs.Crates.{lra_resolution_spec.Refuse.RefusesTree, lra_resolution_spec.Refuse.Refuse, lra_resolution_spec.Refuse.bad_tree, lra_syntax.Constants.constants_of}
+use Rattle.lra_front_end.specs.Crates.{lra_syntax.Faults.IsTree, lra_syntax.Faults.IsTextFault, lra_syntax.Grammar.Spells, lra_syntax.Trees.FileTree, lra_syntax.declared.tokens.Token.Token}
+use Rattle.lra_front_end.specs.Crates.lra_resolution_spec.Refuse as plain
 use Rattle.lra_base.proofs.{Limit.limit_is, Refusing.refusal_by, Refusing.refused_by, Refusing.exit_refused}
 use Rattle.lra_front_end.specs.Stages.{HasConstants, HasTree, OneConstants}
 

@@ -4,15 +4,17 @@ use Rattle.std.proofs.Common.{◌≡◌, ℕ, true, List, [], ◌∷◌, ◌++�
 use Rattle.std.specs.Prelude.{◌≤◌}
 use Rattle.lra_base.specs.declared.refusals.Cause.TheVariants.{UnknownName, DuplicateName, Misplaced, BadCall, Recursive, NotArray}
 use Rattle.lra_base.specs.{Places.greatest_length, declared.refusals.Cause.Cause, declared.refusals.Place.Place}
-use Rattle.lra_syntax.specs.declared.tokens.Mark.TheVariants as mark
-use Rattle.lra_syntax.specs.Trees.{no_items, declaration, statement, FileTree, assign, break, set, set_element, expression}
-use Rattle.lra_syntax.specs.{Grammar.Spells, Tokens.tokens_of, Tokens.end_token, declared.trees.Identifier.Identifier}
-use Rattle.lra_syntax.proofs.{LexedByTest.space, LexedByTest.sign, LexedByTest.word_of, LexedByTest.one, LexedByTest.is_written, LexedByTest.are_read_by, Lexemes.ExternalDeclaration, Lexemes.written}
-use Rattle.lra_syntax.proofs.{Lexemes.reading, Lexemes.all_lexed, TreeSamples.at, TreeSamples.x_at, TreeSamples.main_of, TreeSamples.declared_as, TreeSamples.literal_text}
-use Rattle.lra_resolution_spec.specs.Refuse.{Refuse, RefusesTree, bad_tree, bad_name, recursive, Accepts}
-use Rattle.lra_resolution_spec.proofs.NameExamples.{calls_with_one, itself, is_recursive}
-use Rattle.lra_parser_spec.specs.{Expressions.unary_at, Expressions.tests, Files.file_at, Reading.Text, Reading.loop, Statements.levels}
-use Rattle.lra_parser_spec.proofs.{Answered.tree_found, FaultExamples.all_inner, FaultExamples.no_end}
+use Rattle.lra_front_end.specs.Crates.lra_syntax.declared.tokens.Mark.TheVariants as mark
+use Rattle.lra_front_end.specs.Crates.lra_resolution_spec.Refuse.{Refuse, RefusesTree, bad_tree, bad_name, recursive, Accepts}
+use Rattle.lra_front_end.specs.Crates.lra_syntax.Tokens.{tokens_of, end_token}
+use Rattle.lra_front_end.specs.Crates.lra_syntax.Trees.{no_items, declaration, statement, FileTree, assign, break, set, set_element, expression}
+use Rattle.lra_front_end.specs.Crates.{lra_parser_spec.Expressions.unary_at, lra_parser_spec.Expressions.tests, lra_parser_spec.Files.file_at, lra_parser_spec.Reading.Text}
+use Rattle.lra_front_end.specs.Crates.{lra_parser_spec.Reading.loop, lra_parser_spec.Statements.levels, lra_syntax.Grammar.Spells, lra_syntax.declared.trees.Identifier.Identifier}
+use Rattle.lra_front_end.proofs.Crates.lra_resolution_spec.NameExamples.{calls_with_one, itself, is_recursive}
+use Rattle.lra_front_end.proofs.Crates.lra_syntax.LexedByTest.{space, sign, word_of, one, is_written, are_read_by}
+use Rattle.lra_front_end.proofs.Crates.lra_syntax.Lexemes.{ExternalDeclaration, written, reading, all_lexed}
+use Rattle.lra_front_end.proofs.Crates.lra_syntax.TreeSamples.{at, x_at, main_of, declared_as, literal_text}
+use Rattle.lra_front_end.proofs.Crates.{lra_parser_spec.Answered.tree_found, lra_parser_spec.FaultExamples.all_inner, lra_parser_spec.FaultExamples.no_end}
 
 -- reading a source that is written out -----------------------------------------------------------------------------
 

@@ -2,15 +2,14 @@
 use Rattle.std.proofs.Common.{◌≡◌, List, [], ◌∷◌, length, Ok, Err, Option, Some, None, ◌⊎◌, inl, inr, ℕ, refl, ◌≤◌}
 use Rattle.std.proofs.lemmas.Bool.{cases_lt}
 use Rattle.lra_base.specs.{Places.greatest_length, declared.refusals.Cause.Cause, declared.refusals.Cause.TheVariants.Recursive, declared.refusals.Place.Place, declared.refusals.Refusal.Refusal}
-use Rattle.lra_syntax.specs.{Faults.IsTree, Faults.IsTextFault, Grammar.Spells, Labels.labels_of, Reach.NotRecursive, Trees.FileTree, declared.tokens.Token.Token}
-use Rattle.lra_resolution_spec.specs.Refuse.{limit_fault, bad_name, recursive, past_limit, too_long, bad_token, bad_text, OneAnswer}
-use Rattle.lra_resolution_spec.specs.{NameFaults.name_faults, Resolve.resolve}
-use Rattle.lra_program.specs.Sites.{events_of}
+use Rattle.lra_front_end.specs.Crates.lra_resolution_spec.Refuse.{limit_fault, bad_name, recursive, past_limit, too_long, bad_token, bad_text, OneAnswer}
+use Rattle.lra_front_end.specs.Crates.{lra_parser_spec.Files.EndsOnce, lra_parser_spec.Files.file_at, lra_parser_spec.Reading.Read, lra_program.Sites.events_of}
+use Rattle.lra_front_end.specs.Crates.{lra_resolution_spec.NameFaults.name_faults, lra_resolution_spec.Resolve.resolve, lra_syntax.Faults.IsTree, lra_syntax.Faults.IsTextFault}
+use Rattle.lra_front_end.specs.Crates.{lra_syntax.Grammar.Spells, lra_syntax.Labels.labels_of, lra_syntax.Reach.NotRecursive, lra_syntax.Trees.FileTree, lra_syntax.declared.tokens.Token.Token}
 use Rattle.lra_lex.proofs.EachReading.{each_reading}
-use Rattle.lra_parser_spec.specs.{Files.EndsOnce, Files.file_at, Reading.Read}
-use Rattle.lra_parser_spec.proofs.{Answered.tree_found, Answered.stops_at, Ended.lexed_end}
+use Rattle.lra_front_end.proofs.Crates.lra_parser_spec.Answered.{tree_found, stops_at}
+use Rattle.lra_front_end.proofs.Crates.{lra_inline_sound.Agreement.trees_agree, lra_inline_sound.DistinctSites.distinct_sites, lra_parser_spec.Ended.lexed_end}
 use Rattle.lra_recursion.proofs.Deciding.{each_recursion}
-use Rattle.lra_inline_sound.proofs.{Agreement.trees_agree, DistinctSites.distinct_sites}
 use Rattle.lra_inline.proofs.Existing.{has_graph}
 use Rattle.lra_front_end.specs.{Claims.HasRefusal, Claims.IsAccepted, Claims.EachAnswer, Stages.HasTree}
 use Rattle.lra_front_end.proofs.{ReadSteps.tree_refused, StageSteps.well, StageSteps.accepted}

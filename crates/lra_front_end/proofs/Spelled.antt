@@ -2,15 +2,15 @@
 use Rattle.std.proofs.Common.{◌≡◌, ℕ, ◌+◌, List, [], ◌∷◌, ◌++◌, Option, Some, None, sym, subst}
 use Rattle.std.specs.{List.AllByRecursion, Prelude.pos, Prelude.IsTrue}
 use Rattle.lra_base.specs.{NumberTypes.fits, declared.number_types.NumberType.NumberType}
-use Rattle.lra_syntax.specs.Grammar.{IsUnary, IsTerm, IsExpr, IsNegation, IsTest, IsConjunction, IsCond, InParens, IsCall, IsRvalue, IsAssign, IsGiven, IsScalarOrArray, IsDeclarator, IsDeclaration}
-use Rattle.lra_syntax.specs.Grammar.{IsInit, in_brackets, IsForTest, IsForStep, IsReturned, opened_by, level_of, IsStmt, AreCases, AreLabelled, AreStated, AreItems, IsExternalDeclaration}
-use Rattle.lra_syntax.specs.Grammar.{AreExternalDeclarations, Spells}
-use Rattle.lra_syntax.specs.{Texts.Piece, Texts.Pieces, Texts.plain, Texts.Texts, Texts.◌⋅◌, Texts.further, Texts.separated, declared.tokens.Kind.TheVariants.Number, declared.tokens.Token.Token}
-use Rattle.lra_syntax.specs.Trees as tree
-use Rattle.lra_parser_spec.specs.Files.{IsSmallKind}
-use Rattle.lra_parser_spec.proofs.Ended.{lexed_small}
-use Rattle.lra_syntax.specs.Tokens as lexical
-use Rattle.lra_syntax.specs.Texts as text
+use Rattle.lra_front_end.specs.Crates.lra_syntax.Grammar.{IsUnary, IsTerm, IsExpr, IsNegation, IsTest, IsConjunction, IsCond, InParens, IsCall, IsRvalue, IsAssign, IsGiven, IsScalarOrArray}
+use Rattle.lra_front_end.specs.Crates.lra_syntax.Grammar.{IsDeclarator, IsDeclaration, IsInit, in_brackets, IsForTest, IsForStep, IsReturned, opened_by, level_of, IsStmt, AreCases, AreLabelled}
+use Rattle.lra_front_end.specs.Crates.lra_syntax.Grammar.{AreStated, AreItems, IsExternalDeclaration, AreExternalDeclarations, Spells}
+use Rattle.lra_front_end.specs.Crates.lra_syntax.Texts.{Piece, Pieces, plain, Texts, ◌⋅◌, further, separated}
+use Rattle.lra_front_end.specs.Crates.{lra_parser_spec.Files.IsSmallKind, lra_syntax.declared.tokens.Kind.TheVariants.Number, lra_syntax.declared.tokens.Token.Token}
+use Rattle.lra_front_end.specs.Crates.lra_syntax.Trees as tree
+use Rattle.lra_front_end.proofs.Crates.lra_parser_spec.Ended.{lexed_small}
+use Rattle.lra_front_end.specs.Crates.lra_syntax.Tokens as lexical
+use Rattle.lra_front_end.specs.Crates.lra_syntax.Texts as text
 use Rattle.lra_front_end.specs.Literals.{IsSmallUnary, IsSmallTerm, IsSmallExpr, IsSmallNegation, IsSmallTest, IsSmallConjunction, IsSmallCond, IsSmallCall, IsSmallRvalue, IsSmallGiven, IsSmallAssign}
 use Rattle.lra_front_end.specs.Literals.{IsSmallShape, IsSmallDeclarator, IsSmallDeclaration, IsSmallInit, IsSmallForTest, IsSmallStep, IsSmallStmt, AreSmallCases, AreSmallItems, IsSmallPart}
 use Rattle.lra_front_end.specs.Literals.{HasSmallLiterals}

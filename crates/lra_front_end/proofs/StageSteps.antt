@@ -4,13 +4,14 @@ use Rattle.std.specs.{Prelude.Option, Prelude.Result, Prelude.MatchOption, Resul
 use Rattle.lra_base.specs.{Refused.IfRefusal, Refused.IfRefused, declared.error.SourceError.SourceError, declared.error.SourceError.TheVariants.Refused, declared.error.SourceError.TheVariants.Memory}
 use Rattle.lra_base.specs.{declared.refusals.Cause.Cause, declared.refusals.Cause.TheVariants.Recursive, declared.refusals.Place.Place, declared.refusals.Refusal.Refusal}
 use Rattle.lra_base.proofs.Refusing.{exit_refused, refusal_by}
-use Rattle.lra_syntax.specs.{Grammar.Spells, Labels.Labelled, Labels.labels_of, Reach.IsFirstRecursive, Reach.NotRecursive, Trees.FileTree}
-use Rattle.lra_program.specs.{Program.Function, Program.Program, Sites.Site, Sites.events_of, Sites.sites_of, WellFormed.IsWellFormed}
-use Rattle.lra_operations.specs.{Agree.IsInlinedTree, Agree.Agrees, Tree.Node}
-use Rattle.lra_resolution_spec.specs.Refuse.{limit_fault, RefusesTree, bad_name, recursive, past_limit, Accepts}
-use Rattle.lra_resolution_spec.specs.{NameFaults.name_faults, Resolve.resolve, Resolve.resolved_functions}
-use Rattle.lra_scopes.specs.Outcome.{first_fault, IsFirstFault}
-use Rattle.lra_inline_steps.specs.{Limits.refusal_of, Limits.OnError, declared.points.InlineError.InlineError, declared.points.InlineError.TheVariants.Passed, declared.points.Limit.Limit}
+use Rattle.lra_front_end.specs.Crates.lra_program.Sites.{Site, events_of, sites_of}
+use Rattle.lra_front_end.specs.Crates.lra_resolution_spec.Refuse.{limit_fault, RefusesTree, bad_name, recursive, past_limit, Accepts}
+use Rattle.lra_front_end.specs.Crates.lra_syntax.Reach.{IsFirstRecursive, NotRecursive}
+use Rattle.lra_front_end.specs.Crates.{lra_inline_steps.Limits.refusal_of, lra_inline_steps.Limits.OnError, lra_inline_steps.declared.points.InlineError.InlineError}
+use Rattle.lra_front_end.specs.Crates.{lra_inline_steps.declared.points.InlineError.TheVariants.Passed, lra_inline_steps.declared.points.Limit.Limit, lra_operations.Agree.IsInlinedTree}
+use Rattle.lra_front_end.specs.Crates.{lra_operations.Agree.Agrees, lra_operations.Tree.Node, lra_program.Program.Function, lra_program.Program.Program, lra_program.WellFormed.IsWellFormed}
+use Rattle.lra_front_end.specs.Crates.{lra_resolution_spec.NameFaults.name_faults, lra_resolution_spec.Resolve.resolve, lra_resolution_spec.Resolve.resolved_functions, lra_scopes.Outcome.first_fault}
+use Rattle.lra_front_end.specs.Crates.{lra_scopes.Outcome.IsFirstFault, lra_syntax.Grammar.Spells, lra_syntax.Labels.Labelled, lra_syntax.Labels.labels_of, lra_syntax.Trees.FileTree}
 use Rattle.lra_front_end.proofs.{Spelled.spelled_are_small, Whole.well_formed}
 use Rattle.lra_front_end.specs.{Claims.AreFew, Stages.HasTree, Stages.HasInlinedTree, Stages.IsRecursionRefusal}
 

@@ -5,13 +5,14 @@ use Rattle.std.specs.{List.AllByRecursion, List.AllZip, Prelude.flat_map, Prelud
 use Rattle.lra_base.specs.{Refused.IfRefusal, Refused.IfRefused, declared.error.SourceError.SourceError, declared.error.SourceError.TheVariants.Refused, declared.error.SourceError.TheVariants.Memory}
 use Rattle.lra_base.specs.{declared.refusals.Cause.Cause, declared.refusals.Place.Place, declared.refusals.Refusal.Refusal}
 use Rattle.lra_base.proofs.Refusing.{exit_refused, refusal_by}
-use Rattle.lra_syntax.specs.{Grammar.Spells, Labels.Labelled, Labels.labels_of, Reach.NotRecursive, Trees.FileTree}
-use Rattle.lra_program.specs.{ProgramViews.function_or, ProgramViews.program_view, Sites.Event, Sites.events_of, Sites.sites_of, WellFormed.IsWellFormed, declared.program.Program.Program}
-use Rattle.lra_program.specs.Program as resolved
-use Rattle.lra_resolution_spec.specs.RefuseThreads.{RefusesThreads, bad_name, recursive, past_limit, RefuseThreads, NotParsed, unread, bad_tree, AcceptsThreads}
-use Rattle.lra_resolution_spec.specs.{Refuse.limit_fault, Threads.thread_faults, Threads.thread_places, Threads.thread_program, Threads.thread_events}
+use Rattle.lra_front_end.specs.Crates.lra_program.Sites.{Event, events_of, sites_of}
+use Rattle.lra_front_end.specs.Crates.lra_resolution_spec.RefuseThreads.{RefusesThreads, bad_name, recursive, past_limit, RefuseThreads, NotParsed, unread, bad_tree, AcceptsThreads}
+use Rattle.lra_front_end.specs.Crates.lra_resolution_spec.Threads.{thread_faults, thread_places, thread_program, thread_events}
+use Rattle.lra_front_end.specs.Crates.{lra_program.ProgramViews.function_or, lra_program.ProgramViews.program_view, lra_program.WellFormed.IsWellFormed, lra_program.declared.program.Program.Program}
+use Rattle.lra_front_end.specs.Crates.{lra_resolution_spec.Refuse.limit_fault, lra_scopes.Outcome.first_fault, lra_scopes.Outcome.IsFirstFault, lra_syntax.Grammar.Spells, lra_syntax.Labels.Labelled}
+use Rattle.lra_front_end.specs.Crates.{lra_syntax.Labels.labels_of, lra_syntax.Reach.NotRecursive, lra_syntax.Trees.FileTree}
+use Rattle.lra_front_end.specs.Crates.lra_program.Program as resolved
 use Rattle.lra_front_end.proofs.{Limits.fault_behind, Limits.fault_stays, Spelled.spelled_are_small, StageSteps.first_is, Whole.threads_formed}
-use Rattle.lra_scopes.specs.Outcome.{first_fault, IsFirstFault}
 use Rattle.lra_front_end.specs.{Stages.HasTree, Stages.IsRecursionRefusal, ThreadsStages.HasThreads}
 
 -- names --------------------------------------------------------------------------------------------------------------

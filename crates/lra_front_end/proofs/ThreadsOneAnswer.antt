@@ -2,10 +2,11 @@
 use Rattle.std.proofs.Common.{◌≡◌, ℕ, ◌≤◌, length, List, [], None, refl, sym, ◌∙◌, subst}
 use Rattle.std.proofs.lemmas.Option.{none-some, same_Some}
 use Rattle.lra_base.specs.{Places.greatest_length, declared.refusals.Cause.Cause, declared.refusals.Place.Place}
-use Rattle.lra_syntax.specs.Faults.{Language, IsTree, IsTextFault, OneTree, OneTextFault}
-use Rattle.lra_syntax.specs.{Labels.labels_of, Reach.NotRecursive, Tokens.Lex, Tokens.OneReading, Trees.FileTree, declared.tokens.Token.Token}
-use Rattle.lra_resolution_spec.specs.RefuseThreads.{RefusesThreads, bad_name, recursive, past_limit, NotParsed, too_long, bad_token, bad_text, RefuseThreads, unread, bad_tree, AcceptsThreads}
-use Rattle.lra_resolution_spec.specs.{Refuse.limit_fault, RefuseThreads.OneThreadsAnswer, Threads.thread_faults, Threads.thread_events}
+use Rattle.lra_front_end.specs.Crates.lra_resolution_spec.RefuseThreads.{RefusesThreads, bad_name, recursive, past_limit, NotParsed, too_long, bad_token, bad_text, RefuseThreads, unread, bad_tree}
+use Rattle.lra_front_end.specs.Crates.lra_resolution_spec.RefuseThreads.{AcceptsThreads, OneThreadsAnswer}
+use Rattle.lra_front_end.specs.Crates.lra_syntax.Faults.{Language, IsTree, IsTextFault, OneTree, OneTextFault}
+use Rattle.lra_front_end.specs.Crates.{lra_resolution_spec.Refuse.limit_fault, lra_resolution_spec.Threads.thread_faults, lra_resolution_spec.Threads.thread_events, lra_syntax.Labels.labels_of}
+use Rattle.lra_front_end.specs.Crates.{lra_syntax.Reach.NotRecursive, lra_syntax.Tokens.Lex, lra_syntax.Tokens.OneReading, lra_syntax.Trees.FileTree, lra_syntax.declared.tokens.Token.Token}
 use Rattle.lra_front_end.proofs.OneAnswer.{not_both, heads, one_recursive, Same, same_refusal, same_tokens, same_tree, not_long, text_and_tree}
 
 one_tree_fault : (t : FileTree) (c d : Cause) (p q : Place) → RefusesThreads t c p → RefusesThreads t d q → Same c d p q

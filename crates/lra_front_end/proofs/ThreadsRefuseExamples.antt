@@ -3,14 +3,15 @@ use Rattle.std.proofs.Common.{◌≡◌, ℕ, true, List, [], ◌∷◌, ◌++�
 use Rattle.std.specs.Prelude.{◌≤◌}
 use Rattle.lra_base.specs.declared.refusals.Cause.TheVariants.{NoThreads, UnknownName}
 use Rattle.lra_base.specs.{Places.greatest_length, declared.refusals.Cause.Cause, declared.refusals.Place.Place}
-use Rattle.lra_syntax.specs.declared.tokens.Mark.TheVariants as mark
-use Rattle.lra_syntax.specs.Trees.{no_items, statement, assign, set, expression, function, FileTree, ItemsTree}
-use Rattle.lra_syntax.specs.{Grammar.Spells, Tokens.tokens_of, Tokens.end_token}
-use Rattle.lra_syntax.proofs.LexedByTest.{space, sign, word_of, one, is_written, are_read_by}
-use Rattle.lra_syntax.proofs.{Lexemes.ExternalDeclaration, Lexemes.written, Lexemes.reading, Lexemes.all_lexed, TreeSamples.at, TreeSamples.x_at, TreeSamples.literal_text, TreeSamples.void_of}
-use Rattle.lra_resolution_spec.specs.RefuseThreads.{RefuseThreads, RefusesThreads, bad_tree, bad_name}
-use Rattle.lra_parser_spec.specs.{Expressions.unary_at, Expressions.tests, Files.file_at, Reading.Text, Reading.loop, Statements.levels}
-use Rattle.lra_parser_spec.proofs.{Answered.tree_found, FaultExamples.all_inner, FaultExamples.no_end}
+use Rattle.lra_front_end.specs.Crates.lra_syntax.declared.tokens.Mark.TheVariants as mark
+use Rattle.lra_front_end.specs.Crates.lra_resolution_spec.RefuseThreads.{RefuseThreads, RefusesThreads, bad_tree, bad_name}
+use Rattle.lra_front_end.specs.Crates.lra_syntax.Trees.{no_items, statement, assign, set, expression, function, FileTree, ItemsTree}
+use Rattle.lra_front_end.specs.Crates.{lra_parser_spec.Expressions.unary_at, lra_parser_spec.Expressions.tests, lra_parser_spec.Files.file_at, lra_parser_spec.Reading.Text}
+use Rattle.lra_front_end.specs.Crates.{lra_parser_spec.Reading.loop, lra_parser_spec.Statements.levels, lra_syntax.Grammar.Spells, lra_syntax.Tokens.tokens_of, lra_syntax.Tokens.end_token}
+use Rattle.lra_front_end.proofs.Crates.lra_syntax.LexedByTest.{space, sign, word_of, one, is_written, are_read_by}
+use Rattle.lra_front_end.proofs.Crates.lra_syntax.Lexemes.{ExternalDeclaration, written, reading, all_lexed}
+use Rattle.lra_front_end.proofs.Crates.lra_syntax.TreeSamples.{at, x_at, literal_text, void_of}
+use Rattle.lra_front_end.proofs.Crates.{lra_parser_spec.Answered.tree_found, lra_parser_spec.FaultExamples.all_inner, lra_parser_spec.FaultExamples.no_end}
 
 abbrev inner_tokens : List ExternalDeclaration → Text
 inner_tokens xs = tokens_of (reading [] xs)

@@ -4,16 +4,13 @@ use Rattle.std.proofs.Common.{◌≡◌, ℕ, ◌≤◌, ◌+◌, List, [], ◌�
 use Rattle.std.proofs.lemmas.Bool.{cases_lt}
 use Rattle.std.specs.{List.AllByRecursion, List.AllZip, Prelude.flat_map}
 use Rattle.lra_base.specs.{Places.greatest_length, declared.refusals.Cause.TheVariants.Recursive, declared.refusals.Refusal.Refusal}
-use Rattle.lra_syntax.specs.{Grammar.Spells, Labels.labels_of, Reach.NotRecursive, Trees.FileTree}
-use Rattle.lra_program.specs.{Sites.events_of, Sites.event_sites, WellFormed.IsWellFormed}
-use Rattle.lra_operations.specs.Tree.{Node}
-use Rattle.lra_resolution_spec.specs.RefuseThreads.{bad_name, recursive, past_limit, too_long, bad_token, bad_text, unread, bad_tree, OneThreadsAnswer}
-use Rattle.lra_resolution_spec.specs.{Refuse.limit_fault, Threads.thread_faults, Threads.thread_places, Threads.thread_program, Threads.thread_events}
+use Rattle.lra_front_end.specs.Crates.lra_resolution_spec.RefuseThreads.{bad_name, recursive, past_limit, too_long, bad_token, bad_text, unread, bad_tree, OneThreadsAnswer}
+use Rattle.lra_front_end.specs.Crates.lra_resolution_spec.Threads.{thread_faults, thread_places, thread_program, thread_events}
+use Rattle.lra_front_end.specs.Crates.{lra_operations.Tree.Node, lra_parser_spec.Files.file_at, lra_program.Sites.events_of, lra_program.Sites.event_sites, lra_program.WellFormed.IsWellFormed}
+use Rattle.lra_front_end.specs.Crates.{lra_resolution_spec.Refuse.limit_fault, lra_syntax.Grammar.Spells, lra_syntax.Labels.labels_of, lra_syntax.Reach.NotRecursive, lra_syntax.Trees.FileTree}
 use Rattle.lra_lex.proofs.EachReading.{each_reading}
-use Rattle.lra_parser_spec.specs.Files.{file_at}
-use Rattle.lra_parser_spec.proofs.Ended.{lexed_end}
+use Rattle.lra_front_end.proofs.Crates.{lra_inline_sound.Agreement.trees_agree, lra_inline_sound.DistinctSites.distinct_sites, lra_parser_spec.Ended.lexed_end}
 use Rattle.lra_recursion.proofs.Deciding.{each_recursion}
-use Rattle.lra_inline_sound.proofs.{Agreement.trees_agree, DistinctSites.distinct_sites}
 use Rattle.lra_inline.proofs.{Existing.has_graph, Totals.fewer_within}
 use Rattle.lra_front_end.specs.{Stages.HasTree, ThreadsClaims.HasThreadsRefusal, ThreadsClaims.IsThreadTree, ThreadsClaims.IsAcceptedThreads, ThreadsClaims.EachThreadsAnswer}
 use Rattle.lra_front_end.proofs.{Limits.within_front, Limits.fault_behind, SomeAnswer.text_read, ThreadSteps.well, ThreadSteps.accepted}

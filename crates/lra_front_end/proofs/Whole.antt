@@ -1,20 +1,20 @@
 -- The program of a source whose literals are small and whose names have no faults is well-formed.
 use Rattle.std.proofs.Common.{◌≡◌, ℕ, zero, suc, ◌+◌, ◌≤◌, List, [], ◌∷◌, ◌++◌, length, map, Option, Some, None, Bool, true, false, not, nat_eq, cond, refl, sym, subst, ap, ◌∙◌, arith, length-append}
+use Rattle.std.proofs.lemmas.Bool.{not-false}
 use Rattle.std.proofs.{lemmas.Bool.eqb-true, lemmas.List.length-map, lemmas.Option.same_Some, lemmas.Option.none-some, lemmas.Option.slice_get_within, lemmas.Option.get_or_from_slice_get}
 use Rattle.std.specs.{List.AllByRecursion, List.Contains, List.list_any, List.flat_map, Prelude.IsTrue, Prelude.is_some, Prelude.slice_get, Prelude.codes, Prelude.if◌then◌else◌, Prelude.◌||◌}
 use Rattle.lra_base.specs.{NumberTypes.fits, declared.number_types.NumberType.NumberType, declared.number_types.NumberType.TheVariants.Int, declared.number_types.NumberType.TheVariants.Long}
-use Rattle.lra_syntax.specs.Functions.{functions_in, functions_of, is_named, is_main, function_named}
-use Rattle.lra_syntax.specs.{declared.trees.Parameter.Parameter, declared.trees.SignedLiteral.SignedLiteral}
-use Rattle.lra_syntax.specs.Trees as tree
-use Rattle.lra_program.specs.WellFormed.{AreGoodItems, IsGoodFunction, IsWellFormed, no_jumps}
-use Rattle.lra_program.specs.{Program.Function, Program.Program, ProgramViews.function_or, declared.program.GlobalVariable.GlobalVariable}
-use Rattle.lra_resolution_spec.specs.NameFaults.{parameters_faults, function_faults, shape_faults, first_value_faults, globals_faults, global_names, parts_faults, name_faults}
-use Rattle.lra_resolution_spec.specs.Resolve.{function_place, items_count, resolve_items, resolve_function, value_or_zero, variables_by, globals_in, resolve_parts, arrays_in, resolved_functions}
-use Rattle.lra_resolution_spec.specs.Resolve.{main_of, resolve}
-use Rattle.lra_resolution_spec.specs.Scope.{SymbolEntry, width_of_all, parameter_entry, global_entries, function_scope}
-use Rattle.lra_resolution_spec.specs.Threads.{greatest_threads, thread_name, has_no_parameters, has_thread, thread_places_from, thread_places, thread_faults, thread_program}
+use Rattle.lra_front_end.specs.Crates.lra_program.WellFormed.{AreGoodItems, IsGoodFunction, IsWellFormed, no_jumps}
+use Rattle.lra_front_end.specs.Crates.lra_resolution_spec.NameFaults.{parameters_faults, function_faults, shape_faults, first_value_faults, globals_faults, global_names, parts_faults, name_faults}
+use Rattle.lra_front_end.specs.Crates.lra_resolution_spec.Resolve.{function_place, items_count, resolve_items, resolve_function, value_or_zero, variables_by, globals_in, resolve_parts, arrays_in}
+use Rattle.lra_front_end.specs.Crates.lra_resolution_spec.Resolve.{resolved_functions, main_of, resolve}
+use Rattle.lra_front_end.specs.Crates.lra_resolution_spec.Scope.{SymbolEntry, width_of_all, parameter_entry, global_entries, function_scope}
+use Rattle.lra_front_end.specs.Crates.lra_resolution_spec.Threads.{greatest_threads, thread_name, has_no_parameters, has_thread, thread_places_from, thread_places, thread_faults, thread_program}
+use Rattle.lra_front_end.specs.Crates.lra_syntax.Functions.{functions_in, functions_of, is_named, is_main, function_named}
+use Rattle.lra_front_end.specs.Crates.{lra_program.Program.Function, lra_program.Program.Program, lra_program.ProgramViews.function_or, lra_program.declared.program.GlobalVariable.GlobalVariable}
+use Rattle.lra_front_end.specs.Crates.{lra_syntax.declared.trees.Parameter.Parameter, lra_syntax.declared.trees.SignedLiteral.SignedLiteral}
+use Rattle.lra_front_end.specs.Crates.lra_syntax.Trees as tree
 use Rattle.lra_front_end.specs.Literals.{IsSmallPart, HasSmallLiterals}
-use Rattle.std.proofs.lemmas.Bool.{not-false}
 use Rattle.lra_front_end.proofs.Faultless.{none_left, none_right, none_if, width-append}
 use Rattle.lra_front_end.proofs.{Declared.variables_width, Good.AreCallees, Good.good_items, Numbered.parts_run, Numbered.run_is_range}
 

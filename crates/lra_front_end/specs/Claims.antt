@@ -1,10 +1,11 @@
 -- What each source must get: its one refusal, or its tree with the tree of operations of its program.
 use Rattle.std.specs.Prelude.{◌≡◌, ◌≤◌, ◌⊎◌, ℕ, List, slice_get, Some}
 use Rattle.lra_base.specs.{declared.refusals.Cause.Cause, declared.refusals.Place.Place}
-use Rattle.lra_syntax.specs.{Grammar.Spells, Trees.FileTree}
-use Rattle.lra_operations.specs.{Agree.IsInlinedTree, Agree.Agrees, Tree.Node}
-use Rattle.lra_resolution_spec.specs.{Refuse.greatest_live, Refuse.Refuse, Refuse.Accepts, Resolve.resolve}
-use Rattle.lra_program.specs.Sites.{Site}
+use Rattle.lra_front_end.specs.Crates.lra_operations.Agree.{IsInlinedTree, Agrees}
+use Rattle.lra_front_end.specs.Crates.lra_resolution_spec.Refuse.{greatest_live, Refuse, Accepts}
+use Rattle.lra_front_end.specs.Crates.lra_resolution_spec.Resolve.{resolve}
+use Rattle.lra_front_end.specs.Crates.lra_syntax.Trees.{FileTree}
+use Rattle.lra_front_end.specs.Crates.{lra_operations.Tree.Node, lra_program.Sites.Site, lra_syntax.Grammar.Spells}
 
 -- the source is refused for some cause at some place; if it is too long, for that
 abbrev pub HasRefusal : List ℕ → Type 0

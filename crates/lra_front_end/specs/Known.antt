@@ -2,12 +2,13 @@
 -- before it in scope.
 use Rattle.std.specs.List.{AllByRecursion, Contains}
 use Rattle.std.specs.Prelude.{List, [], ◌∷◌, ◌++◌, Option, Some, None, ⊤}
-use Rattle.lra_program.specs.Program.{Expr, literal, read, input, negate, binary, element, Cond, compare, nonzero}
-use Rattle.lra_program.specs.Program.{opposite, both_of, either_of, Call, Rvalue, value, result, Stmt, absent, nothing}
-use Rattle.lra_program.specs.Program.{block, assign, write, call, if, loop, for, break, continue, return, assert}
-use Rattle.lra_program.specs.Program.{assume, switch, Cases, no_cases, labelled, stated, BlockItems, no_more}
-use Rattle.lra_program.specs.Program.{declaration, array, statement, Function, Program}
-use Rattle.lra_program.specs.declared.arrays.Array.{Array}
+use Rattle.lra_front_end.specs.Crates.lra_program.Program.{Expr, literal, read, input, negate, binary, element, Cond}
+use Rattle.lra_front_end.specs.Crates.lra_program.Program.{compare, nonzero, opposite, both_of, either_of, Call, Rvalue}
+use Rattle.lra_front_end.specs.Crates.lra_program.Program.{value, result, Stmt, absent, nothing, block, assign, write}
+use Rattle.lra_front_end.specs.Crates.lra_program.Program.{call, if, loop, for, break, continue, return, assert, assume}
+use Rattle.lra_front_end.specs.Crates.lra_program.Program.{switch, Cases, no_cases, labelled, stated, BlockItems}
+use Rattle.lra_front_end.specs.Crates.lra_program.Program.{no_more, declaration, array, statement, Function, Program}
+use Rattle.lra_front_end.specs.Crates.lra_program.declared.arrays.Array.{Array}
 
 -- with these arrays in scope
 abbrev pub Knows : List Array → Expr → Type 0

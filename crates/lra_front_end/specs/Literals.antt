@@ -1,16 +1,19 @@
 -- Trees whose literals in expressions are numbers of their types.
 use Rattle.std.specs.List.{AllByRecursion}
 use Rattle.std.specs.Prelude.{Option, Some, None, pos, IsTrue, ⊤, ◌∷◌}
-use Rattle.lra_syntax.specs.Trees.{UnaryTree, negated, positive, literal, variable, input, group, element, TermTree}
-use Rattle.lra_syntax.specs.Trees.{unary, times, over, modulo, ExprTree, term, plus, minus, NegationTree}
-use Rattle.lra_syntax.specs.Trees.{opposite_again, value_of_unary, group_opposed, TestTree, opposite, value, compare}
-use Rattle.lra_syntax.specs.Trees.{group_of, ConjunctionTree, test, and, CondTree, conjunction, or, CallTree}
-use Rattle.lra_syntax.specs.Trees.{RvalueTree, expression, result, AssignTree, set, set_element, update, after, before}
-use Rattle.lra_syntax.specs.Trees.{ScalarOrArrayTree, scalar, array, DeclaratorTree, DeclarationTree, InitTree, no_init}
-use Rattle.lra_syntax.specs.Trees.{declared, assigned, StmtTree, block, nothing, assign, call, if_only, if_else, while}
-use Rattle.lra_syntax.specs.Trees.{for, break, continue, return, assert, assume, switch, CasesTree, no_cases, labelled}
-use Rattle.lra_syntax.specs.Trees.{stated, ItemsTree, no_items, declaration, statement, ExternalTree, prototype}
-use Rattle.lra_syntax.specs.Trees.{globals, function, FileTree}
+use Rattle.lra_front_end.specs.Crates.lra_syntax.Trees.{UnaryTree, negated, positive, literal, variable, input, group}
+use Rattle.lra_front_end.specs.Crates.lra_syntax.Trees.{element, TermTree, unary, times, over, modulo, ExprTree, term}
+use Rattle.lra_front_end.specs.Crates.lra_syntax.Trees.{plus, minus, NegationTree, opposite_again, value_of_unary}
+use Rattle.lra_front_end.specs.Crates.lra_syntax.Trees.{group_opposed, TestTree, opposite, value, compare, group_of}
+use Rattle.lra_front_end.specs.Crates.lra_syntax.Trees.{ConjunctionTree, test, and, CondTree, conjunction, or, CallTree}
+use Rattle.lra_front_end.specs.Crates.lra_syntax.Trees.{RvalueTree, expression, result, AssignTree, set, set_element}
+use Rattle.lra_front_end.specs.Crates.lra_syntax.Trees.{update, after, before, ScalarOrArrayTree, scalar, array}
+use Rattle.lra_front_end.specs.Crates.lra_syntax.Trees.{DeclaratorTree, DeclarationTree, InitTree, no_init, declared}
+use Rattle.lra_front_end.specs.Crates.lra_syntax.Trees.{assigned, StmtTree, block, nothing, assign, call, if_only}
+use Rattle.lra_front_end.specs.Crates.lra_syntax.Trees.{if_else, while, for, break, continue, return, assert, assume}
+use Rattle.lra_front_end.specs.Crates.lra_syntax.Trees.{switch, CasesTree, no_cases, labelled, stated, ItemsTree}
+use Rattle.lra_front_end.specs.Crates.lra_syntax.Trees.{no_items, declaration, statement, ExternalTree, prototype}
+use Rattle.lra_front_end.specs.Crates.lra_syntax.Trees.{globals, function, FileTree}
 use Rattle.lra_base.specs.NumberTypes.{fits}
 
 -- expressions ------------------------------------------------------------------------------------------------------

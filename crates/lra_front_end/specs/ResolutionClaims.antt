@@ -1,10 +1,12 @@
 -- Which programs are well-formed and have their arrays, and that points have a name for each variable.
 use Rattle.std.specs.Prelude.{◌≡◌, ℕ, List, [], length, Some, slice_get}
-use Rattle.lra_syntax.specs.Faults.{Language, IsTree}
-use Rattle.lra_syntax.specs.{Labels.labels_of, Tokens.Lex, Trees.FileTree, declared.tokens.Token.Token}
-use Rattle.lra_resolution_spec.specs.LiveNames.{globals_named, live_names}
-use Rattle.lra_resolution_spec.specs.{NameFaults.name_faults, Resolve.resolve, ShownNames.shown_names}
-use Rattle.lra_program.specs.{Sites.Site, Sites.sites_of, WellFormed.IsWellFormed}
+use Rattle.lra_front_end.specs.Crates.lra_program.Sites.{Site, sites_of}
+use Rattle.lra_front_end.specs.Crates.lra_resolution_spec.LiveNames.{globals_named, live_names}
+use Rattle.lra_front_end.specs.Crates.lra_syntax.Faults.{Language, IsTree}
+use Rattle.lra_front_end.specs.Crates.{lra_program.WellFormed.IsWellFormed, lra_resolution_spec.NameFaults.name_faults}
+use Rattle.lra_front_end.specs.Crates.{lra_resolution_spec.Resolve.resolve, lra_resolution_spec.ShownNames.shown_names}
+use Rattle.lra_front_end.specs.Crates.{lra_syntax.Labels.labels_of, lra_syntax.Tokens.Lex, lra_syntax.Trees.FileTree}
+use Rattle.lra_front_end.specs.Crates.{lra_syntax.declared.tokens.Token.Token}
 use Rattle.lra_front_end.specs.{Known.HasArrays, Literals.HasSmallLiterals}
 
 -- the program of a tree whose literals are small and whose names have no faults is well-formed

@@ -2,12 +2,15 @@
 use Rattle.std.specs.Prelude.{◌≡◌, ℕ, ◌≤◌, ℤ, List, [], length, None}
 use Rattle.lra_base.specs.Places.{greatest_length}
 use Rattle.lra_base.specs.{declared.refusals.Cause.TheVariants.Recursive, declared.refusals.Refusal.Refusal}
-use Rattle.lra_syntax.specs.Reach.{IsFirstRecursive, NotRecursive}
-use Rattle.lra_syntax.specs.{Constants.constants_of, Faults.IsTree, Grammar.Spells, Labels.labels_of, Tokens.Lex}
-use Rattle.lra_syntax.specs.{Trees.FileTree, declared.tokens.Token.Token}
-use Rattle.lra_resolution_spec.specs.{NameFaults.name_faults, Refuse.limit_fault, Resolve.resolve}
-use Rattle.lra_operations.specs.{Agree.IsInlinedTree, Agree.Agrees, Tree.Node}
-use Rattle.lra_program.specs.{Sites.Site, Sites.events_of, Sites.sites_of, WellFormed.IsWellFormed}
+use Rattle.lra_front_end.specs.Crates.lra_operations.Agree.{IsInlinedTree, Agrees}
+use Rattle.lra_front_end.specs.Crates.lra_program.Sites.{Site, events_of, sites_of}
+use Rattle.lra_front_end.specs.Crates.lra_syntax.Reach.{IsFirstRecursive, NotRecursive}
+use Rattle.lra_front_end.specs.Crates.{lra_operations.Tree.Node, lra_program.WellFormed.IsWellFormed}
+use Rattle.lra_front_end.specs.Crates.{lra_resolution_spec.NameFaults.name_faults}
+use Rattle.lra_front_end.specs.Crates.{lra_resolution_spec.Refuse.limit_fault, lra_resolution_spec.Resolve.resolve}
+use Rattle.lra_front_end.specs.Crates.{lra_syntax.Constants.constants_of, lra_syntax.Faults.IsTree}
+use Rattle.lra_front_end.specs.Crates.{lra_syntax.Grammar.Spells, lra_syntax.Labels.labels_of, lra_syntax.Tokens.Lex}
+use Rattle.lra_front_end.specs.Crates.{lra_syntax.Trees.FileTree, lra_syntax.declared.tokens.Token.Token}
 use Rattle.lra_front_end.specs.Claims.{AreFew}
 
 -- a source that isn't too long, and its tree

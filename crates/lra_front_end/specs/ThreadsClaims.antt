@@ -2,10 +2,10 @@
 -- for each thread.
 use Rattle.std.specs.{List.AllZip, Prelude.◌⊎◌, Prelude.ℕ, Prelude.List}
 use Rattle.lra_base.specs.{declared.refusals.Cause.Cause, declared.refusals.Place.Place}
-use Rattle.lra_syntax.specs.{Grammar.Spells, Trees.FileTree}
-use Rattle.lra_operations.specs.{Agree.IsInlinedTree, Agree.Agrees, Tree.Node}
-use Rattle.lra_resolution_spec.specs.RefuseThreads.{RefuseThreads, AcceptsThreads}
-use Rattle.lra_resolution_spec.specs.Threads.{thread_places, thread_program}
+use Rattle.lra_front_end.specs.Crates.lra_operations.Agree.{IsInlinedTree, Agrees}
+use Rattle.lra_front_end.specs.Crates.lra_resolution_spec.RefuseThreads.{RefuseThreads, AcceptsThreads}
+use Rattle.lra_front_end.specs.Crates.lra_resolution_spec.Threads.{thread_places, thread_program}
+use Rattle.lra_front_end.specs.Crates.{lra_operations.Tree.Node, lra_syntax.Grammar.Spells, lra_syntax.Trees.FileTree}
 
 -- the source is refused for some cause at some place
 abbrev pub HasThreadsRefusal : List ℕ → Type 0

@@ -1,11 +1,13 @@
 -- What is known of a source of several threads between the stages of its reading.
 use Rattle.std.specs.Prelude.{◌≡◌, ℕ, [], map, None}
-use Rattle.lra_syntax.specs.{Labels.labels_of, Reach.NotRecursive, Trees.FileTree}
-use Rattle.lra_program.specs.{Program.Program, Sites.sites_of, WellFormed.IsWellFormed}
-use Rattle.lra_operations.specs.Agree.{IsInlinedTree, Agrees}
-use Rattle.lra_operations.specs.{TreeViews.node_view, TreeViews.site_view, declared.tree.InlinedProgram.InlinedProgram}
-use Rattle.lra_resolution_spec.specs.Refuse.{limit_fault}
-use Rattle.lra_resolution_spec.specs.Threads.{thread_faults, thread_program, thread_events}
+use Rattle.lra_front_end.specs.Crates.lra_operations.Agree.{IsInlinedTree, Agrees}
+use Rattle.lra_front_end.specs.Crates.lra_operations.TreeViews.{node_view, site_view}
+use Rattle.lra_front_end.specs.Crates.lra_operations.declared.tree.InlinedProgram.{InlinedProgram}
+use Rattle.lra_front_end.specs.Crates.lra_resolution_spec.Threads.{thread_faults, thread_program, thread_events}
+use Rattle.lra_front_end.specs.Crates.lra_syntax.Reach.{NotRecursive}
+use Rattle.lra_front_end.specs.Crates.{lra_program.Program.Program, lra_program.Sites.sites_of}
+use Rattle.lra_front_end.specs.Crates.{lra_program.WellFormed.IsWellFormed, lra_resolution_spec.Refuse.limit_fault}
+use Rattle.lra_front_end.specs.Crates.{lra_syntax.Labels.labels_of, lra_syntax.Trees.FileTree}
 use Rattle.lra_front_end.specs.Claims.{AreFew}
 
 -- the tree of operations of a well-formed program, and its points

@@ -2,18 +2,18 @@
 
 ghost use Rattle.std.specs.Prelude.{◌≡◌, ◌<◌, ◌+◌, ◌^◌, length, map, IfOk};
 ghost use Rattle.lra_base.specs.Refused.{IfRefused};
-ghost use Rattle.lra_syntax.specs.{Grammar.Spells, Labels.labels_of, Views.tree_view};
-ghost use Rattle.lra_program.specs.ProgramViews.{program_view};
-ghost use Rattle.lra_operations.specs.TreeViews.{node_view, site_view};
-ghost use Rattle.lra_resolution_spec.specs.{Refuse.Refuse, Resolve.resolve};
+ghost use Rattle.lra_front_end.specs.Crates.lra_operations.TreeViews.{node_view, site_view};
+ghost use Rattle.lra_front_end.specs.Crates.{lra_program.ProgramViews.program_view, lra_resolution_spec.Refuse.Refuse};
+ghost use Rattle.lra_front_end.specs.Crates.{lra_resolution_spec.Resolve.resolve, lra_syntax.Grammar.Spells};
+ghost use Rattle.lra_front_end.specs.Crates.{lra_syntax.Labels.labels_of, lra_syntax.Views.tree_view};
 ghost use Rattle.lra_front_end.specs.Stages.{HasConstants, HasInlinedTree, HasTree};
 
 use crate::program::{inline_calls, program_of};
 use crate::reading::{Reading, read_text};
 use lra_base::SourceError;
-use lra_operations::InlinedProgram;
+use lra_inline::InlinedProgram;
+use lra_recursion::TranslationUnit;
 use lra_resolve::Resolution;
-use lra_syntax::TranslationUnit;
 use std::alloc::Global;
 
 /// What is read of an accepted source: its tree, its constants, its program with the table of its labels, and the tree

@@ -1,7 +1,6 @@
 //! Laws: each of these does nothing, and its contract is the theorem.
 
-ghost use Rattle.lra_syntax.specs.Grammar.{Spells};
-ghost use Rattle.lra_resolution_spec.specs.Refuse.{OneAnswer};
+ghost use Rattle.lra_front_end.specs.Crates.{lra_resolution_spec.Refuse.OneAnswer, lra_syntax.Grammar.Spells};
 ghost use Rattle.lra_front_end.specs.{Claims.EachAnswer, Stages.OneConstants};
 
 /// A source is accepted with at most one tree, or refused for at most one cause at one place; never both.
@@ -9,7 +8,7 @@ pub fn one_answer()
     ensures { OneAnswer Spells }
 {
     lra_lex::one_reading();
-    lra_parser_spec::one_tree();
+    lra_parse::one_tree();
 }
 
 /// A source has at most one list of constants.

@@ -22,6 +22,10 @@ mod threads_laws;
 
 pub use front::{AcceptedSource, read_source};
 pub use laws::{each_answer, one_answer, one_constants};
+pub use lra_base::{Refusal, SourceError};
+pub use lra_lex::tokens;
+pub use lra_parse::parse;
+pub use lra_resolve::{Resolution, resolve};
 pub use program::{check_calls, inline_calls, program_of};
 pub use reading::{Reading, read_text};
 pub use resolution_laws::{arrays_are_there, faultless_are_well_formed, names_are_as_many};

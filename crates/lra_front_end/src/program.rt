@@ -2,19 +2,19 @@
 
 ghost use Rattle.std.specs.Prelude.{◌≡◌, [], map, IfOk, OnOk};
 ghost use Rattle.lra_base.specs.Refused.{IfRefused};
-ghost use Rattle.lra_syntax.specs.{Labels.labels_of, Reach.NotRecursive, Views.tree_view};
-ghost use Rattle.lra_program.specs.{ProgramViews.program_view, WellFormed.IsWellFormed};
-ghost use Rattle.lra_operations.specs.TreeViews.{node_view, site_view};
-ghost use Rattle.lra_resolution_spec.specs.Resolve.{resolve, resolved_functions};
-ghost use Rattle.lra_resolution_spec.specs.{NameFaults.name_faults, Refuse.RefusesTree};
+ghost use Rattle.lra_front_end.specs.Crates.lra_operations.TreeViews.{node_view, site_view};
+ghost use Rattle.lra_front_end.specs.Crates.lra_resolution_spec.Resolve.{resolve, resolved_functions};
+ghost use Rattle.lra_front_end.specs.Crates.{lra_program.ProgramViews.program_view};
+ghost use Rattle.lra_front_end.specs.Crates.{lra_program.WellFormed.IsWellFormed};
+ghost use Rattle.lra_front_end.specs.Crates.{lra_resolution_spec.NameFaults.name_faults};
+ghost use Rattle.lra_front_end.specs.Crates.{lra_resolution_spec.Refuse.RefusesTree, lra_syntax.Labels.labels_of};
+ghost use Rattle.lra_front_end.specs.Crates.{lra_syntax.Reach.NotRecursive, lra_syntax.Views.tree_view};
 ghost use Rattle.lra_front_end.specs.Stages.{HasInlinedTree, IsRecursionRefusal};
 
 use lra_base::{Cause, Refusal, SourceError};
-use lra_inline::{InlineError, build, refusal};
-use lra_operations::InlinedProgram;
-use lra_recursion::first_recursive;
+use lra_inline::{InlineError, InlinedProgram, build, refusal};
+use lra_recursion::{TranslationUnit, first_recursive};
 use lra_resolve::{Resolution, resolve};
-use lra_syntax::TranslationUnit;
 use std::alloc::Global;
 
 /// The program of a source without faults of names, and the table of its labels; or the first such fault.

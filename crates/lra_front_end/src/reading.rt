@@ -2,14 +2,15 @@
 
 ghost use Rattle.std.specs.Prelude.{◌<◌, ◌+◌, ◌^◌, length, IfOk};
 ghost use Rattle.lra_base.specs.Refused.{IfRefused};
-ghost use Rattle.lra_syntax.specs.{Grammar.Spells, Views.tree_view};
-ghost use Rattle.lra_resolution_spec.specs.{Refuse.Refuse, RefuseThreads.NotParsed};
+ghost use Rattle.lra_front_end.specs.Crates.lra_resolution_spec.RefuseThreads.{NotParsed};
+ghost use Rattle.lra_front_end.specs.Crates.lra_syntax.Views.{tree_view};
+ghost use Rattle.lra_front_end.specs.Crates.{lra_resolution_spec.Refuse.Refuse, lra_syntax.Grammar.Spells};
 ghost use Rattle.lra_front_end.specs.Stages.{HasConstants, HasTree};
 
 use lra_base::{Cause, GREATEST_LENGTH, Refusal, SourceError, place_after};
 use lra_lex::{constants_of, tokens};
 use lra_parse::parse;
-use lra_syntax::TranslationUnit;
+use lra_recursion::TranslationUnit;
 use std::alloc::Global;
 
 /// What is read of a text: its tree, and the constants among its tokens.

@@ -1,7 +1,7 @@
 //! Laws: each of these does nothing, and its contract is the theorem.
 
-ghost use Rattle.lra_syntax.specs.Grammar.{Spells};
-ghost use Rattle.lra_resolution_spec.specs.Refuse.{AcceptedAreWellFormed};
+ghost use Rattle.lra_front_end.specs.Crates.lra_resolution_spec.Refuse.{AcceptedAreWellFormed};
+ghost use Rattle.lra_front_end.specs.Crates.lra_syntax.Grammar.{Spells};
 ghost use Rattle.lra_front_end.specs.ResolutionClaims.{FaultlessAreWellFormed, LiteralsAreSmall, ReadAreWellFormed};
 ghost use Rattle.lra_front_end.specs.ResolutionClaims.{FaultlessHaveArrays, NamesAreAsMany, ShownNamesAreAsMany};
 

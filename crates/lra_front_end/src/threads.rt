@@ -3,22 +3,22 @@
 ghost use Rattle.std.specs.List.{AllByRecursion, AllZip};
 ghost use Rattle.std.specs.Prelude.{◌≡◌, ◌++◌, [], ℕ, List, length, IfOk, OnOk, Some, None};
 ghost use Rattle.lra_base.specs.Refused.{IfRefused};
-ghost use Rattle.lra_syntax.specs.{Labels.Labelled, Labels.labels_of, Reach.NotRecursive, Views.tree_view};
-ghost use Rattle.lra_program.specs.Sites.{events_of, sites_of};
-ghost use Rattle.lra_program.specs.{ProgramViews.program_view, WellFormed.IsWellFormed};
-ghost use Rattle.lra_resolution_spec.specs.Threads.{thread_events, thread_faults, thread_places, thread_program};
-ghost use Rattle.lra_resolution_spec.specs.{Refuse.limit_fault, RefuseThreads.RefusesThreads};
-ghost use Rattle.lra_inline_steps.specs.Inlining.{points_in};
+ghost use Rattle.lra_front_end.specs.Crates.lra_resolution_spec.Threads.{thread_events, thread_faults, thread_places};
+ghost use Rattle.lra_front_end.specs.Crates.lra_resolution_spec.Threads.{thread_program};
+ghost use Rattle.lra_front_end.specs.Crates.lra_syntax.Labels.{Labelled, labels_of};
+ghost use Rattle.lra_front_end.specs.Crates.{lra_inline_steps.Inlining.points_in};
+ghost use Rattle.lra_front_end.specs.Crates.{lra_program.ProgramViews.program_view, lra_program.Sites.events_of};
+ghost use Rattle.lra_front_end.specs.Crates.{lra_program.Sites.sites_of, lra_program.WellFormed.IsWellFormed};
+ghost use Rattle.lra_front_end.specs.Crates.{lra_resolution_spec.Refuse.limit_fault};
+ghost use Rattle.lra_front_end.specs.Crates.{lra_resolution_spec.RefuseThreads.RefusesThreads};
+ghost use Rattle.lra_front_end.specs.Crates.{lra_syntax.Reach.NotRecursive, lra_syntax.Views.tree_view};
 ghost use Rattle.lra_front_end.specs.ThreadsStages.{HasThreads, IsInlinedOf, IsThreadInlined};
 
 use crate::program::check_calls;
 use lra_base::SourceError;
-use lra_inline::{InlineError, build_thread, refusal};
-use lra_operations::{InlinedProgram, Site};
-use lra_program::Program;
-use lra_resolution_spec::Labels;
+use lra_inline::{InlineError, InlinedProgram, Site, build_thread, refusal};
+use lra_recursion::{Labels, Program, TranslationUnit};
 use lra_resolve::{Resolution, ThreadsResolution, resolve_threads};
-use lra_syntax::TranslationUnit;
 use std::alloc::Global;
 
 /// The program of a source of several threads without faults of names, the table of its labels, and where the functions

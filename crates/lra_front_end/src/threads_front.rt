@@ -3,18 +3,18 @@
 ghost use Rattle.std.specs.List.{AllZip};
 ghost use Rattle.std.specs.Prelude.{◌≡◌, ◌<◌, ◌+◌, ◌^◌, length, IfOk};
 ghost use Rattle.lra_base.specs.Refused.{IfRefused};
-ghost use Rattle.lra_syntax.specs.{Grammar.Spells, Labels.labels_of, Views.tree_view};
-ghost use Rattle.lra_program.specs.ProgramViews.{program_view};
-ghost use Rattle.lra_resolution_spec.specs.RefuseThreads.{AcceptsThreads, RefuseThreads};
-ghost use Rattle.lra_resolution_spec.specs.Threads.{thread_places, thread_program};
+ghost use Rattle.lra_front_end.specs.Crates.lra_resolution_spec.RefuseThreads.{AcceptsThreads, RefuseThreads};
+ghost use Rattle.lra_front_end.specs.Crates.lra_resolution_spec.Threads.{thread_places, thread_program};
+ghost use Rattle.lra_front_end.specs.Crates.{lra_program.ProgramViews.program_view, lra_syntax.Grammar.Spells};
+ghost use Rattle.lra_front_end.specs.Crates.{lra_syntax.Labels.labels_of, lra_syntax.Views.tree_view};
 ghost use Rattle.lra_front_end.specs.{Stages.HasConstants, ThreadsStages.IsThreadInlined};
 
 use crate::reading::{Reading, read_text};
 use crate::threads::{inline_threads, threads_of};
 use lra_base::SourceError;
-use lra_operations::InlinedProgram;
+use lra_inline::InlinedProgram;
+use lra_recursion::TranslationUnit;
 use lra_resolve::{Resolution, ThreadsResolution};
-use lra_syntax::TranslationUnit;
 use std::alloc::Global;
 
 /// What is read of an accepted source of several threads: its tree, its constants, its program with the table of its

@@ -2,16 +2,15 @@
 use Rattle.std.proofs.Common.{◌≡◌, ℕ, List, [], ◌∷◌, map, Option, Some, None, Bool, true, false, inl, inr, refl, sym, subst}
 use Rattle.std.proofs.{lemmas.List.Elements.Contains-append_cases, lemmas.Option.same_Some, lemmas.Option.none-some}
 use Rattle.std.specs.List.{Contains}
-use Rattle.lra_linear_spec.proofs.Membership.{contains_none, map_from}
-use Rattle.lra_base.specs.{declared.case_labels.CaseLabel.CaseLabel, declared.case_labels.CaseLabel.TheVariants.Case, declared.case_labels.CaseLabel.TheVariants.Default}
-use Rattle.lra_program.specs.Program.{Expr}
-use Rattle.lra_domain.specs.{Abstraction.Abstraction, declared.Exactness.Exactness}
-use Rattle.lra_operations.specs.Tree.{Completion, normal, jump, Node, Arms, no_arms, entry, arm}
-use Rattle.lra_analysis_spec.specs.{MovesOf.value_moves, Operations.lossy_operations, Pass.PassResult, Pass.goes_on, Pass.in_turn, Pass.MatchesNone, Pass.Enters, Pass.JoinsRunning, Pass.ComesOut}
-use Rattle.lra_analysis_spec.proofs.Sound.{right_jump}
-use Rattle.lra_transfer.proofs.OperationWidths.{value_dims}
-use Rattle.lra_path_segments.specs.Segments.{SegmentStep, goes, GoalSegment, Segment, Suffix, through, enter, exit_suffixes, inside, prepend_step, prepend_step_to_goal, through_arms, through_labels}
-use Rattle.lra_path_segments.specs.Segments.{enter_arms, enter_labels, arms_exit_suffixes, inside_arms}
+use Rattle.lra_inductive_sound.proofs.Crates.lra_linear_spec.Membership.{contains_none, map_from}
+use Rattle.lra_inductive_sound.proofs.Crates.{lra_analysis_spec.Sound.right_jump, lra_transfer.OperationWidths.value_dims}
+use Rattle.lra_inductive_sound.specs.Crates.lra_analysis_spec.Pass.{PassResult, goes_on, in_turn, MatchesNone, Enters, JoinsRunning, ComesOut}
+use Rattle.lra_inductive_sound.specs.Crates.lra_base.declared.case_labels.CaseLabel.TheVariants.{Case, Default}
+use Rattle.lra_inductive_sound.specs.Crates.lra_operations.Tree.{Completion, normal, jump, Node, Arms, no_arms, entry, arm}
+use Rattle.lra_inductive_sound.specs.Crates.lra_path_segments.Segments.{SegmentStep, goes, GoalSegment, Segment, Suffix, through, enter, exit_suffixes, inside, prepend_step, prepend_step_to_goal}
+use Rattle.lra_inductive_sound.specs.Crates.lra_path_segments.Segments.{through_arms, through_labels, enter_arms, enter_labels, arms_exit_suffixes, inside_arms}
+use Rattle.lra_inductive_sound.specs.Crates.{lra_analysis_spec.MovesOf.value_moves, lra_analysis_spec.Operations.lossy_operations, lra_base.declared.case_labels.CaseLabel.CaseLabel}
+use Rattle.lra_inductive_sound.specs.Crates.{lra_domain.Abstraction.Abstraction, lra_domain.declared.Exactness.Exactness, lra_program.Program.Expr}
 use Rattle.lra_inductive_sound.specs.Inductive.{Keeps, KeptBy, KeptFrom, IsExitValue, IsGoalValue, IsInductiveThrough}
 use Rattle.lra_inductive_sound.specs.Points.{PointsOf, KeepPoints}
 use Rattle.lra_inductive_sound.proofs.Sequences.{Closes, through_both, outs_both, tree_closes, both_close}

@@ -2,12 +2,12 @@
 use Rattle.std.proofs.Common.{◌≡◌, ℕ, List, [], ◌∷◌, ◌++◌, false, inl, inr, refl, sym, ap, ◌∙◌, subst}
 use Rattle.std.proofs.lemmas.List.Elements.{Contains-append_cases}
 use Rattle.std.specs.List.{Contains}
-use Rattle.lra_base.specs.{declared.case_labels.CaseLabel.CaseLabel, declared.case_labels.CaseLabel.TheVariants.Case, declared.case_labels.CaseLabel.TheVariants.Default}
-use Rattle.lra_program.specs.Program.{Expr}
-use Rattle.lra_domain.specs.{Abstraction.Abstraction, Actions.Action, Moves.Moves, Moves.stay, Moves.make, Moves.first_then, Moves.join_of, declared.Exactness.Exactness}
-use Rattle.lra_analysis_spec.specs.{Linearization.linearized, Moves.AreMade, MovesOf.value_moves, MovesOf.number_moves, Operations.lossy_operations, Pass.MatchesNone}
-use Rattle.lra_transfer.proofs.OperationWidths.{value_dims}
-use Rattle.lra_path_disjuncts.specs.{Disjuncts.disjuncts, StepMoves.unmatched_moves}
+use Rattle.lra_inductive_sound.specs.Crates.{lra_analysis_spec.Linearization.linearized, lra_analysis_spec.Moves.AreMade, lra_analysis_spec.MovesOf.value_moves, lra_analysis_spec.MovesOf.number_moves}
+use Rattle.lra_inductive_sound.specs.Crates.{lra_analysis_spec.Operations.lossy_operations, lra_analysis_spec.Pass.MatchesNone, lra_base.declared.case_labels.CaseLabel.CaseLabel}
+use Rattle.lra_inductive_sound.specs.Crates.{lra_base.declared.case_labels.CaseLabel.TheVariants.Case, lra_base.declared.case_labels.CaseLabel.TheVariants.Default, lra_domain.Abstraction.Abstraction}
+use Rattle.lra_inductive_sound.specs.Crates.{lra_domain.Actions.Action, lra_domain.Moves.Moves, lra_domain.Moves.stay, lra_domain.Moves.make, lra_domain.Moves.first_then, lra_domain.Moves.join_of}
+use Rattle.lra_inductive_sound.specs.Crates.{lra_domain.declared.Exactness.Exactness, lra_path_disjuncts.Disjuncts.disjuncts, lra_path_disjuncts.StepMoves.unmatched_moves, lra_program.Program.Expr}
+use Rattle.lra_inductive_sound.proofs.Crates.lra_transfer.OperationWidths.{value_dims}
 use Rattle.lra_inductive_sound.specs.Points.{PointsOf, LeadsBy, KeepPoints}
 use Rattle.lra_inductive_sound.proofs.Members.{one_from, pairs_from}
 

@@ -18,3 +18,5 @@ pub mod Stores
 pub mod RationalPoints
 -- Worked examples.
 mod PointExamples
+-- The crates below
+pub mod Crates

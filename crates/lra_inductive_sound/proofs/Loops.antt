@@ -2,12 +2,13 @@
 use Rattle.std.proofs.Common.{◌≡◌, ℕ, ◌-◌, List, [], ◌∷◌, map, Option, true, false, inl, inr, refl, sym, ◌∙◌, subst}
 use Rattle.std.proofs.lemmas.List.Elements.{Contains-append_cases}
 use Rattle.std.specs.List.{Contains}
-use Rattle.lra_linear_spec.proofs.Membership.{contains_none, contains_head, contains_tail, map_from}
-use Rattle.lra_domain.specs.Abstraction.{Abstraction}
-use Rattle.lra_program.specs.{Program.Cond, Step.test}
-use Rattle.lra_operations.specs.Tree.{Exit, broken, continued, returned, Completion, normal, jump, Node, iterate}
-use Rattle.lra_analysis_spec.specs.{Operations.lossy_operations, Pass.value, Pass.PassResult, Pass.noted, Pass.jumps_of, Pass.AscendingIteration, Pass.Pass, Plan.Plan, Plan.Widening, Plan.mode_at}
-use Rattle.lra_path_segments.specs.Segments.{SegmentStep, does, comes_to, GoalSegment, Segment, Suffix, through, enter, exit_suffixes, inside, into_body, out_of_body, segment_to}
+use Rattle.lra_inductive_sound.proofs.Crates.lra_linear_spec.Membership.{contains_none, contains_head, contains_tail, map_from}
+use Rattle.lra_inductive_sound.specs.Crates.lra_analysis_spec.Pass.{value, PassResult, noted, jumps_of, AscendingIteration, Pass}
+use Rattle.lra_inductive_sound.specs.Crates.lra_analysis_spec.Plan.{Plan, Widening, mode_at}
+use Rattle.lra_inductive_sound.specs.Crates.lra_operations.Tree.{Exit, broken, continued, returned, Completion, normal, jump, Node, iterate}
+use Rattle.lra_inductive_sound.specs.Crates.lra_path_segments.Segments.{SegmentStep, does, comes_to, GoalSegment, Segment, Suffix, through, enter, exit_suffixes, inside, into_body, out_of_body}
+use Rattle.lra_inductive_sound.specs.Crates.lra_path_segments.Segments.{segment_to}
+use Rattle.lra_inductive_sound.specs.Crates.{lra_analysis_spec.Operations.lossy_operations, lra_domain.Abstraction.Abstraction, lra_program.Program.Cond, lra_program.Step.test}
 use Rattle.lra_inductive_sound.specs.Inductive.{Keeps, KeptBy, KeptFrom, IsExitValue, IsGoalValue, IsInductiveThrough}
 use Rattle.lra_inductive_sound.specs.Points.{PointsOf, KeepPoints}
 use Rattle.lra_inductive_sound.proofs.WaysOn.{at_once, then_by, keeps_then, keeps_on, test_keeps}

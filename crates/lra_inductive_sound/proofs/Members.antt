@@ -1,8 +1,8 @@
 -- What is in lists that are made of others.
 use Rattle.std.proofs.{Common.◌≡◌, Common.List, Common.[], Common.◌∷◌, Common.map, Common.inl, Common.inr}
 use Rattle.std.specs.List.{Contains, flat_map}
-use Rattle.lra_linear_spec.proofs.Membership.{contains_none, contains_cases, map_from}
-use Rattle.lra_linear_spec.proofs.ListPlaces.{flat_map_from}
+use Rattle.lra_inductive_sound.proofs.Crates.lra_linear_spec.ListPlaces.{flat_map_from}
+use Rattle.lra_inductive_sound.proofs.Crates.lra_linear_spec.Membership.{contains_none, contains_cases, map_from}
 
 pub one_from : {A : Type 0} (a x : A) → Contains (a ∷ []) x → a ≡ x
 one_from a x there = elim (contains_cases a x [] there) [ inl same ↦ same | inr none ↦ absurd (contains_none x none) ]

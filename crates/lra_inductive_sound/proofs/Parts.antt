@@ -1,9 +1,9 @@
 -- Segments through two parts of a tree, one after the other; and what is found in a part is found in the whole.
 use Rattle.std.proofs.{Common.◌≡◌, Common.ℕ, Common.List, Common.◌++◌, Common.Option, Common.subst, lemmas.List.Elements.Contains-append_left, lemmas.List.Elements.Contains-append_right}
 use Rattle.std.specs.List.{Contains}
-use Rattle.lra_domain.specs.Abstraction.{Abstraction}
-use Rattle.lra_analysis_spec.specs.Pass.{PassEntry, value, failing, PassResult, in_turn}
-use Rattle.lra_path_segments.specs.Segments.{SegmentStep, Goal, comes_to, violates, GoalSegment, Segment, Suffix, each_then, then_way, then_ways, then_out, then_outs, segment_by, segments_by}
+use Rattle.lra_inductive_sound.specs.Crates.lra_analysis_spec.Pass.{PassEntry, value, failing, PassResult, in_turn}
+use Rattle.lra_inductive_sound.specs.Crates.lra_path_segments.Segments.{SegmentStep, Goal, comes_to, violates, GoalSegment, Segment, Suffix, each_then, then_way, then_ways, then_out, then_outs}
+use Rattle.lra_inductive_sound.specs.Crates.{lra_domain.Abstraction.Abstraction, lra_path_segments.Segments.segment_by, lra_path_segments.Segments.segments_by}
 use Rattle.lra_inductive_sound.specs.{Inductive.Keeps, Inductive.KeptBy, Inductive.KeptFrom, Inductive.IsGoalValue, Points.PointsOf}
 use Rattle.lra_inductive_sound.proofs.{Members.pairs_from, WaysOn.then_by}
 

@@ -1,6 +1,6 @@
 -- Where actions lead rational points.
 use Rattle.std.proofs.{Common.pos, Common.[], Common.◌∷◌, Common.refl, Common.arith, lemmas.Int.ints}
-use Rattle.lra_domain.specs.Actions.{assign, embed}
+use Rattle.lra_inductive_sound.specs.Crates.lra_domain.Actions.{assign, embed}
 use Rattle.lra_inductive_sound.specs.RationalPoints.{LeadsPoint}
 
 -- x + 1 leads from a half to three halves, in whichever row these stand

@@ -2,19 +2,15 @@
 use Rattle.std.proofs.Common.{◌≡◌, ℕ, suc, List, ◌++◌, length, Bool, true, Option, Some, None, refl, sym, ap, ◌∙◌, subst}
 use Rattle.std.proofs.{lemmas.Bool.and_parts, lemmas.Bool.eqb-true, lemmas.Option.same_Some}
 use Rattle.std.specs.{List.Contains, Prelude.nat_eq, Prelude.◌&&◌, Prelude.slice_get}
-use Rattle.lra_linear_spec.proofs.Membership.{filter_from}
-use Rattle.lra_domain.specs.{Abstraction.Abstraction, Actions.Action, Laws.Laws}
-use Rattle.lra_program.specs.{Program.Program, Sites.Site, Sites.sites_of}
-use Rattle.lra_operations.specs.Tree.{Node}
-use Rattle.lra_analysis_spec.specs.{Analysis.IsSolution, MovesOf.first_values, Pass.PassResult, Pass.noted}
-use Rattle.lra_transfer.proofs.OperationWidths.{globals_dims}
-use Rattle.lra_path_segments.specs.Segments.{Goal, comes_to, violates, GoalSegment, Segment, enter, inside}
-use Rattle.lra_path_disjuncts.specs.Disjuncts.{disjuncts, written}
+use Rattle.lra_inductive_sound.proofs.Crates.{lra_linear_spec.ListPlaces.flat_map_from, lra_linear_spec.Membership.filter_from, lra_transfer.OperationWidths.globals_dims}
+use Rattle.lra_inductive_sound.specs.Crates.lra_path_segments.Segments.{Goal, comes_to, violates, GoalSegment, Segment, enter, inside}
+use Rattle.lra_inductive_sound.specs.Crates.{lra_analysis_spec.Analysis.IsSolution, lra_analysis_spec.MovesOf.first_values, lra_analysis_spec.Pass.PassResult, lra_analysis_spec.Pass.noted}
+use Rattle.lra_inductive_sound.specs.Crates.{lra_domain.Abstraction.Abstraction, lra_domain.Actions.Action, lra_domain.Laws.Laws, lra_operations.Tree.Node, lra_path_disjuncts.Disjuncts.disjuncts}
+use Rattle.lra_inductive_sound.specs.Crates.{lra_path_disjuncts.Disjuncts.written, lra_program.Program.Program, lra_program.Sites.Site, lra_program.Sites.sites_of}
 use Rattle.lra_paths.specs.Paths.{same_goal, live_of, started, first_segments, next_segments, actions_between}
 use Rattle.lra_paths.proofs.SourceSteps.{alike}
 use Rattle.lra_inductive_sound.specs.Inductive.{IsAtGoal, FailOnce, ValuesAreInductive, IsGoalValue, IsInductiveThrough}
 use Rattle.lra_inductive_sound.specs.Points.{PointsOf, LeadsBy, KeepPoints}
-use Rattle.lra_linear_spec.proofs.ListPlaces.{flat_map_from}
 use Rattle.lra_inductive_sound.proofs.{Changes.split_leads, Changes.made_keep, Members.pairs_from, Trees.tree_closed}
 
 module _ (V H X : Type 0) (m : Abstraction V H) (o : PointsOf V H X) (keep : KeepPoints m o) where

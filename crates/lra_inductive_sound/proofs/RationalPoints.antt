@@ -1,10 +1,10 @@
 -- Polyhedra keep rational points.
 use Rattle.std.proofs.Common.{◌≡◌, ◌∙◌, ◌+◌, ◌-◌, ◌≤◌, ℕ, suc, ℤ, List, length, take, ap, sym, refl, subst, arith}
-use Rattle.lra_domain.specs.Actions.{Action, ActionFits, dims_after, assign, forget, test, embed, remove_last}
-use Rattle.lra_domain.specs.{Abstraction.Values, declared.Exactness.Exactness, declared.Exactness.TheVariants.Exact, declared.Exactness.TheVariants.Flagged}
-use Rattle.lra_duality.specs.Rows.{test_row}
-use Rattle.lra_linear_spec.specs.{Descriptions.Con, Descriptions.Holds, Points.IsPoint, Points.SamePoint, Polyhedra.Polyhedron}
-use Rattle.lra_linear_spec.proofs.Descriptions.{con_none}
+use Rattle.lra_inductive_sound.specs.Crates.lra_domain.Actions.{Action, ActionFits, dims_after, assign, forget, test, embed, remove_last}
+use Rattle.lra_inductive_sound.specs.Crates.lra_domain.declared.Exactness.TheVariants.{Exact, Flagged}
+use Rattle.lra_inductive_sound.specs.Crates.{lra_domain.Abstraction.Values, lra_domain.declared.Exactness.Exactness, lra_duality.Rows.test_row, lra_linear_spec.Descriptions.Con}
+use Rattle.lra_inductive_sound.specs.Crates.{lra_linear_spec.Descriptions.Holds, lra_linear_spec.Points.IsPoint, lra_linear_spec.Points.SamePoint, lra_linear_spec.Polyhedra.Polyhedron}
+use Rattle.lra_inductive_sound.proofs.Crates.lra_linear_spec.Descriptions.{con_none}
 use Rattle.lra_poly_domain.specs.{Abstraction.polyhedron_abstraction, Content.HeadContent, Content.PolyhedronLeq, Covering.parts_empty, Laws.polyhedron_laws, Sets.KeepsPoints, Sets.reached}
 use Rattle.lra_inductive_sound.specs.RationalPoints.{IsPointOf, LeadsPoint, MovesPoint, dimension, rational_points}
 use Rattle.lra_inductive_sound.specs.{Inductive.ValuesAreInductive, Points.KeepPoints}

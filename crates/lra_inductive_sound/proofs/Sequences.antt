@@ -1,11 +1,10 @@
 -- Two parts of a tree one after the other, as a tree after another one and as an arm after others.
 use Rattle.std.proofs.{Common.List, Common.◌++◌, Common.inl, Common.inr, lemmas.List.Elements.Contains-append_cases}
 use Rattle.std.specs.List.{Contains}
-use Rattle.lra_domain.specs.Abstraction.{Abstraction}
-use Rattle.lra_operations.specs.Tree.{Completion, normal, jump, Node}
-use Rattle.lra_analysis_spec.specs.Pass.{PassResult, in_turn}
-use Rattle.lra_analysis_spec.proofs.Sound.{left_jump, right_jump}
-use Rattle.lra_path_segments.specs.Segments.{SegmentStep, GoalSegment, Segment, Suffix, through, enter, exit_suffixes, inside, each_then, then_ways, then_outs, segments_by}
+use Rattle.lra_inductive_sound.specs.Crates.lra_operations.Tree.{Completion, normal, jump, Node}
+use Rattle.lra_inductive_sound.specs.Crates.lra_path_segments.Segments.{SegmentStep, GoalSegment, Segment, Suffix, through, enter, exit_suffixes, inside, each_then, then_ways, then_outs, segments_by}
+use Rattle.lra_inductive_sound.specs.Crates.{lra_analysis_spec.Pass.PassResult, lra_analysis_spec.Pass.in_turn, lra_domain.Abstraction.Abstraction}
+use Rattle.lra_inductive_sound.proofs.Crates.lra_analysis_spec.Sound.{left_jump, right_jump}
 use Rattle.lra_inductive_sound.specs.{Inductive.KeptBy, Inductive.KeptFrom, Inductive.IsExitValue, Inductive.IsGoalValue, Inductive.IsInductiveThrough, Points.PointsOf}
 use Rattle.lra_inductive_sound.proofs.Parts.{left_part, right_part, among_more, met_more, from_more, from_met, pass_then, enter_then, leave_then, go_then}
 

@@ -1,6 +1,6 @@
 -- Stores are points that each domain keeps.
 use Rattle.std.proofs.Common.{length, ap}
-use Rattle.lra_domain.specs.{Abstraction.Abstraction, Laws.Laws}
+use Rattle.lra_inductive_sound.specs.Crates.{lra_domain.Abstraction.Abstraction, lra_domain.Laws.Laws}
 use Rattle.lra_inductive_sound.specs.{Inductive.ValuesAreInductive, Points.KeepPoints, Stores.stores}
 use Rattle.lra_inductive_sound.proofs.Programs.{values_closed}
 

@@ -3,17 +3,19 @@ use Rattle.std.proofs.Common.{◌≡◌, ℕ, List, [], ◌∷◌, ◌++◌, map
 use Rattle.std.proofs.lemmas.List.Elements.{Contains-append_cases, Contains-append_left, Contains-append_right}
 use Rattle.std.proofs.lemmas.Option.{same_Some, none-some}
 use Rattle.std.specs.{List.Contains, List.list_any, Prelude.if◌then◌else◌}
-use Rattle.lra_linear_spec.proofs.Membership.{contains_none, contains_cases, contains_head, map_from}
-use Rattle.lra_base.specs.{CaseLabels.is_same_case, declared.case_labels.CaseLabel.CaseLabel, declared.case_labels.CaseLabel.TheVariants.Default}
-use Rattle.lra_program.specs.{Program.Expr, Program.Cond, Step.Op, Step.test}
-use Rattle.lra_domain.specs.{Abstraction.Abstraction, declared.Exactness.Exactness, declared.Exactness.TheVariants.Exact}
-use Rattle.lra_operations.specs.Tree.{Exit, broken, continued, returned, Completion, normal, jump, Node, empty, probe, point, act, check, seq, choose, iterate, catch, leave, select, Arms, no_arms}
-use Rattle.lra_operations.specs.{Tree.entry, Tree.arm, Tree.entries_of, declared.probes.Probe.Probe, declared.probes.Probe.TheVariants.InterferencePoint, declared.probes.Probe.TheVariants.RecordWrite}
-use Rattle.lra_analysis_spec.specs.Pass.{PassEntry, value, failing, recorded, PassResult, noted, jumps_of, goes_on, jumps, in_turn, first_of_call, values_behind, jumps_caught, AreJoined, Filters}
-use Rattle.lra_analysis_spec.specs.{Operations.lossy_operations, Pass.Enters, Pass.RunsFrom, Pass.DescendingIteration, Pass.Pass, Pass.ArmsPass, Plan.Plan}
-use Rattle.lra_analysis_spec.proofs.Sound.{left_jump, right_jump, jump_there, behind_normal}
-use Rattle.lra_path_segments.specs.Segments.{SegmentStep, does, comes_to, violates, GoalSegment, Segment, Suffix, same_exit, through, enter, exit_suffixes, inside, with_test, tested_way, goes_in}
-use Rattle.lra_path_segments.specs.Segments.{past_labels, through_labels}
+use Rattle.lra_inductive_sound.proofs.Crates.lra_analysis_spec.Sound.{left_jump, right_jump, jump_there, behind_normal}
+use Rattle.lra_inductive_sound.proofs.Crates.lra_linear_spec.Membership.{contains_none, contains_cases, contains_head, map_from}
+use Rattle.lra_inductive_sound.specs.Crates.lra_analysis_spec.Pass.{PassEntry, value, failing, recorded, PassResult, noted, jumps_of, goes_on, jumps, in_turn, first_of_call, values_behind}
+use Rattle.lra_inductive_sound.specs.Crates.lra_analysis_spec.Pass.{jumps_caught, AreJoined, Filters, Enters, RunsFrom, DescendingIteration, Pass, ArmsPass}
+use Rattle.lra_inductive_sound.specs.Crates.lra_operations.Tree.{Exit, broken, continued, returned, Completion, normal, jump, Node, empty, probe, point, act, check, seq, choose, iterate, catch, leave}
+use Rattle.lra_inductive_sound.specs.Crates.lra_operations.Tree.{select, Arms, no_arms, entry, arm, entries_of}
+use Rattle.lra_inductive_sound.specs.Crates.lra_operations.declared.probes.Probe.TheVariants.{InterferencePoint, RecordWrite}
+use Rattle.lra_inductive_sound.specs.Crates.lra_path_segments.Segments.{SegmentStep, does, comes_to, violates, GoalSegment, Segment, Suffix, same_exit, through, enter, exit_suffixes, inside}
+use Rattle.lra_inductive_sound.specs.Crates.lra_path_segments.Segments.{with_test, tested_way, goes_in, past_labels, through_labels}
+use Rattle.lra_inductive_sound.specs.Crates.{lra_analysis_spec.Operations.lossy_operations, lra_analysis_spec.Plan.Plan, lra_base.CaseLabels.is_same_case}
+use Rattle.lra_inductive_sound.specs.Crates.{lra_base.declared.case_labels.CaseLabel.CaseLabel, lra_base.declared.case_labels.CaseLabel.TheVariants.Default, lra_domain.Abstraction.Abstraction}
+use Rattle.lra_inductive_sound.specs.Crates.{lra_domain.declared.Exactness.Exactness, lra_domain.declared.Exactness.TheVariants.Exact, lra_operations.declared.probes.Probe.Probe}
+use Rattle.lra_inductive_sound.specs.Crates.{lra_program.Program.Expr, lra_program.Program.Cond, lra_program.Step.Op, lra_program.Step.test}
 use Rattle.lra_inductive_sound.specs.Inductive.{Keeps, KeptBy, KeptFrom, IsExitValue, IsGoalValue, IsInductiveThrough}
 use Rattle.lra_inductive_sound.specs.Points.{PointsOf, KeepPoints}
 use Rattle.lra_inductive_sound.proofs.Parts.{IsPart, left_part, right_part, among_more, met_more, from_met, to_same}

@@ -1,14 +1,13 @@
 -- Values that keep what is done on a segment, one segment after another.
 use Rattle.std.proofs.Common.{◌≡◌, ℕ, List, [], ◌∷◌, ◌++◌, Bool, refl, sym, ap, ◌∙◌, subst, append_assoc, append-nil}
 use Rattle.std.specs.List.{Contains}
-use Rattle.lra_linear_spec.proofs.Membership.{contains_head}
-use Rattle.lra_program.specs.{Program.Cond, Step.Op, Step.test}
-use Rattle.lra_domain.specs.{Abstraction.Abstraction, Actions.Action, declared.Exactness.Exactness}
-use Rattle.lra_analysis_spec.specs.{MovesOf.guard, MovesOf.moves_of, Operations.lossy_operations, Pass.OpTransfer, Pass.Filters}
-use Rattle.lra_transfer.proofs.OperationWidths.{changes_dims, leaves_dims}
-use Rattle.lra_path_segments.specs.Segments.{SegmentStep, does}
-use Rattle.lra_path_disjuncts.specs.{Disjuncts.disjuncts, Disjuncts.written, SegmentMoves.live_after_steps, StepMoves.step_moves, StepMoves.dims_after_step}
-use Rattle.lra_path_segments.proofs.Lists.{each_then_has}
+use Rattle.lra_inductive_sound.proofs.Crates.lra_transfer.OperationWidths.{changes_dims, leaves_dims}
+use Rattle.lra_inductive_sound.proofs.Crates.{lra_linear_spec.Membership.contains_head, lra_path_segments.Lists.each_then_has}
+use Rattle.lra_inductive_sound.specs.Crates.lra_path_disjuncts.StepMoves.{step_moves, dims_after_step}
+use Rattle.lra_inductive_sound.specs.Crates.{lra_analysis_spec.MovesOf.guard, lra_analysis_spec.MovesOf.moves_of, lra_analysis_spec.Operations.lossy_operations, lra_analysis_spec.Pass.OpTransfer}
+use Rattle.lra_inductive_sound.specs.Crates.{lra_analysis_spec.Pass.Filters, lra_domain.Abstraction.Abstraction, lra_domain.Actions.Action, lra_domain.declared.Exactness.Exactness}
+use Rattle.lra_inductive_sound.specs.Crates.{lra_path_disjuncts.Disjuncts.disjuncts, lra_path_disjuncts.Disjuncts.written, lra_path_disjuncts.SegmentMoves.live_after_steps}
+use Rattle.lra_inductive_sound.specs.Crates.{lra_path_segments.Segments.SegmentStep, lra_path_segments.Segments.does, lra_program.Program.Cond, lra_program.Step.Op, lra_program.Step.test}
 use Rattle.lra_inductive_sound.specs.{Inductive.Keeps, Inductive.KeptBy, Points.PointsOf, Points.LeadsBy, Points.KeepPoints}
 use Rattle.lra_inductive_sound.proofs.{Changes.split_leads, Changes.SidesKeep, Changes.made_keep, Members.one_from, Members.pairs_from}
 

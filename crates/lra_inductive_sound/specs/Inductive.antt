@@ -1,14 +1,17 @@
 -- Values that are inductive along paths: whatever a path leads to, from a point of its source's value, is a point of
 -- its target's value, and no path leads to where a proved assertion is false.
 use Rattle.std.specs.Prelude.{◌≡◌, ℕ, suc, List, Bool, true, Option, Some, slice_get, Contains}
-use Rattle.lra_domain.specs.{Abstraction.Abstraction, Actions.Action}
-use Rattle.lra_program.specs.{Program.Program, Sites.Site, Sites.sites_of}
-use Rattle.lra_operations.specs.Tree.{Completion, normal, jump, Node}
-use Rattle.lra_analysis_spec.specs.Pass.{value, failing, PassResult, jumps_of}
-use Rattle.lra_analysis_spec.specs.{Analysis.LossyIteration, Analysis.IsSolution, Plan.Plan}
-use Rattle.lra_path_segments.specs.Segments.{SegmentStep, Goal, comes_to, violates, GoalSegment, Segment, Suffix}
-use Rattle.lra_path_segments.specs.Segments.{through, enter, exit_suffixes, inside}
-use Rattle.lra_path_disjuncts.specs.{Disjuncts.written, SegmentMoves.live_after_steps}
+use Rattle.lra_inductive_sound.specs.Crates.lra_analysis_spec.Analysis.{LossyIteration, IsSolution}
+use Rattle.lra_inductive_sound.specs.Crates.lra_analysis_spec.Pass.{value, failing, PassResult, jumps_of}
+use Rattle.lra_inductive_sound.specs.Crates.lra_domain.Abstraction.{Abstraction}
+use Rattle.lra_inductive_sound.specs.Crates.lra_operations.Tree.{Completion, normal, jump, Node}
+use Rattle.lra_inductive_sound.specs.Crates.lra_path_disjuncts.SegmentMoves.{live_after_steps}
+use Rattle.lra_inductive_sound.specs.Crates.lra_path_segments.Segments.{SegmentStep, Goal, comes_to, violates}
+use Rattle.lra_inductive_sound.specs.Crates.lra_path_segments.Segments.{GoalSegment, Segment, Suffix, through, enter}
+use Rattle.lra_inductive_sound.specs.Crates.lra_path_segments.Segments.{exit_suffixes, inside}
+use Rattle.lra_inductive_sound.specs.Crates.lra_program.Sites.{Site, sites_of}
+use Rattle.lra_inductive_sound.specs.Crates.{lra_analysis_spec.Plan.Plan, lra_domain.Actions.Action}
+use Rattle.lra_inductive_sound.specs.Crates.{lra_path_disjuncts.Disjuncts.written, lra_program.Program.Program}
 use Rattle.lra_paths.specs.Paths.{actions_between}
 use Rattle.lra_inductive_sound.specs.Points.{PointsOf, LeadsBy}
 

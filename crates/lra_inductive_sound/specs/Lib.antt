@@ -3,3 +3,5 @@ pub mod Points
 pub mod Inductive
 pub mod Stores
 pub mod RationalPoints
+-- The crates below
+pub mod Crates

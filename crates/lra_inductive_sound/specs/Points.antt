@@ -1,10 +1,11 @@
 -- Points of a domain's values and heads, of any kind: stores of whole numbers, or rational points. How actions lead
 -- from one to another, and what the operations of an iteration must guarantee to them.
 use Rattle.std.specs.Prelude.{◌≡◌, ℕ, List, [], ◌∷◌}
-use Rattle.lra_systems.specs.LinearSystems.{LinearSystem}
-use Rattle.lra_linear_spec.specs.declared.ConKind.{ConKind}
-use Rattle.lra_domain.specs.{Abstraction.Abstraction, Abstraction.Starts, Abstraction.Values, Actions.Action}
-use Rattle.lra_domain.specs.{declared.Exactness.Exactness, declared.Included.TheVariants.Yes, declared.Mode.Mode}
+use Rattle.lra_inductive_sound.specs.Crates.lra_domain.Abstraction.{Abstraction, Starts, Values}
+use Rattle.lra_inductive_sound.specs.Crates.lra_domain.declared.Exactness.{Exactness}
+use Rattle.lra_inductive_sound.specs.Crates.lra_systems.LinearSystems.{LinearSystem}
+use Rattle.lra_inductive_sound.specs.Crates.{lra_domain.Actions.Action, lra_domain.declared.Included.TheVariants.Yes}
+use Rattle.lra_inductive_sound.specs.Crates.{lra_domain.declared.Mode.Mode, lra_linear_spec.declared.ConKind.ConKind}
 
 pub record PointsOf (V H X : Type 0) : Type 1 where
   -- the point is one of the value, of the head

@@ -1,11 +1,13 @@
 -- The rational points of polyhedra. Such a point is a row of whole numbers: first its divisor, which is above 0, then a
 -- number for each dimension.
 use Rattle.std.specs.Prelude.{◌≡◌, ◌-◌, ℕ, suc, ℤ, List, length, take}
-use Rattle.lra_domain.specs.Actions.{Action, dims_after, assign, forget, test, embed, remove_last}
-use Rattle.lra_linear_forms.specs.Form.{form_row}
-use Rattle.lra_linear_spec.specs.{Descriptions.Con, Descriptions.Holds, Points.IsPoint, Points.SamePoint}
-use Rattle.lra_linear_spec.specs.{Polyhedra.Polyhedron, SetOperations.assigned, SetOperations.SameBut}
-use Rattle.lra_duality.specs.Rows.{test_row}
+use Rattle.lra_inductive_sound.specs.Crates.lra_domain.Actions.{Action, dims_after, assign, forget, test, embed}
+use Rattle.lra_inductive_sound.specs.Crates.lra_domain.Actions.{remove_last}
+use Rattle.lra_inductive_sound.specs.Crates.lra_linear_spec.Descriptions.{Con, Holds}
+use Rattle.lra_inductive_sound.specs.Crates.lra_linear_spec.Points.{IsPoint, SamePoint}
+use Rattle.lra_inductive_sound.specs.Crates.lra_linear_spec.Polyhedra.{Polyhedron}
+use Rattle.lra_inductive_sound.specs.Crates.lra_linear_spec.SetOperations.{assigned, SameBut}
+use Rattle.lra_inductive_sound.specs.Crates.{lra_duality.Rows.test_row, lra_linear_forms.Form.form_row}
 use Rattle.lra_poly_domain.specs.Content.{HeadContent}
 use Rattle.lra_inductive_sound.specs.Points.{PointsOf}
 

@@ -1,6 +1,7 @@
 -- The stores of any domain are points of its values: so what runs do is a case of what is said of points.
 use Rattle.std.specs.Prelude.{◌≡◌, ℤ, List, []}
-use Rattle.lra_domain.specs.{Abstraction.Abstraction, Actions.Leads, Gammas.InGamma, Gammas.InHeadGamma}
+use Rattle.lra_inductive_sound.specs.Crates.lra_domain.Gammas.{InGamma, InHeadGamma}
+use Rattle.lra_inductive_sound.specs.Crates.{lra_domain.Abstraction.Abstraction, lra_domain.Actions.Leads}
 use Rattle.lra_inductive_sound.specs.Points.{PointsOf}
 
 abbrev pub stores : {V H : Type 0} → Abstraction V H → PointsOf V H (List ℤ)

@@ -4,7 +4,7 @@ ghost use Rattle.lra_poly_domain.specs.Abstraction.{polyhedron_abstraction};
 ghost use Rattle.lra_inductive_sound.specs.Inductive.{ValuesAreInductive};
 ghost use Rattle.lra_inductive_sound.specs.{RationalPoints.rational_points, Stores.stores};
 
-use lra_domain::Domain;
+use lra_poly_domain::Domain;
 
 /// The polyhedra of an iteration that isn't narrowed, flagged or not, are inductive along paths at rational points.
 pub fn polyhedra_are_inductive()

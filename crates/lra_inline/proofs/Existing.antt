@@ -10,8 +10,7 @@ use Rattle.lra_program.specs.{Step.push_for, Step.truncate_to, Step.arguments_fo
 use Rattle.lra_base.specs.declared.number_types.NumberType.{NumberType}
 use Rattle.lra_operations.specs.Tree.{returned, Node, empty, point, act, seq, choose, leave, Arms, no_arms, entry, arm}
 use Rattle.lra_operations.specs.{Agree.IsInlinedTree, Inlined.return_node, Inlined.callee_node, Inlined.loop_node, Inlined.switch_node}
-use Rattle.lra_syntax.specs.Labels.{Labelled}
-use Rattle.lra_resolution_spec.specs.Refuse.{greatest_live, greatest_points, limit_fault}
+use Rattle.lra_inline.specs.Crates.{lra_resolution_spec.Refuse.greatest_live, lra_resolution_spec.Refuse.greatest_points, lra_resolution_spec.Refuse.limit_fault, lra_syntax.Labels.Labelled}
 use Rattle.lra_inline_steps.specs.Building.{inside, StmtStands, CasesStand, ItemsStand, GivenStands, CallStands, cases_frame, WritesStmt, WritesCases, WritesItems, WritesRvalue, WritesCall}
 use Rattle.lra_inline_steps.specs.declared.points.Limit.TheVariants.{Variables, Points, Calls}
 use Rattle.lra_inline_steps.specs.{Building.WritesDeclared, Limits.Progress, Limits.passed, Limits.stopped, Limits.add_points, declared.frame.Frame.Frame}

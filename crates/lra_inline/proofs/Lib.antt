@@ -6,3 +6,5 @@ pub mod Existing
 -- Open places: what opens, and what comes after.
 mod StepsLeft
 pub mod Programs
+-- The crates below
+pub mod Crates

@@ -9,7 +9,8 @@ use Rattle.lra_program.specs.ProgramViews.{expr_view, call_view, item_view, item
 use Rattle.lra_program.specs.WellFormed.{items_numbers, function_numbers, IsWellFormed}
 use Rattle.lra_program.specs.{Receivers.nobody, Receivers.result_receiver, Step.main_receiver, declared.program.BlockItem.BlockItem, declared.program.Call.Call, declared.program.Function.Function}
 use Rattle.lra_program.specs.{declared.program.Program.Program, declared.receivers.Receiver.Receiver}
-use Rattle.lra_inline_sound.proofs.{DistinctLists.IsIn, DistinctLists.in_right, DistinctLists.in_piece, DistinctLists.in_range, DistinctSites.main_at}
+use Rattle.lra_inline.proofs.Crates.lra_inline_sound.DistinctLists.{IsIn, in_right, in_piece, in_range}
+use Rattle.lra_inline.proofs.Crates.lra_inline_sound.DistinctSites.{main_at}
 use Rattle.lra_inline_steps.specs.{Building.callee_frame, Building.CallStands, declared.frame.Frame.Frame}
 use Rattle.lra_inline_steps.proofs.{Shown.shown_items, Standing.the_callee}
 use Rattle.lra_inline.proofs.{Calling.IsCallee, Totals.first_frame}

@@ -6,9 +6,8 @@ use Rattle.std.specs.Prelude.{nat_lt, if◌then◌else◌}
 use Rattle.lra_base.specs.declared.refusals.Refusal.{Refusal}
 use Rattle.lra_program.specs.Sites.{Site, Event, comes, one_call_more, plain_site, live_after_items, items_events, call_events, events_of, event_sites, sites_of}
 use Rattle.lra_program.specs.{Program.BlockItems, Program.Program, Step.main_receiver, WellFormed.IsWellFormed}
-use Rattle.lra_syntax.specs.Labels.{Labelled}
+use Rattle.lra_inline.specs.Crates.{lra_resolution_spec.Refuse.greatest_live, lra_resolution_spec.Refuse.greatest_points, lra_resolution_spec.Refuse.limit_fault, lra_syntax.Labels.Labelled}
 use Rattle.lra_operations.specs.{Agree.IsInlinedTree, Inlined.move, Inlined.IsSiteAt, Inlined.InlineItems, Inlined.main_frame, Inlined.main_inline_state, Tree.Node, Tree.seq, Tree.point}
-use Rattle.lra_resolution_spec.specs.Refuse.{greatest_live, greatest_points, limit_fault}
 use Rattle.lra_inline_steps.specs.Limits.{Progress, passed, stopped, add_points, refusal_of}
 use Rattle.lra_inline_steps.specs.declared.points.Limit.TheVariants.{Variables, Points, Calls}
 use Rattle.lra_inline_steps.specs.{Building.inside, Building.WritesItems, Building.IsFrame, declared.frame.Frame.Frame, declared.points.Limit.Limit}

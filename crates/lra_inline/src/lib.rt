@@ -11,4 +11,5 @@ mod refused;
 
 pub use inlining::{build, build_thread};
 pub use lra_inline_steps::{InlineError, Limit};
+pub use lra_operations::{InlinedProgram, Site};
 pub use refused::refusal;

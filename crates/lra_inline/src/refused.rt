@@ -1,12 +1,11 @@
 //! What a program is refused for that passes a limit, where its source has these labels.
 
 ghost use Rattle.std.specs.Prelude.{◌≡◌};
-ghost use Rattle.lra_syntax.specs.Labels.{label_at, called_place};
+ghost use Rattle.lra_inline.specs.Crates.lra_syntax.Labels.{label_at, called_place};
 ghost use Rattle.lra_inline_steps.specs.Limits.{refusal_of};
 
 use lra_base::{Cause, Place, Refusal};
-use lra_inline_steps::Limit;
-use lra_resolution_spec::Labels;
+use lra_inline_steps::{Labels, Limit};
 
 /// Where a source begins.
 const START: Place = Place { line: 1, column: 1 };

@@ -1,10 +1,11 @@
 -- A run reaches a point on a trace, and fails there, exactly where the tree does; so without traces too.
 use Rattle.std.proofs.Common.{◌≡◌, ℕ, ℤ, List, [], ◌∷◌, length, Some, slice_get, ◌⊎◌, inl, inr, refl, sym, ap, ◌∙◌, subst}
 use Rattle.std.proofs.lemmas.Option.{same_Some}
-use Rattle.lra_program.specs.Traces.{TraceEvent, visit, Trace, NoChange, TracedSteps, Arrives, ViolatesAssertion}
-use Rattle.lra_program.specs.{Program.Program, Run.begun, Run.Point, Run.start, Run.label_on, Run.IsOn, Run.At, Run.Fails, Sites.Site, Sites.sites_of, Step.State, Step.Config}
-use Rattle.lra_program.proofs.TraceLaws as walks
-use Rattle.lra_program.proofs.TraceLaws.{Quiet, LastMet, last_met}
+use Rattle.lra_inline_sound.specs.Crates.lra_program.Run.{begun, Point, start, label_on, IsOn, At, Fails}
+use Rattle.lra_inline_sound.specs.Crates.lra_program.Traces.{TraceEvent, visit, Trace, NoChange, TracedSteps, Arrives, ViolatesAssertion}
+use Rattle.lra_inline_sound.specs.Crates.{lra_program.Program.Program, lra_program.Sites.Site, lra_program.Sites.sites_of, lra_program.Step.State, lra_program.Step.Config}
+use Rattle.lra_inline_sound.proofs.Crates.lra_program.TraceLaws as walks
+use Rattle.lra_inline_sound.proofs.Crates.lra_program.TraceLaws.{Quiet, LastMet, last_met}
 use Rattle.lra_operations.specs.TracesAgree.{KeepsWidth, point_at, point_or_none, TreeRunsUpTo, TracesAgree, TreesHaveTraces}
 use Rattle.lra_operations.specs.{Agree.IsInlinedTree, Agree.Reached, Agree.Failed, Agree.point_of, Agree.AreDistinct, Agree.TreesAgree, Traces.to_point, Traces.to_failure, Tree.Node}
 use Rattle.lra_operations.proofs.TraceLaws as trees

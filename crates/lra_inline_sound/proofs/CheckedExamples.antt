@@ -1,8 +1,8 @@
 -- What trees ask. Which slip each would catch stands beside it.
 use Rattle.std.proofs.Common.{◌≡◌, ℤ, pos, [], ◌∷◌, Some, None, true, refl, inl, inr, map}
-use Rattle.lra_base.specs.{Operators.plus, declared.number_types.NumberType.TheVariants.Int}
-use Rattle.lra_program.specs.Step.{State, Op, append, store_value, push_for, test, run_op}
-use Rattle.lra_program.specs.{Accesses.OpOutOfBounds, Program.Expr, Program.literal, Program.binary, Program.Cond, Program.nonzero, Receivers.variable_at}
+use Rattle.lra_inline_sound.specs.Crates.lra_program.Program.{Expr, literal, binary, Cond, nonzero}
+use Rattle.lra_inline_sound.specs.Crates.lra_program.Step.{State, Op, append, store_value, push_for, test, run_op}
+use Rattle.lra_inline_sound.specs.Crates.{lra_base.Operators.plus, lra_base.declared.number_types.NumberType.TheVariants.Int, lra_program.Accesses.OpOutOfBounds, lra_program.Receivers.variable_at}
 use Rattle.lra_operations.specs.CheckedOperations.{OpAtPoint, computing_ops, accessing_ops, OverflowsAtPoint}
 use Rattle.lra_operations.specs.Tree.{empty, point, act, seq, choose}
 use Rattle.lra_inline_sound.proofs.GraphExamples.{called_twice_graph, element_called_graph, two_elements, aimed}

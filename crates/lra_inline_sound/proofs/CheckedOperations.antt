@@ -1,7 +1,8 @@
 -- Where something holds of what is on top of a run, it holds of what its tree asks there: where a run stops by a number, and where an access is outside.
 use Rattle.std.proofs.Common.{◌≡◌, ℕ, [], length, Some, None, refl, ap, subst, slice_get}
-use Rattle.lra_program.specs.{NextOperation.NextOpIs, Program.Program, Run.start, Run.IsOn, Run.Reaches, Sites.Site, Sites.sites_of, Step.State, Step.Config, Traces.NoChange}
-use Rattle.lra_program.proofs.TraceLaws.{walk_of}
+use Rattle.lra_inline_sound.specs.Crates.{lra_program.NextOperation.NextOpIs, lra_program.Program.Program, lra_program.Run.start, lra_program.Run.IsOn, lra_program.Run.Reaches, lra_program.Sites.Site}
+use Rattle.lra_inline_sound.specs.Crates.{lra_program.Sites.sites_of, lra_program.Step.State, lra_program.Step.Config, lra_program.Traces.NoChange}
+use Rattle.lra_inline_sound.proofs.Crates.lra_program.TraceLaws.{walk_of}
 use Rattle.lra_operations.specs.CheckedOperations.{AgreesOnOps, TreesAgreeOnOverflows, TreesAgreeOnAccesses}
 use Rattle.lra_operations.specs.{Agree.IsInlinedTree, Agree.point_of, Agree.AreDistinct, TracesAgree.KeepsWidth, Tree.Node}
 use Rattle.lra_inline_sound.proofs.NextOperations.{Question, overflows, strays, Asks, all_in}

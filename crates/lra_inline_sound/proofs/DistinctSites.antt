@@ -3,11 +3,12 @@
 use Rattle.std.proofs.Common.{◌≡◌, ℕ, zero, suc, ◌+◌, List, [], ◌∷◌, ◌++◌, length, Option, Some, None, slice_get, inl, inr, refl, sym, ap, ◌∙◌, subst, append_assoc}
 use Rattle.std.proofs.lemmas.Option.{same_Some, none-some, slice_get-get_or}
 use Rattle.std.specs.List.{AllByRecursion}
-use Rattle.lra_program.specs.Program.{Call, Rvalue, value, result, Stmt, absent, nothing, block, assign, write, call, if, loop, for, break, continue, return, assert, assume, BlockItems, no_more}
-use Rattle.lra_program.specs.Program.{declaration, array, statement, switch, Cases, no_cases, labelled, stated, Function, Program}
-use Rattle.lra_program.specs.Sites.{Site, Event, comes, one_call_more, live_after_items, rvalue_events, given_events, stmt_events, cases_events, items_events, function_events, call_events, events_of}
-use Rattle.lra_program.specs.WellFormed.{stmt_numbers, cases_numbers, items_numbers, function_numbers, Jumps, in_switch, IsGoodCall, IsGoodRvalue, IsGoodGiven, IsGoodStmt, AreGoodCases, AreGoodItems}
-use Rattle.lra_program.specs.{Sites.event_sites, Sites.sites_of, Sites.greatest_calls, WellFormed.IsGoodFunction, WellFormed.IsWellFormed}
+use Rattle.lra_inline_sound.specs.Crates.lra_program.Program.{Call, Rvalue, value, result, Stmt, absent, nothing, block, assign, write, call, if, loop, for, break, continue, return, assert, assume}
+use Rattle.lra_inline_sound.specs.Crates.lra_program.Program.{BlockItems, no_more, declaration, array, statement, switch, Cases, no_cases, labelled, stated, Function, Program}
+use Rattle.lra_inline_sound.specs.Crates.lra_program.Sites.{Site, Event, comes, one_call_more, live_after_items, rvalue_events, given_events, stmt_events, cases_events, items_events, function_events}
+use Rattle.lra_inline_sound.specs.Crates.lra_program.Sites.{call_events, events_of, event_sites, sites_of, greatest_calls}
+use Rattle.lra_inline_sound.specs.Crates.lra_program.WellFormed.{stmt_numbers, cases_numbers, items_numbers, function_numbers, Jumps, in_switch, IsGoodCall, IsGoodRvalue, IsGoodGiven, IsGoodStmt}
+use Rattle.lra_inline_sound.specs.Crates.lra_program.WellFormed.{AreGoodCases, AreGoodItems, IsGoodFunction, IsWellFormed}
 use Rattle.lra_operations.specs.Agree.{AreDistinct}
 use Rattle.lra_inline_sound.proofs.DistinctLists.{IsIn, AllDiffer, in_left, in_right, in_either, differ_join, differ_left, differ_right, differ_apart, differ_range, differ_piece, one_place, longer}
 use Rattle.lra_inline_sound.proofs.DistinctLists.{one_before}

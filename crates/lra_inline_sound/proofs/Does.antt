@@ -2,16 +2,18 @@
 use Rattle.std.proofs.Common.{◌≡◌, ◌≢◌, ℕ, zero, suc, ◌+◌, ◌≤◌, List, ◌∷◌, length, Option, Some, None, Bool, true, false, inl, inr, refl, sym, ap, ◌∙◌, subst, slice_get}
 use Rattle.std.proofs.lemmas.Option.{same_Some, none-some}
 use Rattle.std.specs.Prelude.{cond}
-use Rattle.lra_program.specs.Program.{Expr, Cond, Call, Rvalue, value, result, Declarator, Stmt, absent, nothing, block, assign, write, call, if, loop, for, break, continue, return, assert, assume}
-use Rattle.lra_program.specs.Program.{switch, Cases, no_cases, labelled, stated, labels_of, BlockItems, no_more, declaration, array, statement, Function, Program}
-use Rattle.lra_program.specs.Step.{State, Op, append, fill, store_value, store_element, havoc, truncate_to, test, run_op, run_any, tested, CallContext, ReturnFrame, Item, run, declare, declare_array}
-use Rattle.lra_program.specs.Step.{all, end_of, next_round, end_for, return_frame, leave_call, Config, BreakTarget, ContinueTarget, environment_at, break_target, continue_target, ReturnTarget}
-use Rattle.lra_program.specs.Step.{return_target, main_receiver, receiver_of, go, go_by, go_on, enter_by, do_rvalue, do_write, do_leave, do_break, cases, end_switch, cases_after_label, do_continue}
-use Rattle.lra_program.specs.Step.{do_stmt, do_declare, next, next_at}
-use Rattle.lra_program.specs.{Receivers.variable_at, Receivers.nobody, Run.label_on, Run.Point, Run.IsFailing, Sites.Site, Traces.TraceEvent, Traces.visit, Traces.Trace, Traces.with_visit}
-use Rattle.lra_program.specs.{Traces.Becomes, Traces.TracedSteps, Value.Drawn, Value.index_of, Value.Argument, Value.truth_of, declared.receivers.Receiver.Receiver}
-use Rattle.lra_base.specs.{CaseLabels.is_same_case, declared.case_labels.CaseLabel.CaseLabel}
-use Rattle.lra_program.proofs.TraceLaws.{walk_on}
+use Rattle.lra_inline_sound.specs.Crates.lra_program.Program.{Expr, Cond, Call, Rvalue, value, result, Declarator, Stmt, absent, nothing, block, assign, write, call, if, loop, for, break, continue}
+use Rattle.lra_inline_sound.specs.Crates.lra_program.Program.{return, assert, assume, switch, Cases, no_cases, labelled, stated, labels_of, BlockItems, no_more, declaration, array, statement}
+use Rattle.lra_inline_sound.specs.Crates.lra_program.Program.{Function, Program}
+use Rattle.lra_inline_sound.specs.Crates.lra_program.Step.{State, Op, append, fill, store_value, store_element, havoc, truncate_to, test, run_op, run_any, tested, CallContext, ReturnFrame, Item, run}
+use Rattle.lra_inline_sound.specs.Crates.lra_program.Step.{declare, declare_array, all, end_of, next_round, end_for, return_frame, leave_call, Config, BreakTarget, ContinueTarget, environment_at}
+use Rattle.lra_inline_sound.specs.Crates.lra_program.Step.{break_target, continue_target, ReturnTarget, return_target, main_receiver, receiver_of, go, go_by, go_on, enter_by, do_rvalue, do_write}
+use Rattle.lra_inline_sound.specs.Crates.lra_program.Step.{do_leave, do_break, cases, end_switch, cases_after_label, do_continue, do_stmt, do_declare, next, next_at}
+use Rattle.lra_inline_sound.specs.Crates.lra_program.Traces.{TraceEvent, visit, Trace, with_visit, Becomes, TracedSteps}
+use Rattle.lra_inline_sound.specs.Crates.lra_program.Value.{Drawn, index_of, Argument, truth_of}
+use Rattle.lra_inline_sound.specs.Crates.{lra_base.CaseLabels.is_same_case, lra_base.declared.case_labels.CaseLabel.CaseLabel, lra_program.Receivers.variable_at, lra_program.Receivers.nobody}
+use Rattle.lra_inline_sound.specs.Crates.{lra_program.Run.label_on, lra_program.Run.Point, lra_program.Run.IsFailing, lra_program.Sites.Site, lra_program.declared.receivers.Receiver.Receiver}
+use Rattle.lra_inline_sound.proofs.Crates.lra_program.TraceLaws.{walk_on}
 use Rattle.lra_operations.specs.Inlined.{Frame, InlineState, spot_of, move, IsSiteAt, IsSiteWith, callee, InlineStmt, InlineItems, InlineDeclarator, InlineLoop, InlineRvalue, InlineCall, as_nothing}
 use Rattle.lra_operations.specs.Inlined.{as_block, as_absent, as_assign, as_write, as_write_call, as_call, as_if, as_loop, as_for, as_break, as_continue, as_return, as_return_value, as_return_call}
 use Rattle.lra_operations.specs.Inlined.{as_end, as_end_value, as_end_call, as_assert, as_assume, as_switch, as_no_cases, as_labelled, as_stated, InlineCases, switch_node, as_none, as_declaration}

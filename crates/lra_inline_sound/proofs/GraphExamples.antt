@@ -2,19 +2,22 @@
 use Rattle.std.proofs.Common.{◌≡◌, ℕ, pos, ◌≤◌, [], ◌∷◌, Some, None, refl, arith}
 use Rattle.std.specs.Prelude.{codes}
 use Rattle.lra_resolution_spec.specs.Resolve.{resolve}
-use Rattle.lra_program.specs.{Program.Element, Receivers.variable_at, Receivers.waiting_in, Receivers.result_receiver, Sites.sites_of, Step.append, Step.fill, Step.store_value, Step.havoc, Step.push}
-use Rattle.lra_program.specs.{Step.push_for, Step.truncate_to, Value.Argument, declared.arrays.Array.Array, declared.receivers.Receiver.Receiver}
+use Rattle.lra_inline_sound.specs.Crates.lra_base.declared.case_labels.CaseLabel.TheVariants.{Case, Default}
+use Rattle.lra_inline_sound.specs.Crates.lra_program.Receivers.{variable_at, waiting_in, result_receiver}
+use Rattle.lra_inline_sound.specs.Crates.lra_program.Step.{append, fill, store_value, havoc, push, push_for, truncate_to}
+use Rattle.lra_inline_sound.specs.Crates.lra_syntax.Trees.{FileTree, function, statement, declaration, no_items, if_only, return, value, expression, result, set_element, element, array, assign, block}
+use Rattle.lra_inline_sound.specs.Crates.lra_syntax.Trees.{while, break, continue, switch, no_cases, labelled, stated}
+use Rattle.lra_inline_sound.specs.Crates.lra_syntax.declared.trees.Identifier.{Identifier}
+use Rattle.lra_inline_sound.specs.Crates.{lra_base.declared.number_types.NumberType.TheVariants.Int, lra_base.declared.number_types.NumberType.TheVariants.Long, lra_program.Program.Element}
+use Rattle.lra_inline_sound.specs.Crates.{lra_program.Sites.sites_of, lra_program.Value.Argument, lra_program.declared.arrays.Array.Array, lra_program.declared.receivers.Receiver.Receiver}
 use Rattle.lra_operations.specs.Inlined.{InlineItems, loop_node, switch_node, as_absent, as_block, as_if, as_loop, is_loop, as_break, as_continue, as_switch, as_no_cases, as_labelled, as_stated}
 use Rattle.lra_operations.specs.Inlined.{as_declaration, as_fresh, as_given, as_assign, as_assert, as_return_value, as_none, as_array, as_statement, as_value, as_result, is_call, as_write_call}
 use Rattle.lra_operations.specs.Inlined.{main_inline_state}
 use Rattle.lra_operations.specs.Tree.{Node, broken, continued, returned, empty, point, act, seq, choose, catch, leave, no_arms, entry, arm}
-use Rattle.lra_base.specs.declared.case_labels.CaseLabel.TheVariants.{Case, Default}
-use Rattle.lra_base.specs.declared.number_types.NumberType.TheVariants.{Int, Long}
-use Rattle.lra_program.specs.Program as program
-use Rattle.lra_syntax.specs.Trees.{FileTree, function, statement, declaration, no_items, if_only, return, value, expression, result, set_element, element, array, assign, block, while, break, continue}
-use Rattle.lra_syntax.specs.{Trees.switch, Trees.no_cases, Trees.labelled, Trees.stated, declared.trees.Identifier.Identifier}
-use Rattle.lra_syntax.proofs.TreeSamples.{at, x_at, name_at, literal_text, alone, use_of, tested, call_of, declared_as, long_parameter, function_of, main_function, main_of, called_twice}
-use Rattle.lra_program.proofs.RunExamples as run
+use Rattle.lra_inline_sound.specs.Crates.lra_program.Program as program
+use Rattle.lra_inline_sound.proofs.Crates.lra_syntax.TreeSamples.{at, x_at, name_at, literal_text, alone, use_of, tested, call_of, declared_as, long_parameter, function_of, main_function, main_of}
+use Rattle.lra_inline_sound.proofs.Crates.lra_syntax.TreeSamples.{called_twice}
+use Rattle.lra_inline_sound.proofs.Crates.lra_program.RunExamples as run
 
 -- the length to which a store is cut is at most that from which it is cut
 pub one_of_two : 1 ≤ 2

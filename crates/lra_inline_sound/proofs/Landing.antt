@@ -2,8 +2,9 @@
 use Rattle.std.proofs.Common.{◌≡◌, ℕ, List, ◌∷◌, Option, Some, None, Bool, true, false, ◌⊎◌, inl, inr, refl, sym, ap}
 use Rattle.std.proofs.lemmas.Option.{same_Some, none-some}
 use Rattle.std.specs.Prelude.{⊤, []}
-use Rattle.lra_program.specs.Step.{State, tested, CallContext, ReturnFrame, Item, run, declare, declare_array, all, end_of, next_round, cases, end_switch, end_for, return_frame, leave_call, Config}
-use Rattle.lra_program.specs.{Step.BreakTarget, Step.break_target, Step.ContinueTarget, Step.continue_target, Step.ReturnTarget, Step.return_target, Step.go, Step.go_by, Step.go_on, Value.Drawn}
+use Rattle.lra_inline_sound.specs.Crates.lra_program.Step.{State, tested, CallContext, ReturnFrame, Item, run, declare, declare_array, all, end_of, next_round, cases, end_switch, end_for}
+use Rattle.lra_inline_sound.specs.Crates.lra_program.Step.{return_frame, leave_call, Config, BreakTarget, break_target, ContinueTarget, continue_target, ReturnTarget, return_target, go, go_by, go_on}
+use Rattle.lra_inline_sound.specs.Crates.lra_program.Value.{Drawn}
 use Rattle.lra_operations.specs.{Inlined.Frame, Tree.Exit, Tree.broken, Tree.continued, Tree.returned}
 
 abbrev pub config : List Item → CallContext → State → Config

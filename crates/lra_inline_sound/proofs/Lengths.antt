@@ -1,14 +1,16 @@
 -- How long the store is where a statement is left.
 use Rattle.std.proofs.Common.{◌≡◌, ◌≢◌, ℕ, zero, suc, ◌+◌, ◌≤◌, ℤ, List, [], ◌∷◌, ◌++◌, length, Option, Some, None, Bool, true, false, ◌||◌, ◌⊎◌, inl, inr, refl, sym, ap, ◌∙◌, arith, length-append}
 use Rattle.std.proofs.{lemmas.List.length-map, lemmas.List.length-set, lemmas.List.length-take-le, lemmas.Option.same_Some, lemmas.Option.none-some}
-use Rattle.lra_base.specs.{CaseLabels.is_same_case, declared.case_labels.CaseLabel.CaseLabel, declared.number_types.NumberType.NumberType}
-use Rattle.lra_program.specs.Program.{Expr, Element, Cond, Call, Rvalue, Stmt, Cases, BlockItems, Function, Program}
-use Rattle.lra_program.specs.Step.{State, environment_at, Op, append, fill, store_value, store_element, havoc, push, push_for, truncate_to, test, run_op, run_any, drawn_for, put_in, put, receive}
-use Rattle.lra_program.specs.Value.{◌>>=◌, number, first_draw, draws_of, Environment, Argument, value_of, values_of, truth_of, Drawn}
-use Rattle.lra_program.specs.{Arrays.place_among, Receivers.waiting_in, Receivers.accepts, Run.Point, Run.begun, Sites.Site, Step.pushed, Step.filled, Step.aim, Step.tested, Step.ReturnFrame}
-use Rattle.lra_program.specs.{Traces.Trace, declared.arrays.Array.Array, declared.program.GlobalVariable.GlobalVariable, declared.receivers.Cell.Cell, declared.receivers.Cell.TheVariants.Variable}
-use Rattle.lra_program.specs.{declared.receivers.Cell.TheVariants.Waiting, declared.receivers.Receiver.Receiver, declared.receivers.Target.Target}
-use Rattle.lra_program.proofs.{GivenArguments.given_width, StepLaws.is_kept, StepLaws.store_waiting, TypeLaws.bind_some}
+use Rattle.lra_inline_sound.specs.Crates.lra_program.Program.{Expr, Element, Cond, Call, Rvalue, Stmt, Cases, BlockItems, Function, Program}
+use Rattle.lra_inline_sound.specs.Crates.lra_program.Step.{State, environment_at, Op, append, fill, store_value, store_element, havoc, push, push_for, truncate_to, test, run_op, run_any, drawn_for}
+use Rattle.lra_inline_sound.specs.Crates.lra_program.Step.{put_in, put, receive, pushed, filled, aim, tested, ReturnFrame}
+use Rattle.lra_inline_sound.specs.Crates.lra_program.Value.{◌>>=◌, number, first_draw, draws_of, Environment, Argument, value_of, values_of, truth_of, Drawn}
+use Rattle.lra_inline_sound.specs.Crates.lra_program.declared.receivers.Cell.TheVariants.{Variable, Waiting}
+use Rattle.lra_inline_sound.specs.Crates.{lra_base.CaseLabels.is_same_case, lra_base.declared.case_labels.CaseLabel.CaseLabel, lra_base.declared.number_types.NumberType.NumberType}
+use Rattle.lra_inline_sound.specs.Crates.{lra_program.Arrays.place_among, lra_program.Receivers.waiting_in, lra_program.Receivers.accepts, lra_program.Run.Point, lra_program.Run.begun}
+use Rattle.lra_inline_sound.specs.Crates.{lra_program.Sites.Site, lra_program.Traces.Trace, lra_program.declared.arrays.Array.Array, lra_program.declared.program.GlobalVariable.GlobalVariable}
+use Rattle.lra_inline_sound.specs.Crates.{lra_program.declared.receivers.Cell.Cell, lra_program.declared.receivers.Receiver.Receiver, lra_program.declared.receivers.Target.Target}
+use Rattle.lra_inline_sound.proofs.Crates.{lra_program.GivenArguments.given_width, lra_program.StepLaws.is_kept, lra_program.StepLaws.store_waiting, lra_program.TypeLaws.bind_some}
 use Rattle.lra_operations.specs.Inlined.{Frame, InlineState, callee, InlineStmt, InlineCases, InlineItems, InlineDeclarator, InlineLoop, InlineRvalue, InlineCall, as_nothing, as_block, as_absent}
 use Rattle.lra_operations.specs.Inlined.{as_assign, as_write, as_write_call, as_call, as_if, as_loop, as_for, as_break, as_continue, as_return, as_return_value, as_return_call, as_end, as_end_value}
 use Rattle.lra_operations.specs.Inlined.{as_end_call, as_assert, as_assume, as_none, as_declaration, as_array, as_statement, as_fresh, as_given, is_loop, as_value, as_result, is_call, as_switch}

@@ -23,3 +23,5 @@ pub mod CheckedOperations
 mod GraphExamples
 -- And what they ask.
 mod CheckedExamples
+-- The crates below
+pub mod Crates

@@ -2,11 +2,14 @@
 use Rattle.std.proofs.Common.{◌≡◌, ℕ, ◌<◌, List, [], ◌∷◌, ◌++◌, length, Option, Some, None, Bool, true, false, refl, sym, ap, ◌∙◌, subst, IsTrue, arith}
 use Rattle.std.proofs.{lemmas.Bool.Decides.nat_tests, lemmas.List.Elements.Contains-append_left, lemmas.List.Elements.Contains-append_right, lemmas.Option.same_Some, lemmas.Option.slice_get_within}
 use Rattle.std.specs.{List.Contains, Prelude.if◌then◌else◌, Prelude.cond, Prelude.nat_lt}
-use Rattle.lra_base.specs.{CaseLabels.is_same_case, declared.case_labels.CaseLabel.CaseLabel, declared.number_types.NumberType.NumberType}
-use Rattle.lra_program.specs.{Accesses.op_accesses, Accesses.op_accesses_any, Accesses.OpOutOfBounds, NextOperation.CallOpIs, NextOperation.RvalueOpIs, NextOperation.DeclaratorOpIs}
-use Rattle.lra_program.specs.{Overflow.op_computes, Overflow.OpOverflows, Program.Expr, Program.Cond, Program.Call, Program.Rvalue, Program.Function, Program.Program, Receivers.variable_at}
-use Rattle.lra_program.specs.{Receivers.nobody, Sites.Site, Step.State, Step.Op, Step.append, Step.store_value, Step.test, Step.arguments_for, Value.Argument, declared.receivers.Receiver.Receiver}
-use Rattle.lra_program.proofs.{AccessLaws.straying_access, TypeLaws.overflowing_compute}
+use Rattle.lra_inline_sound.specs.Crates.lra_program.Accesses.{op_accesses, op_accesses_any, OpOutOfBounds}
+use Rattle.lra_inline_sound.specs.Crates.lra_program.NextOperation.{CallOpIs, RvalueOpIs, DeclaratorOpIs}
+use Rattle.lra_inline_sound.specs.Crates.lra_program.Program.{Expr, Cond, Call, Rvalue, Function, Program}
+use Rattle.lra_inline_sound.specs.Crates.lra_program.Step.{State, Op, append, store_value, test, arguments_for}
+use Rattle.lra_inline_sound.specs.Crates.{lra_base.CaseLabels.is_same_case, lra_base.declared.case_labels.CaseLabel.CaseLabel, lra_base.declared.number_types.NumberType.NumberType}
+use Rattle.lra_inline_sound.specs.Crates.{lra_program.Overflow.op_computes, lra_program.Overflow.OpOverflows, lra_program.Receivers.variable_at, lra_program.Receivers.nobody, lra_program.Sites.Site}
+use Rattle.lra_inline_sound.specs.Crates.{lra_program.Value.Argument, lra_program.declared.receivers.Receiver.Receiver}
+use Rattle.lra_inline_sound.proofs.Crates.{lra_program.AccessLaws.straying_access, lra_program.TypeLaws.overflowing_compute}
 use Rattle.lra_operations.specs.CheckedOperations.{OpAtPoint, op_where, ops_where, ops_where_in_arms, fresh_after, HoldsWithFresh, HoldsAtPoint}
 use Rattle.lra_operations.specs.Inlined.{InlineState, InlineDeclarator, InlineRvalue, InlineCall, as_fresh, as_given, as_value, as_result, is_call, loop_node, switch_node}
 use Rattle.lra_operations.specs.Tree.{Exit, Node, seq, choose, iterate, catch, select, Arms, no_arms, entry, arm}

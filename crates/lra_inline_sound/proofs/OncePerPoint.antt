@@ -2,9 +2,10 @@
 use Rattle.std.proofs.Common.{◌≡◌, ℕ, zero, suc, ◌+◌, ◌<◌, ◌≤◌, List, [], ◌∷◌, ◌++◌, Option, Some, None, Bool, true, false, ◌⊎◌, inl, inr, refl, sym, ap, ◌∙◌, slice_get, arith}
 use Rattle.std.proofs.lemmas.Option.{same_Some, none-some}
 use Rattle.std.specs.Prelude.{if◌then◌else◌}
-use Rattle.lra_base.specs.declared.number_types.NumberType.{NumberType}
-use Rattle.lra_program.specs.{Program.Call, Program.Rvalue, Program.Stmt, Program.Cases, Program.BlockItems, Program.Program, Receivers.nobody, Sites.Site, Step.Op, Step.append, Step.fill}
-use Rattle.lra_program.specs.{Step.store_value, Step.store_element, Step.havoc, Step.truncate_to, Step.test, Step.main_receiver, Value.Argument, declared.receivers.Receiver.Receiver}
+use Rattle.lra_inline_sound.specs.Crates.lra_base.declared.number_types.NumberType.{NumberType}
+use Rattle.lra_inline_sound.specs.Crates.lra_program.Program.{Call, Rvalue, Stmt, Cases, BlockItems, Program}
+use Rattle.lra_inline_sound.specs.Crates.lra_program.Step.{Op, append, fill, store_value, store_element, havoc, truncate_to, test, main_receiver}
+use Rattle.lra_inline_sound.specs.Crates.{lra_program.Receivers.nobody, lra_program.Sites.Site, lra_program.Value.Argument, lra_program.declared.receivers.Receiver.Receiver}
 use Rattle.lra_operations.specs.CheckedOperations.{OpAtPoint, op_where, ops_where, ops_where_in_arms, fresh_after, AreOncePerPoint}
 use Rattle.lra_operations.specs.Inlined.{InlineState, InlineStmt, InlineItems, InlineDeclarator, InlineLoop, InlineRvalue, InlineCall, as_nothing, as_block, as_absent, as_assign, as_call, as_if}
 use Rattle.lra_operations.specs.Inlined.{as_loop, as_for, as_break, as_continue, as_return, as_return_value, as_return_call, as_end, as_end_value, as_end_call, as_assert, as_assume, as_switch}

@@ -1,6 +1,7 @@
 -- What the tree of a whole program reaches, some run reaches, on the same trace.
 use Rattle.std.proofs.{Common.◌≡◌, Common.ℕ, Common.ℤ, Common.List, Common.[], Common.◌∷◌, Common.length, Common.false, Common.inl, Common.inr, Common.refl, lemmas.Option.none-some}
-use Rattle.lra_program.specs.{Program.Program, Run.begun, Run.Point, Run.start, Sites.Site, Sites.sites_of, Step.State, Step.Item, Step.all, Step.end_of, Traces.Trace}
+use Rattle.lra_inline_sound.specs.Crates.{lra_program.Program.Program, lra_program.Run.begun, lra_program.Run.Point, lra_program.Run.start, lra_program.Sites.Site, lra_program.Sites.sites_of}
+use Rattle.lra_inline_sound.specs.Crates.{lra_program.Step.State, lra_program.Step.Item, lra_program.Step.all, lra_program.Step.end_of, lra_program.Traces.Trace}
 use Rattle.lra_operations.specs.{Agree.IsInlinedTree, Inlined.move, Inlined.IsSiteAt, Inlined.InlineItems, Inlined.main_frame, Inlined.main_inline_state, Traces.Stop, Traces.by_jump, Traces.to_point}
 use Rattle.lra_operations.specs.{Traces.to_failure, Traces.to_end, Traces.stopped, Traces.RunsUpTo, TracesAgree.KeepsWidth, TracesAgree.point_at, Tree.Node, Tree.seq, Tree.point}
 use Rattle.lra_inline_sound.proofs.Does.{Fulfils, Stands, Denied, later, stands_here, does_all}

@@ -2,8 +2,9 @@
 -- on the same trace.
 use Rattle.std.proofs.Common.{◌≡◌, ℕ, zero, suc, ℤ, List, [], ◌∷◌, length, Some, false, refl, arith}
 use Rattle.std.proofs.lemmas.Option.{none-some}
-use Rattle.lra_program.specs.Step.{State, Config, run_op, truncate_to, end_of}
-use Rattle.lra_program.specs.{Program.Program, Run.begun, Run.start, Run.label_on, Run.Point, Run.IsOn, Sites.Site, Sites.sites_of, Traces.TraceEvent, Traces.Trace, Traces.TracedSteps}
+use Rattle.lra_inline_sound.specs.Crates.lra_program.Step.{State, Config, run_op, truncate_to, end_of}
+use Rattle.lra_inline_sound.specs.Crates.{lra_program.Program.Program, lra_program.Run.begun, lra_program.Run.start, lra_program.Run.label_on, lra_program.Run.Point, lra_program.Run.IsOn}
+use Rattle.lra_inline_sound.specs.Crates.{lra_program.Sites.Site, lra_program.Sites.sites_of, lra_program.Traces.TraceEvent, lra_program.Traces.Trace, lra_program.Traces.TracedSteps}
 use Rattle.lra_operations.specs.Inlined.{move, IsSiteAt, InlineItems, main_frame, main_inline_state}
 use Rattle.lra_operations.specs.{Agree.IsInlinedTree, TracesAgree.KeepsWidth, TracesAgree.point_at, Tree.broken, Tree.continued, Tree.returned, Tree.Node, Tree.seq, Tree.point}
 use Rattle.lra_inline_sound.proofs.Split.{trail, Splits, hits, ended, jumped, all_below, enters, plain, IsSought}

@@ -1,8 +1,9 @@
 -- From a point a run goes on to the next one, and so does the tree.
 use Rattle.std.proofs.Common.{◌≡◌, ℕ, ℤ, List, [], ◌∷◌, Some, slice_get, refl, subst}
-use Rattle.lra_program.specs.Traces.{TraceEvent, visit, Trace, TracedSteps, Arrives, RunSegment}
-use Rattle.lra_program.specs.{Program.Program, Run.Point, Run.IsOn, Run.start, Sites.Site, Sites.sites_of, Step.State, Step.Config}
-use Rattle.lra_program.proofs.TraceLaws.{walk_on}
+use Rattle.lra_inline_sound.specs.Crates.lra_program.Run.{Point, IsOn, start}
+use Rattle.lra_inline_sound.specs.Crates.lra_program.Traces.{TraceEvent, visit, Trace, TracedSteps, Arrives, RunSegment}
+use Rattle.lra_inline_sound.specs.Crates.{lra_program.Program.Program, lra_program.Sites.Site, lra_program.Sites.sites_of, lra_program.Step.State, lra_program.Step.Config}
+use Rattle.lra_inline_sound.proofs.Crates.lra_program.TraceLaws.{walk_on}
 use Rattle.lra_operations.specs.{Agree.point_of, Traces.to_point, TracesAgree.TreeRunsUpTo, TracesAgree.TracesAgree, Tree.Node}
 use Rattle.lra_inline_sound.proofs.Split.{trail}
 

@@ -1,7 +1,8 @@
 -- What a run of each shape of tree is made of, with its trace.
 use Rattle.std.proofs.Common.{◌≡◌, ◌≢◌, ℕ, zero, suc, ◌+◌, List, true, false, length, ◌⊎◌, inl, inr, refl, ap}
-use Rattle.lra_program.specs.Step.{State, Op, truncate_to, havoc, arguments_for}
-use Rattle.lra_program.specs.{Program.Cond, Program.Call, Program.Function, Receivers.result_receiver, Run.Point, Traces.Trace, Value.Argument, declared.receivers.Receiver.Receiver}
+use Rattle.lra_inline_sound.specs.Crates.lra_program.Step.{State, Op, truncate_to, havoc, arguments_for}
+use Rattle.lra_inline_sound.specs.Crates.{lra_program.Program.Cond, lra_program.Program.Call, lra_program.Program.Function, lra_program.Receivers.result_receiver, lra_program.Run.Point}
+use Rattle.lra_inline_sound.specs.Crates.{lra_program.Traces.Trace, lra_program.Value.Argument, lra_program.declared.receivers.Receiver.Receiver}
 use Rattle.lra_operations.specs.Inlined.{InlineState, loop_node, callee_node}
 use Rattle.lra_operations.specs.Traces.{Stop, by_jump, to_point, to_failure, RunExtent, to_end, stopped, RunsUpTo, VisitsAndTests, TrailRounds, Performs, VisitsPoint}
 use Rattle.lra_operations.specs.Tree.{Exit, broken, continued, returned, Node, point, act, seq, catch, leave}

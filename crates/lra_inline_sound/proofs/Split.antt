@@ -3,15 +3,18 @@
 use Rattle.std.proofs.Common.{◌≡◌, ℕ, ℤ, zero, suc, ◌+◌, ◌<◌, ◌≤◌, List, [], ◌∷◌, length, Option, Some, None, Bool, true, false, ◌⊎◌, inl, inr, refl, sym, ap, ◌∙◌, subst, slice_get, arith}
 use Rattle.std.proofs.lemmas.Option.{same_Some, none-some}
 use Rattle.std.specs.Prelude.{cond}
-use Rattle.lra_program.specs.Program.{Cond, Call, Rvalue, value, result, Declarator, Stmt, absent, nothing, block, assign, write, call, if, loop, for, break, continue, return, assert, assume}
-use Rattle.lra_program.specs.Program.{BlockItems, Expr, switch, Cases, no_cases, labelled, stated, labels_of, no_more, declaration, array, statement, Function, Program}
-use Rattle.lra_program.specs.Step.{cases as cases_item, end_switch, cases_after_label, chosen, do_switch, State, Op, append, fill, store_value, store_element, havoc, push, push_for, truncate_to, test}
-use Rattle.lra_program.specs.Step.{run_op, run_any, CallContext, ReturnFrame, Item, run, declare, declare_array, all, end_of, next_round, end_for, return_frame, leave_call, Config, break_target}
-use Rattle.lra_program.specs.Step.{continue_target, environment_at, return_target, main_receiver, receiver_of, go, enter_by, do_rvalue, do_leave, do_break, do_continue, do_declare, next, next_at}
-use Rattle.lra_program.specs.Traces.{TraceEvent, visit, Trace, with_visit, Becomes, TracedSteps}
-use Rattle.lra_program.specs.Value.{Drawn, value_of, index_of, Argument, truth_of}
-use Rattle.lra_program.specs.{Receivers.variable_at, Receivers.waiting_in, Receivers.nobody, Run.label_on, Run.Point, Sites.Site, declared.arrays.Array.Array, declared.receivers.Receiver.Receiver}
-use Rattle.lra_base.specs.{CaseLabels.is_same_case, CaseLabels.goal_of, declared.case_labels.CaseLabel.CaseLabel, declared.number_types.NumberType.NumberType}
+use Rattle.lra_inline_sound.specs.Crates.lra_program.Program.{Cond, Call, Rvalue, value, result, Declarator, Stmt, absent, nothing, block, assign, write, call, if, loop, for, break, continue, return}
+use Rattle.lra_inline_sound.specs.Crates.lra_program.Program.{assert, assume, BlockItems, Expr, switch, Cases, no_cases, labelled, stated, labels_of, no_more, declaration, array, statement, Function}
+use Rattle.lra_inline_sound.specs.Crates.lra_program.Program.{Program}
+use Rattle.lra_inline_sound.specs.Crates.lra_program.Step.{cases as cases_item, end_switch, cases_after_label, chosen, do_switch, State, Op, append, fill, store_value, store_element, havoc, push}
+use Rattle.lra_inline_sound.specs.Crates.lra_program.Step.{push_for, truncate_to, test, run_op, run_any, CallContext, ReturnFrame, Item, run, declare, declare_array, all, end_of, next_round, end_for}
+use Rattle.lra_inline_sound.specs.Crates.lra_program.Step.{return_frame, leave_call, Config, break_target, continue_target, environment_at, return_target, main_receiver, receiver_of, go, enter_by}
+use Rattle.lra_inline_sound.specs.Crates.lra_program.Step.{do_rvalue, do_leave, do_break, do_continue, do_declare, next, next_at}
+use Rattle.lra_inline_sound.specs.Crates.lra_program.Traces.{TraceEvent, visit, Trace, with_visit, Becomes, TracedSteps}
+use Rattle.lra_inline_sound.specs.Crates.{lra_base.CaseLabels.is_same_case, lra_base.CaseLabels.goal_of, lra_base.declared.case_labels.CaseLabel.CaseLabel}
+use Rattle.lra_inline_sound.specs.Crates.{lra_base.declared.number_types.NumberType.NumberType, lra_program.Receivers.variable_at, lra_program.Receivers.waiting_in, lra_program.Receivers.nobody}
+use Rattle.lra_inline_sound.specs.Crates.{lra_program.Run.label_on, lra_program.Run.Point, lra_program.Sites.Site, lra_program.Value.Drawn, lra_program.Value.value_of, lra_program.Value.index_of}
+use Rattle.lra_inline_sound.specs.Crates.{lra_program.Value.Argument, lra_program.Value.truth_of, lra_program.declared.arrays.Array.Array, lra_program.declared.receivers.Receiver.Receiver}
 use Rattle.lra_operations.proofs.ArmRows.{arms_row, row_behind, behind_of_row}
 use Rattle.lra_operations.specs.Inlined.{Frame, InlineState, move, at_point, within, into_callee, IsSiteAt, IsSiteWith, callee, InlineStmt, InlineItems, InlineDeclarator, InlineLoop, InlineRvalue}
 use Rattle.lra_operations.specs.Inlined.{InlineCall, as_nothing, as_block, as_absent, as_assign, as_call, as_if, as_loop, as_for, as_break, as_continue, as_return, as_return_value, as_return_call}

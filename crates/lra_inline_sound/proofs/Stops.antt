@@ -1,10 +1,11 @@
 -- What is sought of a tree where a program stands at a point: the tree comes there, fails there, and asks there.
 use Rattle.std.proofs.Common.{◌≡◌, ◌≢◌, ℕ, suc, ◌+◌, List, [], ◌∷◌, length, Option, Some, None, Bool, true, false, inl, inr, refl, sym, ap, ◌∙◌, subst, slice_get}
 use Rattle.std.proofs.lemmas.Option.{same_Some}
-use Rattle.lra_base.specs.declared.number_types.NumberType.{NumberType}
-use Rattle.lra_program.specs.Program.{value, result, Stmt, absent, nothing, block, assign, write, call, if, loop, for, break, continue, return, assert, assume, switch, Program}
-use Rattle.lra_program.specs.Step.{State, fill, store_value, havoc, store_element, truncate_to, test, Item, run, declare, declare_array, end_of, return_frame, Config, main_receiver, receiver_of}
-use Rattle.lra_program.specs.{NextOperation.NextOpIs, Run.label_on, Run.Point, Run.IsFailing, Sites.Site, Traces.TraceEvent, Traces.visit, Traces.Trace}
+use Rattle.lra_inline_sound.specs.Crates.lra_program.Program.{value, result, Stmt, absent, nothing, block, assign, write, call, if, loop, for, break, continue, return, assert, assume, switch, Program}
+use Rattle.lra_inline_sound.specs.Crates.lra_program.Step.{State, fill, store_value, havoc, store_element, truncate_to, test, Item, run, declare, declare_array, end_of, return_frame, Config}
+use Rattle.lra_inline_sound.specs.Crates.lra_program.Step.{main_receiver, receiver_of}
+use Rattle.lra_inline_sound.specs.Crates.{lra_base.declared.number_types.NumberType.NumberType, lra_program.NextOperation.NextOpIs, lra_program.Run.label_on, lra_program.Run.Point}
+use Rattle.lra_inline_sound.specs.Crates.{lra_program.Run.IsFailing, lra_program.Sites.Site, lra_program.Traces.TraceEvent, lra_program.Traces.visit, lra_program.Traces.Trace}
 use Rattle.lra_operations.specs.Inlined.{InlineState, IsSiteWith, InlineStmt, InlineLoop, as_nothing, as_block, as_absent, as_assign, as_call, as_if, as_loop, as_for, as_break, as_continue, as_return}
 use Rattle.lra_operations.specs.Inlined.{as_return_value, as_return_call, as_end, as_end_value, as_end_call, as_assert, as_assume, as_switch, as_write, as_write_call, is_loop, loop_node, return_node}
 use Rattle.lra_operations.specs.Traces.{Stop, by_jump, to_point, to_failure, RunExtent, to_end, stopped, RunsUpTo, VisitsPoint}

@@ -1,5 +1,6 @@
 -- Trees of operations and runs, for well-formed programs: nothing is left to ask of the program's points.
-use Rattle.lra_program.specs.{Program.Program, Sites.sites_of, Traces.NoChange, WellFormed.IsWellFormed}
+use Rattle.lra_inline_sound.specs.Crates.{lra_program.Program.Program, lra_program.Sites.sites_of}
+use Rattle.lra_inline_sound.specs.Crates.{lra_program.Traces.NoChange, lra_program.WellFormed.IsWellFormed}
 use Rattle.lra_operations.specs.Agree.{IsInlinedTree, AreDistinct, Agrees}
 use Rattle.lra_operations.specs.CheckedOperations.{AgreesOnOverflows, AgreesOnAccesses}
 use Rattle.lra_operations.specs.{TracesAgree.TracesAgree, Tree.Node}

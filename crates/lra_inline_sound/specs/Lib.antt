@@ -1,1 +1,3 @@
 pub mod Agreement
+-- The crates below
+pub mod Crates

@@ -10,6 +10,7 @@ ghost use Rattle.lra_operations.specs.{Agree.TreesAgree, TracesAgree.TreesHaveTr
 ghost use Rattle.lra_inline_sound.specs.Agreement.{WellFormedAreDistinct, WellFormedAgree, WellFormedHaveTraces};
 ghost use Rattle.lra_inline_sound.specs.Agreement.{WellFormedAgreeOnOverflows, WellFormedAgreeOnAccesses};
 
+pub use lra_resolution_spec::Labels;
 /// A program's tree and its runs reach the same points with the same stores, and fail the same assertions.
 ///
 /// Does nothing: its contract is the theorem.

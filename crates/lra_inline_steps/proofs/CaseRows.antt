@@ -1,7 +1,7 @@
 -- The cases of a `switch` one after the other: what is written of them so far.
 use Rattle.std.proofs.Common.{◌≡◌, ℕ, false, ◌+◌, ◌<◌, List, [], ◌∷◌, ◌++◌, length, map, refl, sym, ap, ◌∙◌, subst, append_assoc, append-nil, arith}
 use Rattle.std.proofs.lemmas.List.{map-append}
-use Rattle.lra_base.specs.declared.case_labels.CaseLabel.{CaseLabel}
+use Rattle.lra_inline_steps.specs.Crates.lra_base.declared.case_labels.CaseLabel.{CaseLabel}
 use Rattle.lra_program.specs.Program as program
 use Rattle.lra_program.specs.{Program.Call, Program.no_cases, Program.labelled, Program.stated, Program.switch, ProgramViews.expr_view, ProgramViews.stmt_view, ProgramViews.case_view}
 use Rattle.lra_program.specs.{ProgramViews.cases_of, Sites.Site, Sites.plain_site, Sites.stmt_events, Sites.cases_events, declared.program.CaseItem.CaseItem, declared.program.Stmt.Stmt}

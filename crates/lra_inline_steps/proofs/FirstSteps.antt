@@ -1,7 +1,7 @@
 -- The first step into a form leads to the whole: where a place opens, with what is written of the part in it the whole is
 -- written, and the limit that the part passes is the whole's.
 use Rattle.std.proofs.Common.{◌≡◌, ℕ, suc, ◌≤◌, List, [], ◌∷◌, length, Some, None, false, refl, sym, ◌∙◌, subst, arith, Bor}
-use Rattle.lra_base.specs.Limits.{greatest_live}
+use Rattle.lra_inline_steps.specs.Crates.lra_base.Limits.{greatest_live}
 use Rattle.lra_program.specs.Program as program
 use Rattle.lra_program.specs.Program.{Variable, Expr, value, result, assign, write, call, if, block, return, BlockItems, Program}
 use Rattle.lra_program.specs.Sites.{Site, Event, plain_site, live_after_items, stmt_events, items_events}

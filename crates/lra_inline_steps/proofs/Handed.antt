@@ -1,10 +1,9 @@
 -- What a call answers is handed on as that of the whole statement.
-use Rattle.std.proofs.Common.{◌≡◌, ℕ, ◌≤◌, List, Some, Result, IfOk, sym, subst}
+use Rattle.std.proofs.{Common.◌≡◌, Common.ℕ, Common.◌≤◌, Common.List, Common.Some, Common.Result, Common.IfOk, Common.sym, Common.subst, lemmas.Result.IfOk-weaker}
 use Rattle.lra_program.specs.{Program.Stmt, Program.break, Program.continue, Program.Program, Sites.Site, Sites.Event, Sites.stmt_events}
 use Rattle.lra_operations.specs.Tree.{broken, continued, returned, Node}
 use Rattle.lra_inline_steps.specs.Building.{inside, WritesStmt, LeavesLoop}
 use Rattle.lra_inline_steps.specs.{Limits.add_points, Limits.stopped, Limits.OnLimit, declared.frame.Frame.Frame, declared.points.InlineError.InlineError}
-use Rattle.std.proofs.lemmas.Result.{IfOk-weaker}
 
 not_broken : broken ≡ returned → ⊥
 not_broken e = cc

@@ -14,3 +14,5 @@ pub mod ItemRows
 mod CaseRows
 pub mod FirstSteps
 pub mod OpenFrames
+-- The crates below
+pub mod Crates

@@ -1,7 +1,7 @@
 -- How many variables live after the items of a block, item by item.
 use Rattle.std.proofs.Common.{◌≡◌, ℕ, suc, ◌+◌, ◌<◌, ◌≤◌, List, ◌∷◌, length, map, drop, get_or, refl, sym, ap, ◌∙◌, arith, add-one, drop-cons}
 use Rattle.std.proofs.lemmas.List.{drop_all}
-use Rattle.lra_base.specs.Limits.{greatest_live}
+use Rattle.lra_inline_steps.specs.Crates.lra_base.Limits.{greatest_live}
 use Rattle.lra_program.specs.Program as program
 use Rattle.lra_program.specs.{Program.no_more, Program.declaration, Program.array, Program.statement, ProgramViews.item_view, ProgramViews.items_of, Sites.live_after_items}
 use Rattle.lra_program.specs.{declared.arrays.Array.Array, declared.program.BlockItem.BlockItem, declared.program.Declarator.Declarator, declared.program.Stmt.Stmt}

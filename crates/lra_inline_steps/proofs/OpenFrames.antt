@@ -1,7 +1,7 @@
 -- Places that are open, from the outermost on: one more, one less; and the next step at the innermost leads to the whole.
 use Rattle.std.proofs.Common.{◌≡◌, ℕ, ◌+◌, ◌≤◌, Some, List, [], ◌∷◌, ◌++◌, map, length, Result, Ok, Err, IfOk, refl, sym, ap, ◌∙◌, subst}
 use Rattle.std.proofs.lemmas.List.{map-append}
-use Rattle.lra_base.specs.Limits.{greatest_live}
+use Rattle.lra_inline_steps.specs.Crates.lra_base.Limits.{greatest_live}
 use Rattle.lra_program.specs.ProgramViews.{expr_view, call_view, item_view, items_of, case_view, cases_of}
 use Rattle.lra_program.specs.{Program.Program, Program.BlockItems, Program.switch, Program.Cases, Sites.Site, Sites.plain_site, Sites.call_events, Step.truncate_to}
 use Rattle.lra_operations.specs.declared.tree.Node as code

@@ -10,7 +10,7 @@ use Rattle.lra_program.specs.{declared.program.Rvalue.Rvalue, declared.program.S
 use Rattle.lra_program.specs.declared.program.Rvalue.TheVariants as code_rvalue
 use Rattle.lra_program.specs.declared.program.BlockItem as code_item
 use Rattle.lra_program.specs.declared.program.CaseItem as code_case
-use Rattle.lra_base.specs.declared.case_labels.CaseLabel.{CaseLabel}
+use Rattle.lra_inline_steps.specs.Crates.lra_base.declared.case_labels.CaseLabel.{CaseLabel}
 use Rattle.lra_program.specs.declared.program.Stmt as code
 use Rattle.lra_operations.specs.{TreeViews.op_view, TreeViews.node_view, TreeViews.arm_view, declared.tree.Node.the_lemmas as node_lemmas, declared.tree.Op.Op}
 use Rattle.lra_operations.specs.declared.tree.Node as code_node

@@ -5,7 +5,7 @@ use Rattle.lra_program.specs.Program.{Variable, Element, Cond, Call, Rvalue, res
 use Rattle.lra_program.specs.Program.{declaration, array, statement, switch, Cases, labelled, stated, Expr, Function, Program}
 use Rattle.lra_program.specs.WellFormed.{Jumps, no_jumps, in_loop, in_switch, IsWellFormed}
 use Rattle.lra_program.specs.{Sites.live_after_items, declared.arrays.Array.Array, declared.receivers.Receiver.Receiver}
-use Rattle.lra_base.specs.declared.case_labels.CaseLabel.{CaseLabel}
+use Rattle.lra_inline_steps.specs.Crates.lra_base.declared.case_labels.CaseLabel.{CaseLabel}
 use Rattle.lra_inline_sound.proofs.DistinctSites.{all_at, main_at}
 use Rattle.lra_inline_steps.specs.Building.{Stands, StmtStands, CasesStand, cases_frame, ItemsStand, GivenStands, CallStands}
 use Rattle.lra_inline_steps.specs.declared.frame.Frame.{Frame}

@@ -3,7 +3,7 @@ use Rattle.std.proofs.Common.{◌≡◌, zero, suc, List, [], ◌∷◌, ◌++�
 use Rattle.std.proofs.lemmas.Option.{none-some}
 use Rattle.std.specs.Prelude.{nat_lt, if◌then◌else◌}
 use Rattle.lra_program.specs.Sites.{Site, Event, comes, one_call_more}
-use Rattle.lra_resolution_spec.specs.Refuse.{greatest_live, greatest_points}
+use Rattle.lra_inline_steps.specs.Crates.lra_resolution_spec.Refuse.{greatest_live, greatest_points}
 use Rattle.lra_inline_steps.specs.declared.points.Limit.TheVariants.{Variables, Points, Calls}
 use Rattle.lra_inline_steps.specs.{Building.Begins, Limits.Progress, Limits.passed, Limits.stopped, Limits.add_points, declared.points.Limit.Limit}
 

@@ -7,7 +7,7 @@ use Rattle.lra_program.specs.Receivers.{variable_at, waiting_in, nobody, result_
 use Rattle.lra_program.specs.Sites.{Site, comes, plain_site, live_after_items, rvalue_events, given_events, stmt_events, cases_events, items_events, function_events, call_events}
 use Rattle.lra_program.specs.Step.{Op, append, fill, store_value, store_element, havoc, push, push_for, truncate_to, test, arguments_for, main_receiver}
 use Rattle.lra_program.specs.{Value.Argument, Value.index_of, declared.arrays.Array.Array, declared.receivers.Receiver.Receiver}
-use Rattle.lra_base.specs.{declared.case_labels.CaseLabel.CaseLabel, declared.number_types.NumberType.NumberType}
+use Rattle.lra_inline_steps.specs.Crates.{lra_base.declared.case_labels.CaseLabel.CaseLabel, lra_base.declared.number_types.NumberType.NumberType}
 use Rattle.lra_program.specs.Step as step
 use Rattle.lra_operations.specs.Inlined.{spot_of, IsSiteAt, IsSiteWith, callee, InlineStmt, InlineCases, InlineItems, InlineDeclarator, InlineLoop, InlineRvalue, InlineCall, as_nothing, as_block}
 use Rattle.lra_operations.specs.Inlined.{as_absent, as_assign, as_write, as_write_call, as_call, as_if, as_loop, as_for, as_break, as_continue, as_switch, as_no_cases, as_labelled, as_stated}

@@ -10,7 +10,7 @@ use Rattle.lra_program.specs.Step.{Op, store_value, havoc, truncate_to, main_rec
 use Rattle.lra_program.specs.WellFormed.{Jumps, IsGoodCall, IsGoodGiven, IsGoodStmt, AreGoodCases, AreGoodItems}
 use Rattle.lra_program.specs.{Receivers.result_receiver, Value.Argument, declared.receivers.Receiver.Receiver}
 use Rattle.lra_program.specs.Step as step
-use Rattle.lra_base.specs.declared.number_types.NumberType.{NumberType}
+use Rattle.lra_inline_steps.specs.Crates.lra_base.declared.number_types.NumberType.{NumberType}
 use Rattle.lra_operations.specs.Tree.{Exit, broken, continued, returned, Node, act, leave, seq, Arms}
 use Rattle.lra_operations.specs.Inlined as inlined
 use Rattle.lra_inline_steps.specs.Limits.{add_points, passed, stopped}

@@ -4,3 +4,5 @@ pub mod Building
 pub mod Inlining
 pub mod Stack
 pub mod Steps
+-- The crates below
+pub mod Crates

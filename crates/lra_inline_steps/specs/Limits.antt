@@ -1,10 +1,10 @@
 -- The points of a program in their order, up to the first that passes a limit.
 use Rattle.std.specs.Prelude.{suc, nat_lt, if◌then◌else◌, List, [], ◌∷◌, ◌++◌, length, Result, Ok, Err, ⊤}
-use Rattle.lra_base.specs.declared.refusals.Cause.TheVariants.{TooManyVariables, TooManyPoints}
-use Rattle.lra_base.specs.declared.refusals.Refusal.{Refusal}
-use Rattle.lra_syntax.specs.Labels.{Labelled, label_at, label_place, called_place}
+use Rattle.lra_inline_steps.specs.Crates.lra_base.declared.refusals.Cause.TheVariants.{TooManyVariables, TooManyPoints}
+use Rattle.lra_inline_steps.specs.Crates.lra_base.declared.refusals.Refusal.{Refusal}
+use Rattle.lra_inline_steps.specs.Crates.lra_resolution_spec.Refuse.{greatest_live, greatest_points}
+use Rattle.lra_inline_steps.specs.Crates.lra_syntax.Labels.{Labelled, label_at, label_place, called_place}
 use Rattle.lra_program.specs.Sites.{Site, Event, comes, one_call_more}
-use Rattle.lra_resolution_spec.specs.Refuse.{greatest_live, greatest_points}
 use Rattle.lra_inline_steps.specs.declared.points.InlineError.TheVariants.{Passed, Memory}
 use Rattle.lra_inline_steps.specs.declared.points.Limit.TheVariants.{Variables, Points, Calls}
 use Rattle.lra_inline_steps.specs.{declared.points.InlineError.InlineError, declared.points.Limit.Limit}

@@ -1,7 +1,8 @@
 -- What must hold where a program is written out along a list of open places: in each of them a part is under way, and
 -- with that the place's own part is written.
 use Rattle.std.specs.Prelude.{◌≡◌, ℕ, ◌+◌, ◌≤◌, List, [], ◌∷◌, ◌++◌, map, length, Option, Some, None}
-use Rattle.lra_base.specs.{Limits.greatest_live, declared.case_labels.CaseLabel.CaseLabel}
+use Rattle.lra_inline_steps.specs.Crates.lra_base.Limits.{greatest_live}
+use Rattle.lra_inline_steps.specs.Crates.lra_base.declared.case_labels.CaseLabel.{CaseLabel}
 use Rattle.lra_program.specs.Program.{Declarator, declaration, array, BlockItems, Program, Cond}
 use Rattle.lra_program.specs.ProgramViews.{expr_view, cond_view, call_view, stmt_view, declarator_view, item_view}
 use Rattle.lra_program.specs.ProgramViews.{items_of, case_view, cases_of}

@@ -14,6 +14,7 @@ mod stack;
 pub use arrays::open_array;
 pub use cases::go_on_cases;
 pub use frame::{Around, Caller, Frame, Repeated, Source};
+pub use lra_inline_sound::Labels;
 pub use opening::{open_declaration, open_rounds, open_stmt};
 pub use points::{GREATEST_CALLS, InlineError, Limit, add_point, finish};
 pub use returns::leave_call;

@@ -4,7 +4,7 @@ ghost use Rattle.std.specs.Prelude.{◌≡◌, ◌≤◌, ℕ, length, IfOk, Som
 ghost use Rattle.lra_program.specs.Program as resolved;
 ghost use Rattle.lra_program.specs.ProgramViews.{cond_view, stmt_view};
 ghost use Rattle.lra_operations.specs.TreeViews.{exit_view};
-ghost use Rattle.lra_resolution_spec.specs.Refuse.{greatest_live};
+ghost use Rattle.lra_inline_steps.specs.Crates.lra_resolution_spec.Refuse.{greatest_live};
 ghost use Rattle.lra_inline_steps.specs.Inlining.{points_in, own_events, assertion_events, Passes, Stops, StmtStands};
 ghost use Rattle.lra_inline_steps.specs.Inlining.{StopsStmt, IsLone, IsStmtWrittenOut, IsPlain, IsExit};
 ghost use Rattle.lra_inline_steps.specs.{Building.length_left, Limits.OnLimit};

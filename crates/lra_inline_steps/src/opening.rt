@@ -7,7 +7,7 @@ ghost use Rattle.lra_program.specs.declared.program.Stmt as code;
 ghost use Rattle.lra_program.specs.ProgramViews.{slot_view, variable_view, cond_view, call_view, rvalue_view};
 ghost use Rattle.lra_program.specs.ProgramViews.{stmt_view, declarator_view, item_view, items_of};
 ghost use Rattle.lra_program.specs.{Sites.live_after_items, Value.index_of};
-ghost use Rattle.lra_resolution_spec.specs.Refuse.{greatest_live};
+ghost use Rattle.lra_inline_steps.specs.Crates.lra_resolution_spec.Refuse.{greatest_live};
 ghost use Rattle.lra_inline_steps.specs.Inlining.{Points, StmtStands, ItemStands, StopsStmt, StopsItem, IsSimple};
 ghost use Rattle.lra_inline_steps.specs.{Inlining.loop_of, Inlining.for_of, Inlining.switch_of, Limits.OnLimit};
 ghost use Rattle.lra_inline_steps.specs.{Stack.a_stmt, Stack.a_declaration, Stack.InlineStepLeadsFrom, Steps.FallsFrom};

@@ -3,11 +3,11 @@
 ghost use Rattle.std.specs.Prelude.{◌≡◌, ◌≤◌, ◌∷◌, ◌++◌, [], length, map, Ok, IfOk};
 ghost use Rattle.lra_program.specs.Sites.{comes};
 ghost use Rattle.lra_operations.specs.TreeViews.{site_view};
-ghost use Rattle.lra_resolution_spec.specs.Refuse.{greatest_live};
+ghost use Rattle.lra_inline_steps.specs.Crates.lra_resolution_spec.Refuse.{greatest_live};
 ghost use Rattle.lra_inline_steps.specs.Limits.{add_points, passed, stopped, OnLimit};
 
-use lra_base::GREATEST_LIVE;
 use lra_operations::{Node, Path, Site};
+use lra_program::GREATEST_LIVE;
 use std::alloc::{AllocError, Global};
 
 /// The most points that a program may have.

@@ -7,9 +7,8 @@ ghost use Rattle.lra_inline_steps.specs.declared.stack.Next.TheVariants as next;
 
 use crate::frame::{Caller, Frame, Repeated};
 use crate::points::InlineError;
-use lra_base::NumberType;
 use lra_operations::{Arm, Node, Path};
-use lra_program::{Array, BlockItem, Call, CaseItem, Cond, Declarator, Expr, Stmt};
+use lra_program::{Array, BlockItem, Call, CaseItem, Cond, Declarator, Expr, NumberType, Stmt};
 use std::alloc::AllocError;
 
 /// What is to be written out.

@@ -1,7 +1,7 @@
 -- Each thread runs as one among others where the threads' trees give only what was said.
 use Rattle.std.proofs.Common.{◌≡◌, ◌<◌, ℕ, ℤ, List, length, Some, slice_get}
-use Rattle.lra_program.specs.{Program.Function, Program.Program, Run.Point, Step.State, Traces.Trace}
-use Rattle.lra_operations.specs.TracesAgree.{KeepsWidth}
+use Rattle.lra_interference_sound.specs.Crates.lra_program.Program.{Function, Program}
+use Rattle.lra_interference_sound.specs.Crates.{lra_operations.TracesAgree.KeepsWidth, lra_program.Run.Point, lra_program.Step.State, lra_program.Traces.Trace}
 use Rattle.lra_interleavings.specs.{Interleavings.thread_program, ThreadModular.ThreadWritesUnder}
 use Rattle.lra_interleavings.proofs.ThreadRuns.{threads_are_modular}
 use Rattle.lra_interference_sound.specs.WritesAgree.{TreesWriteWithin, ModularByTrees}

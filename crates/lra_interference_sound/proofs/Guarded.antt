@@ -2,15 +2,16 @@
 use Rattle.std.proofs.Common.{◌≡◌, ℕ, zero, suc, ℤ, List, [], ◌∷◌, length, Option, Some, None, Bool, true, false, ◌⊎◌, inl, inr, refl, sym, subst}
 use Rattle.std.proofs.lemmas.Option.{same_Some, none-some}
 use Rattle.std.specs.Prelude.{⊤, slice_get}
-use Rattle.lra_base.specs.declared.number_types.NumberType.{NumberType}
-use Rattle.lra_program.specs.Program.{Element, Call, Rvalue, value, result, Stmt, absent, nothing, block, assign, write, call, if, loop, for, break, continue, return, assert, assume, switch, Cases}
-use Rattle.lra_program.specs.Program.{no_cases, labelled, stated, no_more, declaration, array, statement, Function, Program}
-use Rattle.lra_program.specs.Step.{State, environment_at, Op, append, fill, store_value, store_element, push, push_for, truncate_to, test, run_any, run_op, CallContext, ReturnFrame, Item, run}
-use Rattle.lra_program.specs.Step.{declare, declare_array, all, end_of, next_round, cases, end_switch, end_for, return_frame, leave_call, Config, BreakTarget, break_target, ContinueTarget}
-use Rattle.lra_program.specs.Step.{continue_target, ReturnTarget, return_target, receiver_of, go, go_by, go_on, arguments_for, enter_by, do_rvalue, do_write, do_break, do_continue, do_leave}
-use Rattle.lra_program.specs.Step.{do_return, do_switch, chosen, do_stmt, do_declare, next_at}
-use Rattle.lra_program.specs.{Receivers.variable_at, Receivers.waiting_in, Receivers.nobody, Run.label_on, Run.Point, Traces.TraceEvent, Traces.with_visit, Traces.Becomes, Traces.TracedSteps}
-use Rattle.lra_program.specs.{Value.index_of, Value.Drawn, Value.value_of, Value.Argument, Value.truth_of, declared.receivers.Receiver.Receiver}
+use Rattle.lra_interference_sound.specs.Crates.lra_program.Program.{Element, Call, Rvalue, value, result, Stmt, absent, nothing, block, assign, write, call, if, loop, for, break, continue, return}
+use Rattle.lra_interference_sound.specs.Crates.lra_program.Program.{assert, assume, switch, Cases, no_cases, labelled, stated, no_more, declaration, array, statement, Function, Program}
+use Rattle.lra_interference_sound.specs.Crates.lra_program.Receivers.{variable_at, waiting_in, nobody}
+use Rattle.lra_interference_sound.specs.Crates.lra_program.Step.{State, environment_at, Op, append, fill, store_value, store_element, push, push_for, truncate_to, test, run_any, run_op, CallContext}
+use Rattle.lra_interference_sound.specs.Crates.lra_program.Step.{ReturnFrame, Item, run, declare, declare_array, all, end_of, next_round, cases, end_switch, end_for, return_frame, leave_call, Config}
+use Rattle.lra_interference_sound.specs.Crates.lra_program.Step.{BreakTarget, break_target, ContinueTarget, continue_target, ReturnTarget, return_target, receiver_of, go, go_by, go_on, arguments_for}
+use Rattle.lra_interference_sound.specs.Crates.lra_program.Step.{enter_by, do_rvalue, do_write, do_break, do_continue, do_leave, do_return, do_switch, chosen, do_stmt, do_declare, next_at}
+use Rattle.lra_interference_sound.specs.Crates.lra_program.Traces.{TraceEvent, with_visit, Becomes, TracedSteps}
+use Rattle.lra_interference_sound.specs.Crates.lra_program.Value.{index_of, Drawn, value_of, Argument, truth_of}
+use Rattle.lra_interference_sound.specs.Crates.{lra_base.declared.number_types.NumberType.NumberType, lra_program.Run.label_on, lra_program.Run.Point, lra_program.declared.receivers.Receiver.Receiver}
 use Rattle.lra_inline_sound.proofs.Landing.{IsBare}
 
 abbrev pub IsGuarded : List Item → Type 0

@@ -7,3 +7,5 @@ pub mod WriteHits
 -- Whole programs.
 pub mod Writes
 pub mod ByTrees
+-- The crates below
+pub mod Crates

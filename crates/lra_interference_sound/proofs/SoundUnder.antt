@@ -3,15 +3,16 @@
 use Rattle.std.proofs.Common.{◌≡◌, ◌∙◌, ◌≢◌, ◌<◌, inl, inr, ℕ, zero, suc, ◌-◌, ℤ, List, ◌∷◌, [], Option, None, Some, Bool, true, false, refl, subst, sym, ap}
 use Rattle.std.proofs.{lemmas.Bool.lt-ltb, lemmas.List.Elements.Contains-append_left, lemmas.List.Elements.Contains-append_right, lemmas.Option.same_Some}
 use Rattle.std.specs.{List.Contains, List.list_any, Prelude.◌||◌, Prelude.◌⊎◌, Prelude.if◌then◌else◌, Prelude.nat_lt}
-use Rattle.lra_linear_spec.proofs.Membership.{contains_head, contains_tail}
-use Rattle.lra_systems.specs.LinearSystems.{LinearSystem}
-use Rattle.lra_linear_spec.specs.declared.ConKind.{ConKind}
-use Rattle.lra_domain.specs.{Abstraction.Abstraction, Actions.Within, Interference.Interference, Interference.RelyClosure, Interference.none, Laws.Laws, declared.Exactness.Exactness}
-use Rattle.lra_program.specs.{Program.Expr, Program.Cond, Step.State, Step.Op, Step.run_op, Step.test, Traces.Trace, WrittenVariables.written_variable}
-use Rattle.lra_base.specs.{CaseLabels.is_same_case, declared.case_labels.CaseLabel.CaseLabel, declared.case_labels.CaseLabel.TheVariants.Default}
-use Rattle.lra_operations.specs.Traces.{Stop, by_jump, to_point, to_failure, to_end, StopsAtPoint, TrailRounds, Performs, Finds, VisitsAndTests, RunsUpTo}
-use Rattle.lra_operations.specs.Tree.{Exit, Node, empty, point, probe, act, check, seq, choose, iterate, catch, leave, select, Arms, no_arms, entry, arm, entries_of}
-use Rattle.lra_operations.specs.{declared.probes.Probe.Probe, declared.probes.Probe.TheVariants.InterferencePoint, declared.probes.Probe.TheVariants.RecordWrite}
+use Rattle.lra_interference_sound.proofs.Crates.lra_linear_spec.Membership.{contains_head, contains_tail}
+use Rattle.lra_interference_sound.specs.Crates.lra_domain.Interference.{Interference, RelyClosure, none}
+use Rattle.lra_interference_sound.specs.Crates.lra_operations.Traces.{Stop, by_jump, to_point, to_failure, to_end, StopsAtPoint, TrailRounds, Performs, Finds, VisitsAndTests, RunsUpTo}
+use Rattle.lra_interference_sound.specs.Crates.lra_operations.Tree.{Exit, Node, empty, point, probe, act, check, seq, choose, iterate, catch, leave, select, Arms, no_arms, entry, arm, entries_of}
+use Rattle.lra_interference_sound.specs.Crates.lra_operations.declared.probes.Probe.TheVariants.{InterferencePoint, RecordWrite}
+use Rattle.lra_interference_sound.specs.Crates.lra_program.Step.{State, Op, run_op, test}
+use Rattle.lra_interference_sound.specs.Crates.{lra_base.CaseLabels.is_same_case, lra_base.declared.case_labels.CaseLabel.CaseLabel, lra_base.declared.case_labels.CaseLabel.TheVariants.Default}
+use Rattle.lra_interference_sound.specs.Crates.{lra_domain.Abstraction.Abstraction, lra_domain.Actions.Within, lra_domain.Laws.Laws, lra_domain.declared.Exactness.Exactness}
+use Rattle.lra_interference_sound.specs.Crates.{lra_linear_spec.declared.ConKind.ConKind, lra_operations.declared.probes.Probe.Probe, lra_program.Program.Expr, lra_program.Program.Cond}
+use Rattle.lra_interference_sound.specs.Crates.{lra_program.Traces.Trace, lra_program.WrittenVariables.written_variable, lra_systems.LinearSystems.LinearSystem}
 use Rattle.lra_analysis_spec.specs.Pass.{PassEntry, value, failing, recorded, PassResult, noted, goes_on, in_turn, jumps_caught, jumps, Filters, LoopRoundFrom, AscendingIteration, DescendingIteration}
 use Rattle.lra_analysis_spec.specs.{Instrumented.with_recording, Instrumented.instrumented, Instrumented.instrumented_arms, Operations.lossy_operations, Pass.Transformer, Pass.PassUnder}
 use Rattle.lra_analysis_spec.specs.{Pass.ArmsPassUnder, Pass.MatchesNone, Pass.ComesOut, Plan.Plan, Plan.Widening, Plan.mode_at, UnderInterference.absorbed}

@@ -1,11 +1,12 @@
 -- What the step from an item with a point gives, and what of it stands in the shapes of trees.
 use Rattle.std.proofs.Common.{◌≡◌, ℕ, suc, ◌+◌, List, [], ◌∷◌, Some, Bool, true, false, ◌⊎◌, inl, inr, refl}
 use Rattle.std.specs.Prelude.{cond}
-use Rattle.lra_base.specs.{CaseLabels.is_same_case, declared.case_labels.CaseLabel.CaseLabel}
-use Rattle.lra_program.specs.Step.{State, havoc, truncate_to, run_op, CallContext, Item, run, declare, declare_array, all, end_of, next_round, cases, end_switch, end_for, return_frame, leave_call}
-use Rattle.lra_program.specs.{Program.Cond, Program.Program, Run.Point, Traces.Trace, declared.receivers.Receiver.Receiver}
-use Rattle.lra_operations.specs.{Inlined.loop_node, Traces.VisitsPoint, Tree.Node, Tree.Arms, Tree.no_arms, Tree.entry, Tree.arm}
-use Rattle.lra_operations.proofs.ArmRows.{arms_row, row_behind}
+use Rattle.lra_interference_sound.specs.Crates.lra_operations.Tree.{Node, Arms, no_arms, entry, arm}
+use Rattle.lra_interference_sound.specs.Crates.lra_program.Step.{State, havoc, truncate_to, run_op, CallContext, Item, run, declare, declare_array, all, end_of, next_round, cases, end_switch, end_for}
+use Rattle.lra_interference_sound.specs.Crates.{lra_base.CaseLabels.is_same_case, lra_base.declared.case_labels.CaseLabel.CaseLabel, lra_operations.Inlined.loop_node}
+use Rattle.lra_interference_sound.specs.Crates.{lra_operations.Traces.VisitsPoint, lra_program.Program.Cond, lra_program.Program.Program, lra_program.Run.Point, lra_program.Step.return_frame}
+use Rattle.lra_interference_sound.specs.Crates.{lra_program.Step.leave_call, lra_program.Traces.Trace, lra_program.declared.receivers.Receiver.Receiver}
+use Rattle.lra_interference_sound.proofs.Crates.lra_operations.ArmRows.{arms_row, row_behind}
 use Rattle.lra_inline_sound.proofs.{Landing.IsBare, Shapes.tail_node, Shapes.Round, Shapes.rounds_first}
 use Rattle.lra_analysis_spec.specs.Instrumented as opened
 use Rattle.lra_interleavings.specs.Writes.{OpWrites, StepWrites}

@@ -2,17 +2,21 @@
 -- trace.
 use Rattle.std.proofs.Common.{◌≡◌, ℕ, suc, ◌+◌, List, [], ◌∷◌, length, Option, Some, None, Bool, true, false, inl, inr, refl, sym, ap, ◌∙◌, subst}
 use Rattle.std.proofs.lemmas.Option.{same_Some, none-some}
-use Rattle.lra_base.specs.declared.number_types.NumberType.{NumberType}
-use Rattle.lra_program.specs.NextOperation.{RvalueOpIs, DeclaratorOpIs}
-use Rattle.lra_program.specs.Program.{Rvalue, value, result, Stmt, absent, nothing, block, assign, write, call, if, loop, for, break, continue, return, assert, assume, switch, Program}
-use Rattle.lra_program.specs.Step.{State, fill, store_value, havoc, store_element, truncate_to, test, Item, run, declare, declare_array, end_of, return_frame, Config, main_receiver, receiver_of}
-use Rattle.lra_program.specs.{Receivers.variable_at, Run.label_on, Run.Point, Sites.Site, Traces.TraceEvent, Traces.visit, Traces.Trace, Value.index_of, declared.receivers.Receiver.Receiver}
-use Rattle.lra_operations.specs.Inlined.{InlineState, move, IsSiteWith, InlineStmt, InlineDeclarator, InlineLoop, InlineRvalue, as_nothing, as_block, as_absent, as_assign, as_call, as_if, as_loop}
-use Rattle.lra_operations.specs.Inlined.{as_for, as_break, as_continue, as_return, as_return_value, as_return_call, as_end, as_end_value, as_end_call, as_assert, as_assume, as_switch, as_write}
-use Rattle.lra_operations.specs.Inlined.{as_write_call, as_fresh, as_given, as_value, as_result, is_loop, loop_node, return_node, switch_node}
-use Rattle.lra_operations.specs.Tree.{broken, continued, returned, Node, point, act, check, seq, choose, catch, iterate, leave, select}
-use Rattle.lra_operations.specs.{Traces.to_end, Traces.RunsUpTo, Traces.VisitsPoint, TracesAgree.KeepsWidth, TracesAgree.point_at}
-use Rattle.lra_operations.proofs.ArmRows.{row_behind}
+use Rattle.lra_interference_sound.specs.Crates.lra_operations.Inlined.{InlineState, move, IsSiteWith, InlineStmt, InlineDeclarator, InlineLoop, InlineRvalue, as_nothing, as_block, as_absent}
+use Rattle.lra_interference_sound.specs.Crates.lra_operations.Inlined.{as_assign, as_call, as_if, as_loop, as_for, as_break, as_continue, as_return, as_return_value, as_return_call, as_end}
+use Rattle.lra_interference_sound.specs.Crates.lra_operations.Inlined.{as_end_value, as_end_call, as_assert, as_assume, as_switch, as_write, as_write_call, as_fresh, as_given, as_value, as_result}
+use Rattle.lra_interference_sound.specs.Crates.lra_operations.Inlined.{is_loop, loop_node, return_node, switch_node}
+use Rattle.lra_interference_sound.specs.Crates.lra_operations.Traces.{to_end, RunsUpTo, VisitsPoint}
+use Rattle.lra_interference_sound.specs.Crates.lra_operations.Tree.{broken, continued, returned, Node, point, act, check, seq, choose, catch, iterate, leave, select}
+use Rattle.lra_interference_sound.specs.Crates.lra_program.NextOperation.{RvalueOpIs, DeclaratorOpIs}
+use Rattle.lra_interference_sound.specs.Crates.lra_program.Program.{Rvalue, value, result, Stmt, absent, nothing, block, assign, write, call, if, loop, for, break, continue, return, assert, assume}
+use Rattle.lra_interference_sound.specs.Crates.lra_program.Program.{switch, Program}
+use Rattle.lra_interference_sound.specs.Crates.lra_program.Step.{State, fill, store_value, havoc, store_element, truncate_to, test, Item, run, declare, declare_array, end_of, return_frame, Config}
+use Rattle.lra_interference_sound.specs.Crates.lra_program.Step.{main_receiver, receiver_of}
+use Rattle.lra_interference_sound.specs.Crates.{lra_base.declared.number_types.NumberType.NumberType, lra_operations.TracesAgree.KeepsWidth, lra_operations.TracesAgree.point_at}
+use Rattle.lra_interference_sound.specs.Crates.{lra_program.Receivers.variable_at, lra_program.Run.label_on, lra_program.Run.Point, lra_program.Sites.Site, lra_program.Traces.TraceEvent}
+use Rattle.lra_interference_sound.specs.Crates.{lra_program.Traces.visit, lra_program.Traces.Trace, lra_program.Value.index_of, lra_program.declared.receivers.Receiver.Receiver}
+use Rattle.lra_interference_sound.proofs.Crates.lra_operations.ArmRows.{row_behind}
 use Rattle.lra_analysis_spec.specs.Instrumented as opened
 use Rattle.lra_inline_sound.proofs.Split.{trail, named, not_there, receiver_is, no_mark, IsClosed, IsThere, IsSought}
 use Rattle.lra_inline_sound.proofs.{Landing.config, Landing.Matches, Shapes.tail_node}

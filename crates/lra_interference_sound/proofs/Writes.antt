@@ -1,9 +1,11 @@
 -- What a run of a whole program gives, its tree gives, on the same trace.
 use Rattle.std.proofs.Common.{◌≡◌, ℕ, ℤ, List, [], ◌∷◌, length, Some, None, ◌⊎◌, inl, inr, refl, sym, ap, ◌∙◌, subst}
-use Rattle.lra_program.specs.Program.{Program, Stmt, absent, nothing, block, assign, write, call, if, loop, for, break, continue, return, assert, assume, switch}
-use Rattle.lra_program.specs.Step.{State, Config, ReturnFrame, Item, CallContext, run, declare, declare_array, all, end_of, next_round, cases, end_switch, end_for, return_frame, leave_call, havoc}
-use Rattle.lra_program.specs.{Run.start, Run.label_on, Run.Point, Sites.sites_of, Traces.TraceEvent, Traces.visit, Traces.Trace, Traces.with_visit, Traces.Becomes, Traces.TracedSteps}
-use Rattle.lra_operations.specs.{Agree.IsInlinedTree, TracesAgree.KeepsWidth, Tree.Node}
+use Rattle.lra_interference_sound.specs.Crates.lra_program.Program.{Program, Stmt, absent, nothing, block, assign, write, call, if, loop, for, break, continue, return, assert, assume, switch}
+use Rattle.lra_interference_sound.specs.Crates.lra_program.Run.{start, label_on, Point}
+use Rattle.lra_interference_sound.specs.Crates.lra_program.Step.{State, Config, ReturnFrame, Item, CallContext, run, declare, declare_array, all, end_of, next_round, cases, end_switch, end_for}
+use Rattle.lra_interference_sound.specs.Crates.lra_program.Step.{return_frame, leave_call, havoc}
+use Rattle.lra_interference_sound.specs.Crates.lra_program.Traces.{TraceEvent, visit, Trace, with_visit, Becomes, TracedSteps}
+use Rattle.lra_interference_sound.specs.Crates.{lra_operations.Agree.IsInlinedTree, lra_operations.TracesAgree.KeepsWidth, lra_operations.Tree.Node, lra_program.Sites.sites_of}
 use Rattle.lra_inline_sound.proofs.{Landing.IsBare, Reached.found}
 use Rattle.lra_interleavings.specs.{ThreadModular.WritesThere, Writes.OpWrites, Writes.StepWrites}
 use Rattle.lra_interference_sound.specs.WritesAgree.{TreeWrites, AllWritesAgree}

@@ -2,11 +2,13 @@
 -- own tree.
 use Rattle.std.specs.List.{Contains}
 use Rattle.std.specs.Prelude.{◌≡◌, ◌<◌, ℕ, ℤ, List, Option, Bool}
-use Rattle.lra_base.specs.declared.case_labels.CaseLabel.{CaseLabel}
-use Rattle.lra_domain.specs.{Abstraction.Abstraction, Interference.Interference, Interference.RelyClosure}
-use Rattle.lra_program.specs.{Step.State, Traces.Trace}
-use Rattle.lra_operations.specs.Traces.{Stop, by_jump, to_point, to_failure, to_end, stopped, RunsUpTo, ArmsRunUpTo}
-use Rattle.lra_operations.specs.Tree.{Node, Arms}
+use Rattle.lra_interference_sound.specs.Crates.lra_base.declared.case_labels.CaseLabel.{CaseLabel}
+use Rattle.lra_interference_sound.specs.Crates.lra_domain.Abstraction.{Abstraction}
+use Rattle.lra_interference_sound.specs.Crates.lra_domain.Interference.{Interference, RelyClosure}
+use Rattle.lra_interference_sound.specs.Crates.lra_operations.Traces.{Stop, by_jump, to_point, to_failure, to_end}
+use Rattle.lra_interference_sound.specs.Crates.lra_operations.Traces.{stopped, RunsUpTo, ArmsRunUpTo}
+use Rattle.lra_interference_sound.specs.Crates.lra_operations.Tree.{Node, Arms}
+use Rattle.lra_interference_sound.specs.Crates.{lra_program.Step.State, lra_program.Traces.Trace}
 use Rattle.lra_analysis_spec.specs.Instrumented.{instrumented, WritesVariable, ArmsWriteVariable}
 use Rattle.lra_analysis_spec.specs.Pass.{value, failing, recorded, PassResult, jumps_of}
 use Rattle.lra_analysis_spec.specs.{Plan.Plan, UnderInterference.LossyPass}

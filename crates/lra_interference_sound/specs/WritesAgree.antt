@@ -1,8 +1,11 @@
 -- What a run of a program gives to a variable, a run of its tree gives to it, on the same trace.
 use Rattle.std.specs.Prelude.{◌≡◌, ◌<◌, ℕ, ℤ, List, [], length, Some, Bool, IsTrue, slice_get}
-use Rattle.lra_program.specs.Program.{Function, Program}
-use Rattle.lra_program.specs.{Run.begun, Run.Point, Sites.sites_of, Step.State, Traces.Trace}
-use Rattle.lra_operations.specs.{Agree.IsInlinedTree, TracesAgree.KeepsWidth, TracesAgree.point_at, Tree.Node}
+use Rattle.lra_interference_sound.specs.Crates.lra_operations.Agree.{IsInlinedTree}
+use Rattle.lra_interference_sound.specs.Crates.lra_operations.TracesAgree.{KeepsWidth, point_at}
+use Rattle.lra_interference_sound.specs.Crates.lra_program.Program.{Function, Program}
+use Rattle.lra_interference_sound.specs.Crates.lra_program.Run.{begun, Point}
+use Rattle.lra_interference_sound.specs.Crates.{lra_operations.Tree.Node, lra_program.Sites.sites_of}
+use Rattle.lra_interference_sound.specs.Crates.{lra_program.Step.State, lra_program.Traces.Trace}
 use Rattle.lra_analysis_spec.specs.Instrumented.{WritesVariable}
 use Rattle.lra_interleavings.specs.Interleavings.{thread_program}
 use Rattle.lra_interleavings.specs.ThreadModular.{WritesThere, OthersInterfere, AreAllowed, IsThreadModular}

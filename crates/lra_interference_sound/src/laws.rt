@@ -2,9 +2,9 @@
 
 ghost use Rattle.lra_interference_sound.specs.CoversUnder.{PassesCoverUnder};
 ghost use Rattle.lra_interference_sound.specs.WritesAgree.{WritesAgree, OthersWritesAgree};
-ghost use Rattle.lra_program.specs.Traces.{NoChange};
+ghost use Rattle.lra_interference_sound.specs.Crates.lra_program.Traces.{NoChange};
 
-use lra_domain::{Domain, Interfere};
+use lra_analysis_spec::{Domain, Interfere};
 
 /// A pass among others over a tree with their places in it has, from a value's stores, the stores of all runs of the
 /// tree among these others: after it, at its jumps and points, where an assertion fails, and where a variable gets a

@@ -7,3 +7,4 @@
 mod laws;
 
 pub use laws::{passes_cover_under, writes_agree};
+pub use lra_analysis_spec::{Domain, Interfere, NoInterference};

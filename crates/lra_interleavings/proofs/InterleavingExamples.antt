@@ -1,7 +1,7 @@
 -- Two threads over one global: what they do beside each other.
 use Rattle.std.proofs.Common.{◌≡◌, ℕ, zero, suc, ℤ, pos, List, [], ◌∷◌, Some, None, slice_get, refl, subst, inl, arith}
 use Rattle.std.proofs.lemmas.Option.{same_Some, none-some}
-use Rattle.lra_base.specs.{Operators.differs, declared.number_types.NumberType.TheVariants.Int, declared.number_types.NumberType.TheVariants.Long}
+use Rattle.lra_interleavings.specs.Crates.{lra_base.Operators.differs, lra_base.declared.number_types.NumberType.TheVariants.Int, lra_base.declared.number_types.NumberType.TheVariants.Long}
 use Rattle.lra_program.specs.Program.{global, Variable, literal, read, compare, value, Stmt, assign, assert, no_more, statement, Function, Program}
 use Rattle.lra_program.specs.{Run.Point, Step.State, Step.Config, Step.run, Step.all, Step.end_of}
 use Rattle.lra_interleavings.specs.Interleavings.{Thread, Threads, own_of, left_by, StepsToPoint, IsAtFirst, AreBegun, Interleaves, begins, moves, AtThread, FailsThread, ThreadWritesValue}

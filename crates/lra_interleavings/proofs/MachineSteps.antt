@@ -2,7 +2,7 @@
 use Rattle.std.proofs.Common.{◌≡◌, ℕ, ℤ, ◌≤◌, ◌<◌, List, [], ◌∷◌, length, take, set, Option, Some, None, Bool, true, false, ◌⊎◌, inl, inr, refl, sym, ap, ◌∙◌, subst, arith}
 use Rattle.std.proofs.{lemmas.List.take-take, lemmas.Option.same_Some, lemmas.Option.none-some}
 use Rattle.std.specs.Prelude.{⊤, slice_get}
-use Rattle.lra_base.specs.declared.number_types.NumberType.{NumberType}
+use Rattle.lra_interleavings.specs.Crates.lra_base.declared.number_types.NumberType.{NumberType}
 use Rattle.lra_program.specs.Program.{Element, Call, Rvalue, value, result, Stmt, absent, nothing, block, assign, write, call, if, loop, for, break, continue, return, assert, assume, switch, Cases}
 use Rattle.lra_program.specs.Program.{no_cases, labelled, stated, no_more, declaration, array, statement, Function, Program}
 use Rattle.lra_program.specs.Step.{State, environment_at, Op, append, fill, store_value, store_element, havoc, push, push_for, truncate_to, test, run_any, run_op, CallContext, ReturnFrame, Item, run}

@@ -8,7 +8,7 @@ use Rattle.lra_program.specs.Value.{◌>>=◌, number, Drawn, first_draw, draws_
 use Rattle.lra_program.specs.WrittenVariables.{cell_variable, target_variable, written_variable}
 use Rattle.lra_program.specs.{Program.Element, Receivers.waiting_in, Receivers.accepts, Step.pushed, Step.filled, Step.aim, Step.tested, declared.arrays.Array.Array, declared.receivers.Cell.Cell}
 use Rattle.lra_program.specs.{declared.receivers.Cell.TheVariants.Variable, declared.receivers.Cell.TheVariants.Waiting, declared.receivers.Receiver.Receiver, declared.receivers.Target.Target}
-use Rattle.lra_base.specs.{declared.number_types.NumberType.NumberType, declared.refusals.Place.Place}
+use Rattle.lra_interleavings.specs.Crates.{lra_base.declared.number_types.NumberType.NumberType, lra_base.declared.refusals.Place.Place}
 use Rattle.lra_program.proofs.{StepLaws.aim_keeps, StepLaws.is_kept, StepLaws.store_waiting, TypeLaws.bind_some}
 
 -- lists --------------------------------------------------------------------------------------------------------------

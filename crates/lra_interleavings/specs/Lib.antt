@@ -2,3 +2,5 @@
 pub mod Writes
 pub mod Interleavings
 pub mod ThreadModular
+-- The crates below
+pub mod Crates

@@ -3,3 +3,5 @@ pub mod Places
 pub mod Literal
 pub mod Prefixes
 pub mod Read
+-- The crates below
+pub mod Crates

@@ -2,7 +2,7 @@
 use Rattle.std.proofs.Common.{◌≡◌, ◌↔◌, ℤ, pos, negsuc, ◌+ℤ◌, ◌*ℤ◌, List, [], ◌∷◌, inl, inr, map, refl, arith, FitsSigned}
 use Rattle.std.proofs.{lemmas.Int.ints, lemmas.List.Elements.All-cons, lemmas.List.Elements.All-tail}
 use Rattle.std.specs.{Int.w64, List.All, Prelude.◌≤ℤ◌, Prelude.neg_ℤ}
-use Rattle.lra_linear_spec.specs.Vectors.{product}
+use Rattle.lra_linear_forms.specs.Crates.lra_linear_spec.Vectors.{product}
 use Rattle.lra_linear_forms.specs.Form.{Form, form_value, opposite_form, AddsInRange, SummingPasses}
 
 -- where the first product and the sum with it are in range, what passes comes later

@@ -2,8 +2,10 @@
 -- A store is a list of whole numbers, one for each live variable, the oldest first.
 use Rattle.std.specs.Prelude.{◌≡◌, ℤ, pos, negsuc, neg_ℤ, ◌+ℤ◌, ◌*ℤ◌, ◌≤ℤ◌, List, [], ◌∷◌, map, FitsSigned, ◌⊎◌}
 use Rattle.std.specs.{Int.w64, List.All}
-use Rattle.lra_linear_spec.specs.declared.ConKind.TheVariants.{Ge, Eq}
-use Rattle.lra_linear_spec.specs.{Range.InRange, Vectors.product, declared.ConKind.ConKind}
+use Rattle.lra_linear_forms.specs.Crates.lra_linear_spec.Range.{InRange}
+use Rattle.lra_linear_forms.specs.Crates.lra_linear_spec.Vectors.{product}
+use Rattle.lra_linear_forms.specs.Crates.lra_linear_spec.declared.ConKind.{ConKind}
+use Rattle.lra_linear_forms.specs.Crates.lra_linear_spec.declared.ConKind.TheVariants.{Ge, Eq}
 
 -- a linear form: its constant, and one coefficient for each dimension
 pub record Form : Type 0 where

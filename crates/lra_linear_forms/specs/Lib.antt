@@ -1,1 +1,3 @@
 pub mod Form
+-- The crates below
+pub mod Crates

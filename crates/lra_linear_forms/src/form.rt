@@ -1,6 +1,6 @@
 ghost use Rattle.std.specs.Prelude.{◌≡◌, ◌↔◌, ◌∷◌, pos, ◌+ℤ◌, ◌*ℤ◌, neg_ℤ, map, FitsSigned, IfOk, IfSome, IsNone};
 ghost use Rattle.std.specs.{Int.w64, List.All, Option.SomeIff, Prelude.MatchOption, Prelude.if◌then◌else◌};
-ghost use Rattle.lra_linear_spec.specs.Range.{InRange};
+ghost use Rattle.lra_linear_forms.specs.Crates.lra_linear_spec.Range.{InRange};
 ghost use Rattle.lra_linear_forms.specs.Form.{AddsInRange, FormFits, form_row, form_value, opposite_form};
 ghost use Rattle.lra_linear_forms.specs.Form.{SummingPasses};
 

@@ -5,4 +5,5 @@ pub mod form;
 pub mod test;
 
 pub use form::LinExpr;
+pub use lra_row::{add, mul};
 pub use test::Test;

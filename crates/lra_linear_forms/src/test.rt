@@ -3,7 +3,7 @@ ghost use Rattle.std.specs.Prelude.{◌≡◌, ◌↔◌, ℤ, List, IfOk, IfSom
 ghost use Rattle.lra_linear_forms.specs.Form.{FormFits, HoldsAt, opposite_form};
 
 use crate::form::LinExpr;
-use lra_linear_spec::ConKind;
+use lra_row::ConKind;
 use std::alloc::{AllocError, Global};
 
 /// The test `expr >= 0` or `expr = 0`.

@@ -3,11 +3,10 @@ use Rattle.std.proofs.Common.{Bool, List, [], ap, arith, cond, false, inl, inr, 
 use Rattle.std.proofs.{lemmas.Int.ints, lemmas.List.Elements.Contains-append_cases, lemmas.List.Elements.Contains-append_left, lemmas.List.Elements.Contains-append_right}
 use Rattle.std.specs.{List.Contains, Prelude.int_le, Prelude.int_lt}
 use Rattle.lra_linear_spec.specs.{Cones.Generated, Vectors.blend, Vectors.dot, Vectors.entry}
-use Rattle.lra_linear_spec.proofs.Combinations.{generated_plus, generated_row, generated_same, generated_times}
 use Rattle.lra_linear_spec.proofs.DoubleDescription.{StepOf, kept, pair, pairs, pairs_of, step_rows}
+use Rattle.lra_linear_spec.proofs.{Combinations.generated_plus, Combinations.generated_row, Combinations.generated_same, Combinations.generated_times, Signs.le_yes, Signs.le_said}
 use Rattle.lra_linear_spec.proofs.{Membership.contains_cases, Membership.contains_head, Membership.contains_tail, Products.dot_linear, Products.dot_same, Products.entry_blend, Ring.ring, Ring.v}
 use Rattle.lra_linear_spec.proofs.{Ring.⊖, Ring.◌⊕◌, Ring.◌⊗◌, Signs.as_nat, Signs.neg_nat, Signs.positive_is_nonnegative}
-use Rattle.lra_linear_spec.proofs.Signs.{le_yes, le_said}
 
 -- ---- tests
 

@@ -5,10 +5,10 @@ use Rattle.std.proofs.{lemmas.Int.ints, lemmas.List.Elements.Contains-append_cas
 use Rattle.std.specs.{Int.◌∣◌, List.Contains}
 use Rattle.lra_linear_spec.specs.{Cones.Generated, Cones.both_ways, Echelon.Before, Echelon.IsEchelon, LowestTerms.IsPrimitive, Vectors.dot, Vectors.entry, Vectors.negated}
 use Rattle.lra_linear_spec.proofs.Combinations.{generated_divided, generated_plus, generated_same, generated_times, generated_zero}
+use Rattle.lra_linear_spec.proofs.Products.{negated_dot}
 use Rattle.lra_linear_spec.proofs.{DoubleDescription.Flat, DoubleDescription.Flats, LinearMaps.generated_nonneg, Lines.line_multiple, Lines.signed_from, Lines.signed_multiple}
 use Rattle.lra_linear_spec.proofs.{Membership.contains_cases, Membership.contains_head, Membership.contains_tail, Products.dot_linear, Products.dot_same, Products.dot_scale, Products.entry_negated}
 use Rattle.lra_linear_spec.proofs.{Ring.ring, Ring.v, Ring.⊖, Ring.◌⊕◌, Ring.◌⊗◌, Signs.as_nat, Signs.no_product, Signs.not_both, Signs.positive_nat, Signs.positive_part, Signs.times_positive}
-use Rattle.lra_linear_spec.proofs.Products.{negated_dot}
 
 Rows : Type 0
 Rows = List (List ℤ)

@@ -5,13 +5,11 @@ use Rattle.std.specs.List.{Contains}
 use Rattle.lra_linear_spec.specs.{Canonical.IsCanonical, Cones.AreDual, Cones.Generated, Cones.all_rows, Cones.both_ways, LowestTerms.IsPrimitive, Vectors.dot, Vectors.entry, Vectors.negated}
 use Rattle.lra_linear_spec.proofs.FlatRows.{Dropped, echelon_drop, flat_back, flat_back_negative, flat_back_zero, flat_dot, flat_inside, flat_split, flat_zero, flats_from, flats_to, generated_flat}
 use Rattle.lra_linear_spec.proofs.FlatRows.{lines_inside, member_primitive, signed_primitive}
-use Rattle.lra_linear_spec.proofs.LinearMaps.{generated_left, generated_nonneg, generated_right, generated_through}
+use Rattle.lra_linear_spec.proofs.{LinearMaps.generated_left, LinearMaps.generated_nonneg, LinearMaps.generated_right, LinearMaps.generated_through, Lines.in_lines, Products.negated_dot}
 use Rattle.lra_linear_spec.proofs.{Combinations.generated_row, Combinations.generated_same, Combinations.generated_times, Combinations.generated_zero, DoubleDescription.Flat, DoubleDescription.Flats}
 use Rattle.lra_linear_spec.proofs.{DoubleDescription.LineCase, DoubleDescription.StepOf, Duality.LineTarget, Duality.dual_line_step, Duality.dual_step, Lines.line_multiple, Lines.signed_from}
 use Rattle.lra_linear_spec.proofs.{Lines.signed_multiple, Lines.signed_zero, Membership.contains_cases, Membership.contains_head, Membership.contains_split, Membership.contains_tail}
 use Rattle.lra_linear_spec.proofs.{Products.dot_minus, Products.dot_negated, Products.entry_negated, Products.negated_length, Ring.ring, Ring.v, Ring.⊖, Ring.◌⊕◌, Ring.◌⊗◌, Signs.not_both}
-use Rattle.lra_linear_spec.proofs.Products.{negated_dot}
-use Rattle.lra_linear_spec.proofs.Lines.{in_lines}
 
 -- a multiple by 1
 one_times : (rows : List (List ℤ)) (k : List ℤ) → Generated rows (λ j. pos 1 *ℤ entry k j) → Generated rows (entry k)

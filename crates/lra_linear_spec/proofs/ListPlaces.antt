@@ -1,7 +1,6 @@
 -- What stands at a place of a list, and what is in a list that is made of others.
 use Rattle.std.proofs.Common.{◌≡◌, ◌<◌, ℕ, zero, suc, List, [], ◌∷◌, length, Some, inl, inr, refl, arith}
-use Rattle.std.proofs.lemmas.List.Elements.{Contains-append_cases}
-use Rattle.std.proofs.lemmas.Option.{none-some, slice_get_within, get_or_from_slice_get}
+use Rattle.std.proofs.{lemmas.List.Elements.Contains-append_cases, lemmas.Option.none-some, lemmas.Option.slice_get_within, lemmas.Option.get_or_from_slice_get}
 use Rattle.std.specs.List.{AllByRecursion, Contains, flat_map, slice_get}
 use Rattle.lra_linear_spec.proofs.Membership.{contains_none, contains_head, contains_tail}
 

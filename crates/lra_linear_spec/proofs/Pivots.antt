@@ -1,9 +1,8 @@
 -- The pivot of a row is a function of the row: where a row leads in a column, that column is its pivot. In an echelon form each row is
 -- positive at its pivot, and the others are 0 there, row by row.
 use Rattle.std.proofs.Common.{List, [], ap, arith, cond, false, inl, inr, length, pos, refl, subst, suc, sym, zero, ℕ, ℤ, ◌++◌, ◌+◌, ◌<ℤ◌, ◌<◌, ◌∙◌, ◌∷◌, ◌≡◌, ◌≢◌}
-use Rattle.std.proofs.lemmas.List.Elements.{Contains-append_right, Contains-get_or}
+use Rattle.std.proofs.{lemmas.Bool.false_from_ne_true, lemmas.List.Elements.Contains-append_right, lemmas.List.Elements.Contains-get_or}
 use Rattle.std.specs.{Cmp.signed_Decides, List.Contains, Ordering.int_eq, Prelude.slice_index_or}
-use Rattle.std.proofs.lemmas.Bool.{false_from_ne_true}
 use Rattle.lra_linear_spec.specs.{Echelon.IsEchelon, Echelon.HasPivot, Echelon.lead_from, Echelon.pivot, Vectors.entry}
 use Rattle.lra_linear_spec.proofs.{Membership.contains_cases, Membership.contains_head, Membership.contains_none, Membership.contains_tail, Signs.not_both}
 

@@ -1,6 +1,6 @@
 -- The size of a condition.
 use Rattle.std.proofs.Common.{◌≡◌, ℕ, zero, suc, ◌+◌, ◌<◌, List, [], ◌∷◌, length, map, get_or, ap, arith}
-use Rattle.lra_program.specs.{declared.program.Cond.Cond, declared.program.Cond.TheFolds.fold-Cond, declared.program.Cond.TheOpen.Cond-F}
+use Rattle.lra_linearize.specs.Crates.{lra_program.declared.program.Cond.Cond, lra_program.declared.program.Cond.TheFolds.fold-Cond, lra_program.declared.program.Cond.TheOpen.Cond-F}
 
 abbrev pub row_size : List ℕ → ℕ
 row_size [] = 0

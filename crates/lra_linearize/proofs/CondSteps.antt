@@ -2,13 +2,12 @@
 use Rattle.std.proofs.Common.{rules, Box, Vec, Global, ◌≡◌, ℕ, ℤ, pos, List, [], ◌∷◌, Option, Some, None, true, false, length, map, refl, sym, ap, ◌∙◌, subst, arith}
 use Rattle.std.proofs.lemmas.Int.{ints}
 use Rattle.std.specs.Prelude.{◌-ℤ◌, replicate}
-use Rattle.lra_linear_forms.specs.Form.{Form}
+use Rattle.lra_linearize.specs.Crates.lra_program.declared.program.Cond.{All, Any, the_lemmas}
+use Rattle.lra_linearize.specs.Crates.{lra_domain.Moves.Moves, lra_domain.Moves.first_then, lra_domain.Moves.join_of, lra_linear_forms.Form.Form, lra_program.Program.Expr, lra_program.Program.binary}
+use Rattle.lra_linearize.specs.Crates.{lra_program.Program.Cond, lra_program.ProgramViews.all_of, lra_program.ProgramViews.any_of, lra_program.ProgramViews.cond_view}
 use Rattle.lra_base.specs.Operators.{minus}
-use Rattle.lra_program.specs.ProgramViews.{all_of, any_of, cond_view}
-use Rattle.lra_program.specs.{Program.Expr, Program.binary, Program.Cond, declared.program.Cond.All, declared.program.Cond.Any, declared.program.Cond.the_lemmas}
-use Rattle.lra_program.specs.declared.program.Cond as declared_cond
+use Rattle.lra_linearize.specs.Crates.lra_program.declared.program.Cond as declared_cond
 use Rattle.lra_analysis_spec.specs.{Linear.entrywise, Linear.combined_forms, Linear.fitting, Linear.constant_form, Linear.less_by, Linear.form_of, Linear.difference_form, MovesOf.guard}
-use Rattle.lra_domain.specs.Moves.{Moves, first_then, join_of}
 use Rattle.lra_analysis_spec.proofs.FormLemmas.{form_wide}
 use Rattle.lra_linearize.specs.Conditions.{in_turn_of}
 use Rattle.lra_linearize.specs.Conditions as chains

@@ -1,16 +1,16 @@
 -- Steps of the proofs on linear forms.
 use Rattle.std.proofs.Common.{rules, ◌≡◌, ◌+◌, ◌<◌, map, drop, drop-cons, get_or, length, ℕ, zero, suc, ℤ, pos, ◌++◌, List, [], ◌∷◌, Option, Some, None, Bool, true, false, refl, sym, ap, subst, ◌∙◌}
+use Rattle.std.proofs.lemmas.Option.{same_Some}
 use Rattle.std.proofs.{Common.append_assoc, Common.FitsSigned, Common.arith, Common.◌≤◌, Common.◌^◌, Common.inl, Common.inr, Common.le-ltb, Common.lt-ltb, lemmas.Bool.and_from, lemmas.Bool.and_parts}
 use Rattle.std.proofs.{lemmas.Int.ints, lemmas.List.Elements.All-nil, lemmas.List.Elements.All-cons, lemmas.List.Elements.All-head, lemmas.List.Elements.All-tail}
 use Rattle.std.specs.{Int.w64, List.All, List.list_all, Option.SomeIff, Prelude.◌&&◌, Prelude.◌⊎◌, Prelude.if◌then◌else◌, Prelude.replicate}
 use Rattle.lra_base.specs.{OperatorViews.operator_view, Operators.Operator, declared.number_types.NumberType.TheVariants.Long}
-use Rattle.lra_program.specs.ProgramViews.{chained, expr_view, operation_view}
-use Rattle.lra_program.specs.{Program.Expr, Program.binary, Value.◌>>=◌, Value.number, Value.is_word, declared.program.Expr.the_lemmas, declared.program.Operation.Operation}
-use Rattle.lra_linear_forms.specs.Form.{Form, FormFits}
+use Rattle.lra_linearize.specs.Crates.lra_program.ProgramViews.{chained, expr_view, operation_view}
+use Rattle.lra_linearize.specs.Crates.{lra_linear_forms.Form.Form, lra_linear_forms.Form.FormFits, lra_program.Program.Expr, lra_program.Program.binary, lra_program.Value.◌>>=◌}
+use Rattle.lra_linearize.specs.Crates.{lra_program.Value.number, lra_program.Value.is_word, lra_program.declared.program.Expr.the_lemmas, lra_program.declared.program.Operation.Operation}
 use Rattle.lra_analysis_spec.specs.Linear as linear
 use Rattle.lra_analysis_spec.specs.Linear.{live_form, variable_form}
 use Rattle.lra_linearize.specs.Forms.{rest_form}
-use Rattle.std.proofs.lemmas.Option.{same_Some}
 
 -- of all numbers these are there, and these come; those that are there have 64 bits
 pub record SoFar (all there left : List ℤ) : Type 0 where

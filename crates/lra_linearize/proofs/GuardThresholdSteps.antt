@@ -1,17 +1,16 @@
 -- Steps of the proofs on widening thresholds.
 use Rattle.std.proofs.Common.{◌≡◌, ℕ, suc, ℤ, pos, negsuc, ◌*ℤ◌, List, [], ◌∷◌, ◌++◌, Option, Some, None, Bool, length, map, take, get_or, ◌+◌, ◌<◌, refl, sym, ap, subst, ◌∙◌, append_assoc}
+use Rattle.std.proofs.lemmas.Option.{same_Some}
 use Rattle.std.proofs.{Common.append-nil, lemmas.List.map-append, lemmas.List.map_more, lemmas.List.length-map}
 use Rattle.std.specs.Prelude.{◌-ℤ◌, neg_ℤ}
-use Rattle.std.proofs.lemmas.Option.{same_Some}
 use Rattle.lra_analysis_spec.proofs.FormLemmas.{fitting_same}
-use Rattle.lra_linear_forms.specs.{Form.Form, Form.opposite_form, declared.test.Test.Test}
-use Rattle.lra_systems.specs.LinearSystems.{LinearSystem}
-use Rattle.lra_linear_spec.specs.{declared.ConKind.ConKind, declared.ConKind.TheVariants.Ge, declared.ConKind.TheVariants.Eq}
+use Rattle.lra_linearize.specs.Crates.{lra_linear_forms.Form.Form, lra_linear_forms.Form.opposite_form, lra_linear_forms.declared.test.Test.Test, lra_linear_spec.declared.ConKind.ConKind}
+use Rattle.lra_linearize.specs.Crates.{lra_linear_spec.declared.ConKind.TheVariants.Ge, lra_linear_spec.declared.ConKind.TheVariants.Eq, lra_program.Program.Cond, lra_program.ProgramViews.all_of}
+use Rattle.lra_linearize.specs.Crates.{lra_program.ProgramViews.any_of, lra_program.ProgramViews.cond_view, lra_systems.LinearSystems.LinearSystem}
 use Rattle.lra_base.specs.declared.operators.Comparison as declared
 use Rattle.lra_base.specs.OperatorViews.{comparison_view}
 use Rattle.lra_base.specs.declared.operators.Comparison.TheVariants.{Below, AtMost, Above, AtLeast, Equal, Differs}
-use Rattle.lra_program.specs.declared.program.Cond as declared_cond
-use Rattle.lra_program.specs.{Program.Cond, ProgramViews.all_of, ProgramViews.any_of, ProgramViews.cond_view}
+use Rattle.lra_linearize.specs.Crates.lra_program.declared.program.Cond as declared_cond
 use Rattle.lra_analysis_spec.specs.GuardThresholds.{row_of, test_rows, comparison_rows, guard_rows}
 use Rattle.lra_analysis_spec.specs.Linear.{fitting, at_least_zero, comparison_test}
 use Rattle.lra_linearize.specs.GuardThresholds.{HasMore}

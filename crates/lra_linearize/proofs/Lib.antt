@@ -6,3 +6,5 @@ pub mod GuardThresholdSteps
 mod TreeSizes
 pub mod TreeViews
 mod ThresholdSteps
+-- The crates below
+pub mod Crates

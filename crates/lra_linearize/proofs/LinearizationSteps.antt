@@ -3,9 +3,9 @@ use Rattle.std.proofs.Common.{◌≡◌, ◌++◌, ℕ, ℤ, pos, negsuc, List, 
 use Rattle.std.proofs.lemmas.List.{map-append}
 use Rattle.std.specs.Prelude.{◌-ℤ◌, ◌&&◌, if◌then◌else◌, int_le, IfOk}
 use Rattle.std.specs.Prelude as handed
-use Rattle.lra_linear_forms.specs.Form.{Form, opposite_form}
+use Rattle.lra_linearize.specs.Crates.{lra_linear_forms.Form.Form, lra_linear_forms.Form.opposite_form, lra_program.Program.Expr, lra_program.Program.binary, lra_program.ProgramViews.chained}
+use Rattle.lra_linearize.specs.Crates.{lra_program.ProgramViews.expr_view, lra_program.ProgramViews.operation_view, lra_program.Value.◌>>=◌, lra_program.declared.program.Operation.Operation}
 use Rattle.lra_base.specs.{OperatorViews.operator_view, Operators.Operator}
-use Rattle.lra_program.specs.{Program.Expr, Program.binary, ProgramViews.chained, ProgramViews.expr_view, ProgramViews.operation_view, Value.◌>>=◌, declared.program.Operation.Operation}
 use Rattle.lra_analysis_spec.specs.Linear.{fitting, combined_forms, is_constant, constant_form, form_of}
 use Rattle.lra_analysis_spec.specs.Linearization.{extended, form_plus_one, division, share_form, share_of, linearized_from, linearized, linear_if, divided_if, subtracted, linearized_difference}
 use Rattle.lra_analysis_spec.specs.declared.linearization.Linearized.TheVariants.{Linear, Divided, Unseen}

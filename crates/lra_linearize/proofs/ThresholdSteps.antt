@@ -3,14 +3,12 @@ use Rattle.std.proofs.Common.{◌≡◌, ◌∙◌, ◌+◌, ◌<◌, ◌≤◌,
 use Rattle.std.proofs.Common.{pos, to_z, of_z, ◌+ℤ◌}
 use Rattle.std.proofs.{lemmas.Int.ints, lemmas.Int.to_z-of_z, lemmas.List.length-map, lemmas.List.map-append, lemmas.List.map_more, lemmas.List.take_all, lemmas.List.Elements.filter-append}
 use Rattle.std.specs.{Int.w64, Int.w128, List.filter, List.flat_map, Prelude.◌-ℤ◌, Prelude.neg_ℤ}
-use Rattle.lra_systems.specs.LinearSystems.{LinearSystem}
-use Rattle.lra_linear_spec.specs.{declared.ConKind.ConKind, declared.ConKind.TheVariants.Ge}
-use Rattle.lra_operations.specs.declared.tree.Node as declared
-use Rattle.lra_operations.specs.Tree as graph
-use Rattle.lra_operations.specs.TreeViews.{node_view, row}
-use Rattle.lra_program.specs.declared.program.Cond as declared_cond
-use Rattle.lra_program.specs.{Program.Cond, ProgramViews.all_of, ProgramViews.any_of, ProgramViews.cond_view}
-use Rattle.lra_linear_forms.specs.Form.{Form}
+use Rattle.lra_linearize.specs.Crates.lra_program.ProgramViews.{all_of, any_of, cond_view}
+use Rattle.lra_linearize.specs.Crates.{lra_linear_forms.Form.Form, lra_linear_spec.declared.ConKind.ConKind, lra_linear_spec.declared.ConKind.TheVariants.Ge, lra_operations.TreeViews.node_view}
+use Rattle.lra_linearize.specs.Crates.{lra_operations.TreeViews.row, lra_program.Program.Cond, lra_systems.LinearSystems.LinearSystem}
+use Rattle.lra_linearize.specs.Crates.lra_operations.declared.tree.Node as declared
+use Rattle.lra_linearize.specs.Crates.lra_operations.Tree as graph
+use Rattle.lra_linearize.specs.Crates.lra_program.declared.program.Cond as declared_cond
 use Rattle.lra_analysis_spec.specs.Thresholds.{all_threshold_rows, condition_rows, constant_rows, is_among, round_rows, row_against, constant_rows_at, rows_from, rows_in, rows_once}
 use Rattle.lra_analysis_spec.specs.{GuardThresholds.inequalities, GuardThresholds.row_of, Linear.variable_form, Thresholds.with_threshold_row}
 use Rattle.lra_linearize.specs.{GuardThresholds.HasMore, Thresholds.HasTaken}

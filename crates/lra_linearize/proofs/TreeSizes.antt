@@ -1,8 +1,8 @@
 -- The size of a tree of operations while its conditions are gone through: a tree counts one, and what stands in it; a
 -- row or arms that are gone through for themselves one less.
 use Rattle.std.proofs.Common.{◌≡◌, ℕ, zero, suc, ◌+◌, ◌<◌, List, [], ◌∷◌, length, map, get_or, ap, arith}
-use Rattle.lra_operations.specs.declared.tree.Arm.TheFolds.{fold-Arm, fold-Node}
-use Rattle.lra_operations.specs.{declared.tree.Arm.Arm, declared.tree.Arm.TheOpen.Arm-F, declared.tree.Arm.TheOpen.Node-F, declared.tree.Node.Node}
+use Rattle.lra_linearize.specs.Crates.{lra_operations.declared.tree.Arm.Arm, lra_operations.declared.tree.Arm.TheFolds.fold-Arm, lra_operations.declared.tree.Arm.TheFolds.fold-Node}
+use Rattle.lra_linearize.specs.Crates.{lra_operations.declared.tree.Arm.TheOpen.Arm-F, lra_operations.declared.tree.Arm.TheOpen.Node-F, lra_operations.declared.tree.Node.Node}
 use Rattle.lra_linearize.proofs.CondSizes.{row_size}
 
 abbrev pub arm_step : Arm-F ℕ ℕ → ℕ

@@ -3,16 +3,16 @@ use Rattle.std.proofs.Common.{rules, Box, Vec, Global, ◌≡◌, ◌∙◌, ◌
 use Rattle.std.proofs.lemmas.List.{drop_all, drop_more}
 use Rattle.std.specs.Prelude as outcome_or
 use Rattle.std.specs.{List.flat_map, Prelude.OnOk}
-use Rattle.lra_systems.specs.LinearSystems.{LinearSystem}
-use Rattle.lra_linear_spec.specs.declared.ConKind.{ConKind}
-use Rattle.lra_operations.specs.declared.probes.Probe as aside
-use Rattle.lra_operations.specs.TreeViews.{exit_view, node_view, op_view, row, ArmPart, arm_view, arms_of}
-use Rattle.lra_operations.specs.declared.tree.Node.{Node, Empty, Point, Probe, Act, Check, Seq, Choose, Iterate, Catch, Leave, Select, the_lemmas}
-use Rattle.lra_operations.specs.{declared.tree.Arm.Arm, declared.tree.Arm.TheVariants.Entry, declared.tree.Arm.TheVariants.Tree, declared.tree.Exit.Exit, declared.tree.Op.Op}
+use Rattle.lra_linearize.specs.Crates.lra_operations.TreeViews.{exit_view, node_view, op_view, row, ArmPart, arm_view, arms_of}
+use Rattle.lra_linearize.specs.Crates.lra_operations.declared.tree.Arm.TheVariants.{Entry, Tree}
+use Rattle.lra_linearize.specs.Crates.lra_operations.declared.tree.Node.{Node, Empty, Point, Probe, Act, Check, Seq, Choose, Iterate, Catch, Leave, Select, the_lemmas}
+use Rattle.lra_linearize.specs.Crates.lra_program.ProgramViews.{cond_view, expr_view}
+use Rattle.lra_linearize.specs.Crates.{lra_linear_spec.declared.ConKind.ConKind, lra_operations.declared.tree.Arm.Arm, lra_operations.declared.tree.Exit.Exit, lra_operations.declared.tree.Op.Op}
+use Rattle.lra_linearize.specs.Crates.{lra_program.declared.program.Cond.Cond, lra_program.declared.program.Expr.Expr, lra_systems.LinearSystems.LinearSystem}
+use Rattle.lra_linearize.specs.Crates.lra_operations.declared.probes.Probe as aside
 use Rattle.lra_base.specs.declared.case_labels.CaseLabel.{CaseLabel}
-use Rattle.lra_operations.specs.Tree as graph
-use Rattle.lra_operations.proofs.ArmViews.{entry_view, tree_view}
-use Rattle.lra_program.specs.{ProgramViews.cond_view, ProgramViews.expr_view, declared.program.Cond.Cond, declared.program.Expr.Expr}
+use Rattle.lra_linearize.specs.Crates.lra_operations.Tree as graph
+use Rattle.lra_linearize.proofs.Crates.lra_operations.ArmViews.{entry_view, tree_view}
 use Rattle.lra_analysis_spec.specs.Thresholds.{round_rows, rows_in, rows_in_arms}
 use Rattle.lra_linearize.specs.Thresholds.{HasTaken}
 use Rattle.lra_linearize.proofs.ThresholdSteps.{row_taken, then_taken}

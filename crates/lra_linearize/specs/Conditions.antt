@@ -1,7 +1,7 @@
 -- Chains of conditions.
 use Rattle.std.specs.Prelude.{ℕ, Bool, not, List, [], ◌∷◌}
-use Rattle.lra_program.specs.Program.{Cond}
-use Rattle.lra_domain.specs.Moves.{Moves, first_then, join_of}
+use Rattle.lra_linearize.specs.Crates.lra_domain.Moves.{Moves, first_then, join_of}
+use Rattle.lra_linearize.specs.Crates.lra_program.Program.{Cond}
 use Rattle.lra_analysis_spec.specs.MovesOf.{guard}
 
 -- one after the other

@@ -1,8 +1,7 @@
 -- Sums and chains, of which a linear form is made, and a division's parts.
 use Rattle.std.specs.Prelude.{ℕ, List, [], ◌∷◌, ℤ, ◌+ℤ◌, ◌-ℤ◌, Bool, true, false, Option, Some}
-use Rattle.lra_linear_forms.specs.Form.{Form}
+use Rattle.lra_linearize.specs.Crates.{lra_linear_forms.Form.Form, lra_program.Program.Expr, lra_program.Value.◌>>=◌}
 use Rattle.lra_base.specs.Operators.{Operator}
-use Rattle.lra_program.specs.{Program.Expr, Value.◌>>=◌}
 use Rattle.lra_analysis_spec.specs.{Linearization.division, declared.linearization.Division.Division}
 use Rattle.lra_analysis_spec.specs.Linear as linear
 

@@ -1,7 +1,8 @@
 -- Rows that are added to a list, each once.
 use Rattle.std.specs.Prelude.{◌≡◌, ℤ, List, fold, map}
-use Rattle.lra_systems.specs.LinearSystems.{LinearSystem}
-use Rattle.lra_linear_spec.specs.{declared.ConKind.ConKind, declared.ConKind.TheVariants.Ge}
+use Rattle.lra_linearize.specs.Crates.lra_linear_spec.declared.ConKind.{ConKind}
+use Rattle.lra_linearize.specs.Crates.lra_linear_spec.declared.ConKind.TheVariants.{Ge}
+use Rattle.lra_linearize.specs.Crates.lra_systems.LinearSystems.{LinearSystem}
 use Rattle.lra_analysis_spec.specs.Thresholds.{with_threshold_row}
 
 -- the list has these inequalities more, after the others: those that aren't there, and are narrow

@@ -1,17 +1,14 @@
 //! The two cases in which a division is done.
 
 ghost use Rattle.std.specs.Prelude.{◌≡◌, ◌<◌, ◌≤ℤ◌, ◌^◌, pos, IfOk};
-ghost use Rattle.lra_linear_spec.specs.declared.ConKind.TheVariants.{Ge, Eq};
-ghost use Rattle.lra_domain.specs.Actions as action;
-ghost use Rattle.lra_domain.specs.Changes.{action_of, actions_of};
+ghost use Rattle.lra_linearize.specs.Crates.lra_linear_spec.declared.ConKind.TheVariants.{Ge, Eq};
+ghost use Rattle.lra_linearize.specs.Crates.lra_domain.Actions as action;
+ghost use Rattle.lra_linearize.specs.Crates.lra_domain.Changes.{action_of, actions_of};
 ghost use Rattle.lra_analysis_spec.specs.Linearization.{behind_form, left_over};
 ghost use Rattle.lra_analysis_spec.specs.MovesOf as moves;
 
 use crate::linearization::{extend_form, form_behind};
-use lra_analysis_spec::Division;
-use lra_domain::Change;
-use lra_linear_forms::{LinExpr, Test};
-use lra_linear_spec::ConKind;
+use lra_analysis_spec::{Change, ConKind, Division, LinExpr, Test};
 use std::alloc::{AllocError, Global};
 
 /// The test that the form is at least 0.

@@ -2,15 +2,13 @@
 
 ghost use Rattle.std.specs.Prelude.{◌≡◌, ◌<◌, ◌^◌, length, IfOk};
 ghost use Rattle.lra_base.specs.OperatorViews.{comparison_view};
-ghost use Rattle.lra_program.specs.ProgramViews.{expr_view};
+ghost use Rattle.lra_linearize.specs.Crates.lra_program.ProgramViews.{expr_view};
 ghost use Rattle.lra_analysis_spec.specs.Linear.{difference_form, comparison_test, less_by, at_least_zero};
 ghost use Rattle.lra_analysis_spec.specs.MovesOf.{comparison_as, opposite_comparison};
 
 use crate::forms::{constant_of, form_of_expression, multiple_of, sum_of_forms};
+use lra_analysis_spec::{ConKind, Expr, LinExpr, Test};
 use lra_base::Comparison;
-use lra_linear_forms::{LinExpr, Test};
-use lra_linear_spec::ConKind;
-use lra_program::Expr;
 use std::alloc::{AllocError, Global};
 
 /// The form minus a number, where all its numbers have 64 bits.

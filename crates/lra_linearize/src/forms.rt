@@ -2,16 +2,15 @@
 
 ghost use Rattle.std.specs.Prelude.{◌≡◌, ℤ, pos, ◌*ℤ◌, ◌<◌, ◌≤◌, ◌^◌, ◌⊎◌, Some, slice_set, replicate, IfOk};
 ghost use Rattle.std.specs.{List.list_all, Prelude.MatchOption, Prelude.true, Prelude.false, Prelude.map};
-ghost use Rattle.lra_program.specs.ProgramViews.{expr_view, operation_view, slot_view};
-ghost use Rattle.lra_program.specs.Value.{number, is_word, index_of};
+ghost use Rattle.lra_linearize.specs.Crates.lra_program.ProgramViews.{expr_view, operation_view, slot_view};
+ghost use Rattle.lra_linearize.specs.Crates.lra_program.Value.{number, is_word, index_of};
 ghost use Rattle.lra_base.specs.{OperatorViews.operator_view, declared.number_types.NumberType.TheVariants.Long};
 ghost use Rattle.lra_analysis_spec.specs.Linear.{fitting, entrywise, combined_forms, scaled, is_constant, product_form};
 ghost use Rattle.lra_analysis_spec.specs.Linear.{operator_form, constant_form, form_of, live_form, variable_form};
 ghost use Rattle.lra_linearize.specs.Forms.{sum_or_difference, rest_form};
 
+use lra_analysis_spec::{Expr, LinExpr, Operation, Slot};
 use lra_base::Operator;
-use lra_linear_forms::LinExpr;
-use lra_program::{Expr, Operation, Slot};
 use std::alloc::{AllocError, Global};
 
 /// The sum or the difference, where it has 64 bits.

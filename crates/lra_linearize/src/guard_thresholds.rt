@@ -2,20 +2,17 @@
 
 ghost use Rattle.std.specs.Prelude.{◌≡◌, ◌<◌, ◌^◌, ℤ, pos, ◌+ℤ◌, ◌≤ℤ◌, neg_ℤ, ◌∷◌, ◌++◌, [], suc, map, length, IfOk};
 ghost use Rattle.std.specs.{List.All, Prelude.OnOk, Prelude.Some, Prelude.option_map, Prelude.if◌then◌else◌};
-ghost use Rattle.lra_linear_spec.specs.Range.{InRange};
+ghost use Rattle.lra_linearize.specs.Crates.lra_linear_spec.Range.{InRange};
+ghost use Rattle.lra_linearize.specs.Crates.lra_program.ProgramViews.{all_of, expr_view, cond_view};
 ghost use Rattle.lra_base.specs.OperatorViews.{comparison_view};
-ghost use Rattle.lra_program.specs.ProgramViews.{all_of, expr_view, cond_view};
 ghost use Rattle.lra_analysis_spec.specs.GuardThresholds.{row_of, opposite_row, test_rows, comparison_rows, guard_rows};
 ghost use Rattle.lra_analysis_spec.specs.GuardThresholds.{guard_thresholds};
 ghost use Rattle.lra_analysis_spec.specs.Linear.{difference_form, comparison_test};
 ghost use Rattle.lra_linearize.specs.GuardThresholds.{HasMore};
 
 use crate::comparisons::{comparison_where, difference_of, test_of};
+use lra_analysis_spec::{ConKind, ConSys, Cond, Expr, LinExpr, Row};
 use lra_base::{Comparison, NumberType};
-use lra_linear_forms::LinExpr;
-use lra_program::{Cond, Expr};
-use lra_row::Row;
-use lra_systems::{ConKind, ConSys};
 use std::alloc::{AllocError, Global};
 
 /// The number times -1 comes last.

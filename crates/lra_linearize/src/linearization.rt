@@ -2,8 +2,8 @@
 
 ghost use Rattle.std.specs.Prelude.{◌≡◌, ◌<◌, ◌^◌, ◌&&◌, pos, None, int_le, length, map, IfOk};
 ghost use Rattle.lra_base.specs.OperatorViews.{operator_view};
-ghost use Rattle.lra_program.specs.ProgramViews.{chained, expr_view, operation_view};
-ghost use Rattle.lra_linear_forms.specs.Form.{opposite_form};
+ghost use Rattle.lra_linearize.specs.Crates.lra_linear_forms.Form.{opposite_form};
+ghost use Rattle.lra_linearize.specs.Crates.lra_program.ProgramViews.{chained, expr_view, operation_view};
 ghost use Rattle.lra_analysis_spec.specs.Linear.{fitting, is_constant, constant_form, form_of};
 ghost use Rattle.lra_linearize.specs.Forms as forms;
 ghost use Rattle.lra_analysis_spec.specs.Linearization.{extended, behind_form, form_plus_one, division, share_form};
@@ -12,10 +12,8 @@ ghost use Rattle.lra_analysis_spec.specs.Linearization.{subtracted, linearized_d
 ghost use Rattle.lra_analysis_spec.specs.declared.linearization.Linearized.TheVariants.{Linear, Divided};
 
 use crate::forms::{constant_of, form_of_chain, form_of_expression, has_no_variable, sum_of_forms};
-use lra_analysis_spec::{Division, Linearized};
+use lra_analysis_spec::{Division, Expr, LinExpr, Linearized, Operation};
 use lra_base::Operator;
-use lra_linear_forms::LinExpr;
-use lra_program::{Expr, Operation};
 use std::alloc::{AllocError, Global};
 
 /// The form over two variables more, with these coefficients of the two.

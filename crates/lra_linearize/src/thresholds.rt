@@ -2,11 +2,10 @@
 
 ghost use Rattle.std.specs.Prelude.{◌≡◌, ◌<◌, ◌^◌, ◌+ℤ◌, [], ◌∷◌, ◌++◌, suc, neg_ℤ, map, not, length, IfOk, OnOk, Some};
 ghost use Rattle.std.specs.{Cmp.Lexicographic.pointwise, List.filter, Ordering.int_eq};
-ghost use Rattle.lra_linear_spec.specs.{Range.InRange, declared.ConKind.ConKind};
-ghost use Rattle.lra_systems.specs.LinearSystems.{LinearSystem};
-ghost use Rattle.lra_operations.specs.Tree.{Arms};
-ghost use Rattle.lra_operations.specs.TreeViews.{node_view, op_view, row, arm_view, arms_of};
-ghost use Rattle.lra_program.specs.ProgramViews.{all_of, cond_view, expr_view};
+ghost use Rattle.lra_linearize.specs.Crates.lra_operations.TreeViews.{node_view, op_view, row, arm_view, arms_of};
+ghost use Rattle.lra_linearize.specs.Crates.lra_program.ProgramViews.{all_of, cond_view, expr_view};
+ghost use Rattle.lra_linearize.specs.Crates.{lra_linear_spec.Range.InRange, lra_linear_spec.declared.ConKind.ConKind};
+ghost use Rattle.lra_linearize.specs.Crates.{lra_operations.Tree.Arms, lra_systems.LinearSystems.LinearSystem};
 ghost use Rattle.lra_analysis_spec.specs.Thresholds.{condition_rows, is_among, has_small_numbers, op_rows, round_rows};
 ghost use Rattle.lra_analysis_spec.specs.Thresholds.{row_against, rows_around, constant_rows_at, rows_in, rows_in_arms};
 ghost use Rattle.lra_analysis_spec.specs.{GuardThresholds.inequalities, GuardThresholds.row_of, Linear.difference_form};
@@ -16,13 +15,8 @@ ghost use Rattle.lra_linearize.specs.{GuardThresholds.HasMore, Thresholds.HasTak
 use crate::comparisons::difference_of;
 use crate::forms::unit_form;
 use crate::guard_thresholds::push_negated;
+use lra_analysis_spec::{Arm, ConKind, ConSys, Cond, Expr, LinExpr, Node, Op, Row};
 use lra_base::NumberType;
-use lra_linear_forms::LinExpr;
-use lra_linear_spec::ConKind;
-use lra_operations::{Arm, Node, Op};
-use lra_program::{Cond, Expr};
-use lra_row::Row;
-use lra_systems::ConSys;
 use std::alloc::{AllocError, Global};
 
 /// No row with a number of a greater magnitude is given.

@@ -1,8 +1,9 @@
 -- One column of a row that is given a form's value.
 use Rattle.std.proofs.Common.{◌≡◌, ℕ, zero, suc, ◌<◌, List, [], ◌∷◌, length, ap, refl, ◌∙◌, ℤ, pos, neg_ℤ, ◌+ℤ◌, ◌*ℤ◌, arith}
 use Rattle.std.specs.Prelude.{slice_set}
-use Rattle.lra_linear_spec.specs.{SetOperations.assigned, Vectors.dot, Vectors.entry, Vectors.negated, Vectors.product}
-use Rattle.lra_linear_spec.proofs.Products.{dot_negated, dot_plus, dot_same, dot_zero, entry_set_other}
+use Rattle.lra_mapped_systems.specs.Crates.lra_linear_spec.SetOperations.{assigned}
+use Rattle.lra_mapped_systems.specs.Crates.lra_linear_spec.Vectors.{dot, entry, negated, product}
+use Rattle.lra_mapped_systems.proofs.Crates.lra_linear_spec.Products.{dot_negated, dot_plus, dot_same, dot_zero, entry_set_other}
 use Rattle.lra_mapped_systems.proofs.{MappedSets.IsMapOf, Sums.IsLinear}
 
 -- one column put in

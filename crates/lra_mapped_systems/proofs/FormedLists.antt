@@ -3,13 +3,15 @@ use Rattle.std.proofs.Common.{◌≡◌, ℕ, suc, ◌<◌, ◌≤◌, ◌+◌, 
 use Rattle.std.proofs.lemmas.List.Elements.{Contains-append_cases, Contains-append_left, Contains-append_right}
 use Rattle.std.proofs.{Common.◌⊎◌, lemmas.List.length-set, lemmas.List.map-append, lemmas.List.take_all}
 use Rattle.std.specs.{List.Contains, Prelude.IfNone, Prelude.OnOk, Prelude.false, Prelude.is_none}
-use Rattle.lra_linear_spec.specs.{CheckedArithmetic.checked_substitution, Descriptions.LinearRow, Kinds.is_equality, OperationStrain.FormingPasses, OperationStrain.substituted_rows, Strain.Loss}
-use Rattle.lra_linear_spec.specs.{Vectors.cleared, Vectors.entry, Vectors.substituted, declared.ConKind.ConKind, declared.ConKind.TheVariants.Ge}
-use Rattle.lra_linear_spec.specs.declared.Excess as E
-use Rattle.lra_linear_spec.proofs.{Membership.contains_cases, Membership.contains_head, Membership.contains_none, Membership.map_has, Products.blend_length}
+use Rattle.lra_mapped_systems.specs.Crates.lra_linear_spec.OperationStrain.{FormingPasses, substituted_rows}
+use Rattle.lra_mapped_systems.specs.Crates.lra_linear_spec.Vectors.{cleared, entry, substituted}
+use Rattle.lra_mapped_systems.specs.Crates.{lra_linear_spec.CheckedArithmetic.checked_substitution, lra_linear_spec.Descriptions.LinearRow, lra_linear_spec.Kinds.is_equality}
+use Rattle.lra_mapped_systems.specs.Crates.{lra_linear_spec.Strain.Loss, lra_linear_spec.declared.ConKind.ConKind, lra_linear_spec.declared.ConKind.TheVariants.Ge}
+use Rattle.lra_mapped_systems.specs.Crates.lra_linear_spec.declared.Excess as E
+use Rattle.lra_mapped_systems.proofs.Crates.lra_linear_spec.Membership.{contains_cases, contains_head, contains_none, map_has}
+use Rattle.lra_mapped_systems.proofs.Crates.{lra_descriptions.SeveralKinds.given_append, lra_linear_spec.Products.blend_length}
 use Rattle.lra_systems.specs.LinearSystems.{LinearSystem, constraints, rows_by_kind}
 use Rattle.lra_systems.proofs.FirstMembers.{front, given_more, given_split, member}
-use Rattle.lra_descriptions.proofs.SeveralKinds.{given_append}
 use Rattle.lra_mapped_systems.specs.Forming.{AllFormed, AreFormed, substituted_given}
 use Rattle.lra_mapped_systems.proofs.PushedLists.{many_more}
 

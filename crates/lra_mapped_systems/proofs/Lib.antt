@@ -9,3 +9,5 @@ pub mod MovedForms
 pub mod TakenBack
 pub mod MovedLists
 pub mod MovingLosses
+-- The crates below
+pub mod Crates

@@ -2,11 +2,12 @@
 use Rattle.std.proofs.Common.{◌≡◌, ℕ, zero, suc, ◌+◌, ◌<◌, ◌≤◌, get_or, List, [], ◌∷◌, ◌++◌, length, map, take, ap, refl, sym, ◌∙◌, subst, ℤ, pos, ◌<ℤ◌, add-one, arith}
 use Rattle.std.proofs.{Math.Seq.take-suc, lemmas.List.map-append, lemmas.List.take_all}
 use Rattle.std.specs.List.{Contains}
-use Rattle.lra_linear_spec.specs.declared.GenKind.TheVariants.{Line, Point, Ray}
-use Rattle.lra_linear_spec.specs.{Descriptions.LinearRow, Descriptions.line, Kinds.is_line, OperationStrain.unit_row, Vectors.cleared, Vectors.entry, Vectors.zeros, declared.GenKind.GenKind}
-use Rattle.lra_linear_spec.proofs.{Lines.entry_zeros, Membership.contains_head, Membership.contains_tail, UnitRows.unit_other}
+use Rattle.lra_mapped_systems.specs.Crates.lra_linear_spec.declared.GenKind.TheVariants.{Line, Point, Ray}
+use Rattle.lra_mapped_systems.specs.Crates.{lra_linear_spec.Descriptions.LinearRow, lra_linear_spec.Descriptions.line, lra_linear_spec.Kinds.is_line, lra_linear_spec.OperationStrain.unit_row}
+use Rattle.lra_mapped_systems.specs.Crates.{lra_linear_spec.Vectors.cleared, lra_linear_spec.Vectors.entry, lra_linear_spec.Vectors.zeros, lra_linear_spec.declared.GenKind.GenKind}
+use Rattle.lra_mapped_systems.proofs.Crates.lra_descriptions.SeveralKinds.{fit_append, given_append}
+use Rattle.lra_mapped_systems.proofs.Crates.{lra_linear_spec.Lines.entry_zeros, lra_linear_spec.Membership.contains_head, lra_linear_spec.Membership.contains_tail, lra_linear_spec.UnitRows.unit_other}
 use Rattle.lra_systems.specs.LinearSystems.{FitKinds, FitsKind, LinearSystem, generators, rows_by_kind}
-use Rattle.lra_descriptions.proofs.SeveralKinds.{fit_append, given_append}
 use Rattle.lra_mapped_systems.proofs.Sums.{mapped_by}
 
 -- ---- mapped row by row

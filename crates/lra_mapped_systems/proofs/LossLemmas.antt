@@ -1,15 +1,15 @@
 -- What is reported about a row of a list where a number passes as it is formed.
 use Rattle.std.proofs.Common.{◌≡◌, ℕ, suc, ◌<◌, List, [], ◌∷◌, ◌++◌, length, map, drop, get_or, ap, refl, sym, ◌∙◌, subst, ℤ, Result, Err}
 use Rattle.std.proofs.lemmas.List.{get_or_default}
-use Rattle.lra_linear_spec.specs.{Descriptions.LinearRow, Kinds.is_equality, OperationStrain.FormingPasses, Strain.Loss, declared.Cause.TheVariants.Excess, declared.ConKind.ConKind}
-use Rattle.lra_linear_spec.specs.{declared.ConKind.TheVariants.Ge, declared.GenKind.GenKind}
-use Rattle.lra_linear_spec.specs.declared.Excess as E
-use Rattle.lra_row.specs.{Rows.IsExcessOf, declared.error.RowError.RowError}
-use Rattle.lra_row.specs.declared.error.RowError.TheVariants as of_row
+use Rattle.lra_mapped_systems.specs.Crates.lra_linear_spec.OperationStrain.{FormingPasses}
+use Rattle.lra_mapped_systems.specs.Crates.{lra_descriptions.ShownLists.dual_kind, lra_linear_spec.Descriptions.LinearRow, lra_linear_spec.Kinds.is_equality, lra_linear_spec.Strain.Loss}
+use Rattle.lra_mapped_systems.specs.Crates.{lra_linear_spec.declared.Cause.TheVariants.Excess, lra_linear_spec.declared.ConKind.ConKind, lra_linear_spec.declared.ConKind.TheVariants.Ge}
+use Rattle.lra_mapped_systems.specs.Crates.{lra_linear_spec.declared.GenKind.GenKind, lra_row.Rows.IsExcessOf, lra_row.declared.error.RowError.RowError}
+use Rattle.lra_mapped_systems.specs.Crates.lra_linear_spec.declared.Excess as E
+use Rattle.lra_mapped_systems.specs.Crates.lra_row.declared.error.RowError.TheVariants as of_row
 use Rattle.lra_systems.specs.LinearSystems.{LinearSystem, constraints, generators, rows_by_kind}
 use Rattle.lra_systems.proofs.FirstMembers.{front, given_split, member}
-use Rattle.lra_descriptions.specs.ShownLists.{dual_kind}
-use Rattle.lra_descriptions.proofs.SeveralKinds.{dual_given}
+use Rattle.lra_mapped_systems.proofs.Crates.lra_descriptions.SeveralKinds.{dual_given}
 use Rattle.lra_mapped_systems.specs.Forming.{IsLossAt}
 
 pub loss_told : (list chosen : LinearSystem ConKind) (rows : List (List ℤ)) (kinds : List ConKind) (place : ℕ) (row : List ℤ)

@@ -2,10 +2,12 @@
 use Rattle.std.proofs.Common.{◌≡◌, ℕ, suc, ◌<◌, List, length, map, ap, sym, ◌∙◌, subst, ℤ, pos, ◌*ℤ◌, ◌<ℤ◌, arith, inl, inr}
 use Rattle.std.proofs.lemmas.Int.{ints}
 use Rattle.std.specs.List.{Contains}
-use Rattle.lra_linear_spec.specs.Descriptions.{Gen, LinearRow, system_of}
-use Rattle.lra_linear_spec.specs.{Cones.Generated, Points.IsPoint, Points.PointSet, Points.SamePoint, Polyhedra.IsPolyhedron, Polyhedra.Polyhedron, Vectors.entry, Vectors.negated, Vectors.sum_of}
-use Rattle.lra_linear_spec.proofs.Descriptions.{gen_generated, generated_gen}
-use Rattle.lra_linear_spec.proofs.{Combinations.generated_same, LinearMaps.sum_generated, Membership.contains_none, Ring.ring, Ring.v, Ring.◌⊗◌, SetOperations.has_vertex, Signs.times_positive}
+use Rattle.lra_mapped_systems.specs.Crates.{lra_linear_spec.Cones.Generated, lra_linear_spec.Descriptions.Gen, lra_linear_spec.Descriptions.LinearRow, lra_linear_spec.Descriptions.system_of}
+use Rattle.lra_mapped_systems.specs.Crates.{lra_linear_spec.Points.IsPoint, lra_linear_spec.Points.PointSet, lra_linear_spec.Points.SamePoint, lra_linear_spec.Polyhedra.IsPolyhedron}
+use Rattle.lra_mapped_systems.specs.Crates.{lra_linear_spec.Polyhedra.Polyhedron, lra_linear_spec.Vectors.entry, lra_linear_spec.Vectors.negated, lra_linear_spec.Vectors.sum_of}
+use Rattle.lra_mapped_systems.proofs.Crates.lra_linear_spec.Descriptions.{gen_generated, generated_gen}
+use Rattle.lra_mapped_systems.proofs.Crates.{lra_linear_spec.Combinations.generated_same, lra_linear_spec.LinearMaps.sum_generated, lra_linear_spec.Membership.contains_none, lra_linear_spec.Ring.ring}
+use Rattle.lra_mapped_systems.proofs.Crates.{lra_linear_spec.Ring.v, lra_linear_spec.Ring.◌⊗◌, lra_linear_spec.SetOperations.has_vertex, lra_linear_spec.Signs.times_positive}
 use Rattle.lra_mapped_systems.proofs.Sums.{IsLinear, generated_mapped, generated_same_point, mapped_by, row_of_sum, sum_mapped, system_mapped}
 
 -- the rows m r are those of a linear map f that keeps column 0

@@ -3,13 +3,15 @@
 use Rattle.std.proofs.Common.{◌≡◌, ℕ, List, [], ◌∷◌, ◌++◌, length, map, drop, get_or, ap, refl, sym, ◌∙◌, subst, ℤ, pos, neg_ℤ, ◌+ℤ◌, ◌*ℤ◌, arith, inl, inr}
 use Rattle.std.proofs.{lemmas.List.map-append, lemmas.List.Elements.Contains-append_cases, lemmas.List.Elements.Contains-append_left}
 use Rattle.std.specs.List.{Contains}
-use Rattle.lra_linear_spec.specs.Echelon.{IsEchelon, IsEchelonOf, Spanned, pivot}
-use Rattle.lra_linear_spec.specs.{Canonical.IsCanonical, Cones.Generated, Cones.all_rows, Cones.both_ways, Vectors.entry, Vectors.negated, Vectors.signed_sum}
-use Rattle.lra_linear_spec.proofs.CanonicalForms.{spanned_in_cone, spanned_negative}
-use Rattle.lra_linear_spec.proofs.Combinations.{generated_divided, generated_plus, generated_row, generated_same, generated_times, generated_zero}
-use Rattle.lra_linear_spec.proofs.Membership.{contains_cases, contains_head, contains_middle, contains_none, contains_split, contains_tail, map_from}
-use Rattle.lra_linear_spec.proofs.{Lines.signed_from, Pivots.pivot_is, Products.entry_negated, Ring.ring, Ring.v, Ring.⊖, Ring.◌⊕◌, Ring.◌⊗◌, Spans.spanned_row, Spans.spanned_same}
-use Rattle.lra_canonical.specs.Reduced.{IsAlong, IsReducedBy}
+use Rattle.lra_mapped_systems.specs.Crates.lra_linear_spec.Cones.{Generated, all_rows, both_ways}
+use Rattle.lra_mapped_systems.specs.Crates.lra_linear_spec.Echelon.{IsEchelon, IsEchelonOf, Spanned, pivot}
+use Rattle.lra_mapped_systems.specs.Crates.lra_linear_spec.Vectors.{entry, negated, signed_sum}
+use Rattle.lra_mapped_systems.specs.Crates.{lra_canonical.Reduced.IsAlong, lra_canonical.Reduced.IsReducedBy, lra_linear_spec.Canonical.IsCanonical}
+use Rattle.lra_mapped_systems.proofs.Crates.lra_linear_spec.Combinations.{generated_divided, generated_plus, generated_row, generated_same, generated_times, generated_zero}
+use Rattle.lra_mapped_systems.proofs.Crates.lra_linear_spec.Membership.{contains_cases, contains_head, contains_middle, contains_none, contains_split, contains_tail, map_from}
+use Rattle.lra_mapped_systems.proofs.Crates.lra_linear_spec.Ring.{ring, v, ⊖, ◌⊕◌, ◌⊗◌}
+use Rattle.lra_mapped_systems.proofs.Crates.{lra_linear_spec.CanonicalForms.spanned_in_cone, lra_linear_spec.CanonicalForms.spanned_negative, lra_linear_spec.Lines.signed_from}
+use Rattle.lra_mapped_systems.proofs.Crates.{lra_linear_spec.Pivots.pivot_is, lra_linear_spec.Products.entry_negated, lra_linear_spec.Spans.spanned_row, lra_linear_spec.Spans.spanned_same}
 use Rattle.lra_description_pair.specs.OwnLists.{AreReducedBy}
 use Rattle.lra_description_pair.proofs.TightRows.{reduced_from}
 use Rattle.lra_mapped_systems.proofs.Sums.{IsLinear, generated_linear, linear_times}

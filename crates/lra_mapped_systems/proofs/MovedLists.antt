@@ -2,11 +2,10 @@
 use Rattle.std.proofs.Common.{◌≡◌, ℕ, suc, ◌<◌, ◌+◌, add-one, Bool, true, false, cond, List, [], ◌∷◌, ◌++◌, length, map, get_or, ap, refl, sym, ◌∙◌, subst, ℤ, inl, inr}
 use Rattle.std.proofs.{lemmas.List.map-append, lemmas.List.Elements.All-contains}
 use Rattle.std.specs.List.{All, Contains}
-use Rattle.lra_linear_spec.specs.Descriptions.{LinearRow, lines_of, rays_of}
-use Rattle.lra_linear_spec.proofs.Membership.{contains_cases, contains_head, contains_none, contains_tail, map_from}
-use Rattle.lra_linear_spec.proofs.Polyhedra.{lines_of_append, rays_of_append}
+use Rattle.lra_mapped_systems.specs.Crates.{lra_canonical.Echelons.HaveWidth, lra_linear_spec.Descriptions.LinearRow, lra_linear_spec.Descriptions.lines_of, lra_linear_spec.Descriptions.rays_of}
+use Rattle.lra_mapped_systems.proofs.Crates.lra_linear_spec.Membership.{contains_cases, contains_head, contains_none, contains_tail, map_from}
+use Rattle.lra_mapped_systems.proofs.Crates.lra_linear_spec.Polyhedra.{lines_of_append, rays_of_append}
 use Rattle.lra_systems.specs.LinearSystems.{LinearSystem, rows_by_kind}
-use Rattle.lra_canonical.specs.Echelons.{HaveWidth}
 use Rattle.lra_description_pair.proofs.OwnRows.{all_width}
 use Rattle.lra_systems.proofs.FirstMembers.{front, given_more, member}
 

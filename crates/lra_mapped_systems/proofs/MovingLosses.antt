@@ -2,12 +2,12 @@
 use Rattle.std.proofs.Common.{◌≡◌, ℕ, ◌<◌, List, ◌∷◌, length, map, drop, get_or, ap, sym, ◌∙◌, subst, ℤ, inl, inr, Bool, false, IsTrue, Result, Err, suc}
 use Rattle.std.proofs.lemmas.List.Elements.{Contains-append_right}
 use Rattle.std.specs.List.{Contains}
-use Rattle.lra_linear_spec.specs.declared.Excess as E
-use Rattle.lra_linear_spec.specs.CheckedArithmetic.{checked_product, checked_substitution}
-use Rattle.lra_linear_spec.specs.{Descriptions.LinearRow, Descriptions.lines_of, Descriptions.rays_of, Echelon.IsEchelonOf, SetOperations.assigned, Vectors.substituted}
-use Rattle.lra_linear_spec.proofs.Membership.{contains_head}
-use Rattle.lra_row.specs.{Rows.IsExcessOf, declared.error.RowError.RowError, declared.error.RowError.TheVariants.Excess, declared.error.RowError.TheVariants.Memory}
-use Rattle.lra_canonical.specs.Echelons.{IsEchelonExcess}
+use Rattle.lra_mapped_systems.specs.Crates.lra_linear_spec.declared.Excess as E
+use Rattle.lra_mapped_systems.specs.Crates.lra_linear_spec.CheckedArithmetic.{checked_product, checked_substitution}
+use Rattle.lra_mapped_systems.specs.Crates.{lra_canonical.Echelons.IsEchelonExcess, lra_linear_spec.Descriptions.LinearRow, lra_linear_spec.Descriptions.lines_of, lra_linear_spec.Descriptions.rays_of}
+use Rattle.lra_mapped_systems.specs.Crates.{lra_linear_spec.Echelon.IsEchelonOf, lra_linear_spec.SetOperations.assigned, lra_linear_spec.Vectors.substituted, lra_row.Rows.IsExcessOf}
+use Rattle.lra_mapped_systems.specs.Crates.{lra_row.declared.error.RowError.RowError, lra_row.declared.error.RowError.TheVariants.Excess, lra_row.declared.error.RowError.TheVariants.Memory}
+use Rattle.lra_mapped_systems.proofs.Crates.lra_linear_spec.Membership.{contains_head}
 use Rattle.lra_systems.specs.LinearSystems.{rows_by_kind}
 use Rattle.lra_systems.proofs.FirstMembers.{front, given_split, member}
 use Rattle.lra_description_pair.specs.OwnLists.{AnyReductionExcess}

@@ -2,12 +2,13 @@
 use Rattle.std.proofs.Common.{◌≡◌, ℕ, zero, suc, ◌<◌, ◌≤◌, ◌+◌, Bool, true, List, [], ◌∷◌, ◌++◌, append_assoc, add-one, length, map, take, get_or, ap, refl, sym, ◌∙◌, subst, ℤ, pos, arith}
 use Rattle.std.proofs.{Math.Seq.take-suc, lemmas.List.length-append, lemmas.List.map-append, lemmas.List.take_all}
 use Rattle.std.specs.Prelude.{slice_set}
-use Rattle.lra_linear_spec.specs.{Descriptions.LinearRow, Descriptions.rows_as, Descriptions.line, Kinds.is_line, OperationStrain.as_directions, OperationStrain.unit_row, Vectors.behind_zero}
-use Rattle.lra_linear_spec.specs.{Vectors.cleared, Vectors.units, Vectors.zeros, declared.GenKind.GenKind, declared.GenKind.TheVariants.Line, declared.GenKind.TheVariants.Point}
-use Rattle.lra_linear_spec.proofs.Lines.{zeros_length}
+use Rattle.lra_mapped_systems.specs.Crates.lra_linear_spec.Descriptions.{LinearRow, rows_as, line}
+use Rattle.lra_mapped_systems.specs.Crates.lra_linear_spec.Vectors.{behind_zero, cleared, units, zeros}
+use Rattle.lra_mapped_systems.specs.Crates.{lra_linear_spec.Kinds.is_line, lra_linear_spec.OperationStrain.as_directions, lra_linear_spec.OperationStrain.unit_row}
+use Rattle.lra_mapped_systems.specs.Crates.{lra_linear_spec.declared.GenKind.GenKind, lra_linear_spec.declared.GenKind.TheVariants.Line, lra_linear_spec.declared.GenKind.TheVariants.Point}
+use Rattle.lra_mapped_systems.proofs.Crates.{lra_descriptions.SeveralKinds.fit_append, lra_descriptions.SeveralKinds.given_append, lra_linear_spec.Lines.zeros_length}
 use Rattle.lra_systems.specs.LinearSystems.{FitKinds, FitsKind, LinearSystem, generators, rows_by_kind}
 use Rattle.lra_systems.proofs.FirstMembers.{front, given_more, member}
-use Rattle.lra_descriptions.proofs.SeveralKinds.{fit_append, given_append}
 
 -- ---- one more
 pub many_more : {A B : Type 0} (xs more : List A) (ys also : List B) (x : A) (y : B) → length xs ≡ length ys →

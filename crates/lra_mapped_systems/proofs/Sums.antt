@@ -2,13 +2,14 @@
 use Rattle.std.proofs.Common.{◌≡◌, ℕ, ◌<◌, Bool, true, false, List, [], ◌∷◌, ◌++◌, length, map, drop, ap, refl, sym, ◌∙◌, subst, ℤ, pos, neg_ℤ, ◌+ℤ◌, ◌*ℤ◌, ◌<ℤ◌, ◌≤ℤ◌, arith}
 use Rattle.std.proofs.lemmas.Int.{ints}
 use Rattle.std.specs.List.{Contains}
-use Rattle.lra_linear_spec.specs.Vectors.{blend, entry, negated, sum_of, zeros}
-use Rattle.lra_linear_spec.specs.{Cones.Generated, Cones.with_row, Descriptions.LinearRow, Descriptions.line, Descriptions.system_of, Points.SamePoint}
-use Rattle.lra_linear_spec.proofs.Combinations.{generated_divided, generated_plus, generated_same, generated_times, generated_zero}
-use Rattle.lra_linear_spec.proofs.{Lines.entry_zeros, Lines.zeros_length, Membership.contains_head, Membership.contains_tail, Products.blend_length, Products.entry_blend, Products.entry_negated}
-use Rattle.lra_linear_spec.proofs.{Ring.ring, Ring.v, Ring.⊖, Ring.◌⊕◌, Ring.◌⊗◌, Signs.as_nat, Signs.positive_nat}
-use Rattle.lra_canonical.proofs.Solutions.{sum_none}
-use Rattle.lra_descriptions.proofs.SeveralKinds.{system_append}
+use Rattle.lra_mapped_systems.specs.Crates.lra_linear_spec.Descriptions.{LinearRow, line, system_of}
+use Rattle.lra_mapped_systems.specs.Crates.lra_linear_spec.Vectors.{blend, entry, negated, sum_of, zeros}
+use Rattle.lra_mapped_systems.specs.Crates.{lra_linear_spec.Cones.Generated, lra_linear_spec.Cones.with_row, lra_linear_spec.Points.SamePoint}
+use Rattle.lra_mapped_systems.proofs.Crates.lra_linear_spec.Combinations.{generated_divided, generated_plus, generated_same, generated_times, generated_zero}
+use Rattle.lra_mapped_systems.proofs.Crates.lra_linear_spec.Products.{blend_length, entry_blend, entry_negated}
+use Rattle.lra_mapped_systems.proofs.Crates.lra_linear_spec.Ring.{ring, v, ⊖, ◌⊕◌, ◌⊗◌}
+use Rattle.lra_mapped_systems.proofs.Crates.{lra_canonical.Solutions.sum_none, lra_descriptions.SeveralKinds.system_append, lra_linear_spec.Lines.entry_zeros, lra_linear_spec.Lines.zeros_length}
+use Rattle.lra_mapped_systems.proofs.Crates.{lra_linear_spec.Membership.contains_head, lra_linear_spec.Membership.contains_tail, lra_linear_spec.Signs.as_nat, lra_linear_spec.Signs.positive_nat}
 
 -- ---- joined lists
 sum_joined : (fs : List ℕ) (rows more : List (List ℤ)) (j : ℕ) →

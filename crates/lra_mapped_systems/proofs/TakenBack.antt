@@ -3,9 +3,11 @@
 use Rattle.std.proofs.Common.{◌≡◌, ◌≢◌, ℕ, zero, suc, ◌<◌, List, [], ◌∷◌, length, map, ap, refl, sym, ◌∙◌, subst, ℤ, pos, negsuc, neg_ℤ, ◌+ℤ◌, ◌*ℤ◌, ◌≤ℤ◌, arith, inl, inr}
 use Rattle.std.proofs.{lemmas.Bool.cases_eq, lemmas.List.length-set}
 use Rattle.std.specs.Prelude.{slice_set}
-use Rattle.lra_linear_spec.specs.{Cones.AreDual, SetOperations.assigned, Vectors.cleared, Vectors.dot, Vectors.entry, Vectors.negated, Vectors.product, Vectors.substituted}
-use Rattle.lra_linear_spec.proofs.Products.{blend_length, dot_same, entry_blend, entry_negated, entry_set_other, entry_set_same, negated_length, product_comm, row_same}
-use Rattle.lra_linear_spec.proofs.{Combinations.generated_same, Membership.map_from, Membership.map_has, Ring.ring, Ring.v, Ring.⊖, Ring.◌⊕◌, Ring.◌⊗◌, SetOperations.substituted_product}
+use Rattle.lra_mapped_systems.specs.Crates.lra_linear_spec.Vectors.{cleared, dot, entry, negated, product, substituted}
+use Rattle.lra_mapped_systems.specs.Crates.{lra_linear_spec.Cones.AreDual, lra_linear_spec.SetOperations.assigned}
+use Rattle.lra_mapped_systems.proofs.Crates.lra_linear_spec.Products.{blend_length, dot_same, entry_blend, entry_negated, entry_set_other, entry_set_same, negated_length, product_comm, row_same}
+use Rattle.lra_mapped_systems.proofs.Crates.{lra_linear_spec.Combinations.generated_same, lra_linear_spec.Membership.map_from, lra_linear_spec.Membership.map_has, lra_linear_spec.Ring.ring}
+use Rattle.lra_mapped_systems.proofs.Crates.{lra_linear_spec.Ring.v, lra_linear_spec.Ring.⊖, lra_linear_spec.Ring.◌⊕◌, lra_linear_spec.Ring.◌⊗◌, lra_linear_spec.SetOperations.substituted_product}
 use Rattle.lra_mapped_systems.specs.Moving.{IsInverse}
 use Rattle.lra_mapped_systems.proofs.Assigning.{assigning, assigning_linear, put, put_nothing, put_plus, put_same, set_entry}
 use Rattle.lra_mapped_systems.proofs.{MovedForms.IsReversible, Sums.IsLinear, Sums.generated_mapped}

@@ -1,10 +1,13 @@
 -- Rows formed of the rows of a list by a form: which are formed, and what is reported where a number passes in one.
 use Rattle.std.specs.List.{Contains}
 use Rattle.std.specs.Prelude.{◌≡◌, ◌⊎◌, ℕ, ℤ, List, [], ◌++◌, ◌∷◌, get_or, length, take, Option, IfNone, IfSome, Err}
-use Rattle.lra_linear_spec.specs.{CheckedArithmetic.checked_substitution, Descriptions.LinearRow, Kinds.is_equality}
-use Rattle.lra_linear_spec.specs.{OperationStrain.FormingPasses, OperationStrain.substituted_rows, Strain.Loss}
-use Rattle.lra_linear_spec.specs.{Vectors.substituted, declared.Cause.TheVariants.Excess, declared.ConKind.ConKind}
-use Rattle.lra_linear_spec.specs.declared.Excess as E
+use Rattle.lra_mapped_systems.specs.Crates.lra_linear_spec.CheckedArithmetic.{checked_substitution}
+use Rattle.lra_mapped_systems.specs.Crates.lra_linear_spec.OperationStrain.{FormingPasses, substituted_rows}
+use Rattle.lra_mapped_systems.specs.Crates.{lra_linear_spec.Descriptions.LinearRow, lra_linear_spec.Kinds.is_equality}
+use Rattle.lra_mapped_systems.specs.Crates.{lra_linear_spec.Strain.Loss, lra_linear_spec.Vectors.substituted}
+use Rattle.lra_mapped_systems.specs.Crates.{lra_linear_spec.declared.Cause.TheVariants.Excess}
+use Rattle.lra_mapped_systems.specs.Crates.{lra_linear_spec.declared.ConKind.ConKind}
+use Rattle.lra_mapped_systems.specs.Crates.lra_linear_spec.declared.Excess as E
 use Rattle.lra_systems.specs.LinearSystems.{LinearSystem, constraints, rows_by_kind}
 
 -- the loss of the row at the place of a list, with those before it taken, where this number passes

@@ -1,17 +1,20 @@
 -- Assignments that can be inverted, and the canonical lists that are made of a polyhedron's by one.
 use Rattle.std.specs.List.{Contains}
 use Rattle.std.specs.Prelude.{◌≡◌, ◌≢◌, ◌⊎◌, ℕ, suc, ◌<◌, ℤ, pos, negsuc, neg_ℤ, ◌*ℤ◌, List, length, map, Err}
-use Rattle.lra_linear_spec.specs.declared.Excess as E
-use Rattle.lra_linear_spec.specs.CheckedArithmetic.{checked_product, checked_substitution}
-use Rattle.lra_linear_spec.specs.Descriptions.{Con, LinearRow, lines_of, rays_of}
-use Rattle.lra_linear_spec.specs.Vectors.{entry, substituted}
-use Rattle.lra_linear_spec.specs.{Echelon.IsEchelonOf, Points.IsEmptySet, Polyhedra.Polyhedron, SetOperations.assigned}
-use Rattle.lra_linear_spec.specs.{declared.ConKind.ConKind, declared.GenKind.GenKind}
+use Rattle.lra_mapped_systems.specs.Crates.lra_linear_spec.declared.Excess as E
+use Rattle.lra_mapped_systems.specs.Crates.lra_canonical.Echelons.{HaveWidth, IsEchelonExcess}
+use Rattle.lra_mapped_systems.specs.Crates.lra_descriptions.ShownLists.{ShowsConstraints, ShowsGenerators}
+use Rattle.lra_mapped_systems.specs.Crates.lra_linear_spec.CheckedArithmetic.{checked_product, checked_substitution}
+use Rattle.lra_mapped_systems.specs.Crates.lra_linear_spec.Descriptions.{Con, LinearRow, lines_of, rays_of}
+use Rattle.lra_mapped_systems.specs.Crates.lra_linear_spec.Echelon.{IsEchelonOf}
+use Rattle.lra_mapped_systems.specs.Crates.lra_linear_spec.Polyhedra.{Polyhedron}
+use Rattle.lra_mapped_systems.specs.Crates.lra_linear_spec.Vectors.{entry, substituted}
+use Rattle.lra_mapped_systems.specs.Crates.lra_row.declared.error.RowError.TheVariants.{Excess, Memory}
+use Rattle.lra_mapped_systems.specs.Crates.{lra_linear_spec.Points.IsEmptySet, lra_linear_spec.SetOperations.assigned}
+use Rattle.lra_mapped_systems.specs.Crates.{lra_linear_spec.declared.ConKind.ConKind}
+use Rattle.lra_mapped_systems.specs.Crates.{lra_linear_spec.declared.GenKind.GenKind}
+use Rattle.lra_mapped_systems.specs.Crates.{lra_row.declared.error.RowError.RowError}
 use Rattle.lra_systems.specs.LinearSystems.{LinearSystem}
-use Rattle.lra_row.specs.declared.error.RowError.{RowError}
-use Rattle.lra_row.specs.declared.error.RowError.TheVariants.{Excess, Memory}
-use Rattle.lra_canonical.specs.Echelons.{HaveWidth, IsEchelonExcess}
-use Rattle.lra_descriptions.specs.ShownLists.{ShowsConstraints, ShowsGenerators}
 use Rattle.lra_description_pair.specs.OwnLists.{AnyReductionExcess, AreReducedBy}
 
 -- The form f has 1 or -1 at column k, and g takes it back: where column k has the value of f, the value of g is what

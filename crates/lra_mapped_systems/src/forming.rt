@@ -2,19 +2,19 @@
 
 ghost use Rattle.std.specs.List.{Contains};
 ghost use Rattle.std.specs.Prelude.{◌≡◌, ◌<◌, ◌+◌, suc, take, length, IfOk, IfErr, IfNone, IfSome, OnOk};
-ghost use Rattle.lra_linear_spec.specs.CheckedArithmetic.{checked_product, checked_substitution};
-ghost use Rattle.lra_linear_spec.specs.OperationStrain.{FormingPasses, mapped, substituted_rows};
-ghost use Rattle.lra_linear_spec.specs.{Descriptions.LinearRow, Kinds.is_equality, SetOperations.assigned};
-ghost use Rattle.lra_row.specs.Rows.{IsExcessOf};
+ghost use Rattle.lra_mapped_systems.specs.Crates.lra_linear_spec.CheckedArithmetic.{checked_product};
+ghost use Rattle.lra_mapped_systems.specs.Crates.lra_linear_spec.CheckedArithmetic.{checked_substitution};
+ghost use Rattle.lra_mapped_systems.specs.Crates.lra_linear_spec.Kinds.{is_equality};
+ghost use Rattle.lra_mapped_systems.specs.Crates.lra_linear_spec.OperationStrain.{FormingPasses, mapped};
+ghost use Rattle.lra_mapped_systems.specs.Crates.lra_linear_spec.OperationStrain.{substituted_rows};
+ghost use Rattle.lra_mapped_systems.specs.Crates.{lra_linear_spec.Descriptions.LinearRow};
+ghost use Rattle.lra_mapped_systems.specs.Crates.{lra_linear_spec.SetOperations.assigned, lra_row.Rows.IsExcessOf};
 ghost use Rattle.lra_systems.specs.Dimensions.{too_many_dimensions};
 ghost use Rattle.lra_systems.specs.LinearSystems.{constraints, generators, rows_by_kind, FitKinds};
 ghost use Rattle.lra_mapped_systems.specs.Forming.{AllFormed, AreFormed, IsLossAt};
 
-use lra_cone::Loss;
-use lra_descriptions::dual_rows;
-use lra_linear_spec::{Cause, Excess};
-use lra_row::{Row, RowError};
-use lra_systems::{ConSys, GenSys, TOO_MANY_DIMENSIONS};
+use lra_description_pair::{Loss, dual_rows};
+use lra_systems::{Cause, ConSys, Excess, GenSys, Row, RowError, TOO_MANY_DIMENSIONS};
 use std::alloc::{AllocError, Global};
 
 // The first rows of the list.

@@ -2,14 +2,14 @@
 
 ghost use Rattle.std.specs.Prelude.{◌≡◌, ◌++◌, ◌∷◌, [], ◌<◌, ◌≤◌, ◌+◌, suc, take, length, map, List, ℤ, pos, true};
 ghost use Rattle.std.specs.Prelude.{IfOk};
-ghost use Rattle.lra_linear_spec.specs.OperationStrain.{as_directions, shortened, unit_row};
-ghost use Rattle.lra_linear_spec.specs.Vectors.{cleared, entry, units, zeros};
-ghost use Rattle.lra_linear_spec.specs.{Descriptions.rows_as, Descriptions.line, Kinds.is_line};
+ghost use Rattle.lra_mapped_systems.specs.Crates.lra_linear_spec.Descriptions.{rows_as, line};
+ghost use Rattle.lra_mapped_systems.specs.Crates.lra_linear_spec.Kinds.{is_line};
+ghost use Rattle.lra_mapped_systems.specs.Crates.lra_linear_spec.OperationStrain.{as_directions, shortened, unit_row};
+ghost use Rattle.lra_mapped_systems.specs.Crates.lra_linear_spec.Vectors.{cleared, entry, units, zeros};
 ghost use Rattle.lra_systems.specs.Dimensions.{too_many_dimensions};
 ghost use Rattle.lra_systems.specs.LinearSystems.{generators, FitKinds, FitsKind};
 
-use lra_row::Row;
-use lra_systems::{GenKind, GenSys, TOO_MANY_DIMENSIONS, unit};
+use lra_systems::{GenKind, GenSys, Row, TOO_MANY_DIMENSIONS, unit};
 use std::alloc::{AllocError, Global};
 
 /// The generators, then a line along a dimension.

@@ -3,11 +3,13 @@
 ghost use Rattle.std.specs.List.{Contains};
 ghost use Rattle.std.specs.Prelude.{◌≡◌, ◌↔◌, ◌<◌, ◌++◌, ◌∷◌, [], IsTrue, cond, suc, pos, negsuc, map, length};
 ghost use Rattle.std.specs.Prelude.{slice_set, Err, IfErr, IfOk, IfSome, IfNone, OnOk};
-ghost use Rattle.lra_canonical.specs.Echelons.{HaveWidth};
-ghost use Rattle.lra_linear_spec.specs.CheckedArithmetic.{checked_product, checked_substitution};
-ghost use Rattle.lra_linear_spec.specs.Descriptions.{LinearRow, lines_of, rays_of};
-ghost use Rattle.lra_linear_spec.specs.Vectors.{entry, negated, substituted};
-ghost use Rattle.lra_linear_spec.specs.{Echelon.IsEchelonOf, SetOperations.assigned};
+ghost use Rattle.lra_mapped_systems.specs.Crates.lra_canonical.Echelons.{HaveWidth};
+ghost use Rattle.lra_mapped_systems.specs.Crates.lra_linear_spec.CheckedArithmetic.{checked_product};
+ghost use Rattle.lra_mapped_systems.specs.Crates.lra_linear_spec.CheckedArithmetic.{checked_substitution};
+ghost use Rattle.lra_mapped_systems.specs.Crates.lra_linear_spec.Descriptions.{LinearRow, lines_of, rays_of};
+ghost use Rattle.lra_mapped_systems.specs.Crates.lra_linear_spec.Echelon.{IsEchelonOf};
+ghost use Rattle.lra_mapped_systems.specs.Crates.lra_linear_spec.SetOperations.{assigned};
+ghost use Rattle.lra_mapped_systems.specs.Crates.lra_linear_spec.Vectors.{entry, negated, substituted};
 ghost use Rattle.lra_mapped_systems.specs.Moving.{IsInverse, IsSubstitutedList, IsAssignedList, AssignmentPasses};
 ghost use Rattle.lra_mapped_systems.specs.Moving.{CanonicalPasses, HasUnit, OnExcess, SubstitutionPasses};
 ghost use Rattle.lra_description_pair.specs.OwnLists.{AreReducedBy};
@@ -15,11 +17,8 @@ ghost use Rattle.lra_systems.specs.Dimensions.{too_many_dimensions};
 ghost use Rattle.lra_systems.specs.LinearSystems.{constraints, generators};
 
 use crate::forming::assign_row;
-use lra_canonical::echelon;
-use lra_description_pair::{Own, all_reduced};
-use lra_descriptions::{constraint_list, generator_list};
-use lra_row::{Row, RowError};
-use lra_systems::{ConSys, GenSys, unit};
+use lra_description_pair::{Own, all_reduced, constraint_list, echelon, generator_list};
+use lra_systems::{ConSys, GenSys, Row, RowError, unit};
 use std::alloc::{AllocError, Global};
 
 fn is_one(row: &Row, column: usize) -> bool

@@ -2,9 +2,9 @@
 use Rattle.std.proofs.Common.{◌≡◌, ℕ, suc, ℤ, pos, Bool, List, [], ◌∷◌, length, Option, refl, ap, sym, ◌∙◌, subst, arith}
 use Rattle.std.proofs.lemmas.List.Elements.{All-contains}
 use Rattle.std.specs.{List.All, List.AllByRecursion, Prelude.◌&&◌, Prelude.int_le}
-use Rattle.lra_linear_spec.specs.{Descriptions.rows_of, Kinds.is_equality, declared.ConKind.ConKind}
-use Rattle.lra_linear_spec.proofs.ListPlaces.{by_recursion}
-use Rattle.lra_systems.specs.LinearSystems.{LinearSystem, constraints, rows_by_kind}
+use Rattle.lra_multipliers.specs.Crates.lra_systems.LinearSystems.{LinearSystem, constraints, rows_by_kind}
+use Rattle.lra_multipliers.specs.Crates.{lra_linear_spec.Descriptions.rows_of, lra_linear_spec.Kinds.is_equality, lra_linear_spec.declared.ConKind.ConKind}
+use Rattle.lra_multipliers.proofs.Crates.lra_linear_spec.ListPlaces.{by_recursion}
 use Rattle.lra_multipliers.specs.Columns.{column_agrees, ColumnsTell, kinds_show, answer_told}
 use Rattle.lra_multipliers.specs.Multipliers.{Multipliers, Answer, IsAnswer, may_show, checked}
 use Rattle.lra_multipliers.proofs.{CheckLoops.kinds_signed_is, CheckSteps.AreWide, CheckSteps.checked_told, CheckSteps.checked_exact}

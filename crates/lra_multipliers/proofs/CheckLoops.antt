@@ -3,8 +3,8 @@ use Rattle.std.proofs.Common.{◌≡◌, ℕ, ◌<◌, ◌≤◌, ◌+◌, ℤ, 
 use Rattle.std.proofs.lemmas.List.{drop_more, drop_all, append-nil, get_or_default}
 use Rattle.std.proofs.{Common.length-drop, lemmas.Bool.Decides.Decides-int_eq, lemmas.List.Elements.All-get_or, lemmas.List.Elements.All-from_recursion}
 use Rattle.std.specs.{List.AllByRecursion, Ordering.int_eq, Prelude.◌&&◌, Prelude.option_and_then, Prelude.if◌then◌else◌}
-use Rattle.lra_linear_spec.specs.{Kinds.is_equality, Range.InRange, Vectors.entry, declared.ConKind.ConKind, declared.ConKind.TheVariants.Ge}
-use Rattle.lra_systems.specs.LinearSystems.{rows_by_kind}
+use Rattle.lra_multipliers.specs.Crates.{lra_linear_spec.Kinds.is_equality, lra_linear_spec.Range.InRange, lra_linear_spec.Vectors.entry, lra_linear_spec.declared.ConKind.ConKind}
+use Rattle.lra_multipliers.specs.Crates.{lra_linear_spec.declared.ConKind.TheVariants.Ge, lra_systems.LinearSystems.rows_by_kind}
 use Rattle.lra_multipliers.specs.{Columns.added_to, Columns.column_sum, Columns.kinds_signed, Columns.used_from, Multipliers.is_signed, Multipliers.are_signed}
 use Rattle.lra_multipliers.proofs.CheckSteps.{zero_leaves, added_in}
 

@@ -1,15 +1,19 @@
 -- What the check answers, reported from its columns.
 use Rattle.std.proofs.Common.{◌≡◌, ℕ, zero, suc, ◌<◌, ◌≤◌, ◌+◌, ℤ, pos, ◌+ℤ◌, ◌*ℤ◌, ◌<ℤ◌, ◌≤ℤ◌, Bool, true, false, cond, List, [], ◌∷◌, length, Option, Some, None, Result, Ok, Err, refl, ap, sym, ◌∙◌}
 use Rattle.std.proofs.Common.{subst, arith, inl, inr, ◌⊎◌, nat_eq, FitsSigned, to_z, of_z}
+use Rattle.std.proofs.lemmas.Bool.{false_from_ne_true}
 use Rattle.std.proofs.lemmas.Bool.Decides.{nat_tests, Decides-int_eq, Decides-and, Decides-like, Decides-eqb, same_from_decides}
 use Rattle.std.proofs.{Math.IntN.+ℤ_idl, Math.IntN.+ℤ_idr, Math.IntN.+ℤ_assoc, lemmas.Bool.cases_lt, lemmas.Int.ints, lemmas.Int.to_z-of_z, lemmas.Option.same_Some, lemmas.Option.none-some}
 use Rattle.std.specs.Prelude.{if◌then◌else◌, int_le, ◌&&◌, option_and_then, IfSome}
 use Rattle.std.specs.{Bool.Decides, Cmp.Lexicographic.pointwise, Cmp.Rules.signed_items, Int.w128, List.AllByRecursion, Option.SomeIff, Ordering.int_eq}
-use Rattle.std.proofs.lemmas.Bool.{false_from_ne_true}
 use borrow.Author.Count.{below_more}
-use Rattle.lra_linear_spec.specs.{CheckedArithmetic.checked_added_entry, CheckedArithmetic.checked_added, CheckedArithmetic.then_rest, CheckedArithmetic.and_then, Descriptions.LinearRow}
-use Rattle.lra_linear_spec.specs.{Descriptions.rows_of, Polyhedra.positivity, Range.InRange, Range.in_range, Vectors.entry, Vectors.zeros, Vectors.signed_sum, declared.Excess.Excess}
-use Rattle.lra_linear_spec.proofs.{CheckedArithmetic.in_range_yes, CheckedArithmetic.in_range_no, Lines.entry_zeros, Products.entry_past, Products.row_same, Ring.ring, Ring.v, Ring.◌⊕◌, Ring.◌⊗◌}
+use Rattle.lra_multipliers.specs.Crates.lra_linear_spec.CheckedArithmetic.{checked_added_entry, checked_added, then_rest, and_then}
+use Rattle.lra_multipliers.specs.Crates.lra_linear_spec.Descriptions.{LinearRow, rows_of}
+use Rattle.lra_multipliers.specs.Crates.lra_linear_spec.Vectors.{entry, zeros, signed_sum}
+use Rattle.lra_multipliers.specs.Crates.{lra_linear_spec.Polyhedra.positivity, lra_linear_spec.Range.InRange, lra_linear_spec.Range.in_range, lra_linear_spec.declared.Excess.Excess}
+use Rattle.lra_multipliers.proofs.Crates.lra_linear_spec.CheckedArithmetic.{in_range_yes, in_range_no}
+use Rattle.lra_multipliers.proofs.Crates.lra_linear_spec.Products.{entry_past, row_same}
+use Rattle.lra_multipliers.proofs.Crates.{lra_linear_spec.Lines.entry_zeros, lra_linear_spec.Ring.ring, lra_linear_spec.Ring.v, lra_linear_spec.Ring.◌⊕◌, lra_linear_spec.Ring.◌⊗◌}
 use Rattle.lra_multipliers.specs.Columns.{within_range, added_to, column_sum, first_of, premises_column, both, column_agrees, AgreeBelow, ColumnsTell, answer_told}
 use Rattle.lra_multipliers.specs.Multipliers.{Multipliers, IsSigned, AreSigned, IsFarkasCertificate, checked_multiple, checked_sum, premises_sum, IsCheckWide, wide, IsAnswer, is_signed, are_signed}
 use Rattle.lra_multipliers.specs.{Multipliers.may_show, Multipliers.shown_if, Multipliers.compared, Multipliers.checked, Symbols.constant_row}

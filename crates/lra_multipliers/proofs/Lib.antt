@@ -4,3 +4,5 @@ pub mod CheckLoops
 pub mod CheckAnswers
 pub mod ShownRows
 pub mod ListedKinds
+-- The crates below
+pub mod Crates

@@ -1,7 +1,6 @@
 -- A list of rows has as many kinds.
 use Rattle.std.proofs.Common.{◌≡◌, ◌+◌, ◌++◌, ℕ, ℤ, List, [], ◌∷◌, length, ap, sym, ◌∙◌, length-append}
-use Rattle.lra_linear_spec.specs.declared.ConKind.{ConKind}
-use Rattle.lra_systems.specs.LinearSystems.{LinearSystem}
+use Rattle.lra_multipliers.specs.Crates.{lra_linear_spec.declared.ConKind.ConKind, lra_systems.LinearSystems.LinearSystem}
 
 pub kinds_pushed : (old new : LinearSystem ConKind) (row : List ℤ) (kind : ConKind) → length old.kinds ≡ length old.rows → new.rows ≡ old.rows ++ row ∷ [] →
     new.kinds ≡ old.kinds ++ kind ∷ [] → length new.kinds ≡ length new.rows

@@ -1,10 +1,13 @@
 -- What multipliers show: where the premises hold, the claim does.
 use Rattle.std.proofs.Common.{◌≡◌, ℕ, ◌<◌, ℤ, pos, ◌+ℤ◌, ◌*ℤ◌, ◌<ℤ◌, ◌≤ℤ◌, Bool, true, false, List, [], ◌∷◌, length, ap, sym, ◌∙◌, subst, arith}
 use Rattle.std.proofs.lemmas.Int.{ints}
-use Rattle.lra_linear_spec.specs.Descriptions.{LinearRow, rows_of, HoldsWith, Con}
-use Rattle.lra_linear_spec.specs.{Polyhedra.positivity, Vectors.entry, Vectors.dot, Vectors.product, Vectors.signed_sum}
-use Rattle.lra_linear_spec.proofs.{Membership.contains_head, Membership.contains_tail, OneSpelling.positivity_product, Products.dot_same, Products.dot_zero, Products.dot_plus, Products.dot_scale}
-use Rattle.lra_linear_spec.proofs.{Products.product_comm, Ring.ring, Ring.v, Ring.◌⊗◌, Ring.mul_nonnegative, Signs.as_nat, Signs.add_nonnegative, Signs.divide_nonnegative, Signs.zero_at_least}
+use Rattle.lra_multipliers.specs.Crates.lra_linear_spec.Descriptions.{LinearRow, rows_of, HoldsWith, Con}
+use Rattle.lra_multipliers.specs.Crates.lra_linear_spec.Polyhedra.{positivity}
+use Rattle.lra_multipliers.specs.Crates.lra_linear_spec.Vectors.{entry, dot, product, signed_sum}
+use Rattle.lra_multipliers.proofs.Crates.lra_linear_spec.Products.{dot_same, dot_zero, dot_plus, dot_scale, product_comm}
+use Rattle.lra_multipliers.proofs.Crates.lra_linear_spec.Ring.{ring, v, ◌⊗◌, mul_nonnegative}
+use Rattle.lra_multipliers.proofs.Crates.lra_linear_spec.Signs.{as_nat, add_nonnegative, divide_nonnegative, zero_at_least}
+use Rattle.lra_multipliers.proofs.Crates.{lra_linear_spec.Membership.contains_head, lra_linear_spec.Membership.contains_tail, lra_linear_spec.OneSpelling.positivity_product}
 use Rattle.lra_multipliers.specs.Multipliers.{Multipliers, IsSigned, AreSigned, IsFarkasCertificate}
 
 times_held : (b : Bool) (l z : ℤ) → IsSigned b l → HoldsWith b z → pos 0 ≤ℤ (l *ℤ z)

@@ -2,7 +2,8 @@
 use Rattle.std.specs.Ordering.{int_eq}
 use Rattle.std.specs.Prelude.{◌≡◌, ◌<◌, ℕ, zero, suc, ◌+◌, ℤ, pos, ◌+ℤ◌, ◌*ℤ◌, Bool, true, false, ◌&&◌, List, [], ◌∷◌}
 use Rattle.std.specs.Prelude.{Option, Some, None, if◌then◌else◌, option_and_then, int_le}
-use Rattle.lra_linear_spec.specs.{Kinds.is_equality, Range.in_range, Vectors.entry, declared.ConKind.ConKind}
+use Rattle.lra_multipliers.specs.Crates.{lra_linear_spec.Kinds.is_equality, lra_linear_spec.Range.in_range}
+use Rattle.lra_multipliers.specs.Crates.{lra_linear_spec.Vectors.entry, lra_linear_spec.declared.ConKind.ConKind}
 use Rattle.lra_multipliers.specs.Multipliers.{Multipliers, Answer, wide, is_signed, shown_if}
 
 -- a number of the range

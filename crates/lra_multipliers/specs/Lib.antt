@@ -3,3 +3,5 @@ pub mod Symbols
 pub mod Multipliers
 pub mod Columns
 pub mod MultiplierViews
+-- The crates below
+pub mod Crates

@@ -2,9 +2,10 @@
 use Rattle.std.specs.Prelude.{◌≡◌, ◌⊎◌, ℕ, ℤ, pos, ◌+ℤ◌, ◌*ℤ◌, ◌≤ℤ◌, ◌<ℤ◌, Bool, true, false, ⊤, List, [], ◌∷◌, length}
 use Rattle.std.specs.Prelude.{Result, Ok, Err, int_le, ◌&&◌}
 use Rattle.std.specs.{Cmp.Lexicographic.pointwise, Ordering.int_eq}
-use Rattle.lra_linear_spec.specs.Vectors.{entry, zeros, signed_sum, product}
-use Rattle.lra_linear_spec.specs.{CheckedArithmetic.checked_added, CheckedArithmetic.and_then, Descriptions.LinearRow}
-use Rattle.lra_linear_spec.specs.{Descriptions.rows_of, Descriptions.Con, Polyhedra.positivity, declared.Excess.Excess}
+use Rattle.lra_multipliers.specs.Crates.lra_linear_spec.CheckedArithmetic.{checked_added, and_then}
+use Rattle.lra_multipliers.specs.Crates.lra_linear_spec.Descriptions.{LinearRow, rows_of, Con}
+use Rattle.lra_multipliers.specs.Crates.lra_linear_spec.Vectors.{entry, zeros, signed_sum, product}
+use Rattle.lra_multipliers.specs.Crates.{lra_linear_spec.Polyhedra.positivity, lra_linear_spec.declared.Excess.Excess}
 use Rattle.lra_multipliers.specs.Symbols.{constant_row}
 
 -- of the claim, of 1 >= 0, and of each premise

@@ -2,9 +2,10 @@
 -- for each value of which nothing is reported. Column 0 of a row is its constant. All rows of a path have one width.
 use Rattle.std.specs.List.{range_with_len}
 use Rattle.std.specs.Prelude.{ℕ, suc, ◌+◌, ◌-◌, ℤ, pos, List, [], ◌∷◌, ◌++◌, map, length, take, slice_set, Result, Ok}
-use Rattle.lra_linear_spec.specs.CheckedArithmetic.{checked_added, and_then}
-use Rattle.lra_linear_spec.specs.{Descriptions.LinearRow, Kinds.is_equality, Vectors.zeros, declared.Excess.Excess}
-use Rattle.lra_linear_forms.specs.Form.{form_row}
+use Rattle.lra_multipliers.specs.Crates.lra_linear_spec.CheckedArithmetic.{checked_added, and_then}
+use Rattle.lra_multipliers.specs.Crates.lra_linear_spec.Kinds.{is_equality}
+use Rattle.lra_multipliers.specs.Crates.{lra_linear_forms.Form.form_row, lra_linear_spec.Descriptions.LinearRow}
+use Rattle.lra_multipliers.specs.Crates.{lra_linear_spec.Vectors.zeros, lra_linear_spec.declared.Excess.Excess}
 use Rattle.lra_domain.specs.Actions.{Action, assign, forget, test, embed, remove_last}
 
 -- the row of one symbol, and those of so many, from this column on

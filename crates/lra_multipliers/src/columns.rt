@@ -2,17 +2,15 @@
 
 ghost use Rattle.std.specs.List.{All};
 ghost use Rattle.std.specs.Prelude.{◌≡◌, ◌<◌, length, suc, ◌*ℤ◌, IfSome};
-ghost use Rattle.lra_linear_spec.specs.{Kinds.is_equality, Range.InRange};
-ghost use Rattle.lra_systems.specs.LinearSystems.{constraints};
+ghost use Rattle.lra_multipliers.specs.Crates.lra_systems.LinearSystems.{constraints};
+ghost use Rattle.lra_multipliers.specs.Crates.{lra_linear_spec.Kinds.is_equality, lra_linear_spec.Range.InRange};
 ghost use Rattle.lra_multipliers.specs.Columns.{added_to, column_sum, column_agrees, ColumnsTell, first_of};
 ghost use Rattle.lra_multipliers.specs.Columns.{kinds_signed, kinds_show, answer_told, used_from, within_range};
 ghost use Rattle.lra_multipliers.specs.MultiplierViews.{answer_view, multipliers_view};
 ghost use Rattle.lra_multipliers.specs.Multipliers.{IsAnswer, is_signed, checked};
 
 use crate::multipliers::Multipliers;
-use lra_linear_spec::ConKind;
-use lra_row::{Row, add, mul};
-use lra_systems::ConSys;
+use lra_domain::{ConKind, ConSys, Row, add, mul};
 
 /// The answer of a check; `Wide` where a product or a partial sum passes the range.
 #[derive(Clone, Copy, Debug, PartialEq, Eq)]

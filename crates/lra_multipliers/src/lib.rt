@@ -10,4 +10,5 @@ mod multipliers;
 
 pub use columns::{Answer, check};
 pub use laws::multipliers_show;
+pub use lra_domain::{Change, ConKind, ConSys, LinExpr};
 pub use multipliers::Multipliers;

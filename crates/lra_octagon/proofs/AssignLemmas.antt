@@ -5,7 +5,7 @@ use Rattle.std.proofs.{Math.ListN.length-set, lemmas.Bool.Decides.eqb_tells, lem
 use Rattle.std.specs.{List.All, Prelude.◌==◌, Prelude.◌-ℤ◌, Prelude.neg_ℤ, Prelude.slice_set, Prelude.slice_index_or}
 use Rattle.lra_linear_spec.specs.{Range.InRange, Vectors.entry, Vectors.product}
 use Rattle.lra_linear_spec.proofs.Products.{entry_set_same}
-use Rattle.lra_linear_forms.specs.Form.{Form, form_value}
+use Rattle.lra_octagon.specs.Crates.lra_linear_forms.Form.{Form, form_value}
 use Rattle.lra_domain.specs.{Abstraction.TransfersTo, Actions.assign, declared.Exactness.Exactness, declared.Exactness.TheVariants.Exact, declared.Exactness.TheVariants.Flagged}
 use Rattle.lra_box.specs.Bounds.{form, full_interval, InInterval, EndsInRange, end_sum, SumPasses, IsBound}
 use Rattle.lra_box.specs.declared.interval.Side.TheVariants.{Low, High}

@@ -15,3 +15,5 @@ pub mod PartLemmas
 pub mod MeanLemmas
 pub mod RowLemmas
 pub mod LeastLemmas
+-- The crates below
+pub mod Crates

@@ -2,7 +2,7 @@
 use Rattle.std.proofs.Common.{◌≡◌, ◌≢◌, ◌<◌, ℕ, ℤ, List, Bool, Option, IsTrue, inl, inr, refl, sym, subst}
 use Rattle.std.specs.Prelude.{◌⊎◌}
 use Rattle.lra_linear_spec.specs.declared.ConKind.{ConKind}
-use Rattle.lra_linear_forms.specs.Form.{Form}
+use Rattle.lra_octagon.specs.Crates.lra_linear_forms.Form.{Form}
 use Rattle.lra_domain.specs.{Abstraction.TransfersTo, Actions.assign, Actions.test, declared.Exactness.Exactness, declared.Exactness.TheVariants.Exact}
 use Rattle.lra_dbm.specs.Cells.{Cells}
 use Rattle.lra_octagon.specs.{Abstraction.octagon_abstraction, Content.CellsFit, Content.content, Content.has_store, Forms.shape, Least.IsTightOrNone, Single.one_tests, Tables.Tests}

@@ -5,7 +5,7 @@ use Rattle.std.proofs.{Math.ListN.length-set, lemmas.Bool.false≢true, lemmas.B
 use Rattle.std.proofs.{lemmas.List.get_or-replicate, lemmas.List.Elements.All-cons, lemmas.List.Elements.All-nil}
 use Rattle.std.specs.{Cmp.signed_Decides, List.All, Prelude.◌==◌, Prelude.◌-ℤ◌, Prelude.◌≤ℤ◌, Prelude.neg_ℤ, Prelude.slice_set, Prelude.slice_index_or}
 use Rattle.lra_linear_spec.specs.{Vectors.entry, Vectors.product, declared.ConKind.ConKind, declared.ConKind.TheVariants.Ge, declared.ConKind.TheVariants.Eq}
-use Rattle.lra_systems.specs.LinearSystems.{LinearSystem}
+use Rattle.lra_octagon.specs.Crates.lra_systems.LinearSystems.{LinearSystem}
 use Rattle.lra_domain.specs.Parts.{SomePartHolds}
 use Rattle.lra_box.proofs.PartLemmas.{AllHold, hold_append, rows_hold, product_zeros, times_one, one_times, minus_times}
 use Rattle.lra_dbm.specs.{Cells.Cells, Cells.entries, Entry.◌⊑◌, Entry.half_of, Tight.Entries, Tight.opposite, Tight.with_sign, Tight.signed_value, Tight.IsStore}

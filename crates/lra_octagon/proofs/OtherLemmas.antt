@@ -3,7 +3,7 @@ use Rattle.std.proofs.Common.{◌≡◌, ℕ, zero, suc, ◌+◌, ◌-◌, ◌<�
 use Rattle.std.proofs.lemmas.Bool.{false≢true}
 use Rattle.std.specs.Prelude.{◌≤ℤ◌, ◌+ℤ◌, int_lt, slice_index_or, slice_set}
 use Rattle.lra_linear_spec.specs.Vectors.{product}
-use Rattle.lra_linear_forms.specs.Form.{Form, form_value}
+use Rattle.lra_octagon.specs.Crates.lra_linear_forms.Form.{Form, form_value}
 use Rattle.lra_domain.specs.{declared.Exactness.Exactness, declared.Exactness.TheVariants.Exact, declared.Exactness.TheVariants.Flagged}
 use Rattle.lra_box.specs.Refine.{others_most, place_refined, refine_place, refined, some_occurs, ge_tested, RefinePasses}
 use Rattle.lra_box.specs.Tables.{IntervalWithin, IntervalsWithin, BoundsWithin as IntervalBoundsWithin}

@@ -3,7 +3,7 @@ use Rattle.std.proofs.Common.{◌≡◌, ℕ, zero, suc, ◌+◌, ◌-◌, ◌*�
 use Rattle.std.proofs.{Common.arith, Common.append_assoc, Common.IfSome, lemmas.Int.ints, lemmas.List.append-nil, lemmas.List.Elements.All-cons}
 use Rattle.std.specs.{Int.int_div_euclid, List.All, Prelude.◌==◌, Prelude.slice_set}
 use Rattle.lra_linear_spec.specs.{Range.InRange, declared.ConKind.ConKind, declared.ConKind.TheVariants.Ge, declared.ConKind.TheVariants.Eq}
-use Rattle.lra_systems.specs.LinearSystems.{LinearSystem}
+use Rattle.lra_octagon.specs.Crates.lra_systems.LinearSystems.{LinearSystem}
 use Rattle.lra_linear_spec.proofs.UnitRows.{set_in_range, zeros_in_range}
 use Rattle.lra_box.proofs.PartLemmas.{kinds_append}
 use Rattle.lra_dbm.specs.{Cells.Cells, Cells.entries, Cells.IsMatrix, Entry.half_of, Entry.EntryInRange, Tight.Entries, Tight.opposite, Tight.with_sign}

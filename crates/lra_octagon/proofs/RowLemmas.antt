@@ -1,11 +1,10 @@
 -- The rows of an octagon are in order, and are exactly its bounds.
 use Rattle.std.proofs.Common.{◌≡◌, ◌≢◌, ℕ, zero, suc, ◌+◌, ◌-◌, ◌*◌, ◌/◌, ◌<◌, ◌≤◌, Bool, true, false, cond, ℤ, pos, negsuc, ◌<ℤ◌, List, [], ◌∷◌, ◌++◌, length, replicate, Option, None, Some, ◌⊎◌, inl}
 use Rattle.std.proofs.Common.{inr, ◌↔◌, refl, sym, ap, subst, ◌∙◌, arith}
-use Rattle.std.proofs.lemmas.List.Elements.{Contains-append_cases, Contains-append_left, Contains-append_right}
+use Rattle.std.proofs.{lemmas.Bool.false_from_ne_true, lemmas.List.Elements.Contains-append_cases, lemmas.List.Elements.Contains-append_left, lemmas.List.Elements.Contains-append_right}
 use Rattle.std.proofs.{Math.ListN.length-set, lemmas.Bool.false≢true, lemmas.Bool.Decides.eqb_tells, lemmas.Bool.Decides.leb_tells, lemmas.Int.ints, lemmas.List.length-replicate}
 use Rattle.std.specs.{Cmp.int_cmp_is, Cmp.signed_Decides, Cmp.Lexicographic.slice_cmp, List.Contains, Ordering.int_cmp, Ordering.int_eq, Ordering.ordering_then, Prelude.if◌then◌else◌, Prelude.◌+ℤ◌}
 use Rattle.std.specs.{Prelude.◌≤ℤ◌, Prelude.neg_ℤ, Prelude.int_le, Prelude.slice_set, declared.cmp.Ordering.Ordering, declared.cmp.Ordering.TheVariants.Less, declared.cmp.Ordering.TheVariants.Equal}
-use Rattle.std.proofs.lemmas.Bool.{false_from_ne_true}
 use Rattle.lra_linear_spec.specs.RowOrder.{Ascends, inequality_cmp}
 use Rattle.lra_linear_spec.specs.{Echelon.lead_from, Echelon.pivot, Vectors.entry, declared.ConKind.ConKind, declared.ConKind.TheVariants.Ge, declared.ConKind.TheVariants.Eq}
 use Rattle.lra_linear_spec.proofs.{Membership.contains_cases, Membership.contains_none, Products.entry_set_other, Products.entry_set_same}

@@ -3,8 +3,8 @@ use Rattle.std.proofs.Common.{◌≡◌, ℕ, zero, suc, ◌*◌, ◌<◌, inl, 
 use Rattle.std.proofs.{lemmas.Bool.false≢true, lemmas.Int.ints}
 use Rattle.std.specs.{Int.int_div_euclid, Prelude.◌-ℤ◌, Prelude.◌≤ℤ◌, Prelude.neg_ℤ, Prelude.int_lt, Prelude.◌⊎◌}
 use Rattle.lra_linear_spec.specs.{Vectors.product, declared.ConKind.TheVariants.Ge, declared.ConKind.TheVariants.Eq}
-use Rattle.lra_linear_forms.specs.Form.{Form, form_value}
-use Rattle.lra_linear_forms.proofs.FormLemmas.{product_negated}
+use Rattle.lra_octagon.specs.Crates.lra_linear_forms.Form.{Form, form_value}
+use Rattle.lra_octagon.proofs.Crates.lra_linear_forms.FormLemmas.{product_negated}
 use Rattle.lra_domain.specs.{Abstraction.TransfersTo, Actions.test, declared.Exactness.Exactness, declared.Exactness.TheVariants.Exact, declared.Exactness.TheVariants.Flagged}
 use Rattle.lra_box.specs.{Bounds.full_interval, Bounds.form, Refine.ge_tested, declared.interval.Interval.Interval}
 use Rattle.lra_box.proofs.RefineLemmas.{tightened_holds}

@@ -5,7 +5,7 @@ use Rattle.std.proofs.{Math.ListN.length-set, lemmas.Bool.Decides.eqb_tells, lem
 use Rattle.std.specs.Prelude.{◌==◌, ◌||◌, ◌-ℤ◌, ◌≤ℤ◌, ◌⊎◌, neg_ℤ, int_lt, nat_lt, slice_set}
 use Rattle.lra_linear_spec.specs.{Vectors.entry, declared.ConKind.ConKind, declared.ConKind.TheVariants.Ge, declared.ConKind.TheVariants.Eq}
 use Rattle.lra_linear_spec.proofs.{CheckedArithmetic.in_range_yes, Products.entry_set_same}
-use Rattle.lra_linear_forms.specs.Form.{Form}
+use Rattle.lra_octagon.specs.Crates.lra_linear_forms.Form.{Form}
 use Rattle.lra_domain.specs.{Actions.Action, Actions.ActionFits, Actions.assign, Actions.forget, Actions.test, Actions.embed, Actions.remove_last, Bounds.greater}
 use Rattle.lra_box.specs.{Refine.ge_tested, declared.interval.Interval.Interval}
 use Rattle.lra_dbm.specs.Cells.{Cells, IsMatrix, entered, entries, first_entries, forgotten, outside}

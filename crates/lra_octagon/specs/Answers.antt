@@ -1,6 +1,6 @@
 -- What a test `e >= 0` answers, and an assignment.
 use Rattle.std.specs.Prelude.{◌≡◌, ℕ, ℤ, pos, ◌≤ℤ◌, List, slice_set, Option, None, Some}
-use Rattle.lra_linear_forms.specs.Form.{Form, form_value}
+use Rattle.lra_octagon.specs.Crates.lra_linear_forms.Form.{Form, form_value}
 use Rattle.lra_domain.specs.declared.Exactness.{Exactness}
 use Rattle.lra_domain.specs.declared.Exactness.TheVariants.{Exact, Flagged}
 use Rattle.lra_dbm.specs.{Cells.Cells, Cells.entries, Cells.IsMatrix, Tight.IsStore}

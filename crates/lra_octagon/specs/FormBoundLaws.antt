@@ -4,7 +4,7 @@ use Rattle.std.proofs.Common.{cond, Option, None, Some, refl, sym, ap, subst, ar
 use Rattle.std.proofs.lemmas.Int.{ints}
 use Rattle.std.specs.Prelude.{◌-ℤ◌, neg_ℤ}
 use Rattle.lra_linear_spec.specs.{Range.in_range, Vectors.product}
-use Rattle.lra_linear_forms.specs.Form.{Form, form_value}
+use Rattle.lra_octagon.specs.Crates.lra_linear_forms.Form.{Form, form_value}
 use Rattle.lra_domain.specs.Bounds.{IsLowerBound, IsBetween, IsUpperBound}
 use Rattle.lra_dbm.specs.Tight.{Entries, IsStore, opposite, signed_value}
 use Rattle.lra_dbm.specs.{Cells.Cells, Cells.entries, Entry.◌⊑◌}

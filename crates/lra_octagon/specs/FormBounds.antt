@@ -3,7 +3,7 @@
 -- over boxes. An infinite entry says nothing, nor does a number that passes the range.
 use Rattle.std.specs.Option.{option_map}
 use Rattle.std.specs.Prelude.{◌≡◌, ℕ, zero, suc, ℤ, neg_ℤ, Option, None, Some}
-use Rattle.lra_linear_forms.specs.Form.{Form}
+use Rattle.lra_octagon.specs.Crates.lra_linear_forms.Form.{Form}
 use Rattle.lra_dbm.specs.{Cells.Cells, Cells.entries, Entry.◌⊞◌, Entry.within_range, Tight.Entries, Tight.opposite}
 use Rattle.lra_box.specs.{Ends.IsEnd, declared.interval.Side.TheVariants.Low, declared.interval.Side.TheVariants.High}
 use Rattle.lra_octagon.specs.declared.forms.FormShape.TheVariants.{Constant, One, Two, Other}

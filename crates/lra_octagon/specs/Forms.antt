@@ -1,6 +1,6 @@
 -- Linear forms, by the variables that occur in them.
 use Rattle.std.specs.Prelude.{ℕ, suc, zero, ◌+◌, ◌*◌, ◌<◌, ◌^◌, ◌==◌, cond, ℤ, pos, negsuc, List, [], ◌∷◌}
-use Rattle.lra_linear_forms.specs.Form.{Form}
+use Rattle.lra_octagon.specs.Crates.lra_linear_forms.Form.{Form}
 use Rattle.lra_dbm.specs.Tight.{opposite}
 use Rattle.lra_octagon.specs.declared.forms.FormShape.{FormShape}
 use Rattle.lra_octagon.specs.declared.forms.FormShape.TheVariants.{Constant, One, Two, Other}

@@ -2,7 +2,7 @@
 use Rattle.std.proofs.Common.{◌≡◌, ◌≢◌, ℕ, ◌≤◌, ℤ, List, [], length, Option, None, Some, refl, ap, sym, subst, ◌∙◌}
 use Rattle.std.proofs.Common.{arith}
 use Rattle.lra_domain.specs.{Actions.Within, Laws.Laws, Laws.BaseLaws}
-use Rattle.lra_linear_forms.specs.Form.{Form}
+use Rattle.lra_octagon.specs.Crates.lra_linear_forms.Form.{Form}
 use Rattle.lra_dbm.specs.Cells.{Cells, entries}
 use Rattle.lra_dbm.proofs.Closures.{same_closure, closure_below, same_entries_cells, all_are_stores, within_stores}
 use Rattle.lra_dbm.proofs.PointwiseLemmas.{within_refl, within_trans, greater_within}

@@ -16,3 +16,5 @@ pub mod Abstraction
 pub mod Least
 pub mod Laws
 pub mod Single
+-- The crates below
+pub mod Crates

@@ -4,7 +4,7 @@
 use Rattle.std.specs.Prelude.{◌≡◌, ℕ, zero, suc, ◌+◌, ◌*◌, ◌-◌, ◌/◌, ◌==◌, Bool, false, if◌then◌else◌, cond, ℤ, pos}
 use Rattle.std.specs.Prelude.{neg_ℤ, ◌+ℤ◌, int_le, List, [], ◌∷◌, ◌++◌, length, replicate, slice_set, Option, None}
 use Rattle.std.specs.{Ordering.int_eq, Prelude.Some}
-use Rattle.lra_systems.specs.LinearSystems.{LinearSystem}
+use Rattle.lra_octagon.specs.Crates.lra_systems.LinearSystems.{LinearSystem}
 use Rattle.lra_linear_spec.specs.declared.ConKind.{ConKind}
 use Rattle.lra_linear_spec.specs.declared.ConKind.TheVariants.{Ge, Eq}
 use Rattle.lra_dbm.specs.{Cells.Cells, Cells.entries, Tight.Entries, Tight.opposite, Tight.with_sign}

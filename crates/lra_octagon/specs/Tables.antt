@@ -3,7 +3,7 @@ use Rattle.std.specs.Prelude.{◌≡◌, ℕ, zero, suc, ◌+◌, ◌-◌, ◌*�
 use Rattle.std.specs.Prelude.{◌≤ℤ◌, ◌<ℤ◌, ◌^◌, Bool, true, false, if◌then◌else◌, List, [], ◌∷◌, map, length, replicate}
 use Rattle.std.specs.Prelude.{slice_set, slice_index_or, Option, None, Some, ◌⊎◌}
 use Rattle.std.specs.{Int.int_div_euclid, Option.option_map}
-use Rattle.lra_linear_forms.specs.Form.{Form}
+use Rattle.lra_octagon.specs.Crates.lra_linear_forms.Form.{Form}
 use Rattle.lra_linear_spec.specs.declared.ConKind.{ConKind}
 use Rattle.lra_linear_spec.specs.declared.ConKind.TheVariants.{Ge, Eq}
 use Rattle.lra_dbm.specs.Cells.{Cells, entries, entered, forgotten, first_entries, IsMatrix}

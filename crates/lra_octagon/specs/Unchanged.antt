@@ -1,6 +1,6 @@
 -- Tests that lower no entry: of a tight matrix they are the matrix itself.
 use Rattle.std.specs.Prelude.{ℕ, ℤ, pos, ◌+ℤ◌, ◌≤ℤ◌, Some}
-use Rattle.lra_linear_forms.specs.Form.{Form}
+use Rattle.lra_octagon.specs.Crates.lra_linear_forms.Form.{Form}
 use Rattle.lra_dbm.specs.{Cells.Cells, Cells.entries, Entry.◌⊑◌, Tight.opposite}
 use Rattle.lra_octagon.specs.declared.forms.FormShape.TheVariants.{Constant, One, Two, Other}
 use Rattle.lra_octagon.specs.{Tables.quotient, declared.forms.FormShape.FormShape}

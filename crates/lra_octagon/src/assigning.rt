@@ -15,8 +15,7 @@ use crate::forms::{FormShape, classify};
 use crate::unary::{close_within, intervals_of};
 use lra_box::{Interval, Side, sum_end, wide_row};
 use lra_dbm::Dbm;
-use lra_domain::{Exactness, worse};
-use lra_linear_forms::LinExpr;
+use lra_domain::{Exactness, LinExpr, worse};
 use std::alloc::{AllocError, Global};
 
 /// What an assignment to `x` does: `x` becomes another variable's signed variable plus the constant, or itself plus the

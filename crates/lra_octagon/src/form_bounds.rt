@@ -12,9 +12,8 @@ use crate::bounds::Bounds;
 use crate::forms::{FormShape, with_coefficient};
 use crate::unary::{interval_of, most};
 use lra_box::{Side, plus_end};
-use lra_dbm::{Dbm, opposite};
-use lra_linear_forms::LinExpr;
-use lra_row::add;
+use lra_dbm::{Dbm, add, opposite};
+use lra_domain::LinExpr;
 
 /// The shape of the form with these coefficients.
 pub(crate) fn shape_of_form(coefficients: &[i64]) -> FormShape

@@ -14,4 +14,7 @@ mod tightness;
 mod unary;
 
 pub use law::{exact_octagons_are_tight, octagon_rows_are_bounds};
+pub use lra_box::Boxes;
+pub use lra_domain::Domain;
+pub use lra_linear_spec::ConKind;
 pub use octagon::Octagon;

@@ -13,9 +13,9 @@ use crate::form_bounds::bounds_of;
 use crate::parts::parts_of;
 use crate::testing::test_in;
 use crate::tightness::{assignment_closes, makes_tight, passes_all, test_closes};
-use lra_domain::{BaseDomain, Domain, ExactParts, Exactness, Grown, Included, Mode, Rank};
-use lra_linear_forms::{LinExpr, Test};
-use lra_systems::ConSys;
+use lra_domain::{
+    BaseDomain, ConSys, Domain, ExactParts, Exactness, Grown, Included, LinExpr, Mode, Rank, Test,
+};
 use std::alloc::{AllocError, Global};
 use std::marker::Model;
 

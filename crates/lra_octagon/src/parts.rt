@@ -12,9 +12,8 @@ ghost use Rattle.lra_octagon.specs.{Content.matrix_view, Content.DimsFit, Tables
 use crate::bounds::Bounds;
 use crate::unary::most;
 use lra_dbm::{Dbm, opposite};
+use lra_domain::{ConSys, Row};
 use lra_linear_spec::ConKind;
-use lra_row::Row;
-use lra_systems::ConSys;
 use std::alloc::{AllocError, Global};
 
 /// The coefficient of a signed variable.

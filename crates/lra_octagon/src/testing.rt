@@ -17,8 +17,7 @@ use crate::forms::{FormShape, classify};
 use crate::unary::{close_within, intervals_of, some_crossed};
 use lra_box::{Interval, opposite_row, refine_all, wide_row};
 use lra_dbm::Dbm;
-use lra_domain::{Exactness, worse};
-use lra_linear_forms::Test;
+use lra_domain::{Exactness, Test, worse};
 use lra_linear_spec::ConKind;
 use std::alloc::{AllocError, Global};
 

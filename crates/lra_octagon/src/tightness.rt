@@ -2,7 +2,7 @@
 
 ghost use Rattle.std.specs.Prelude.{◌≡◌, ◌≢◌, ◌≤◌, ◌<◌, ◌*◌, ◌^◌, ◌⊎◌, length, unsigned_abs, Bool, Some, IsTrue};
 ghost use Rattle.lra_domain.specs.declared.Exactness.TheVariants.{Exact};
-ghost use Rattle.lra_linear_forms.specs.Form.{Form};
+ghost use Rattle.lra_octagon.specs.Crates.lra_linear_forms.Form.{Form};
 ghost use Rattle.lra_dbm.specs.Cells.{IsMatrix};
 ghost use Rattle.lra_octagon.specs.Content.{matrix_view, CellsFit, DimsFit};
 ghost use Rattle.lra_octagon.specs.Forms.{ShapeFits, opposite_shape, shape};
@@ -16,8 +16,7 @@ use crate::form_bounds::shape_of_form;
 use crate::forms::FormShape;
 use crate::testing::quotient;
 use lra_dbm::{Dbm, opposite};
-use lra_domain::Exactness;
-use lra_linear_forms::{LinExpr, Test};
+use lra_domain::{Exactness, LinExpr, Test};
 use lra_linear_spec::ConKind;
 
 /// The shape of the opposite form.

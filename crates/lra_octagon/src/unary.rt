@@ -10,9 +10,8 @@ ghost use Rattle.lra_octagon.specs.Tables.{most, interval, intervals, upper_of, 
 
 use crate::bounds::{Bounds, close};
 use lra_box::{Interval, is_crossed};
-use lra_dbm::{Dbm, opposite};
+use lra_dbm::{Dbm, add, opposite};
 use lra_domain::{Exactness, worse};
-use lra_row::add;
 use std::alloc::{AllocError, Global};
 
 /// The greatest value of the signed variable that the matrix allows, rounded down.

@@ -1,7 +1,7 @@
 -- The arms that run after a label are those trees, one after the other.
 use Rattle.std.proofs.Common.{◌≡◌, ℕ, Bool, true, false, ◌++◌, Option, inl, inr, refl, ap}
 use Rattle.std.specs.Prelude.{cond}
-use Rattle.lra_base.specs.{CaseLabels.is_same_case, declared.case_labels.CaseLabel.CaseLabel, declared.number_types.NumberType.NumberType}
+use Rattle.lra_operations.specs.Crates.{lra_base.CaseLabels.is_same_case, lra_base.declared.case_labels.CaseLabel.CaseLabel, lra_base.declared.number_types.NumberType.NumberType}
 use Rattle.lra_program.specs.{Step.State, Traces.Trace}
 use Rattle.lra_operations.specs.CheckedOperations.{computing_ops, computing_ops_in_arms, fresh_after}
 use Rattle.lra_operations.specs.{Traces.RunExtent, Traces.to_end, Traces.stopped, Traces.RunsUpTo, Traces.ArmsRunUpTo, Tree.Node, Tree.empty, Tree.seq, Tree.Arms, Tree.no_arms, Tree.entry, Tree.arm}

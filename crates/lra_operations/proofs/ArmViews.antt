@@ -1,7 +1,7 @@
 -- Arms of a `switch` as they are seen: each is a label or a tree, before those after it.
 use Rattle.std.proofs.Common.{rules, ◌≡◌, ◌∙◌, ◌∷◌, [], List, Bool, false, map, ap, sym}
 use Rattle.std.specs.{List.list_any, Prelude.◌||◌}
-use Rattle.lra_base.specs.{CaseLabels.is_same_case, declared.case_labels.CaseLabel.CaseLabel, declared.case_labels.CaseLabel.TheVariants.Default}
+use Rattle.lra_operations.specs.Crates.{lra_base.CaseLabels.is_same_case, lra_base.declared.case_labels.CaseLabel.CaseLabel, lra_base.declared.case_labels.CaseLabel.TheVariants.Default}
 use Rattle.lra_operations.specs.{Tree.Arms, Tree.no_arms, Tree.entry, Tree.arm, Tree.entries_of, TreeViews.ArmPart, TreeViews.node_view, TreeViews.arm_view, TreeViews.arms_of, declared.tree.Arm.Arm}
 use Rattle.lra_operations.specs.{declared.tree.Arm.TheVariants.Entry, declared.tree.Arm.TheVariants.Tree, declared.tree.Node.Node, declared.tree.Node.the_lemmas}
 

@@ -7,3 +7,5 @@ pub mod TraceUses
 pub mod ArmViews
 pub mod ArmRows
 mod TraceExamples
+-- The crates below
+pub mod Crates

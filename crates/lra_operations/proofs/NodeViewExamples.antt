@@ -4,7 +4,7 @@ use Rattle.lra_operations.specs.declared.tree.Node.{Node, Seq, Select, the_lemma
 use Rattle.lra_operations.specs.{TreeViews.node_view, TreeViews.row, TreeViews.arm_view, TreeViews.arms_of, declared.tree.Arm.Arm}
 use Rattle.lra_operations.specs.Tree as graph
 use Rattle.lra_program.specs.{ProgramViews.expr_view, declared.program.Expr.Expr}
-use Rattle.lra_base.specs.declared.case_labels.CaseLabel.{CaseLabel}
+use Rattle.lra_operations.specs.Crates.lra_base.declared.case_labels.CaseLabel.{CaseLabel}
 
 -- trees one after the other nest to the right
 seq_view : (gs : Vec Node Global) (last : Box Node Global) → node_view (Seq gs last) ≡ row (map node_view gs.items) (node_view last.value)

@@ -6,7 +6,7 @@ use Rattle.lra_operations.specs.{declared.tree.Arm.Arm, declared.tree.Node.Node,
 use Rattle.lra_operations.specs.declared.tree.Node.TheVariants as at
 use Rattle.lra_operations.specs.declared.tree.Arm.TheVariants as of
 use Rattle.lra_program.specs.{declared.program.Cond.Cond, declared.program.Expr.Expr}
-use Rattle.lra_base.specs.declared.case_labels.CaseLabel.{CaseLabel}
+use Rattle.lra_operations.specs.Crates.lra_base.declared.case_labels.CaseLabel.{CaseLabel}
 
 abbrev wholes : Vec Node Global → ℕ
 wholes gs = sum_by (λ (g : ℕ × ℕ). g.0) (map sizes gs.items)

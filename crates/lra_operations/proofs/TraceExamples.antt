@@ -1,7 +1,8 @@
 -- Traces of small trees.
 use Rattle.std.proofs.Common.{ℕ, suc, ℤ, pos, [], ◌∷◌, false, inl, inr, refl}
-use Rattle.lra_base.specs.declared.case_labels.CaseLabel.TheVariants.{Case, Default}
-use Rattle.lra_base.specs.{Operators.plus, Operators.below, declared.number_types.NumberType.TheVariants.Int, declared.number_types.NumberType.TheVariants.Long}
+use Rattle.lra_operations.specs.Crates.lra_base.Operators.{plus, below}
+use Rattle.lra_operations.specs.Crates.lra_base.declared.case_labels.CaseLabel.TheVariants.{Case, Default}
+use Rattle.lra_operations.specs.Crates.lra_base.declared.number_types.NumberType.TheVariants.{Int, Long}
 use Rattle.lra_program.specs.Program.{Variable, Cond, literal, read, binary, compare, local}
 use Rattle.lra_program.specs.{Receivers.variable_at, Step.State, Step.store_value, Traces.visit, Traces.Trace, Traces.NoChange}
 use Rattle.lra_operations.specs.Traces.{to_point, to_failure, to_end, stopped, RunsUpTo}

@@ -1,6 +1,6 @@
 -- Laws for the use of trees' traces: points by other names, and what was met before.
 use Rattle.std.proofs.Common.{◌≡◌, ℕ, zero, suc, List, [], ◌∷◌, ◌++◌, map, Bool, true, false, ◌||◌, inl, inr, refl, sym, ap, ◌∙◌, subst, append_assoc}
-use Rattle.lra_base.specs.{CaseLabels.is_same_case, declared.case_labels.CaseLabel.CaseLabel}
+use Rattle.lra_operations.specs.Crates.{lra_base.CaseLabels.is_same_case, lra_base.declared.case_labels.CaseLabel.CaseLabel}
 use Rattle.lra_program.specs.{Program.Expr, Program.Cond, Step.State, Step.Op, Step.test, Traces.TraceEvent, Traces.visit, Traces.Trace}
 use Rattle.lra_operations.specs.Traces.{by_jump, RunExtent, to_end, stopped, RunsUpTo, ArmsRunUpTo, Finds, VisitsAndTests, TrailRounds, Performs, VisitsPoint}
 use Rattle.lra_operations.specs.Tree.{Node, empty, probe, point, act, check, seq, choose, iterate, catch, leave, select, Arms, no_arms, entry, arm}

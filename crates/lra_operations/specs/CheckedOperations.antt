@@ -3,7 +3,7 @@
 -- variable, so it is reported with that variable's type.
 use Rattle.std.specs.List.{Contains}
 use Rattle.std.specs.Prelude.{◌≡◌, ℕ, List, [], ◌∷◌, ◌++◌, Option, None, Some, Bool, true, if◌then◌else◌, slice_get}
-use Rattle.lra_base.specs.declared.number_types.NumberType.{NumberType}
+use Rattle.lra_operations.specs.Crates.lra_base.declared.number_types.NumberType.{NumberType}
 use Rattle.lra_program.specs.Accesses.{op_accesses_any, OpOutOfBounds}
 use Rattle.lra_program.specs.Step.{State, Op, append, fill, store_value, store_element, havoc, push, push_for}
 use Rattle.lra_program.specs.Step.{truncate_to, test, run_op, Config}

@@ -12,7 +12,8 @@ use Rattle.lra_program.specs.Step.{Op, append, fill, store_value, store_element,
 use Rattle.lra_program.specs.Step.{test, CallContext, ReturnFrame, arguments_for, main_receiver}
 use Rattle.lra_program.specs.Value.{index_of, Argument}
 use Rattle.lra_program.specs.{Sites.Site, declared.arrays.Array.Array, declared.receivers.Receiver.Receiver}
-use Rattle.lra_base.specs.{declared.case_labels.CaseLabel.CaseLabel, declared.number_types.NumberType.NumberType}
+use Rattle.lra_operations.specs.Crates.lra_base.declared.case_labels.CaseLabel.{CaseLabel}
+use Rattle.lra_operations.specs.Crates.lra_base.declared.number_types.NumberType.{NumberType}
 use Rattle.lra_operations.specs.Tree.{broken, continued, returned, Node, empty, point, act, check, seq, choose, iterate}
 use Rattle.lra_operations.specs.Tree.{catch, leave, select, Arms, no_arms, entry, arm}
 

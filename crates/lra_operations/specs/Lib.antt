@@ -8,3 +8,5 @@ pub mod CheckedOperations
 pub mod TreeViews
 pub mod Sizes
 pub mod Parts
+-- The crates below
+pub mod Crates

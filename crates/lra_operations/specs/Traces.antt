@@ -1,7 +1,8 @@
 -- Runs of trees with what they meet. `name` is what a point's number stands for in a trace; whenever the run is at a
 -- point the state may change, as `may` says.
 use Rattle.std.specs.Prelude.{◌≡◌, ◌≢◌, ℕ, zero, suc, ◌∷◌, Bool, Some, true, false, ◌||◌, ◌⊎◌}
-use Rattle.lra_base.specs.{CaseLabels.is_same_case, declared.case_labels.CaseLabel.CaseLabel}
+use Rattle.lra_operations.specs.Crates.lra_base.CaseLabels.{is_same_case}
+use Rattle.lra_operations.specs.Crates.lra_base.declared.case_labels.CaseLabel.{CaseLabel}
 use Rattle.lra_program.specs.Step.{State, Op, run_op, test}
 use Rattle.lra_program.specs.{Program.Expr, Program.Cond, Traces.Trace, Traces.visit}
 use Rattle.lra_operations.specs.Tree.{Exit, Node, empty, probe, point, act, check, seq, choose, iterate, catch, leave}

@@ -1,7 +1,8 @@
 -- A program with its calls written out, as a tree of operations, and the runs of such a tree.
 -- Points are numbered from 0 here; a report's numbers are one more.
 use Rattle.std.specs.Prelude.{◌≡◌, ◌≢◌, ℕ, zero, suc, ℤ, List, [], ◌∷◌, Some, Bool, true, false, ◌||◌, ◌⊎◌}
-use Rattle.lra_base.specs.{CaseLabels.is_same_case, CaseLabels.goal_of, declared.case_labels.CaseLabel.CaseLabel}
+use Rattle.lra_operations.specs.Crates.lra_base.CaseLabels.{is_same_case, goal_of}
+use Rattle.lra_operations.specs.Crates.lra_base.declared.case_labels.CaseLabel.{CaseLabel}
 use Rattle.lra_operations.specs.declared.probes.Probe.{Probe}
 use Rattle.lra_program.specs.Step.{State, environment_at, Op, run_op, test}
 use Rattle.lra_program.specs.{Program.Expr, Program.Cond, Value.value_of}

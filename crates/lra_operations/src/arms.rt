@@ -1,11 +1,12 @@
 //! The labels among a `switch`'s arms.
 
 ghost use Rattle.std.specs.{List.list_any, Prelude.◌≡◌, Prelude.◌||◌, Prelude.map};
-ghost use Rattle.lra_base.specs.{CaseLabels.is_same_case, declared.case_labels.CaseLabel.TheVariants.Default};
+ghost use Rattle.lra_operations.specs.Crates.lra_base.CaseLabels.{is_same_case};
+ghost use Rattle.lra_operations.specs.Crates.lra_base.declared.case_labels.CaseLabel.TheVariants.{Default};
 ghost use Rattle.lra_operations.specs.{Tree.Arms, Tree.entries_of, TreeViews.arm_view, TreeViews.arms_of};
 
 use crate::Arm;
-use lra_base::CaseLabel;
+use lra_program::CaseLabel;
 
 fn names_default(label: &CaseLabel) -> bool
     ensures { result ≡ is_same_case Default label.now }

@@ -9,8 +9,7 @@ ghost use Rattle.lra_operations.specs.TreeViews.{op_view, exit_view, node_view, 
 ghost use Rattle.lra_program.specs.ProgramViews.{expr_view, element_view, cond_view};
 
 use crate::{Arm, Exit, Node, Op};
-use lra_base::NumberType;
-use lra_program::{Cond, Element, Expr, Receiver, pair_arguments};
+use lra_program::{Cond, Element, Expr, NumberType, Receiver, pair_arguments};
 use std::alloc::{AllocError, Global};
 
 /// The one, then the other.

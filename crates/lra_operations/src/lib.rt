@@ -9,5 +9,8 @@ mod probes;
 mod tree;
 
 pub use arms::any_default;
+pub use lra_program::{
+    CaseLabel, Cell, Cond, Expr, GlobalVariable, Operation, Program, Slot, SourceError,
+};
 pub use probes::Probe;
 pub use tree::{Arm, ArmParts, Exit, InlinedProgram, Node, Op, Parts, Path, Site};

@@ -5,8 +5,7 @@ ghost use Rattle.lra_operations.specs.{Parts.whole_of, Parts.whole_arm_of, Sizes
 ghost use Rattle.lra_operations.specs.declared.tree.Arm.TheVariants as arm;
 
 use crate::probes::Probe;
-use lra_base::{CaseLabel, NumberType};
-use lra_program::{Argument, Array, Cond, Element, Expr, Receiver};
+use lra_program::{Argument, Array, CaseLabel, Cond, Element, Expr, NumberType, Receiver};
 use std::alloc::{AllocError, Global};
 use std::marker::Model;
 use std::mem;

@@ -1,10 +1,10 @@
 -- Those of which something is asked are among all that is done in a tree, in their order.
 use Rattle.std.proofs.Common.{◌≡◌, ◌∙◌, ℕ, List, ◌++◌, Option, None, Bool, true, filter, refl, sym, ap}
 use Rattle.std.proofs.lemmas.List.Elements.{filter-append}
-use Rattle.lra_base.specs.declared.number_types.NumberType.{NumberType}
-use Rattle.lra_program.specs.{Receivers.nobody, Step.Op, Step.store_value, Step.test}
-use Rattle.lra_operations.specs.CheckedOperations.{OpAtPoint, op_where, ops_where, ops_where_in_arms, fresh_after}
-use Rattle.lra_operations.specs.Tree.{Node, empty, probe, point, act, check, seq, choose, iterate, catch, leave, select, Arms, no_arms, entry, arm}
+use Rattle.lra_operations_list.specs.Crates.lra_operations.CheckedOperations.{OpAtPoint, op_where, ops_where, ops_where_in_arms, fresh_after}
+use Rattle.lra_operations_list.specs.Crates.lra_operations.Tree.{Node, empty, probe, point, act, check, seq, choose, iterate, catch, leave, select, Arms, no_arms, entry, arm}
+use Rattle.lra_operations_list.specs.Crates.lra_program.Step.{Op, store_value, test}
+use Rattle.lra_operations_list.specs.Crates.{lra_base.declared.number_types.NumberType.NumberType, lra_program.Receivers.nobody}
 use Rattle.lra_operations_list.specs.TreeOperations.{done_of, done_in, done_in_arms}
 
 module _ (asks : Op → Bool) where

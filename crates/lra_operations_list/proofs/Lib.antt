@@ -1,2 +1,4 @@
 pub mod TreeSteps
 pub mod Filtered
+-- The crates below
+pub mod Crates

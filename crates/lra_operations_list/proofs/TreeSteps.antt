@@ -3,20 +3,23 @@ use Rattle.std.proofs.Common.{rules, Box, Vec, Global, ◌≡◌, ◌∙◌, ℕ
 use Rattle.std.proofs.{lemmas.List.append-nil, lemmas.List.Sums.sum_by-cons, lemmas.List.Sums.sum_by_push, lemmas.Result.IfOk-weaker, lemmas.Result.on_ok_weaker}
 use Rattle.std.specs.Prelude as outcome
 use Rattle.std.specs.{List.sum_by, Prelude.IfOk, Prelude.OnOk}
-use Rattle.lra_base.specs.{declared.case_labels.CaseLabel.CaseLabel, declared.number_types.NumberType.NumberType}
-use Rattle.lra_program.specs.{ProgramViews.cond_view, ProgramViews.expr_view, Receivers.nobody, Step.store_value, Step.test, declared.program.Cond.Cond, declared.program.Expr.Expr}
-use Rattle.lra_operations.specs.Tree.{Node, empty, point, act, check, seq, choose, iterate, catch, leave, select, Arms, no_arms, entry, arm}
-use Rattle.lra_operations.specs.TreeViews.{exit_view, node_view, op_view, row, ArmPart, arm_view, arms_of}
-use Rattle.lra_operations.specs.{CheckedOperations.OpAtPoint, CheckedOperations.fresh_after, CheckedOperations.fresh_of, Sizes.sizes, Sizes.whole_size, Sizes.arm_sizes, Sizes.arms_tree_sizes}
-use Rattle.lra_operations.specs.{declared.tree.Arm.Arm, declared.tree.Arm.TheVariants.Entry, declared.tree.Arm.TheVariants.Tree, declared.tree.Node.the_lemmas as node_lemmas}
+use Rattle.lra_operations_list.specs.Crates.lra_operations.CheckedOperations.{OpAtPoint, fresh_after, fresh_of}
+use Rattle.lra_operations_list.specs.Crates.lra_operations.Sizes.{sizes, whole_size, arm_sizes, arms_tree_sizes}
+use Rattle.lra_operations_list.specs.Crates.lra_operations.Tree.{Node, empty, point, act, check, seq, choose, iterate, catch, leave, select, Arms, no_arms, entry, arm}
+use Rattle.lra_operations_list.specs.Crates.lra_operations.TreeViews.{exit_view, node_view, op_view, row, ArmPart, arm_view, arms_of}
+use Rattle.lra_operations_list.specs.Crates.lra_operations.declared.tree.Node.{the_lemmas as node_lemmas}
+use Rattle.lra_operations_list.specs.Crates.lra_program.ProgramViews.{cond_view, expr_view}
+use Rattle.lra_operations_list.specs.Crates.{lra_base.declared.case_labels.CaseLabel.CaseLabel, lra_base.declared.number_types.NumberType.NumberType, lra_operations.declared.tree.Arm.Arm}
+use Rattle.lra_operations_list.specs.Crates.{lra_operations.declared.tree.Arm.TheVariants.Entry, lra_operations.declared.tree.Arm.TheVariants.Tree, lra_program.Receivers.nobody}
+use Rattle.lra_operations_list.specs.Crates.{lra_program.Step.store_value, lra_program.Step.test, lra_program.declared.program.Cond.Cond, lra_program.declared.program.Expr.Expr}
 use Rattle.lra_operations_list.specs.Due.{due_view, due_before, all_due, apart_before, due_size, all_left, fresh_at, own_done, own_of, trees_of, IsOnWay, IsOpened}
 use Rattle.lra_operations_list.specs.{TreeOperations.done_of, TreeOperations.done_in, TreeOperations.done_in_arms, declared.trees.Due.Due}
-use Rattle.lra_operations.specs.declared.tree.Exit as declared_exit
-use Rattle.lra_operations.specs.declared.tree.Node as declared
-use Rattle.lra_operations.specs.declared.tree.Op as declared_op
-use Rattle.lra_operations.specs.declared.tree.Node.TheVariants as at
+use Rattle.lra_operations_list.specs.Crates.lra_operations.declared.tree.Exit as declared_exit
+use Rattle.lra_operations_list.specs.Crates.lra_operations.declared.tree.Node as declared
+use Rattle.lra_operations_list.specs.Crates.lra_operations.declared.tree.Op as declared_op
+use Rattle.lra_operations_list.specs.Crates.lra_operations.declared.tree.Node.TheVariants as at
 use Rattle.lra_linearize.proofs.TreeViews.{act_view, catch_view, check_view, choose_view, empty_view, iterate_view, leave_view, point_view, select_view, seq_view}
-use Rattle.lra_operations.proofs.ArmViews.{arms_first, entry_view, tree_view}
+use Rattle.lra_operations_list.proofs.Crates.lra_operations.ArmViews.{arms_first, entry_view, tree_view}
 
 -- what is due ------------------------------------------------------------------------------------------------------------
 

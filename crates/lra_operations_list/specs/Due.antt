@@ -1,17 +1,19 @@
 -- What is still to be listed while a tree is gone along, and how far that is done.
 use Rattle.std.specs.List.{sum_by}
 use Rattle.std.specs.Prelude.{◌≡◌, ℕ, ◌+◌, ◌*◌, List, [], ◌∷◌, ◌++◌, map, Option, None, true}
-use Rattle.lra_base.specs.declared.number_types.NumberType.{NumberType}
-use Rattle.lra_program.specs.ProgramViews.{cond_view, expr_view}
-use Rattle.lra_program.specs.{Receivers.nobody, Step.store_value, Step.test}
-use Rattle.lra_operations.specs.Tree.{Node, empty, point, seq, Arms, no_arms, entry, arm}
-use Rattle.lra_operations.specs.TreeViews.{node_view, op_view, row, arm_view, arms_of}
-use Rattle.lra_operations.specs.declared.tree.Arm.TheOpen.{Arm-F, Node-F}
-use Rattle.lra_operations.specs.{CheckedOperations.OpAtPoint, CheckedOperations.fresh_of, Sizes.whole_size}
-use Rattle.lra_operations.specs.{Sizes.arm_sizes, Sizes.arms_tree_sizes, declared.tree.Arm.TheFolds.fold-Node}
+use Rattle.lra_operations_list.specs.Crates.lra_base.declared.number_types.NumberType.{NumberType}
+use Rattle.lra_operations_list.specs.Crates.lra_operations.CheckedOperations.{OpAtPoint, fresh_of}
+use Rattle.lra_operations_list.specs.Crates.lra_operations.Sizes.{whole_size, arm_sizes, arms_tree_sizes}
+use Rattle.lra_operations_list.specs.Crates.lra_operations.Tree.{Node, empty, point, seq, Arms, no_arms, entry, arm}
+use Rattle.lra_operations_list.specs.Crates.lra_operations.TreeViews.{node_view, op_view, row, arm_view, arms_of}
+use Rattle.lra_operations_list.specs.Crates.lra_operations.declared.tree.Arm.TheFolds.{fold-Node}
+use Rattle.lra_operations_list.specs.Crates.lra_operations.declared.tree.Arm.TheOpen.{Arm-F, Node-F}
+use Rattle.lra_operations_list.specs.Crates.lra_program.ProgramViews.{cond_view, expr_view}
+use Rattle.lra_operations_list.specs.Crates.lra_program.Receivers.{nobody}
+use Rattle.lra_operations_list.specs.Crates.lra_program.Step.{store_value, test}
 use Rattle.lra_operations_list.specs.declared.trees.Due.TheVariants.{Tree, Row, Arms as ArmsDue, Apart}
 use Rattle.lra_operations_list.specs.{TreeOperations.done_in, TreeOperations.done_of, declared.trees.Due.Due}
-use Rattle.lra_operations.specs.declared.tree.Node as declared
+use Rattle.lra_operations_list.specs.Crates.lra_operations.declared.tree.Node as declared
 
 -- the trees in arms, one after the other
 abbrev pub trees_of : Arms → Node

@@ -1,2 +1,4 @@
 pub mod TreeOperations
 pub mod Due
+-- The crates below
+pub mod Crates

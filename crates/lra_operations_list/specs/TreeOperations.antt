@@ -1,11 +1,13 @@
 -- What is done in a tree, each with its point and the type of the variable that is new before it: all of it, as if of
 -- each operation something were asked.
 use Rattle.std.specs.Prelude.{ℕ, List, Option, Bool, true}
-use Rattle.lra_base.specs.declared.number_types.NumberType.{NumberType}
-use Rattle.lra_program.specs.Step.{Op, store_value, test}
-use Rattle.lra_program.specs.{ProgramViews.cond_view, ProgramViews.expr_view, Receivers.nobody}
-use Rattle.lra_operations.specs.CheckedOperations.{OpAtPoint, op_where, ops_where, ops_where_in_arms}
-use Rattle.lra_operations.specs.{Tree.Node, Tree.Arms, TreeViews.op_view}
+use Rattle.lra_operations_list.specs.Crates.lra_base.declared.number_types.NumberType.{NumberType}
+use Rattle.lra_operations_list.specs.Crates.lra_operations.CheckedOperations.{OpAtPoint, op_where, ops_where}
+use Rattle.lra_operations_list.specs.Crates.lra_operations.CheckedOperations.{ops_where_in_arms}
+use Rattle.lra_operations_list.specs.Crates.lra_operations.Tree.{Node, Arms}
+use Rattle.lra_operations_list.specs.Crates.lra_program.ProgramViews.{cond_view, expr_view}
+use Rattle.lra_operations_list.specs.Crates.lra_program.Step.{Op, store_value, test}
+use Rattle.lra_operations_list.specs.Crates.{lra_operations.TreeViews.op_view, lra_program.Receivers.nobody}
 use Rattle.lra_operations_list.specs.declared.tree_operations.OpRef.{OpRef}
 use Rattle.lra_operations_list.specs.declared.tree_operations.OpRef.TheVariants.{Change, Condition, Value}
 use Rattle.lra_operations_list.specs.declared.tree_operations.OpRefAtPoint.{OpRefAtPoint}

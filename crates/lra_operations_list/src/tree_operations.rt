@@ -1,8 +1,6 @@
 //! What is done at a point.
 
-use lra_base::NumberType;
-use lra_operations::Op;
-use lra_program::{Cond, Expr};
+use lra_linearize::{Cond, Expr, NumberType, Op};
 
 /// A least change; in a call whose own variables begin at the place, a condition on which it depends how the run goes
 /// on, or the value that a `switch` looks for.

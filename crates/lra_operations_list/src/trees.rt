@@ -2,16 +2,15 @@
 
 ghost use Rattle.std.specs.List.{sum_by};
 ghost use Rattle.std.specs.Prelude.{◌≡◌, ◌<◌, ◌+◌, ◌*◌, ◌++◌, None, map, IfOk, OnOk};
-ghost use Rattle.lra_operations.specs.Sizes.{whole_size, arm_sizes, arms_tree_sizes};
-ghost use Rattle.lra_operations.specs.TreeViews.{node_view, op_view, row, arm_view, arms_of};
-ghost use Rattle.lra_operations.specs.{CheckedOperations.fresh_of, Tree.seq};
+ghost use Rattle.lra_operations_list.specs.Crates.lra_operations.Sizes.{whole_size, arm_sizes, arms_tree_sizes};
+ghost use Rattle.lra_operations_list.specs.Crates.lra_operations.TreeViews.{node_view, op_view, row, arm_view, arms_of};
+ghost use Rattle.lra_operations_list.specs.Crates.{lra_operations.CheckedOperations.fresh_of, lra_operations.Tree.seq};
 ghost use Rattle.lra_operations_list.specs.Due.{all_due, all_left, apart_before, due_size, due_view, fresh_at};
 ghost use Rattle.lra_operations_list.specs.Due.{own_done, trees_of, IsOnWay, IsOpened};
 ghost use Rattle.lra_operations_list.specs.TreeOperations.{op_ref_view, done_in, done_of, op_at_point_view};
 
 use crate::tree_operations::{OpRef, OpRefAtPoint};
-use lra_base::NumberType;
-use lra_operations::{Arm, Node, Op};
+use lra_linearize::{Arm, Node, NumberType, Op};
 use std::alloc::{AllocError, Global};
 
 /// The type of the variable that is new after a least change.

@@ -2,13 +2,13 @@
 use Rattle.std.proofs.Common.{◌≡◌, ◌∙◌, ◌+◌, ◌<◌, ℕ, List, [], ◌∷◌, Bool, true, false, length, map, drop, get_or, rules, Box, Vec, Global, refl, sym, ap, subst, arith}
 use Rattle.std.proofs.{Math.Bool.or-false, lemmas.List.drop_more}
 use Rattle.std.specs.Prelude.{◌||◌}
-use Rattle.lra_base.specs.{NumberTypes.wider, Operators.Operator, declared.number_types.NumberType.NumberType}
+use Rattle.lra_overflow_checks.specs.Crates.{lra_base.NumberTypes.wider, lra_base.Operators.Operator, lra_base.declared.number_types.NumberType.NumberType}
 use Rattle.lra_program.specs.declared.program.Cond as declared_cond
 use Rattle.lra_program.specs.Overflow.{expr_computes, cond_computes}
 use Rattle.lra_program.specs.ProgramViews.{all_of, any_of, chained, cond_view, expr_view, operation_view}
 use Rattle.lra_program.specs.{Program.Expr, Program.binary, Program.type_of, Program.Cond, declared.program.Expr.Chain, declared.program.Expr.the_lemmas, declared.program.Operation.Operation}
 use Rattle.lra_program.specs.declared.program.Expr as declared
-use Rattle.lra_linearize.proofs.{CondSteps.all_view, CondSteps.any_view, FormSteps.operation_is}
+use Rattle.lra_overflow_checks.proofs.Crates.{lra_linearize.CondSteps.all_view, lra_linearize.CondSteps.any_view, lra_linearize.FormSteps.operation_is}
 use Rattle.lra_overflow_checks.specs.Judged.{some_computes}
 
 -- types ----------------------------------------------------------------------------------------------------------------

@@ -3,16 +3,16 @@ use Rattle.std.proofs.Common.{Box, Vec, Global, ◌≡◌, ℕ, ◌+◌, ◌<◌
 use Rattle.std.proofs.lemmas.List.{drop_more, drop_all}
 use Rattle.std.specs.Prelude.{IfOk}
 use Rattle.std.specs.Prelude as handed
-use Rattle.lra_base.specs.OperatorViews.{comparison_view}
-use Rattle.lra_base.specs.declared.operators.Comparison as declared_comparison
-use Rattle.lra_domain.specs.{Abstraction.Abstraction, Abstraction.worse, declared.Exactness.Exactness, declared.Exactness.TheVariants.Exact, declared.Exactness.TheVariants.Flagged}
+use Rattle.lra_overflow_checks.specs.Crates.{lra_analysis_spec.Judging.CondAnswers, lra_analysis_spec.Moves.Takes, lra_analysis_spec.MovesOf.guard, lra_analysis_spec.Operations.lossy_operations}
+use Rattle.lra_overflow_checks.specs.Crates.{lra_analysis_spec.Pass.Filters, lra_base.OperatorViews.comparison_view, lra_domain.Abstraction.Abstraction, lra_domain.Abstraction.worse}
+use Rattle.lra_overflow_checks.specs.Crates.{lra_domain.declared.Exactness.Exactness, lra_domain.declared.Exactness.TheVariants.Exact, lra_domain.declared.Exactness.TheVariants.Flagged}
+use Rattle.lra_overflow_checks.specs.Crates.lra_base.declared.operators.Comparison as declared_comparison
 use Rattle.lra_program.specs.declared.program.Cond as declared_cond
 use Rattle.lra_program.specs.declared.program.Cond.{Compare, Nonzero, Opposite, All, Any, the_lemmas}
 use Rattle.lra_program.specs.{Program.Expr, Program.Cond, Program.compare, Program.nonzero, ProgramViews.cond_view, ProgramViews.expr_view}
 use Rattle.lra_program.specs.declared.program.Expr as declared_expr
-use Rattle.lra_analysis_spec.specs.{Judging.CondAnswers, Moves.Takes, MovesOf.guard, Operations.lossy_operations, Pass.Filters}
 use Rattle.lra_transfer.proofs.SideSteps.{compare_view, nonzero_view, opposite_shown, all_shown, any_shown}
-use Rattle.lra_linearize.proofs.CondSizes.{cond_size, chain_size}
+use Rattle.lra_overflow_checks.proofs.Crates.lra_linearize.CondSizes.{cond_size, chain_size}
 use Rattle.lra_overflow_checks.specs.{Judged.IsCondJudged, Judged.sides_of, Operands.IsPassed}
 
 -- answers handed on -------------------------------------------------------------------------------------------------

@@ -2,10 +2,10 @@
 use Rattle.std.proofs.Common.{◌≡◌, ◌∙◌, ◌+◌, ◌<◌, ◌≤◌, ℕ, List, [], ◌∷◌, ◌++◌, Option, Some, None, Bool, true, false, length, map, take, get_or, rules, Box, Global, refl, sym, ap, subst, append_assoc}
 use Rattle.std.proofs.{Common.append-nil, Common.negsuc, lemmas.List.map_more, lemmas.List.take_all}
 use Rattle.std.specs.Prelude.{Result, Ok, Err, IfOk, OnOk}
-use Rattle.lra_linear_forms.specs.Form.{Form}
-use Rattle.lra_domain.specs.Abstraction.{Abstraction}
-use Rattle.lra_base.specs.OperatorViews.{operator_view}
-use Rattle.lra_base.specs.{NumberTypes.wider, Operators.Operator, declared.number_types.NumberType.NumberType, declared.number_types.NumberType.TheVariants.Int, declared.refusals.Place.Place}
+use Rattle.lra_overflow_checks.specs.Crates.lra_analysis_spec.Fits.{LiesIn, OperatorFits, ExprJudged, ConversionJudged, GivenJudged, ArgumentsJudged, IndexJudged}
+use Rattle.lra_overflow_checks.specs.Crates.{lra_analysis_spec.Judging.AnswersUnlessUnreachable, lra_analysis_spec.Linear.form_of, lra_base.NumberTypes.wider, lra_base.OperatorViews.operator_view}
+use Rattle.lra_overflow_checks.specs.Crates.{lra_base.Operators.Operator, lra_base.declared.number_types.NumberType.NumberType, lra_base.declared.number_types.NumberType.TheVariants.Int}
+use Rattle.lra_overflow_checks.specs.Crates.{lra_base.declared.refusals.Place.Place, lra_domain.Abstraction.Abstraction, lra_linear_forms.Form.Form}
 use Rattle.lra_program.specs.Program.{Expr, literal, read, input, negate, binary, element, type_of}
 use Rattle.lra_program.specs.ProgramViews.{argument_view, chained, expr_view, operation_view, variable_view}
 use Rattle.lra_program.specs.Receivers.{parameter_of, converts_to}
@@ -13,10 +13,8 @@ use Rattle.lra_program.specs.declared.program.Expr.{Literal, Read, Input, Negate
 use Rattle.lra_program.specs.{Value.Argument, declared.arrays.Array.Array, declared.program.Operation.Operation, declared.program.Variable.Variable, declared.receivers.Receiver.Receiver}
 use Rattle.lra_program.specs.declared.program.Argument as declared_argument
 use Rattle.lra_program.specs.declared.program.Expr as declared
-use Rattle.lra_analysis_spec.specs.Fits.{LiesIn, OperatorFits, ExprJudged, ConversionJudged, GivenJudged, ArgumentsJudged, IndexJudged}
-use Rattle.lra_analysis_spec.specs.{Judging.AnswersUnlessUnreachable, Linear.form_of}
-use Rattle.lra_analysis_spec.proofs.FormLemmas.{form_wide, operator_wide, scaled_wide}
-use Rattle.lra_linearize.proofs.{FormSteps.operation_is, LinearizationSteps.chained_last}
+use Rattle.lra_overflow_checks.proofs.Crates.lra_analysis_spec.FormLemmas.{form_wide, operator_wide, scaled_wide}
+use Rattle.lra_overflow_checks.proofs.Crates.{lra_linearize.FormSteps.operation_is, lra_linearize.LinearizationSteps.chained_last}
 use Rattle.lra_overflow_checks.specs.{Judged.IsWide, Judged.HasAnswers, Judged.IsComputed, Sides.between_sides, Sides.with_other_sign, declared.expressions.Computed.Computed}
 
 -- a form has a coefficient for each variable

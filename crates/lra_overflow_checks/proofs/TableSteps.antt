@@ -4,13 +4,13 @@ use Rattle.std.proofs.lemmas.List.{length-replicate, length-set, map-append, map
 use Rattle.std.proofs.lemmas.List.Elements.{Contains-append_left, Contains-append_right, Contains-append_cases, Contains-get_or, filter-append}
 use Rattle.std.proofs.{lemmas.Bool.cases_eq, lemmas.Option.none-some, lemmas.Option.same_Some}
 use Rattle.std.specs.Prelude.{◌⊎◌, slice_get, slice_set, replicate, Contains, if◌then◌else◌}
-use Rattle.lra_linear_spec.proofs.Membership.{contains_none, contains_head, contains_tail, contains_cases, filter_has, map_has}
-use Rattle.lra_domain.specs.declared.Exactness.{Exactness}
+use Rattle.lra_overflow_checks.proofs.Crates.lra_linear_spec.Membership.{contains_none, contains_head, contains_tail, contains_cases, filter_has, map_has}
+use Rattle.lra_overflow_checks.specs.Crates.lra_analysis_spec.Judging.{AnswerAtPoint, Finding, Finds, answer_of, first_flagged, IsFoundOn}
+use Rattle.lra_overflow_checks.specs.Crates.lra_operations.CheckedOperations.{OpAtPoint, ops_where}
+use Rattle.lra_overflow_checks.specs.Crates.{lra_analysis_spec.Operations.Operations, lra_analysis_spec.Pass.noted, lra_domain.declared.Exactness.Exactness, lra_operations.Tree.Node}
 use Rattle.lra_program.specs.Step.{Op}
-use Rattle.lra_operations.specs.{CheckedOperations.OpAtPoint, CheckedOperations.ops_where, Tree.Node}
 use Rattle.lra_operations_list.specs.{TreeOperations.done_in, TreeOperations.op_at_point_view, declared.tree_operations.OpRefAtPoint.OpRefAtPoint}
 use Rattle.lra_operations_list.proofs.Filtered.{asking_filtered}
-use Rattle.lra_analysis_spec.specs.{Judging.AnswerAtPoint, Judging.Finding, Judging.Finds, Judging.answer_of, Judging.first_flagged, Judging.IsFoundOn, Operations.Operations, Pass.noted}
 use Rattle.lra_overflow_checks.specs.{Judged.AreBelow, Judged.Fills, Judged.Holds, Judged.IsAnswered, Judged.asked_by, Judged.finding_of, Judged.findings_from, declared.questions.Verdict.Verdict}
 
 -- places -----------------------------------------------------------------------------------------------------------------

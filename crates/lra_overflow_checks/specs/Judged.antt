@@ -2,15 +2,16 @@
 -- of all points.
 use Rattle.std.specs.Prelude.{◌≡◌, ◌<◌, ◌⊎◌, ℕ, suc, ℤ, List, [], ◌∷◌, ◌++◌, length, Option, None, Some, Bool, true}
 use Rattle.std.specs.Prelude.{false, ◌||◌, filter, slice_get, Contains, ⊤}
-use Rattle.lra_linear_forms.specs.Form.{Form}
-use Rattle.lra_domain.specs.{Abstraction.Abstraction, Abstraction.worse, declared.Exactness.Exactness}
-use Rattle.lra_base.specs.{NumberTypes.fits, declared.number_types.NumberType.NumberType}
+use Rattle.lra_overflow_checks.specs.Crates.lra_analysis_spec.Fits.{ExprJudged, OpJudged}
+use Rattle.lra_overflow_checks.specs.Crates.lra_analysis_spec.Judging.{CondAnswers, Declares, Finding, IsFoundOn}
+use Rattle.lra_overflow_checks.specs.Crates.lra_analysis_spec.Operations.{Operations, lossy_operations}
+use Rattle.lra_overflow_checks.specs.Crates.lra_base.declared.number_types.NumberType.{NumberType}
+use Rattle.lra_overflow_checks.specs.Crates.lra_domain.Abstraction.{Abstraction, worse}
+use Rattle.lra_overflow_checks.specs.Crates.lra_operations.CheckedOperations.{OpAtPoint}
+use Rattle.lra_overflow_checks.specs.Crates.{lra_analysis_spec.Linear.form_of, lra_base.NumberTypes.fits}
+use Rattle.lra_overflow_checks.specs.Crates.{lra_domain.declared.Exactness.Exactness, lra_linear_forms.Form.Form}
 use Rattle.lra_program.specs.Program.{Expr, type_of, Cond}
 use Rattle.lra_program.specs.{Overflow.cond_computes, ProgramViews.all_of, ProgramViews.any_of, Step.Op}
-use Rattle.lra_operations.specs.CheckedOperations.{OpAtPoint}
-use Rattle.lra_analysis_spec.specs.Judging.{CondAnswers, Declares, Finding, IsFoundOn}
-use Rattle.lra_analysis_spec.specs.Operations.{Operations, lossy_operations}
-use Rattle.lra_analysis_spec.specs.{Fits.ExprJudged, Fits.OpJudged, Linear.form_of}
 use Rattle.lra_overflow_checks.specs.{declared.expressions.Computed.Computed, declared.questions.Verdict.Verdict}
 
 -- a bound that is there is one of the type's numbers

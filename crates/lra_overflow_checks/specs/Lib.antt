@@ -1,3 +1,5 @@
 pub mod Judged
 pub mod Operands
 pub mod Sides
+-- The crates below
+pub mod Crates

@@ -1,8 +1,8 @@
 -- The operands of a chain of conditions, one after the other.
 use Rattle.std.specs.Prelude.{◌≡◌, ℕ, Bool, List}
-use Rattle.lra_domain.specs.{Abstraction.worse, declared.Exactness.Exactness}
+use Rattle.lra_overflow_checks.specs.Crates.{lra_analysis_spec.Operations.Operations, lra_analysis_spec.Pass.Filters}
+use Rattle.lra_overflow_checks.specs.Crates.{lra_domain.Abstraction.worse, lra_domain.declared.Exactness.Exactness}
 use Rattle.lra_program.specs.Program.{Expr, Cond}
-use Rattle.lra_analysis_spec.specs.{Operations.Operations, Pass.Filters}
 use Rattle.lra_overflow_checks.specs.Judged.{IsCondJudged}
 
 -- what is reported about the operand came after the others, and of the first value it leaves the second one

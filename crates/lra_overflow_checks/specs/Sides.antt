@@ -1,9 +1,8 @@
 -- What operators and signs make of forms, where these are there.
 use Rattle.std.specs.Prelude.{Option, negsuc}
-use Rattle.lra_linear_forms.specs.Form.{Form}
-use Rattle.lra_base.specs.Operators.{Operator}
+use Rattle.lra_overflow_checks.specs.Crates.lra_analysis_spec.Linear.{operator_form, scaled}
+use Rattle.lra_overflow_checks.specs.Crates.{lra_base.Operators.Operator, lra_linear_forms.Form.Form}
 use Rattle.lra_program.specs.Value.{◌>>=◌}
-use Rattle.lra_analysis_spec.specs.Linear.{operator_form, scaled}
 
 abbrev pub between_sides : Operator → Option Form → Option Form → Option Form
 between_sides op left right = left >>= λ f. right >>= λ g. operator_form op f g

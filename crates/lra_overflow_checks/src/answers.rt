@@ -1,16 +1,15 @@
 //! Answers by what a value says of forms.
 
 ghost use Rattle.std.specs.Prelude.{◌≡◌, ◌↔◌, IsTrue, IfOk};
-ghost use Rattle.lra_base.specs.OperatorViews.{operator_view};
-ghost use Rattle.lra_analysis_spec.specs.Fits.{IsDivisor, LiesIn, OperatorFits};
-ghost use Rattle.lra_analysis_spec.specs.Judging.{AnswersUnlessUnreachable};
+ghost use Rattle.lra_overflow_checks.specs.Crates.lra_analysis_spec.Fits.{IsDivisor, LiesIn, OperatorFits};
+ghost use Rattle.lra_overflow_checks.specs.Crates.lra_analysis_spec.Judging.{AnswersUnlessUnreachable};
+ghost use Rattle.lra_overflow_checks.specs.Crates.lra_base.OperatorViews.{operator_view};
 ghost use Rattle.lra_overflow_checks.specs.Judged.{IsWide, is_within};
 ghost use Rattle.lra_overflow_checks.specs.Sides.{between_sides, with_other_sign};
 
-use lra_base::{NumberType, Operator};
-use lra_domain::Domain;
-use lra_linear_forms::LinExpr;
-use lra_linearize::{apply_operator, has_no_variable, multiple_of};
+use lra_operations_list::{apply_operator, has_no_variable, multiple_of};
+use lra_program::{NumberType, Operator};
+use lra_transfer::{Domain, LinExpr};
 use std::alloc::{AllocError, Global};
 
 /// Whether the bound is there and one of the type's numbers.

@@ -4,12 +4,11 @@ ghost use Rattle.std.specs.Prelude.{◌≡◌, ◌∷◌, map};
 ghost use Rattle.lra_program.specs.Overflow.{arguments_compute, cond_computes, expr_computes, given_computes};
 ghost use Rattle.lra_program.specs.ProgramViews.{all_of, argument_view, cond_view, expr_view};
 ghost use Rattle.lra_program.specs.{Overflow.op_computes, Program.type_of, Receivers.parameter_of};
-ghost use Rattle.lra_operations.specs.TreeViews.{op_view};
+ghost use Rattle.lra_overflow_checks.specs.Crates.lra_operations.TreeViews.{op_view};
 ghost use Rattle.lra_overflow_checks.specs.Judged.{some_computes};
 
-use lra_base::NumberType;
-use lra_operations::Op;
-use lra_program::{Argument, Cond, Expr, Receiver};
+use lra_operations_list::Op;
+use lra_program::{Argument, Cond, Expr, NumberType, Receiver};
 
 /// The type of an expression's value.
 pub fn type_of(e: &Expr) -> NumberType

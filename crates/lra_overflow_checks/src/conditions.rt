@@ -1,14 +1,14 @@
 //! What is reported about a condition: on the right of `&&` and `||` by what the left side leaves.
 
 ghost use Rattle.std.specs.Prelude.{◌≡◌, ◌≤◌, ℕ, List, map, IfOk, OnOk};
-ghost use Rattle.lra_domain.specs.declared.Exactness.{Exactness};
+ghost use Rattle.lra_overflow_checks.specs.Crates.lra_domain.declared.Exactness.{Exactness};
 ghost use Rattle.lra_program.specs.{Program.Expr as ProgramExpr, ProgramViews.cond_view, ProgramViews.expr_view};
-ghost use Rattle.lra_analysis_spec.specs.{LiveLimit.most_live, Operations.lossy_operations};
+ghost use Rattle.lra_overflow_checks.specs.Crates.lra_analysis_spec.LiveLimit.{most_live};
+ghost use Rattle.lra_overflow_checks.specs.Crates.lra_analysis_spec.Operations.{lossy_operations};
 ghost use Rattle.lra_overflow_checks.specs.{Judged.HasAnswers, Judged.IsCondJudged, Judged.sides_of, Operands.IsPassed};
 
-use lra_domain::{Domain, Exactness, worse};
 use lra_program::{Cond, Expr};
-use lra_transfer::filter_condition;
+use lra_transfer::{Domain, Exactness, filter_condition, worse};
 use std::alloc::{AllocError, Global};
 
 /// In what a condition is read: the allocator of what is built for it, and where the variables of its call begin.

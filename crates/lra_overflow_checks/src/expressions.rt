@@ -4,17 +4,16 @@
 ghost use Rattle.std.specs.Prelude.{◌≡◌, ◌<◌, ◌^◌, ℕ, List, Bool, map, IfOk, OnOk};
 ghost use Rattle.lra_program.specs.ProgramViews.{argument_view, chained, expr_view, operation_view};
 ghost use Rattle.lra_program.specs.{Program.Expr as ProgramExpr, Program.negate, Program.binary, Receivers.waiting_in};
-ghost use Rattle.lra_base.specs.OperatorViews.{operator_view};
-ghost use Rattle.lra_analysis_spec.specs.{Fits.GivenJudged, Fits.ArgumentsJudged, Fits.IndexJudged, Linear.form_of};
+ghost use Rattle.lra_overflow_checks.specs.Crates.lra_analysis_spec.Fits.{GivenJudged, ArgumentsJudged, IndexJudged};
+ghost use Rattle.lra_overflow_checks.specs.Crates.lra_analysis_spec.Linear.{form_of};
+ghost use Rattle.lra_overflow_checks.specs.Crates.lra_base.OperatorViews.{operator_view};
 ghost use Rattle.lra_overflow_checks.specs.Judged.{IsWide, IsComputed, HasAnswers};
 
 use crate::answers::{combine, form_fits, negate, operator_fits};
 use crate::computes::parameter;
-use lra_base::{NumberType, Operator};
-use lra_domain::Domain;
-use lra_linear_forms::LinExpr;
-use lra_linearize::form_of_expression;
-use lra_program::{Argument, Element, Expr, Operation, Receiver};
+use lra_operations_list::form_of_expression;
+use lra_program::{Argument, Element, Expr, NumberType, Operation, Operator, Receiver};
+use lra_transfer::{Domain, LinExpr};
 use std::alloc::{AllocError, Global};
 
 /// What is known of an expression whose answers are given: its type and its form.

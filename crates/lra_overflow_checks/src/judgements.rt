@@ -1,14 +1,17 @@
 //! What is judged of a whole program.
 
 ghost use Rattle.std.specs.Prelude.{◌<◌, None, length, All, IfOk};
-ghost use Rattle.lra_operations.specs.{CheckedOperations.computing_ops, TreeViews.node_view};
-ghost use Rattle.lra_analysis_spec.specs.{Fits.Judges, LiveLimit.most_live, Operations.lossy_operations};
+ghost use Rattle.lra_overflow_checks.specs.Crates.lra_analysis_spec.Fits.{Judges};
+ghost use Rattle.lra_overflow_checks.specs.Crates.lra_analysis_spec.LiveLimit.{most_live};
+ghost use Rattle.lra_overflow_checks.specs.Crates.lra_analysis_spec.Operations.{lossy_operations};
+ghost use Rattle.lra_overflow_checks.specs.Crates.lra_operations.CheckedOperations.{computing_ops};
+ghost use Rattle.lra_overflow_checks.specs.Crates.lra_operations.TreeViews.{node_view};
 ghost use Rattle.lra_overflow_checks.specs.Judged.{AreBelow};
 
 use crate::operations::OverflowCheck;
 use crate::questions::find;
-use lra_domain::Domain;
-use lra_operations::Node;
+use lra_operations_list::Node;
+use lra_transfer::Domain;
 use std::alloc::{AllocError, Global};
 
 /// What is judged at the points at which something is computed: the points' numbers in order, with whether all of it

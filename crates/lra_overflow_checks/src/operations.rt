@@ -2,10 +2,11 @@
 
 ghost use Rattle.std.specs.{List.list_all, Prelude.◌≡◌, Prelude.◌≤◌, Prelude.IfOk};
 ghost use Rattle.lra_program.specs.Overflow.{op_computes};
-ghost use Rattle.lra_operations.specs.TreeViews.{op_view};
+ghost use Rattle.lra_overflow_checks.specs.Crates.lra_analysis_spec.Fits.{BothJudged, OneJudged, OpFits};
+ghost use Rattle.lra_overflow_checks.specs.Crates.lra_analysis_spec.LiveLimit.{most_live};
+ghost use Rattle.lra_overflow_checks.specs.Crates.lra_analysis_spec.Operations.{lossy_operations};
+ghost use Rattle.lra_overflow_checks.specs.Crates.lra_operations.TreeViews.{op_view};
 ghost use Rattle.lra_operations_list.specs.TreeOperations.{op_ref_view};
-ghost use Rattle.lra_analysis_spec.specs.Fits.{BothJudged, OneJudged, OpFits};
-ghost use Rattle.lra_analysis_spec.specs.{LiveLimit.most_live, Operations.lossy_operations};
 ghost use Rattle.lra_overflow_checks.specs.Judged.{IsOpJudged};
 
 use crate::computes::{condition_computes, giving_computes, operation_computes};
@@ -14,10 +15,9 @@ use crate::expressions::{
     judge_arguments, judge_arguments_for, judge_element, judge_expression, judge_given,
 };
 use crate::questions::{Question, Verdict};
-use lra_domain::{Domain, Exactness};
-use lra_operations::Op;
-use lra_operations_list::OpRef;
+use lra_operations_list::{Op, OpRef};
 use lra_program::{Expr, Receiver};
+use lra_transfer::{Domain, Exactness};
 use std::alloc::{AllocError, Global};
 
 /// Of operations it is reported whether all fits that they compute: of each operator, sign and conversion whether it

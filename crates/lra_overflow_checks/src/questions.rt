@@ -2,18 +2,18 @@
 
 ghost use Rattle.std.specs.Prelude.{◌≡◌, ◌≤◌, ◌<◌, Bool, None, Some, length, map, filter, replicate, slice_set, All};
 ghost use Rattle.std.specs.Prelude.{IfOk, OnOk};
-ghost use Rattle.lra_domain.specs.declared.Exactness.{Exactness};
+ghost use Rattle.lra_overflow_checks.specs.Crates.lra_analysis_spec.Judging.{Finds, answer_of, first_flagged};
+ghost use Rattle.lra_overflow_checks.specs.Crates.lra_analysis_spec.Operations.{lossy_operations};
+ghost use Rattle.lra_overflow_checks.specs.Crates.lra_domain.declared.Exactness.{Exactness};
+ghost use Rattle.lra_overflow_checks.specs.Crates.lra_operations.CheckedOperations.{ops_where};
+ghost use Rattle.lra_overflow_checks.specs.Crates.lra_operations.TreeViews.{node_view};
+ghost use Rattle.lra_overflow_checks.specs.Crates.{lra_analysis_spec.LiveLimit.most_live, lra_analysis_spec.Pass.noted};
 ghost use Rattle.lra_program.specs.Step.{Op as ProgramOp};
-ghost use Rattle.lra_operations.specs.{CheckedOperations.ops_where, TreeViews.node_view};
 ghost use Rattle.lra_operations_list.specs.TreeOperations.{op_ref_view, op_at_point_view};
-ghost use Rattle.lra_analysis_spec.specs.Judging.{Finds, answer_of, first_flagged};
-ghost use Rattle.lra_analysis_spec.specs.{LiveLimit.most_live, Operations.lossy_operations, Pass.noted};
 ghost use Rattle.lra_overflow_checks.specs.Judged.{AreBelow, Fills, IsAnswered, asked_by, findings_from};
 
-use lra_domain::{Domain, Exactness, worse};
-use lra_operations::{Node, Op};
-use lra_operations_list::{OpRef, OpRefAtPoint, list_operations};
-use lra_transfer::transfer_op;
+use lra_operations_list::{Node, Op, OpRef, OpRefAtPoint, list_operations};
+use lra_transfer::{Domain, Exactness, transfer_op, worse};
 use std::alloc::{AllocError, Global};
 
 /// An answer, and whether what had to be made for it is exact.

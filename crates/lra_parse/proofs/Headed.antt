@@ -6,7 +6,7 @@ use Rattle.lra_parser_spec.specs.{Expressions.ended, Files.part_at, Files.begins
 use Rattle.lra_parser_spec.specs.{Reading.map_read, Reading.expect, Reading.take_by, Reading.ParsesAsErr, Tests.first, declared.reading.Fault.Fault, declared.reading.Stopped.Stopped}
 use Rattle.lra_parser_spec.specs.declared.reading.Stopped.TheVariants as stopped
 use Rattle.lra_parser_spec.proofs.Exact.{bind_ok, ok_is}
-use Rattle.lra_parse_expressions.proofs.Turning.{ListLeft, list_err, list_end, expect_err}
+use Rattle.lra_parse.proofs.Crates.lra_parse_expressions.Turning.{ListLeft, list_err, list_end, expect_err}
 
 -- the loop of a file -------------------------------------------------------------------------------------------------
 

@@ -1,1 +1,3 @@
 pub mod Headed
+-- The crates below
+pub mod Crates

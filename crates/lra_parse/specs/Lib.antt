@@ -1,1 +1,3 @@
 pub mod Heads
+-- The crates below
+pub mod Crates

@@ -13,8 +13,7 @@ ghost use Rattle.lra_parse.specs.Heads.{signature_view};
 
 use crate::globals::read_globals;
 use lra_base::{Cause, NumberType, Place};
-use lra_parse_expressions::read_type;
-use lra_parse_statements::read_body;
+use lra_parse_statements::{read_body, read_type};
 use lra_parser_spec::{Lead, Stopped, expect, next_is, next_is_name, read_name, stop, tail};
 use lra_syntax::{
     Block, ExternalDeclaration, Function, Identifier, Kind, Mark, Parameter, Parameters, Token,

@@ -8,8 +8,7 @@ ghost use Rattle.lra_parser_spec.specs.Reading.{ParsesAs, map_read};
 ghost use Rattle.lra_parser_spec.specs.Statements.{commas_from, shape_at, signed_at};
 
 use lra_base::NumberType;
-use lra_parse_expressions::read_length;
-use lra_parse_heads::read_signed;
+use lra_parse_statements::{read_length, read_signed};
 use lra_parser_spec::{Stopped, expect, next_is, read_name, tail};
 use lra_syntax::{
     ExternalDeclaration, Global as Variable, Globals, Identifier, Mark, ScalarOrArray,

@@ -7,4 +7,5 @@ mod functions;
 mod globals;
 mod parser;
 
+pub use lra_parser_spec::one_tree;
 pub use parser::parse;

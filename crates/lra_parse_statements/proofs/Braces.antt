@@ -1,7 +1,7 @@
 -- Readers of a `switch`'s braces as the code takes them.
 use Rattle.std.proofs.Common.{◌≡◌, ℕ, zero, suc, ◌-◌, ◌<◌, Bool, true, false, cond, List, [], ◌∷◌, ◌++◌, length, map, append_assoc, Result, Ok, Err, refl, sym, ap, ◌∙◌, arith, inl, inr, Box, Global}
 use Rattle.std.proofs.lemmas.List.{map_push}
-use Rattle.lra_base.specs.declared.refusals.Cause.TheVariants.{Syntax, TooDeep}
+use Rattle.lra_parse_statements.specs.Crates.lra_base.declared.refusals.Cause.TheVariants.{Syntax, TooDeep}
 use Rattle.lra_syntax.specs.Trees.{StmtTree, switch, CasesTree, no_cases, labelled, stated}
 use Rattle.lra_syntax.specs.declared.trees.CaseItem.{CaseItem, Label as LabelItem, Stated as StatedItem}
 use Rattle.lra_syntax.specs.{Views.CasePart, Views.expr_view, Views.stmt_view, Views.case_view, declared.tokens.Mark.Mark, declared.trees.PlacedLabel.PlacedLabel, declared.trees.Stmt.Stmt}

@@ -1,2 +1,4 @@
 pub mod Stated
 pub mod Braces
+-- The crates below
+pub mod Crates

@@ -1,7 +1,7 @@
 -- Readers of statements as the code takes them.
 use Rattle.std.proofs.Common.{◌≡◌, ℕ, zero, suc, ◌-◌, ◌<◌, true, false, List, [], ◌∷◌, ◌++◌, length, map, Ok, Err, refl, sym, ap, subst, ◌∙◌, arith, rules}
 use Rattle.std.proofs.lemmas.List.{map_push}
-use Rattle.lra_base.specs.{declared.refusals.Cause.TheVariants.TooDeep, declared.refusals.Place.Place}
+use Rattle.lra_parse_statements.specs.Crates.{lra_base.declared.refusals.Cause.TheVariants.TooDeep, lra_base.declared.refusals.Place.Place}
 use Rattle.lra_syntax.specs.declared.tokens.Mark.TheVariants as mark
 use Rattle.lra_syntax.specs.Trees.{DeclarationTree, StmtTree, CasesTree, labelled, stated as stated_case, ItemsTree, no_items, declaration, statement}
 use Rattle.lra_syntax.specs.Views.{ItemPart, CasePart, declaration_view, stmt_view, item_view, case_view, block_view, cases_view, item_step, case_step, stmt_step, block_step, cases_step}

@@ -1,6 +1,6 @@
 -- The braces of a `switch` as the code reads them: item by item, each as what it puts before those after it.
 use Rattle.std.specs.Prelude.{Bool, cond, List, [], ◌∷◌, length}
-use Rattle.lra_base.specs.declared.refusals.Cause.TheVariants.{Syntax, TooDeep}
+use Rattle.lra_parse_statements.specs.Crates.lra_base.declared.refusals.Cause.TheVariants.{Syntax, TooDeep}
 use Rattle.lra_syntax.specs.{Trees.labelled, Trees.stated, Views.CasePart, declared.tokens.Mark.TheVariants.OpenBrace}
 use Rattle.lra_syntax.specs.{declared.trees.PlacedLabel.PlacedLabel}
 use Rattle.lra_parser_spec.specs.Reading.{Text, Parse, map_read, done_with}

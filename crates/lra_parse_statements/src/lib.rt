@@ -6,4 +6,6 @@
 mod simple;
 mod statements;
 
+pub use lra_parse_expressions::{read_length, read_type};
+pub use lra_parse_heads::read_signed;
 pub use statements::read_body;

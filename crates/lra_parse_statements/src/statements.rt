@@ -11,10 +11,9 @@ ghost use Rattle.lra_parse_heads.specs.Begun.{begun_rest};
 ghost use Rattle.lra_parse_statements.specs.Cases.{label_parts, parts_of, first_part, opened_part, fault_at_braces};
 
 use crate::simple::{begin_simple, begins_stmt};
-use lra_base::Cause;
 use lra_parse_expressions::{next_is_type, read_declaration};
 use lra_parse_heads::{Begun, add_branch, add_cases, begins_label, read_label, read_labels};
-use lra_parser_spec::{Stopped, expect, expect_at, next_is, push_boxed, stop};
+use lra_parser_spec::{Cause, Stopped, expect, expect_at, next_is, push_boxed, stop};
 use lra_syntax::{Block, BlockItem, CaseItem, Cases, Mark, PlacedLabel, Stmt, Token};
 use std::alloc::{AllocError, Global};
 

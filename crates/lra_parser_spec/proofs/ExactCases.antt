@@ -1,5 +1,6 @@
 -- The reader of the braces of a `switch` is exact.
 use Rattle.std.proofs.Common.{◌≡◌, ℕ, ◌≤◌, true, false, ◌⊎◌, List, [], ◌∷◌, ◌++◌, Option, Some, None, refl, sym, ap, subst, ◌∙◌, append_assoc, inl, inr}
+use Rattle.std.proofs.lemmas.Bool.{or_left, or_right}
 use Rattle.std.specs.Bool.{⊤}
 use Rattle.lra_base.specs.declared.refusals.Place.{Place}
 use Rattle.lra_syntax.specs.declared.tokens.Mark.TheVariants as mark
@@ -8,7 +9,6 @@ use Rattle.lra_syntax.specs.{Trees.nothing, Trees.CasesTree, Trees.no_cases, Tre
 use Rattle.lra_parser_spec.specs.Statements.{begins_stmt, stated_of, LabelledTree, with_labels, cases_from, begins_case, labelled_of, add_label, first_labelled, some_cases, cases_parser, braces_of}
 use Rattle.lra_parser_spec.specs.{Reading.Parse, Reading.list_of, Tests.is_mark, Tests.begins_label}
 use Rattle.lra_parser_spec.proofs.Exact.{Exact, Any, Free, Both, test, first_or, first_or-both, then}
-use Rattle.std.proofs.lemmas.Bool.{or_left, or_right}
 use Rattle.lra_parser_spec.proofs.ExactBlocks.{StatedText, stated_first, stated_no_label}
 use Rattle.lra_parser_spec.proofs.{Chain.regroup, Chain.Items, Chain.AfterLast, Chain.all_last, Chain.exact_list, ExactExpressions.Of, ExactLabels.label_first, ExactLabels.exact_label}
 use Rattle.lra_parser_spec.proofs.{ExactLabels.AfterLabels, ExactLabels.exact_labels, ExactStatements.AfterStmt, ExactStatements.BracesText, Forms.widen, Forms.retell, Forms.entry, Forms.mapped}

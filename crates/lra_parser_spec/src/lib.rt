@@ -13,6 +13,7 @@ mod lead;
 mod reading;
 
 pub use lead::Lead;
+pub use lra_base::Cause;
 pub use reading::{
     Fault, Literal, Stopped, expect, expect_at, next_is, next_is_name, next_literal, next_small,
     push_boxed, read_name, stop, tail,

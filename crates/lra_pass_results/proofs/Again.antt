@@ -1,15 +1,15 @@
 -- A pass from the same value again: only the first flagged point can differ, and that is given by what was flagged
 -- before.
 use Rattle.std.proofs.Common.{◌≡◌, ℕ, zero, suc, ◌-◌, Bool, true, List, [], ◌∷◌, Option, Some, None, refl, sym, ap, subst, ◌∙◌}
-use Rattle.lra_domain.specs.{Abstraction.Abstraction, Interference.Interference, declared.Exactness.Exactness}
-use Rattle.lra_program.specs.Program.{Expr, Cond}
+use Rattle.lra_pass_results.specs.Crates.lra_analysis_spec.Operations.{Operations, lossy_operations}
+use Rattle.lra_pass_results.specs.Crates.lra_analysis_spec.Pass.{AreJoined, Filters, PassResult, noted, jumps, values_behind, jumps_caught, Transformer, LoopRoundFrom, AscendingIteration}
+use Rattle.lra_pass_results.specs.Crates.lra_analysis_spec.Pass.{DescendingIteration, Absorption, PassUnder, ArmsPassUnder}
+use Rattle.lra_pass_results.specs.Crates.lra_analysis_spec.UnderInterference.{absorbed, LossyPass}
+use Rattle.lra_pass_results.specs.Crates.{lra_analysis_spec.Live.live_after, lra_analysis_spec.Plan.Plan, lra_analysis_spec.Plan.Widening, lra_domain.Abstraction.Abstraction}
+use Rattle.lra_pass_results.specs.Crates.{lra_domain.Interference.Interference, lra_domain.declared.Exactness.Exactness, lra_program.Program.Expr, lra_program.Program.Cond}
 use Rattle.lra_operations.specs.Tree.{Exit, broken, continued, returned, Node, empty, point, probe, act, check, seq, choose, iterate, catch, leave, select, Arms, no_arms, entry, arm}
 use Rattle.lra_operations.specs.declared.probes.Probe.TheVariants.{InterferencePoint, RecordWrite}
-use Rattle.lra_analysis_spec.specs.Pass.{AreJoined, Filters, PassResult, noted, jumps, values_behind, jumps_caught, Transformer, LoopRoundFrom, AscendingIteration, DescendingIteration, Absorption}
-use Rattle.lra_analysis_spec.specs.Pass.{PassUnder, ArmsPassUnder}
-use Rattle.lra_analysis_spec.specs.{Live.live_after, Operations.Operations, Operations.lossy_operations, Plan.Plan, Plan.Widening, UnderInterference.absorbed, UnderInterference.LossyPass}
-use Rattle.lra_analysis_spec.proofs.Transfer.{Matters, passes_among}
-use Rattle.lra_analysis_spec.proofs.Unflagged.{same_ones}
+use Rattle.lra_pass_results.proofs.Crates.{lra_analysis_spec.Transfer.Matters, lra_analysis_spec.Transfer.passes_among, lra_analysis_spec.Unflagged.same_ones}
 use Rattle.lra_pass_results.specs.Outcome.{outcome_view, AreKept, EntersWith, IsEntered, IsKept, IsPassed, IsLoopRound, JumpsFit}
 use Rattle.lra_pass_results.specs.{declared.outcome.Entered.TheVariants.Again, declared.outcome.Entered.TheVariants.Anew, declared.outcome.LoopRound.LoopRound}
 use Rattle.lra_pass_results.specs.declared.outcome.Entered as entered

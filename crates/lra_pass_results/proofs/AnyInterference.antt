@@ -1,10 +1,10 @@
 -- Trees in which others don't act: a pass without interference is one under any interference.
 use Rattle.std.proofs.Common.{ℕ, List, [], ◌∷◌, map, Option, sym, subst}
-use Rattle.lra_domain.specs.{Abstraction.Abstraction, Interference.Interference, Interference.no_interference}
+use Rattle.lra_pass_results.specs.Crates.lra_domain.Interference.{Interference, no_interference}
+use Rattle.lra_pass_results.specs.Crates.{lra_analysis_spec.Pass.PassResult, lra_analysis_spec.Plan.Plan, lra_analysis_spec.UnderInterference.LossyPass, lra_domain.Abstraction.Abstraction}
 use Rattle.lra_operations.specs.declared.tree.Node as node
 use Rattle.lra_operations.specs.Tree as graph
 use Rattle.lra_operations.specs.TreeViews.{node_view, row}
-use Rattle.lra_analysis_spec.specs.{Pass.PassResult, Plan.Plan, UnderInterference.LossyPass}
 use Rattle.lra_pass_results.specs.declared.flat.Flat as flat
 use Rattle.lra_pass_results.specs.Flat.{flat_view, AllLeaves, AreLeaves, Follows, IsLeaf}
 use Rattle.lra_pass_results.specs.declared.tree_forms.Leaf.TheVariants.{Empty, Point, Act, Check, Leave}

@@ -2,11 +2,11 @@
 use Rattle.std.proofs.Common.{◌≡◌, ℕ, ◌<◌, List, length, Vec, Global, Option, Some, None, sym, ap, subst, ◌∙◌}
 use Rattle.std.specs.{List.All, Prelude.IfOk, Prelude.slice_index_or, Prelude.set}
 use Rattle.std.specs.Prelude as outcome_or
-use Rattle.lra_domain.specs.{Abstraction.Abstraction, Interference.Interference, declared.Exactness.Exactness}
-use Rattle.lra_program.specs.Program.{Cond}
+use Rattle.lra_pass_results.specs.Crates.lra_analysis_spec.Pass.{PassResult, noted}
+use Rattle.lra_pass_results.specs.Crates.{lra_analysis_spec.Operations.lossy_operations, lra_analysis_spec.Plan.Plan, lra_analysis_spec.UnderInterference.absorbed, lra_domain.Abstraction.Abstraction}
+use Rattle.lra_pass_results.specs.Crates.{lra_domain.Interference.Interference, lra_domain.declared.Exactness.Exactness, lra_program.Program.Cond}
 use Rattle.lra_operations.specs.Tree.{Exit, Node, choose, iterate}
-use Rattle.lra_analysis_spec.specs.{Operations.lossy_operations, Pass.PassResult, Pass.noted, Plan.Plan, UnderInterference.absorbed}
-use Rattle.lra_analysis_spec.proofs.Transfer.{behind_flag}
+use Rattle.lra_pass_results.proofs.Crates.lra_analysis_spec.Transfer.{behind_flag}
 use Rattle.lra_pass_results.specs.LoopCache.{IsRecalled, AreRecalled, MayRecall, Remembers, StaysKept}
 use Rattle.lra_pass_results.specs.Outcome.{ended, outcome_view, AreBranchesJoined, Catches, IsKept, IsPassed, LeavesWith}
 use Rattle.lra_pass_results.specs.{declared.loop_cache.CachedLoop.CachedLoop, declared.loop_cache.LoopCache.LoopCache, declared.outcome.PassOutcome.PassOutcome}

@@ -1,7 +1,7 @@
 -- Rows with no tree in their trees, that are passed along after what was found before them.
 use Rattle.std.proofs.Common.{◌≡◌, ℕ, suc, ◌+◌, ◌≤◌, List, ◌∷◌, Option, refl, sym, ap, subst, ◌∙◌, arith}
-use Rattle.lra_analysis_spec.specs.{LiveLimit.most_live, Pass.PassResult, Pass.in_turn, Plan.Plan}
-use Rattle.lra_domain.specs.{Abstraction.Abstraction, Interference.Interference}
+use Rattle.lra_pass_results.specs.Crates.lra_analysis_spec.Pass.{PassResult, in_turn}
+use Rattle.lra_pass_results.specs.Crates.{lra_analysis_spec.LiveLimit.most_live, lra_analysis_spec.Plan.Plan, lra_domain.Abstraction.Abstraction, lra_domain.Interference.Interference}
 use Rattle.lra_operations.specs.Tree as graph
 use Rattle.lra_operations.specs.declared.tree.Node as node
 use Rattle.lra_pass_results.specs.{Dimensions.TreeFits, Flat.AllLeaves, Flat.Follows, Flat.IsLeaf, Outcome.outcome_view, Outcome.IsPassed, declared.outcome.PassOutcome.PassOutcome}

@@ -1,9 +1,9 @@
 -- Which rows a loop's head is given, by how it widens.
 use Rattle.std.proofs.Common.{◌≡◌, ℕ, ℤ, List, None, Some, refl, ap}
 use Rattle.lra_operations.specs.Tree.{Node}
-use Rattle.lra_program.specs.Program.{Cond}
-use Rattle.lra_analysis_spec.specs.Plan.{Widening, standard, limited, by_thresholds, constants_in}
-use Rattle.lra_analysis_spec.specs.{GuardThresholds.guard_thresholds, Thresholds.loop_thresholds, Thresholds.threshold_rows}
+use Rattle.lra_pass_results.specs.Crates.lra_analysis_spec.Plan.{Widening, standard, limited, by_thresholds, constants_in}
+use Rattle.lra_pass_results.specs.Crates.lra_analysis_spec.Thresholds.{loop_thresholds, threshold_rows}
+use Rattle.lra_pass_results.specs.Crates.{lra_analysis_spec.GuardThresholds.guard_thresholds, lra_program.Program.Cond}
 
 pub rows_by_condition : (w : Widening) (live base : ℕ) (c : Cond) (a : Node) → None ≡ constants_in w →
     guard_thresholds live base c ≡ loop_thresholds w live base c a

@@ -1,9 +1,9 @@
 -- Values that are joined one by one.
 use Rattle.std.proofs.Common.{◌≡◌, ℕ, ◌<◌, ◌≤◌, ◌+◌, List, [], ◌∷◌, length, drop, get_or, suc, add-one, drop-cons, refl, sym, ap, subst, ◌∙◌}
 use Rattle.std.proofs.lemmas.List.{drop_all}
-use Rattle.lra_domain.specs.{Abstraction.Abstraction, Abstraction.worse, declared.Exactness.Exactness, declared.Exactness.TheVariants.Exact, declared.Exactness.TheVariants.Flagged}
-use Rattle.lra_domain.proofs.WorseLaws.{worse_behind}
-use Rattle.lra_analysis_spec.specs.{Operations.lossy_operations, Pass.AreJoined}
+use Rattle.lra_pass_results.specs.Crates.{lra_analysis_spec.Operations.lossy_operations, lra_analysis_spec.Pass.AreJoined, lra_domain.Abstraction.Abstraction, lra_domain.Abstraction.worse}
+use Rattle.lra_pass_results.specs.Crates.{lra_domain.declared.Exactness.Exactness, lra_domain.declared.Exactness.TheVariants.Exact, lra_domain.declared.Exactness.TheVariants.Flagged}
+use Rattle.lra_pass_results.proofs.Crates.lra_domain.WorseLaws.{worse_behind}
 use Rattle.lra_pass_results.specs.Outcome.{AllHave}
 
 -- however those that are left are joined to what is joined so far, all are

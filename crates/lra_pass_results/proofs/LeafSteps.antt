@@ -3,12 +3,12 @@ use Rattle.std.proofs.Common.{Vec, Global, map, ◌≡◌, ℕ, List, [], ◌∷
 use Rattle.std.proofs.lemmas.List.{append-nil, map-append}
 use Rattle.std.specs.Prelude.{OnOk}
 use Rattle.std.specs.Prelude as outcome_or
-use Rattle.lra_domain.specs.{Abstraction.Abstraction, Interference.Interference, declared.Exactness.Exactness}
+use Rattle.lra_pass_results.specs.Crates.lra_analysis_spec.Pass.{PassEntry, PassResult, goes_on, in_turn, jumps, noted}
+use Rattle.lra_pass_results.specs.Crates.{lra_analysis_spec.Live.live_after, lra_analysis_spec.Operations.lossy_operations, lra_analysis_spec.Plan.Plan, lra_analysis_spec.UnderInterference.LossyPass}
+use Rattle.lra_pass_results.specs.Crates.{lra_domain.Abstraction.Abstraction, lra_domain.Interference.Interference, lra_domain.declared.Exactness.Exactness}
 use Rattle.lra_operations.specs.Tree.{Exit}
 use Rattle.lra_operations.specs.Tree as graph
-use Rattle.lra_analysis_spec.specs.Pass.{PassEntry, PassResult, goes_on, in_turn, jumps, noted}
-use Rattle.lra_analysis_spec.specs.{Live.live_after, Operations.lossy_operations, Plan.Plan, UnderInterference.LossyPass}
-use Rattle.lra_analysis_spec.proofs.Transfer.{jump_flag}
+use Rattle.lra_pass_results.proofs.Crates.lra_analysis_spec.Transfer.{jump_flag}
 use Rattle.lra_pass_results.specs.declared.outcome.PassEntry as entry
 use Rattle.lra_pass_results.specs.{Flat.Follows, Outcome.ended, Outcome.entry_view, Outcome.outcome_view, Outcome.IsPassed, declared.outcome.PassOutcome.PassOutcome}
 use Rattle.lra_pass_results.proofs.{PassRows.same_lists, PassSteps.going_on_fits, PassSteps.jump_dims, PassSteps.jump_fits, PassSteps.jump_normal}

@@ -8,3 +8,5 @@ mod Copying
 mod LeafSteps
 mod FlatRows
 mod GivenLoops
+-- The crates below
+pub mod Crates

@@ -3,10 +3,10 @@
 use Rattle.std.proofs.Common.{◌≡◌, ℕ, suc, ◌+◌, List, [], ◌∷◌, map, Option, refl, sym, ap, subst, ◌∙◌, arith}
 use Rattle.std.proofs.{lemmas.List.append_assoc, lemmas.List.Sums.sum_by-cons}
 use Rattle.std.specs.List.{sum_by}
-use Rattle.lra_domain.specs.{Abstraction.Abstraction, Interference.Interference}
+use Rattle.lra_pass_results.specs.Crates.lra_analysis_spec.Pass.{PassEntry, PassResult, in_turn}
+use Rattle.lra_pass_results.specs.Crates.{lra_analysis_spec.Live.live_after, lra_analysis_spec.Plan.Plan, lra_domain.Abstraction.Abstraction, lra_domain.Interference.Interference}
 use Rattle.lra_operations.specs.{TreeViews.node_view, TreeViews.row, declared.tree.Node.Node}
 use Rattle.lra_operations.specs.Tree as graph
-use Rattle.lra_analysis_spec.specs.{Live.live_after, Pass.PassEntry, Pass.PassResult, Pass.in_turn, Plan.Plan}
 use Rattle.lra_pass_results.specs.{Outcome.JumpsFit, Outcome.IsPassed, Steps.node_steps, Steps.row_steps}
 use Rattle.lra_pass_results.proofs.PassSteps.{seq_fits}
 

@@ -3,22 +3,22 @@ use Rattle.std.proofs.Common.{rules, Box, Vec, Global, map, ◌≡◌, ℕ, zero
 use Rattle.std.proofs.{lemmas.List.Elements.Contains-append_cases, lemmas.List.Sums.sum_by-cons}
 use Rattle.std.specs.{List.Contains, List.sum_by, Prelude.◌⊎◌, Prelude.IfOk, Prelude.true}
 use Rattle.std.specs.Prelude as outcome_or
-use Rattle.lra_domain.specs.{Abstraction.Abstraction, Interference.Interference, declared.Exactness.Exactness}
-use Rattle.lra_program.specs.declared.program.Cond as declared_cond
+use Rattle.lra_pass_results.specs.Crates.lra_analysis_spec.Pass.{Filters, jumps_of, PassEntry, PassResult, noted, goes_on, jumps, in_turn, jumps_caught, DescendingIteration}
+use Rattle.lra_pass_results.specs.Crates.lra_program.ProgramViews.{cond_view, expr_view}
+use Rattle.lra_pass_results.specs.Crates.{lra_analysis_spec.Live.live_after, lra_analysis_spec.Operations.lossy_operations, lra_analysis_spec.Plan.Plan, lra_analysis_spec.UnderInterference.LossyPass}
+use Rattle.lra_pass_results.specs.Crates.{lra_domain.Abstraction.Abstraction, lra_domain.Interference.Interference, lra_domain.declared.Exactness.Exactness, lra_program.Program.Cond}
+use Rattle.lra_pass_results.specs.Crates.lra_program.declared.program.Cond as declared_cond
 use Rattle.lra_operations.specs.declared.probes.Probe as declared_aside
 use Rattle.lra_operations.specs.declared.tree.Exit as declared_exit
 use Rattle.lra_operations.specs.declared.tree.Op as declared_op
 use Rattle.lra_operations.specs.TreeViews.{exit_view, node_view, row, arm_view, arms_of}
 use Rattle.lra_operations.specs.declared.tree.Node.{Node, Empty, Point, Probe, Act, Check, Seq, Choose, Iterate, Catch, Leave, Select, the_lemmas}
 use Rattle.lra_operations.specs.{Tree.Exit, Tree.broken, Tree.continued, Tree.returned, declared.tree.Arm.Arm, declared.tree.Arm.TheVariants.Tree as TreeArm}
-use Rattle.lra_program.specs.declared.program.Expr as declared_expr
-use Rattle.lra_program.specs.{Program.Cond, ProgramViews.cond_view, ProgramViews.expr_view}
+use Rattle.lra_pass_results.specs.Crates.lra_program.declared.program.Expr as declared_expr
 use Rattle.lra_operations.specs.Tree as graph
-use Rattle.lra_analysis_spec.specs.Pass.{Filters, jumps_of, PassEntry, PassResult, noted, goes_on, jumps, in_turn, jumps_caught, DescendingIteration}
-use Rattle.lra_analysis_spec.specs.{Live.live_after, Operations.lossy_operations, Plan.Plan, UnderInterference.LossyPass}
 use Rattle.lra_pass_results.specs.Outcome.{headed, AllHave, AreBranchesJoined, Catches, JumpsFit, HasGrown, IsPassed, LeavesWith}
 use Rattle.lra_pass_results.specs.{Dimensions.JumpsWith, Dimensions.TreeFits, Steps.arm_steps, Steps.arms_steps, Steps.node_steps, Steps.row_steps}
-use Rattle.lra_linearize.proofs.TreeViews.{catch_view, choose_view, iterate_view, select_view, seq_view}
+use Rattle.lra_pass_results.proofs.Crates.lra_linearize.TreeViews.{catch_view, choose_view, iterate_view, select_view, seq_view}
 
 -- how many steps a pass of each takes
 pub empty_steps : (n : ℕ) → node_steps n Empty ≡ 1

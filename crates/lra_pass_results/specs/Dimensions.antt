@@ -3,7 +3,7 @@
 use Rattle.std.specs.Prelude.{◌≡◌, ◌≢◌, ℕ, ◌≤◌, ◌⊎◌, ⊤}
 use Rattle.lra_operations.specs.Tree.{Exit, Node, empty, point, probe, act, check, seq, choose, iterate, catch, leave}
 use Rattle.lra_operations.specs.Tree.{select, Arms, no_arms, entry, arm}
-use Rattle.lra_analysis_spec.specs.{Live.live_after, LiveLimit.most_live}
+use Rattle.lra_pass_results.specs.Crates.{lra_analysis_spec.Live.live_after, lra_analysis_spec.LiveLimit.most_live}
 use Rattle.lra_transfer.specs.Changes.{OpFitsDims}
 
 abbrev mutual

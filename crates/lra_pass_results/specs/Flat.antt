@@ -1,9 +1,10 @@
 -- Trees that are passed where they stand: what they are, and what was found before them with what their pass finds.
 use Rattle.std.specs.Prelude.{◌≡◌, ℕ, List, [], ◌∷◌, map, Option, ⊤}
-use Rattle.lra_domain.specs.{Abstraction.Abstraction, Interference.Interference}
+use Rattle.lra_pass_results.specs.Crates.lra_analysis_spec.Pass.{PassResult, in_turn}
+use Rattle.lra_pass_results.specs.Crates.lra_domain.Interference.{Interference}
+use Rattle.lra_pass_results.specs.Crates.{lra_analysis_spec.Plan.Plan, lra_domain.Abstraction.Abstraction}
 use Rattle.lra_operations.specs.{TreeViews.node_view, TreeViews.row, declared.tree.Node.Node}
 use Rattle.lra_operations.specs.Tree as graph
-use Rattle.lra_analysis_spec.specs.{Pass.PassResult, Pass.in_turn, Plan.Plan}
 use Rattle.lra_pass_results.specs.declared.flat.Flat as flat
 use Rattle.lra_pass_results.specs.Outcome.{ended, outcome_view, IsPassed}
 use Rattle.lra_pass_results.specs.declared.flat.Flat.TheVariants.{Leaf, Row}

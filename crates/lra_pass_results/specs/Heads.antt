@@ -1,9 +1,11 @@
 -- A loop's head while it grows: its value, and what is flagged so far.
 use Rattle.std.specs.Prelude.{◌≡◌, ◌≢◌, ℕ, ◌-◌, Option}
-use Rattle.lra_domain.specs.Rank.{RankFits, RankBelow}
-use Rattle.lra_domain.specs.{Abstraction.Abstraction, declared.Exactness.Exactness, declared.Mode.TheVariants.Join}
-use Rattle.lra_analysis_spec.specs.Plan.{Widening, mode_at}
-use Rattle.lra_analysis_spec.specs.{Operations.lossy_operations, Pass.PassResult, Pass.noted}
+use Rattle.lra_pass_results.specs.Crates.lra_analysis_spec.Operations.{lossy_operations}
+use Rattle.lra_pass_results.specs.Crates.lra_analysis_spec.Pass.{PassResult, noted}
+use Rattle.lra_pass_results.specs.Crates.lra_analysis_spec.Plan.{Widening, mode_at}
+use Rattle.lra_pass_results.specs.Crates.lra_domain.Rank.{RankFits, RankBelow}
+use Rattle.lra_pass_results.specs.Crates.{lra_domain.Abstraction.Abstraction, lra_domain.declared.Exactness.Exactness}
+use Rattle.lra_pass_results.specs.Crates.{lra_domain.declared.Mode.TheVariants.Join}
 use Rattle.lra_pass_results.specs.declared.heads.Growing.{Growing}
 
 -- the head's value, with what is flagged after it

@@ -5,3 +5,5 @@ pub mod Steps
 pub mod TreeForms
 pub mod Heads
 pub mod Flat
+-- The crates below
+pub mod Crates

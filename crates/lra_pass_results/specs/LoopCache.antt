@@ -1,9 +1,9 @@
 -- What is kept of loops that stand inside others.
 use Rattle.std.specs.{List.All, Prelude.◌≡◌, Prelude.ℕ, Prelude.Option, Prelude.None, Prelude.Some, Prelude.⊤}
-use Rattle.lra_domain.specs.{Abstraction.Abstraction, Interference.Interference}
+use Rattle.lra_pass_results.specs.Crates.lra_domain.Interference.{Interference}
+use Rattle.lra_pass_results.specs.Crates.{lra_analysis_spec.Plan.Plan, lra_domain.Abstraction.Abstraction}
 use Rattle.lra_operations.specs.Tree.{Node, empty, point, probe, act, check, seq, choose, iterate, catch, leave, select}
 use Rattle.lra_operations.specs.Tree.{Arms, no_arms, entry, arm}
-use Rattle.lra_analysis_spec.specs.Plan.{Plan}
 use Rattle.lra_pass_results.specs.Outcome.{outcome_view, IsKept, IsPassed}
 use Rattle.lra_pass_results.specs.declared.outcome.PassOutcome.{PassOutcome}
 use Rattle.lra_pass_results.specs.{declared.loop_cache.CachedLoop.CachedLoop, declared.loop_cache.LoopCache.LoopCache}

@@ -1,7 +1,15 @@
 -- What a pass in code gives, as the result of a pass.
 use Rattle.std.specs.List.{Contains}
 use Rattle.std.specs.Prelude.{◌≡◌, ℕ, true, false, List, [], ◌∷◌, map, Option, None, Some, ⊤}
-use Rattle.lra_domain.specs.{Abstraction.Abstraction, Interference.Interference, declared.Exactness.Exactness}
+use Rattle.lra_pass_results.specs.Crates.lra_analysis_spec.Operations.{lossy_operations}
+use Rattle.lra_pass_results.specs.Crates.lra_analysis_spec.Pass.{PassEntry, value, failing, recorded, PassResult, noted}
+use Rattle.lra_pass_results.specs.Crates.lra_analysis_spec.Pass.{in_turn, jumps_of, values_behind, jumps_caught}
+use Rattle.lra_pass_results.specs.Crates.lra_analysis_spec.Pass.{AreJoined, Filters, LoopRoundFrom, AscendingIteration}
+use Rattle.lra_pass_results.specs.Crates.lra_analysis_spec.Thresholds.{loop_thresholds}
+use Rattle.lra_pass_results.specs.Crates.{lra_analysis_spec.Live.live_after, lra_analysis_spec.Pass.DescendingIteration}
+use Rattle.lra_pass_results.specs.Crates.{lra_analysis_spec.Plan.Plan, lra_analysis_spec.UnderInterference.LossyPass}
+use Rattle.lra_pass_results.specs.Crates.{lra_domain.Abstraction.Abstraction, lra_domain.Interference.Interference}
+use Rattle.lra_pass_results.specs.Crates.{lra_domain.declared.Exactness.Exactness, lra_program.Program.Cond}
 use Rattle.lra_pass_results.specs.declared.outcome.PassEntry as entry
 use Rattle.lra_pass_results.specs.declared.outcome.Entered.TheVariants.{Again, Anew}
 use Rattle.lra_pass_results.specs.declared.outcome.PassEntry.TheVariants.{Value, Failing, Recorded}
@@ -9,13 +17,7 @@ use Rattle.lra_pass_results.specs.declared.outcome.PassFindings.{PassFindings}
 use Rattle.lra_pass_results.specs.declared.outcome.PassOutcome.{PassOutcome}
 use Rattle.lra_pass_results.specs.{Dimensions.JumpsWith, declared.outcome.Entered.Entered}
 use Rattle.lra_pass_results.specs.{declared.outcome.LoopRound.LoopRound, declared.outcome.Running.Running}
-use Rattle.lra_program.specs.Program.{Cond}
 use Rattle.lra_operations.specs.Tree.{Exit, Node}
-use Rattle.lra_analysis_spec.specs.Operations.{lossy_operations}
-use Rattle.lra_analysis_spec.specs.Pass.{PassEntry, value, failing, recorded, PassResult, noted, in_turn, jumps_of}
-use Rattle.lra_analysis_spec.specs.Pass.{values_behind, jumps_caught, AreJoined, Filters, LoopRoundFrom}
-use Rattle.lra_analysis_spec.specs.Pass.{AscendingIteration, DescendingIteration}
-use Rattle.lra_analysis_spec.specs.{Live.live_after, Plan.Plan, Thresholds.loop_thresholds, UnderInterference.LossyPass}
 
 abbrev pub entry_view : {V : Type 0} → entry.PassEntry V → PassEntry V
 entry_view (Value q v) = value q v

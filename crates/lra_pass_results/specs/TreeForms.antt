@@ -1,10 +1,10 @@
 -- Trees of operations by what stands in them, and how many steps these take.
 use Rattle.std.specs.Prelude.{◌≡◌, ℕ, suc, ◌+◌, ◌*◌, map}
-use Rattle.lra_program.specs.ProgramViews.{cond_view, expr_view}
+use Rattle.lra_pass_results.specs.Crates.lra_analysis_spec.Plan.{Plan}
+use Rattle.lra_pass_results.specs.Crates.lra_program.ProgramViews.{cond_view, expr_view}
 use Rattle.lra_operations.specs.TreeViews.{exit_view, op_view, node_view, row, arm_view, arms_of}
 use Rattle.lra_operations.specs.declared.tree.Node.{Node}
 use Rattle.lra_operations.specs.Tree as graph
-use Rattle.lra_analysis_spec.specs.Plan.{Plan}
 use Rattle.lra_pass_results.specs.declared.tree_forms.Leaf as leaf
 use Rattle.lra_pass_results.specs.Steps.{arms_steps, node_steps, row_steps}
 use Rattle.lra_pass_results.specs.declared.tree_forms.Leaf.TheVariants.{Empty, Point, Act, Check, Leave}

@@ -1,9 +1,9 @@
 //! Trees that are passed where they stand: those with no tree in them, and rows of such. Others don't act in them, so
 //! that their pass is the same among any.
 
-ghost use Rattle.lra_analysis_spec.specs.{LiveLimit.most_live, Plan.Plan};
+ghost use Rattle.lra_pass_results.specs.Crates.lra_domain.Interference.{no_interference};
+ghost use Rattle.lra_pass_results.specs.Crates.{lra_analysis_spec.LiveLimit.most_live, lra_analysis_spec.Plan.Plan};
 ghost use Rattle.std.specs.Prelude.{◌≡◌, ◌≤◌, true, map, IfSome, OnOk};
-ghost use Rattle.lra_domain.specs.Interference.{no_interference};
 ghost use Rattle.lra_operations.specs.TreeViews.{node_view, row};
 ghost use Rattle.lra_pass_results.specs.Flat.{flat_view, AreLeaves, Follows, HasLeaves, IsLeaf};
 ghost use Rattle.lra_pass_results.specs.{Dimensions.TreeFits, TreeForms.leaf_view};
@@ -12,8 +12,8 @@ use crate::leaves::pass_on;
 use crate::outcome::PassOutcome;
 use crate::plan::Plan;
 use crate::tree_forms::{Leaf, Row, TreeForm};
-use lra_domain::Domain;
 use lra_operations::Node;
+use lra_transfer::Domain;
 use std::alloc::{AllocError, Global};
 
 /// A tree with no tree in it, or a row of such.

@@ -1,19 +1,18 @@
 //! A loop's head while it grows.
 
 ghost use Rattle.std.specs.Prelude.{◌≡◌, ◌<◌, ◌≤◌, ◌^◌, true, false, IfOk};
-ghost use Rattle.lra_domain.specs.{Rank.RankFits, declared.Exactness.Exactness};
-ghost use Rattle.lra_program.specs.ProgramViews.{cond_view};
-ghost use Rattle.lra_analysis_spec.specs.Operations.{lossy_operations};
-ghost use Rattle.lra_analysis_spec.specs.{LiveLimit.most_live, Plan.mode_at, Thresholds.loop_thresholds};
+ghost use Rattle.lra_pass_results.specs.Crates.lra_analysis_spec.Operations.{lossy_operations};
+ghost use Rattle.lra_pass_results.specs.Crates.lra_analysis_spec.Thresholds.{loop_thresholds};
+ghost use Rattle.lra_pass_results.specs.Crates.lra_program.ProgramViews.{cond_view};
+ghost use Rattle.lra_pass_results.specs.Crates.{lra_analysis_spec.LiveLimit.most_live, lra_analysis_spec.Plan.mode_at};
+ghost use Rattle.lra_pass_results.specs.Crates.{lra_domain.Rank.RankFits, lra_domain.declared.Exactness.Exactness};
 ghost use Rattle.lra_operations.specs.TreeViews.{node_view};
 ghost use Rattle.lra_pass_results.specs.{Heads.IsValued, Heads.GrowsBy, Outcome.outcome_view};
 
 use crate::outcome::{PassOutcome, note};
 use crate::plan::Plan;
 use crate::tree_forms::Loop;
-use lra_domain::{Domain, Grown, Mode};
-use lra_linearize::{guard_thresholds_of, thresholds_of};
-use lra_systems::ConSys;
+use lra_transfer::{ConSys, Domain, Grown, Mode, guard_thresholds_of, thresholds_of};
 use std::alloc::{AllocError, Global};
 
 /// How a round grows the head, by how many rounds of joining are left.

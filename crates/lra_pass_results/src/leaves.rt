@@ -1,11 +1,11 @@
 //! The pass over trees with no tree in them: others don't act there, so that it is the same among any.
 
 ghost use Rattle.std.specs.Prelude.{◌≡◌, ◌≤◌, IfOk, OnOk};
-ghost use Rattle.lra_domain.specs.Interference.{no_interference};
+ghost use Rattle.lra_pass_results.specs.Crates.lra_domain.Interference.{no_interference};
+ghost use Rattle.lra_pass_results.specs.Crates.lra_program.ProgramViews.{cond_view};
+ghost use Rattle.lra_pass_results.specs.Crates.{lra_analysis_spec.LiveLimit.most_live, lra_analysis_spec.Plan.Plan};
 ghost use Rattle.lra_operations.specs.Tree.{act, check, leave, point as point_node};
 ghost use Rattle.lra_operations.specs.TreeViews.{exit_view, op_view};
-ghost use Rattle.lra_program.specs.ProgramViews.{cond_view};
-ghost use Rattle.lra_analysis_spec.specs.{LiveLimit.most_live, Plan.Plan};
 ghost use Rattle.lra_transfer.specs.Changes.{OpFitsDims};
 ghost use Rattle.lra_pass_results.specs.Outcome.{outcome_view, IsPassed};
 ghost use Rattle.lra_pass_results.specs.{Dimensions.TreeFits, Flat.Follows, TreeForms.leaf_view};
@@ -13,10 +13,8 @@ ghost use Rattle.lra_pass_results.specs.{Dimensions.TreeFits, Flat.Follows, Tree
 use crate::outcome::{PassEntry, PassOutcome, note};
 use crate::plan::Plan;
 use crate::tree_forms::Leaf;
-use lra_domain::{Domain, Exactness};
-use lra_operations::{Exit, Op};
-use lra_program::Cond;
-use lra_transfer::{Kept, split, transfer_op};
+use lra_operations::{Cond, Exit, Op};
+use lra_transfer::{Domain, Exactness, Kept, split, transfer_op};
 use std::alloc::{AllocError, Global};
 
 /// A point: its value is found.

@@ -15,6 +15,10 @@ pub use flat::Flat;
 pub use heads::{Growing, grow_by, start};
 pub use leaves::pass_leaf;
 pub use loop_cache::{CachedLoop, LoopCache};
+pub use lra_transfer::{
+    ConditionSplit, Domain, Exactness, Interfere, Kept, Linearized, append_globals,
+    filter_condition, filter_number, linearize, split, worse,
+};
 pub use outcome::{
     Entered, HeadRound, LoopRound, PassEntry, PassFindings, PassOutcome, Running, enter_with,
     join_all, note,

@@ -2,13 +2,13 @@
 
 ghost use Rattle.std.specs.Prelude.{◌≡◌, ◌<◌, ℕ, [], Option, Some, length, slice_index_or, IfOk, OnOk};
 ghost use Rattle.lra_operations.specs.Tree.{Node};
-ghost use Rattle.lra_analysis_spec.specs.Plan.{Plan};
+ghost use Rattle.lra_pass_results.specs.Crates.lra_analysis_spec.Plan.{Plan};
 ghost use Rattle.lra_pass_results.specs.LoopCache.{IsRecalled, AreRecalled, MayRecall};
 ghost use Rattle.lra_pass_results.specs.Outcome.{outcome_view, IsKept};
 ghost use Rattle.lra_pass_results.specs.declared.loop_cache.CachedLoop.{CachedLoop};
 
 use crate::outcome::PassOutcome;
-use lra_domain::{Domain, Interfere};
+use lra_transfer::{Domain, Interfere};
 use std::alloc::{AllocError, Global};
 
 /// A loop's last pass: the number of its point, its first value, and what it gave.

@@ -2,13 +2,14 @@
 
 ghost use Rattle.std.specs.Prelude.{◌≡◌, ℕ, true, [], Option, None, IfOk, OnOk};
 ghost use Rattle.lra_operations.specs.{Tree.broken, Tree.continued, Tree.returned, Tree.Node, TreeViews.exit_view};
-ghost use Rattle.lra_analysis_spec.specs.Pass.{AreJoined, noted, goes_on, in_turn, jumps, jumps_caught};
-ghost use Rattle.lra_analysis_spec.specs.{Operations.lossy_operations, Plan.Plan};
+ghost use Rattle.lra_pass_results.specs.Crates.lra_analysis_spec.Pass.{AreJoined, noted, goes_on, in_turn, jumps};
+ghost use Rattle.lra_pass_results.specs.Crates.{lra_analysis_spec.Operations.lossy_operations};
+ghost use Rattle.lra_pass_results.specs.Crates.{lra_analysis_spec.Pass.jumps_caught, lra_analysis_spec.Plan.Plan};
 ghost use Rattle.lra_pass_results.specs.Outcome.{entry_view, ended, outcome_view, AllHave, AreGiven, AreInTurn};
 ghost use Rattle.lra_pass_results.specs.Outcome.{AreKept, running_on, EntersWith};
 
-use lra_domain::{Domain, Exactness, Interfere, worse};
 use lra_operations::Exit;
+use lra_transfer::{Domain, Exactness, Interfere, worse};
 use std::alloc::{AllocError, Global};
 use std::mem;
 

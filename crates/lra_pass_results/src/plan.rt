@@ -1,10 +1,10 @@
 //! How a program is passed.
 
 ghost use Rattle.std.specs.Prelude.{◌≡◌, zero, option_map, IfOk};
-ghost use Rattle.lra_analysis_spec.specs.Plan.{constants_in, mode_at, plan_of};
+ghost use Rattle.lra_pass_results.specs.Crates.lra_analysis_spec.Plan.{constants_in, mode_at, plan_of};
 
-use lra_domain::Mode;
 use lra_options::Options;
+use lra_transfer::Mode;
 use std::alloc::{AllocError, Global};
 use std::marker::Model;
 
@@ -25,7 +25,7 @@ impl Drop for Plan {
 }
 
 impl Model for Plan {
-    ghost use Rattle.lra_analysis_spec.specs.Plan.{Plan, plan_of};
+    ghost use Rattle.lra_pass_results.specs.Crates.lra_analysis_spec.Plan.{Plan, plan_of};
 
     ghost Value = { Plan };
 

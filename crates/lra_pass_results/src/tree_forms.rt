@@ -1,11 +1,10 @@
 //! Trees of operations by what stands in them.
 
-ghost use Rattle.lra_analysis_spec.specs.Plan.{Plan};
+ghost use Rattle.lra_pass_results.specs.Crates.lra_analysis_spec.Plan.{Plan};
 ghost use Rattle.lra_pass_results.specs.TreeForms.{IsTreeForm};
 
 use crate::plan::Plan;
-use lra_operations::{Arm, Exit, Node, Op, Probe};
-use lra_program::{Cond, Expr};
+use lra_operations::{Arm, Cond, Exit, Expr, Node, Op, Probe};
 
 /// A tree with no tree in it.
 #[derive(Clone, Copy)]

@@ -2,14 +2,14 @@
 use Rattle.std.proofs.Common.{Box, Global, ◌≡◌, ◌≤◌, true, false, ℕ, List, [], ◌∷◌, ◌++◌, map, Option, Some, refl, sym, ap, subst, ◌∙◌}
 use Rattle.std.specs.Prelude.{option_to_list, IfOk, MatchResult, OnOk}
 use Rattle.std.specs.Prelude as outcome_or
-use Rattle.lra_domain.specs.{Abstraction.Abstraction, Interference.Interference, declared.Exactness.Exactness, declared.Exactness.TheVariants.Exact}
-use Rattle.lra_program.specs.ProgramViews.{cond_view}
+use Rattle.lra_pass_stack.specs.Crates.{lra_analysis_spec.LiveLimit.most_live, lra_analysis_spec.MovesOf.guard, lra_analysis_spec.Operations.lossy_operations, lra_analysis_spec.Pass.Filters}
+use Rattle.lra_pass_stack.specs.Crates.{lra_analysis_spec.Pass.jumps_of, lra_analysis_spec.Pass.noted, lra_analysis_spec.Pass.goes_on, lra_analysis_spec.Plan.Plan, lra_domain.Abstraction.Abstraction}
+use Rattle.lra_pass_stack.specs.Crates.{lra_domain.Interference.Interference, lra_domain.declared.Exactness.Exactness, lra_domain.declared.Exactness.TheVariants.Exact}
+use Rattle.lra_pass_stack.specs.Crates.{lra_program.ProgramViews.cond_view, lra_transfer.Splits.SplitsBy, lra_transfer.declared.splits.ConditionSplit.ConditionSplit}
 use Rattle.lra_operations.specs.declared.tree.Node as node
 use Rattle.lra_operations.specs.declared.tree.Exit as exit
 use Rattle.lra_operations.specs.{Tree.Node, Tree.choose, Tree.catch, TreeViews.exit_view, TreeViews.node_view, TreeViews.row}
-use Rattle.lra_analysis_spec.specs.{LiveLimit.most_live, MovesOf.guard, Operations.lossy_operations, Pass.Filters, Pass.jumps_of, Pass.noted, Pass.goes_on, Plan.Plan}
-use Rattle.lra_analysis_spec.proofs.Takes.{takes_made}
-use Rattle.lra_transfer.specs.{Splits.SplitsBy, declared.splits.ConditionSplit.ConditionSplit}
+use Rattle.lra_pass_stack.proofs.Crates.lra_analysis_spec.Takes.{takes_made}
 use Rattle.lra_pass_results.specs.{Dimensions.TreeFits, LoopCache.Remembers, LoopCache.StaysKept, Outcome.ended, Outcome.outcome_view, Outcome.AllHave, Outcome.AreInTurn, Outcome.AreBranchesJoined}
 use Rattle.lra_pass_results.specs.{Outcome.Catches, Outcome.IsPassed, declared.loop_cache.LoopCache.LoopCache, declared.outcome.PassFindings.PassFindings, declared.outcome.PassOutcome.PassOutcome}
 use Rattle.lra_pass_stack.specs.Stack.{PassTask, pass_task, ArePassFrames, PassIsUnderWay, IsBranch, IsChoice, IsMade, IsPassFrame, IsRow, PassStepLeads, MayBePassed, RowLoop}

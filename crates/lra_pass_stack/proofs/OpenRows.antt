@@ -1,9 +1,9 @@
 -- A row of trees that is under way: what was found so far, with whatever the rest finds after it, is what a pass of the
 -- whole finds.
 use Rattle.std.proofs.Common.{◌≡◌, ℕ, ◌≤◌, [], Option, sym, ap, subst, ◌∙◌}
-use Rattle.lra_domain.specs.{Abstraction.Abstraction, Interference.Interference}
+use Rattle.lra_pass_stack.specs.Crates.lra_analysis_spec.Pass.{PassResult, goes_on, in_turn}
+use Rattle.lra_pass_stack.specs.Crates.{lra_analysis_spec.LiveLimit.most_live, lra_analysis_spec.Plan.Plan, lra_domain.Abstraction.Abstraction, lra_domain.Interference.Interference}
 use Rattle.lra_operations.specs.Tree as graph
-use Rattle.lra_analysis_spec.specs.{LiveLimit.most_live, Pass.PassResult, Pass.goes_on, Pass.in_turn, Plan.Plan}
 use Rattle.lra_pass_results.specs.{Dimensions.TreeFits, LoopCache.HasLoops, LoopCache.MayRecall, LoopCache.Remembers, LoopCache.StaysKept, Outcome.ended, Outcome.IsPassed}
 use Rattle.lra_pass_results.specs.{declared.loop_cache.LoopCache.LoopCache, declared.outcome.PassFindings.PassFindings, declared.outcome.PassOutcome.PassOutcome}
 use Rattle.lra_pass_stack.specs.Stack.{RowLoop}

@@ -3,8 +3,7 @@ use Rattle.std.proofs.Common.{◌≡◌, ℕ, ◌+◌, ◌<◌, ◌≤◌, List,
 use Rattle.std.proofs.lemmas.Result.{IfOk-weaker}
 use Rattle.std.specs.Prelude.{IfOk}
 use Rattle.std.specs.Prelude as outcome_or
-use Rattle.lra_analysis_spec.specs.{Pass.PassResult, Plan.Plan}
-use Rattle.lra_domain.specs.{Abstraction.Abstraction, Interference.Interference}
+use Rattle.lra_pass_stack.specs.Crates.{lra_analysis_spec.Pass.PassResult, lra_analysis_spec.Plan.Plan, lra_domain.Abstraction.Abstraction, lra_domain.Interference.Interference}
 use Rattle.lra_operations.specs.declared.tree.Node as node
 use Rattle.lra_operations.specs.{Tree.Node, TreeViews.node_view, TreeViews.row}
 use Rattle.lra_pass_results.specs.{Dimensions.TreeFits, Flat.Follows, LoopCache.StaysKept, Outcome.outcome_view, Outcome.IsPassed, Steps.row_steps, declared.loop_cache.LoopCache.LoopCache}

@@ -3,19 +3,19 @@
 use Rattle.std.proofs.Common.{Bor, Box, Global, ◌≡◌, ◌≤◌, ℕ, ℤ, List, [], ◌∷◌, map, Option, None, Some, Bool, true, false, refl, sym, ap, subst, ◌∙◌, append-nil}
 use Rattle.std.specs.{List.Contains, List.list_any, Prelude.IfOk}
 use Rattle.std.specs.Prelude as outcome_or
-use Rattle.lra_base.specs.{CaseLabels.is_same_case, declared.case_labels.CaseLabel.CaseLabel, declared.case_labels.CaseLabel.TheVariants.Case, declared.case_labels.CaseLabel.TheVariants.Default}
-use Rattle.lra_domain.specs.{Abstraction.Abstraction, Abstraction.worse, Interference.Interference, declared.Exactness.Exactness, declared.Exactness.TheVariants.Exact}
-use Rattle.lra_program.specs.{Program.Expr, ProgramViews.expr_view}
+use Rattle.lra_pass_stack.specs.Crates.lra_analysis_spec.Linearization.{LinearizedFits, linearized}
+use Rattle.lra_pass_stack.specs.Crates.lra_analysis_spec.Pass.{PassResult, noted, goes_on, in_turn, jumps_of, ArmsPassUnder, MatchesNone, Enters, JoinsRunning, ComesOut, RunsFrom}
+use Rattle.lra_pass_stack.specs.Crates.lra_base.declared.case_labels.CaseLabel.TheVariants.{Case, Default}
+use Rattle.lra_pass_stack.specs.Crates.{lra_analysis_spec.Live.live_after, lra_analysis_spec.LiveLimit.most_live, lra_analysis_spec.MovesOf.number_moves, lra_analysis_spec.Operations.lossy_operations}
+use Rattle.lra_pass_stack.specs.Crates.{lra_analysis_spec.Plan.Plan, lra_analysis_spec.UnderInterference.absorbed, lra_analysis_spec.declared.linearization.Linearized.Linearized}
+use Rattle.lra_pass_stack.specs.Crates.{lra_base.CaseLabels.is_same_case, lra_base.declared.case_labels.CaseLabel.CaseLabel, lra_domain.Abstraction.Abstraction, lra_domain.Abstraction.worse}
+use Rattle.lra_pass_stack.specs.Crates.{lra_domain.Interference.Interference, lra_domain.declared.Exactness.Exactness, lra_domain.declared.Exactness.TheVariants.Exact, lra_program.Program.Expr}
+use Rattle.lra_pass_stack.specs.Crates.{lra_program.ProgramViews.expr_view, lra_transfer.Changes.Does, lra_transfer.declared.splits.Kept.Kept}
 use Rattle.lra_operations.specs.Tree.{Exit, broken, continued, returned, Node, Arms, no_arms, entry, arm, select, entries_of}
 use Rattle.lra_operations.specs.{TreeViews.node_view, TreeViews.arm_view, TreeViews.arms_of, declared.tree.Arm.Arm, declared.tree.Arm.TheVariants.Entry, declared.tree.Arm.TheVariants.Tree}
 use Rattle.lra_operations.specs.declared.tree.Node as node
 use Rattle.lra_operations.proofs.ArmViews.{arms_first, arms_none, entry_first, entry_seen, tree_first, tree_seen}
-use Rattle.lra_analysis_spec.specs.Pass.{PassResult, noted, goes_on, in_turn, jumps_of, ArmsPassUnder, MatchesNone, Enters, JoinsRunning, ComesOut, RunsFrom}
-use Rattle.lra_analysis_spec.specs.{Linearization.LinearizedFits, Linearization.linearized, Live.live_after, LiveLimit.most_live, MovesOf.number_moves, Operations.lossy_operations, Plan.Plan}
-use Rattle.lra_analysis_spec.specs.{UnderInterference.absorbed, declared.linearization.Linearized.Linearized}
-use Rattle.lra_analysis_spec.proofs.{DivisionLemmas.seen_fits, Takes.worse_exact, Takes.worse_worse}
-use Rattle.lra_analysis_spec.proofs.FlagLaws.{noted_exact}
-use Rattle.lra_transfer.specs.{Changes.Does, declared.splits.Kept.Kept}
+use Rattle.lra_pass_stack.proofs.Crates.{lra_analysis_spec.DivisionLemmas.seen_fits, lra_analysis_spec.FlagLaws.noted_exact, lra_analysis_spec.Takes.worse_exact, lra_analysis_spec.Takes.worse_worse}
 use Rattle.lra_pass_results.specs.Outcome.{ended, outcome_view, running_on, AreInTurn, IsPassed, JumpsFit}
 use Rattle.lra_pass_results.specs.{Dimensions.ArmsJumpWith, Dimensions.JumpsWith, Dimensions.TreeFits, LoopCache.HasLoops, LoopCache.MayRecall, LoopCache.Remembers, LoopCache.StaysKept}
 use Rattle.lra_pass_results.specs.{declared.loop_cache.LoopCache.LoopCache, declared.outcome.PassFindings.PassFindings, declared.outcome.PassOutcome.PassOutcome, declared.outcome.Running.Running}

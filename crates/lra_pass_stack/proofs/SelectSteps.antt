@@ -3,9 +3,8 @@ use Rattle.std.proofs.Common.{Box, Global, ◌≡◌, ◌+◌, ◌<◌, ◌≤�
 use Rattle.std.proofs.{lemmas.List.Sums.sum_by-cons, lemmas.Result.IfOk-weaker}
 use Rattle.std.specs.Prelude.{IfOk}
 use Rattle.std.specs.Prelude as outcome_or
-use Rattle.lra_domain.specs.Abstraction.{Abstraction}
+use Rattle.lra_pass_stack.specs.Crates.{lra_analysis_spec.Plan.Plan, lra_domain.Abstraction.Abstraction}
 use Rattle.lra_operations.specs.{declared.tree.Arm.Arm, declared.tree.Arm.TheVariants.Tree, declared.tree.Node.Node}
-use Rattle.lra_analysis_spec.specs.Plan.{Plan}
 use Rattle.lra_pass_stack.specs.declared.stack.Next as next
 use Rattle.lra_pass_stack.specs.{StepsLeft.most_rounds, StepsLeft.next_left, declared.stack.SelectFrame.SelectFrame}
 use Rattle.lra_pass_results.specs.Steps.{arm_steps, arms_steps, node_steps}

@@ -1,2 +1,4 @@
 pub mod Stack
 pub mod StepsLeft
+-- The crates below
+pub mod Crates

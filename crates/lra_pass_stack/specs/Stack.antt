@@ -2,18 +2,21 @@
 -- that the pass of the place's own tree is to be made.
 use Rattle.std.specs.List.{Contains}
 use Rattle.std.specs.Prelude.{◌≡◌, ℕ, ◌≤◌, Bool, true, false, List, [], ◌∷◌, map, Option, None, Some, ⊤}
-use Rattle.lra_base.specs.declared.case_labels.CaseLabel.{CaseLabel}
-use Rattle.lra_domain.specs.Abstraction.{Abstraction, worse}
-use Rattle.lra_domain.specs.{Interference.Interference, Rank.RankFits, declared.Exactness.Exactness}
-use Rattle.lra_program.specs.{Program.Expr, Program.Cond, ProgramViews.cond_view, ProgramViews.expr_view}
+use Rattle.lra_pass_stack.specs.Crates.lra_analysis_spec.Linearization.{linearized}
+use Rattle.lra_pass_stack.specs.Crates.lra_analysis_spec.Operations.{lossy_operations}
+use Rattle.lra_pass_stack.specs.Crates.lra_analysis_spec.Pass.{Filters, PassResult, noted, in_turn, jumps_of}
+use Rattle.lra_pass_stack.specs.Crates.lra_analysis_spec.Pass.{AscendingIteration, DescendingIteration, ArmsPassUnder}
+use Rattle.lra_pass_stack.specs.Crates.lra_analysis_spec.Pass.{MatchesNone, Enters, JoinsRunning, ComesOut, RunsFrom}
+use Rattle.lra_pass_stack.specs.Crates.lra_analysis_spec.UnderInterference.{absorbed, LossyPass}
+use Rattle.lra_pass_stack.specs.Crates.lra_domain.Abstraction.{Abstraction, worse}
+use Rattle.lra_pass_stack.specs.Crates.lra_domain.Interference.{Interference}
+use Rattle.lra_pass_stack.specs.Crates.lra_program.Program.{Expr, Cond}
+use Rattle.lra_pass_stack.specs.Crates.lra_program.ProgramViews.{cond_view, expr_view}
+use Rattle.lra_pass_stack.specs.Crates.{lra_analysis_spec.LiveLimit.most_live, lra_analysis_spec.Plan.Plan}
+use Rattle.lra_pass_stack.specs.Crates.{lra_base.declared.case_labels.CaseLabel.CaseLabel, lra_domain.Rank.RankFits}
+use Rattle.lra_pass_stack.specs.Crates.{lra_domain.declared.Exactness.Exactness, lra_transfer.declared.splits.Kept.Kept}
 use Rattle.lra_operations.specs.Tree.{Exit, Node, seq, choose, iterate, catch, Arms, arm}
 use Rattle.lra_operations.specs.TreeViews.{exit_view, node_view, row, arm_view, arms_of}
-use Rattle.lra_analysis_spec.specs.Pass.{Filters, PassResult, noted, in_turn, jumps_of, AscendingIteration}
-use Rattle.lra_analysis_spec.specs.Pass.{DescendingIteration, ArmsPassUnder, MatchesNone, Enters, JoinsRunning}
-use Rattle.lra_analysis_spec.specs.Pass.{ComesOut, RunsFrom}
-use Rattle.lra_analysis_spec.specs.{Linearization.linearized, LiveLimit.most_live, Operations.lossy_operations}
-use Rattle.lra_analysis_spec.specs.{Plan.Plan, UnderInterference.absorbed, UnderInterference.LossyPass}
-use Rattle.lra_transfer.specs.declared.splits.Kept.{Kept}
 use Rattle.lra_pass_results.specs.LoopCache.{ArmsHaveLoops, HasLoops, MayRecall, Remembers, StaysKept}
 use Rattle.lra_pass_results.specs.Outcome.{ended, headed, outcome_view, AreKept, HasGrown, IsKept, IsPassed}
 use Rattle.lra_pass_results.specs.Outcome.{IsLoopRound, JumpsFit, NarrowsTo}

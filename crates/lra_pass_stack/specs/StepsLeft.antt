@@ -1,9 +1,9 @@
 -- How many steps a pass may still take: so it ends.
 use Rattle.std.specs.List.{sum_by}
 use Rattle.std.specs.Prelude.{ℕ, suc, ⊤, ◌<◌, ◌+◌, ◌*◌, List}
-use Rattle.lra_domain.specs.{Abstraction.Abstraction, declared.Rank.Rank}
+use Rattle.lra_pass_stack.specs.Crates.lra_domain.Abstraction.{Abstraction}
+use Rattle.lra_pass_stack.specs.Crates.{lra_analysis_spec.Plan.Plan, lra_domain.declared.Rank.Rank}
 use Rattle.lra_operations.specs.declared.tree.Node.{Node}
-use Rattle.lra_analysis_spec.specs.Plan.{Plan}
 use Rattle.lra_pass_stack.specs.declared.stack.Next as next
 use Rattle.lra_pass_stack.specs.declared.stack.Next.TheVariants.{Passed, Opens, Again}
 use Rattle.lra_pass_stack.specs.declared.stack.PassFrame.TheVariants.{Row, Last, Choice, Branch, Growing, Narrowing}

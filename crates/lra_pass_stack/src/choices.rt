@@ -1,11 +1,10 @@
 //! Choices.
 
 ghost use Rattle.std.specs.Prelude.{◌≡◌, ◌≤◌, ◌<◌, ◌+◌, ℕ, true, false, IfOk};
-ghost use Rattle.lra_domain.specs.declared.Exactness.{Exactness};
+ghost use Rattle.lra_pass_stack.specs.Crates.lra_domain.declared.Exactness.{Exactness};
 ghost use Rattle.lra_operations.specs.{Tree.choose, TreeViews.node_view};
-ghost use Rattle.lra_analysis_spec.specs.{LiveLimit.most_live, Plan.Plan};
-ghost use Rattle.lra_program.specs.ProgramViews.{cond_view};
-ghost use Rattle.lra_transfer.specs.Splits.{SplitsBy};
+ghost use Rattle.lra_pass_stack.specs.Crates.{lra_analysis_spec.LiveLimit.most_live, lra_analysis_spec.Plan.Plan};
+ghost use Rattle.lra_pass_stack.specs.Crates.{lra_program.ProgramViews.cond_view, lra_transfer.Splits.SplitsBy};
 ghost use Rattle.lra_pass_results.specs.Outcome.{outcome_view, AreBranchesJoined};
 ghost use Rattle.lra_pass_results.specs.declared.loop_cache.LoopCache.{LoopCache};
 ghost use Rattle.lra_pass_stack.specs.Stack.{PassTask, IsChoice, IsMade, PassStepLeads, MayBePassed};
@@ -13,9 +12,9 @@ ghost use Rattle.lra_pass_stack.specs.StepsLeft.{next_left, place_left, tree_ste
 ghost use Rattle.lra_pass_stack.specs.declared.stack.PassFrame.TheVariants.{Choice as choice_place};
 
 use crate::stack::{BranchFrame, ChoiceFrame, Entering, Next, PassFrame};
-use lra_domain::{Domain, Exactness, Interfere};
-use lra_pass_results::{Choice, PassOutcome, note};
-use lra_transfer::{ConditionSplit, Kept, split};
+use lra_pass_results::{
+    Choice, ConditionSplit, Domain, Exactness, Interfere, Kept, PassOutcome, note, split,
+};
 use std::alloc::{AllocError, Global};
 
 /// What a choice's condition leaves of the value: where it is true, and where it is false.

@@ -1,7 +1,7 @@
 //! Trees one after the other.
 
 ghost use Rattle.std.specs.Prelude.{◌≡◌, ◌<◌, ◌≤◌, ◌∷◌, [], ℕ, List, map, IfOk};
-ghost use Rattle.lra_analysis_spec.specs.{LiveLimit.most_live, Plan.Plan};
+ghost use Rattle.lra_pass_stack.specs.Crates.{lra_analysis_spec.LiveLimit.most_live, lra_analysis_spec.Plan.Plan};
 ghost use Rattle.lra_operations.specs.{TreeViews.node_view, TreeViews.row, declared.tree.Node.Node};
 ghost use Rattle.lra_pass_results.specs.Outcome.{outcome_view};
 ghost use Rattle.lra_pass_results.specs.{Dimensions.TreeFits, Steps.row_steps, declared.loop_cache.LoopCache.LoopCache};
@@ -10,9 +10,8 @@ ghost use Rattle.lra_pass_stack.specs.StepsLeft.{most_rounds, next_left, place_l
 ghost use Rattle.lra_pass_stack.specs.declared.stack.PassFrame.TheVariants.{Row as row_place};
 
 use crate::stack::{Entering, Next, PassFrame, RowFrame};
-use lra_domain::{Domain, Interfere};
 use lra_operations::Node;
-use lra_pass_results::{Flat, PassOutcome, Plan, Row};
+use lra_pass_results::{Domain, Flat, Interfere, PassOutcome, Plan, Row};
 use std::alloc::{AllocError, Global};
 
 /// The first of the trees after which these stand is next: what was found before it stays at its place.

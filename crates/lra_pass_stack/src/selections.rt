@@ -2,15 +2,16 @@
 //! `switch`, and joins what runs there.
 
 ghost use Rattle.std.specs.Prelude.{◌≡◌, ◌≤◌, ◌+◌, ◌∷◌, ℕ, true, map, List, IfOk, OnOk};
-ghost use Rattle.lra_base.specs.declared.case_labels.CaseLabel.{CaseLabel};
-ghost use Rattle.lra_domain.specs.declared.Exactness.{Exactness};
-ghost use Rattle.lra_program.specs.{Program.Expr, ProgramViews.expr_view};
+ghost use Rattle.lra_pass_stack.specs.Crates.lra_analysis_spec.Linearization.{LinearizedFits, linearized};
+ghost use Rattle.lra_pass_stack.specs.Crates.lra_analysis_spec.MovesOf.{number_moves};
+ghost use Rattle.lra_pass_stack.specs.Crates.lra_analysis_spec.Operations.{lossy_operations};
+ghost use Rattle.lra_pass_stack.specs.Crates.lra_analysis_spec.Pass.{MatchesNone, Enters, RunsFrom};
+ghost use Rattle.lra_pass_stack.specs.Crates.{lra_analysis_spec.LiveLimit.most_live, lra_analysis_spec.Plan.Plan};
+ghost use Rattle.lra_pass_stack.specs.Crates.{lra_base.declared.case_labels.CaseLabel.CaseLabel};
+ghost use Rattle.lra_pass_stack.specs.Crates.{lra_domain.declared.Exactness.Exactness, lra_program.Program.Expr};
+ghost use Rattle.lra_pass_stack.specs.Crates.{lra_program.ProgramViews.expr_view, lra_transfer.Changes.Does};
 ghost use Rattle.lra_operations.specs.Tree.{Arms, arm, select, entries_of};
 ghost use Rattle.lra_operations.specs.TreeViews.{node_view, arm_view, arms_of};
-ghost use Rattle.lra_analysis_spec.specs.Pass.{MatchesNone, Enters, RunsFrom};
-ghost use Rattle.lra_analysis_spec.specs.{Linearization.LinearizedFits, Linearization.linearized, LiveLimit.most_live};
-ghost use Rattle.lra_analysis_spec.specs.{MovesOf.number_moves, Operations.lossy_operations, Plan.Plan};
-ghost use Rattle.lra_transfer.specs.Changes.{Does};
 ghost use Rattle.lra_pass_results.specs.Outcome.{outcome_view, running_on};
 ghost use Rattle.lra_pass_results.specs.{Steps.arms_steps, declared.loop_cache.LoopCache.LoopCache};
 ghost use Rattle.lra_pass_stack.specs.Stack.{PassTask, IsMade, IsSelect, IsSelecting, PassStepLeads, MayBePassed};
@@ -18,13 +19,11 @@ ghost use Rattle.lra_pass_stack.specs.Stack.{SelectsOn, ComesOutAt, EntersAt, Jo
 ghost use Rattle.lra_pass_stack.specs.StepsLeft.{most_rounds, next_left, tree_steps};
 
 use crate::stack::{Entering, Next, PassFrame, SelectFrame, Selecting, passed};
-use lra_analysis_spec::Linearized;
-use lra_base::CaseLabel;
-use lra_domain::{Domain, Exactness, Interfere, worse};
-use lra_linearize::linearize;
-use lra_operations::{Arm, Node, any_default};
-use lra_pass_results::{PassOutcome, Running, Selection, note};
-use lra_transfer::{Kept, filter_number};
+use lra_operations::{Arm, CaseLabel, Node, any_default};
+use lra_pass_results::{
+    Domain, Exactness, Interfere, Kept, Linearized, PassOutcome, Running, Selection, filter_number,
+    linearize, note, worse,
+};
 use std::alloc::{AllocError, Global};
 
 // no match ------------------------------------------------------------------------------------------------------------

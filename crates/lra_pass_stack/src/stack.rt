@@ -7,14 +7,14 @@ ghost use Rattle.lra_pass_stack.specs.declared.stack.Next.TheVariants.{Again, Op
 ghost use Rattle.lra_pass_stack.specs.declared.stack.PassFrame.TheVariants.{Growing as growing_place};
 ghost use Rattle.lra_pass_stack.specs.declared.stack.PassFrame.TheVariants.{Narrowing as narrowing_place};
 ghost use Rattle.lra_pass_stack.specs.{Stack.PassTask, Stack.IsMade, Stack.PassStepLeads, StepsLeft.next_left};
-ghost use Rattle.lra_analysis_spec.specs.Plan.{Plan};
+ghost use Rattle.lra_pass_stack.specs.Crates.lra_analysis_spec.Plan.{Plan};
 ghost use Rattle.lra_pass_results.specs.{Outcome.outcome_view, declared.loop_cache.LoopCache.LoopCache};
 
-use lra_analysis_spec::Linearized;
-use lra_domain::{Domain, Interfere};
 use lra_operations::{Arm, Exit, Node};
-use lra_pass_results::{Choice, Growing, Loop, PassFindings, PassOutcome, Row, Selection};
-use lra_transfer::Kept;
+use lra_pass_results::{
+    Choice, Domain, Growing, Interfere, Kept, Linearized, Loop, PassFindings, PassOutcome, Row,
+    Selection,
+};
 use std::alloc::{AllocError, Global};
 
 /// A tree that is to be passed: from this value, with the first flagged point so far.

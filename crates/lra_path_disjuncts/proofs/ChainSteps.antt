@@ -5,7 +5,7 @@ use Rattle.std.specs.Prelude.{IfOk}
 use Rattle.lra_program.specs.{Program.Cond, ProgramViews.cond_view}
 use Rattle.lra_program.specs.declared.program.Cond as declared_cond
 use Rattle.lra_linearize.proofs.CondSizes.{cond_size, row_size, chain_size}
-use Rattle.lra_analysis_spec.specs.MovesOf.{guard}
+use Rattle.lra_path_disjuncts.specs.Crates.lra_analysis_spec.MovesOf.{guard}
 use Rattle.lra_path_disjuncts.specs.Conditions.{AreIn, HasBoth, JoinsAlways, Prepends, chain_of, joined_conditions}
 use Rattle.lra_path_disjuncts.specs.{Tables.Grows, declared.conditions.Both.Both, declared.tables.MovesEntry.MovesEntry}
 use Rattle.lra_path_disjuncts.proofs.TableSteps.{within}

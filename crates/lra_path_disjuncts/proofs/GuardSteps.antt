@@ -3,8 +3,8 @@ use Rattle.std.proofs.Common.{◌≡◌, ◌<◌, ℕ, zero, suc, List, [], ◌�
 use Rattle.std.proofs.lemmas.List.{map-append}
 use Rattle.std.specs.Prelude as outcome
 use Rattle.std.specs.Prelude.{slice_get, IfOk, OnOk}
-use Rattle.lra_domain.specs.{Actions.Action, Changes.action_of, Changes.actions_of, Moves.Moves, Moves.stay, Moves.make, Moves.first_then, Moves.join_of, declared.changes.Change.Change}
-use Rattle.lra_analysis_spec.specs.MovesOf.{in_turn}
+use Rattle.lra_path_disjuncts.specs.Crates.{lra_analysis_spec.MovesOf.in_turn, lra_domain.Actions.Action, lra_domain.Changes.action_of, lra_domain.Changes.actions_of, lra_domain.Moves.Moves}
+use Rattle.lra_path_disjuncts.specs.Crates.{lra_domain.Moves.stay, lra_domain.Moves.make, lra_domain.Moves.first_then, lra_domain.Moves.join_of, lra_domain.declared.changes.Change.Change}
 use Rattle.lra_path_disjuncts.specs.{Conditions.IsTurned, Tables.or_stay, Tables.all_moves, Tables.moves_at, Tables.Has, Tables.Grows, declared.tables.MovesEntry.MovesEntry}
 use Rattle.lra_path_disjuncts.proofs.TableSteps.{as_long, has_at, within}
 

@@ -10,3 +10,5 @@ pub mod GuardSteps
 pub mod ChainSteps
 pub mod LabelSteps
 pub mod WayMoveSteps
+-- The crates below
+pub mod Crates

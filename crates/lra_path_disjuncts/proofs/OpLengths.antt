@@ -5,7 +5,7 @@ use Rattle.lra_program.specs.Step.{State, environment_at, Op, append, fill, stor
 use Rattle.lra_program.specs.Value.{value_of}
 use Rattle.lra_program.specs.Step as step
 use Rattle.lra_inline_sound.proofs.Lengths.{length_append, length_fill, length_given, length_give_element, length_any, length_push, length_push_for, length_test}
-use Rattle.lra_analysis_spec.specs.Live.{live_after_op}
+use Rattle.lra_path_disjuncts.specs.Crates.lra_analysis_spec.Live.{live_after_op}
 
 least_of_both : (n k : ℕ) → min n k ≡ k - (k - n)
 least_of_both n k = omega arith

@@ -5,7 +5,7 @@ use Rattle.std.proofs.Math.Nat.{mod-eq_of_lt, mod-eq-sub-mod, mod-lt, div-lt_iff
 use Rattle.std.proofs.{lemmas.Bool.cases_lt, lemmas.List.length-map, lemmas.List.Sums.sum_by-append, lemmas.Option.same_Some}
 use Rattle.std.specs.Prelude.{OnOk, slice_get, nat_lt, if◌then◌else◌}
 use Rattle.std.specs.Prelude as outcome
-use Rattle.lra_domain.specs.{Actions.Action, Moves.Moves, Moves.stay, Moves.make, Moves.first_then, Moves.join_of}
+use Rattle.lra_path_disjuncts.specs.Crates.{lra_domain.Actions.Action, lra_domain.Moves.Moves, lra_domain.Moves.stay, lra_domain.Moves.make, lra_domain.Moves.first_then, lra_domain.Moves.join_of}
 use Rattle.lra_path_segments.specs.Segments.{each_then}
 use Rattle.lra_path_disjuncts.specs.TableDisjuncts.{disjunct_pending, all_pending, one_of, moves_size, pending_size, pending_disjuncts_size}
 use Rattle.lra_path_disjuncts.specs.Tables.{capped, count_of, moves_at, disjunct_at}

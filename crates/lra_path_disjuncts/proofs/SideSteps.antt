@@ -4,9 +4,9 @@ use Rattle.std.proofs.Common.{◌≡◌, ℤ, List, [], ◌∷◌, ◌++◌, map
 use Rattle.std.proofs.lemmas.List.Sorted.{IsPermutation-refl, IsPermutation-append, IsPermutation-append_left, IsPermutation-append_right, IsPermutation-append_comm, IsPermutation-cons}
 use Rattle.std.proofs.lemmas.List.Sorted.{IsPermutation-trans, IsPermutation-map}
 use Rattle.std.specs.{List.flat_map, List.Sorted.IsPermutation, Prelude.◌↔◌, Prelude.◌⊎◌}
-use Rattle.lra_domain.specs.Moves.{Moves, stay, make, first_then, join_of, MayLead, LeadsAll, SomeLeads, cases}
-use Rattle.lra_domain.specs.{Abstraction.worse, Actions.Action, declared.Exactness.Exactness, declared.Exactness.TheVariants.Exact}
-use Rattle.lra_analysis_spec.specs.Moves.{AreMade}
+use Rattle.lra_path_disjuncts.specs.Crates.lra_domain.Moves.{Moves, stay, make, first_then, join_of, MayLead, LeadsAll, SomeLeads, cases}
+use Rattle.lra_path_disjuncts.specs.Crates.lra_domain.declared.Exactness.{Exactness}
+use Rattle.lra_path_disjuncts.specs.Crates.{lra_analysis_spec.Moves.AreMade, lra_domain.Abstraction.worse, lra_domain.Actions.Action, lra_domain.declared.Exactness.TheVariants.Exact}
 use Rattle.lra_path_segments.specs.Segments.{each_then}
 use Rattle.lra_path_disjuncts.specs.Disjuncts.{disjuncts, on_paths, DisjunctsAreMade}
 use Rattle.lra_path_segments.proofs.{FlatSteps.flat_none, Lists.each_then_nil, Lists.each_then_append, Lists.each_then_assoc}

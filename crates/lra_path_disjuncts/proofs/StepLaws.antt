@@ -1,18 +1,15 @@
 -- What is done on a segment leads where its moves lead: a value that goes to a label has that label's value, and one
 -- that goes to none has none of them.
 use Rattle.std.proofs.Common.{◌≡◌, ℕ, ℤ, List, [], ◌∷◌, length, Bool, true, false, Some, refl, sym, ap, subst, arith}
-use Rattle.std.proofs.lemmas.Int.{ints}
+use Rattle.std.proofs.{lemmas.Bool.or_parts, lemmas.Int.ints}
 use Rattle.std.specs.{List.list_any, Ordering.int_eq, Prelude.if◌then◌else◌}
 use Rattle.lra_base.specs.declared.case_labels.CaseLabel.TheVariants.{Case, Default}
 use Rattle.lra_base.specs.{CaseLabels.is_same_case, Operators.equal, declared.case_labels.CaseLabel.CaseLabel}
-use Rattle.lra_domain.specs.Moves.{MayLead}
+use Rattle.lra_path_disjuncts.specs.Crates.{lra_analysis_spec.Linearization.linearized, lra_domain.Moves.MayLead}
 use Rattle.lra_program.specs.{Program.Expr, Step.State, Step.environment_at, Value.value_of, Value.compares}
-use Rattle.lra_analysis_spec.specs.Linearization.{linearized}
-use Rattle.lra_analysis_spec.proofs.{CondKeeping.value_leads, Keeping.op_leads}
-use Rattle.lra_analysis_spec.proofs.Sound.{unequal}
+use Rattle.lra_path_disjuncts.proofs.Crates.{lra_analysis_spec.CondKeeping.value_leads, lra_analysis_spec.Keeping.op_leads, lra_analysis_spec.Sound.unequal}
 use Rattle.lra_path_segments.specs.Segments.{SegmentStep, does, goes, RunsStep}
 use Rattle.lra_path_disjuncts.specs.StepMoves.{dims_after_step, label_moves, step_moves, unmatched_moves}
-use Rattle.std.proofs.lemmas.Bool.{or_parts}
 use Rattle.lra_path_disjuncts.proofs.OpLengths.{op_length}
 
 itself : (z : ℤ) → compares equal z z ≡ true

@@ -4,7 +4,7 @@ use Rattle.std.proofs.Math.Nat.{mul-zero, zero-mul, mul-suc, mul_comm, le-mul_of
 use Rattle.std.proofs.{lemmas.Bool.cases_lt, lemmas.List.length-map, lemmas.Option.slice_get_within, lemmas.Option.slice_get_past}
 use Rattle.std.specs.Prelude.{slice_get}
 use Rattle.lra_path_segments.specs.Segments.{each_then}
-use Rattle.lra_domain.specs.Moves.{Moves, stay, first_then, join_of}
+use Rattle.lra_path_disjuncts.specs.Crates.lra_domain.Moves.{Moves, stay, first_then, join_of}
 use Rattle.lra_path_disjuncts.specs.Tables.{capped, count_of, or_stay, made_of, added, all_moves, moves_at, IsMadeOfEarlier, HasDisjunctCounts, IsTable, Has, Grows}
 use Rattle.lra_path_disjuncts.specs.declared.tables.MovesNode.TheVariants.{Stay, Make, FirstThen, JoinOf}
 use Rattle.lra_path_disjuncts.specs.{Disjuncts.disjuncts, declared.tables.MovesEntry.MovesEntry, declared.tables.MovesNode.MovesNode}

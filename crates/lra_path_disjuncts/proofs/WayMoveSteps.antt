@@ -1,9 +1,9 @@
 -- The disjuncts of a segment's moves, and one change more.
 use Rattle.std.proofs.Common.{◌≡◌, ℕ, List, [], ◌∷◌, ◌++◌, ◌<◌, ◌≤◌, ◌+◌, length, map, take, get_or, refl, sym, ap, ◌∙◌, subst}
 use Rattle.std.proofs.lemmas.List.{map_more, take_all}
-use Rattle.lra_domain.specs.{Actions.Action, Moves.Moves, Moves.stay, Moves.first_then}
-use Rattle.lra_analysis_spec.specs.{Linearization.LinearizedFits, Linearization.linearized, declared.linearization.Linearized.Linearized}
-use Rattle.lra_analysis_spec.proofs.DivisionLemmas.{seen_fits}
+use Rattle.lra_path_disjuncts.specs.Crates.{lra_analysis_spec.Linearization.LinearizedFits, lra_analysis_spec.Linearization.linearized, lra_analysis_spec.declared.linearization.Linearized.Linearized}
+use Rattle.lra_path_disjuncts.specs.Crates.{lra_domain.Actions.Action, lra_domain.Moves.Moves, lra_domain.Moves.stay, lra_domain.Moves.first_then}
+use Rattle.lra_path_disjuncts.proofs.Crates.lra_analysis_spec.DivisionLemmas.{seen_fits}
 use Rattle.lra_program.specs.Program.{Expr}
 use Rattle.lra_path_disjuncts.specs.{Disjuncts.disjuncts, Disjuncts.written, SegmentMoves.live_after_steps, SegmentMoves.segment_moves, SegmentMoves.segment_moves_on, StepMoves.dims_after_step}
 use Rattle.lra_path_disjuncts.specs.{StepMoves.step_moves, Tables.Grows, Tables.Has, Tables.moves_at, declared.tables.MovesEntry.MovesEntry}

@@ -1,6 +1,6 @@
 -- Operations lead where one of their lists of actions leads.
 use Rattle.std.proofs.Common.{◌≡◌, ℕ, List, [], ◌∷◌, length, inl, ap, subst}
-use Rattle.lra_domain.specs.Moves.{SomeLeads}
+use Rattle.lra_path_disjuncts.specs.Crates.lra_domain.Moves.{SomeLeads}
 use Rattle.lra_program.specs.Step.{State}
 use Rattle.lra_path_segments.specs.Segments.{SegmentStep, RunsOps}
 use Rattle.lra_path_disjuncts.specs.{Disjuncts.disjuncts, Disjuncts.written, StepMoves.dims_after_step, StepMoves.step_moves}

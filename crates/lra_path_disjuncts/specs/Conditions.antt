@@ -1,9 +1,10 @@
 -- Where the moves of conditions stand in a table.
 use Rattle.std.specs.Prelude.{◌≡◌, ◌<◌, ℕ, Bool, true, false, List, ◌++◌, length}
-use Rattle.lra_domain.specs.{Actions.Action, Changes.actions_of, declared.changes.Change.Change}
+use Rattle.lra_path_disjuncts.specs.Crates.lra_analysis_spec.MovesOf.{guard, in_turn}
+use Rattle.lra_path_disjuncts.specs.Crates.lra_domain.Changes.{actions_of}
+use Rattle.lra_path_disjuncts.specs.Crates.{lra_domain.Actions.Action, lra_domain.declared.changes.Change.Change}
 use Rattle.lra_program.specs.Program.{Cond, both_of, either_of}
 use Rattle.lra_program.specs.ProgramViews.{all_of, any_of}
-use Rattle.lra_analysis_spec.specs.MovesOf.{guard, in_turn}
 use Rattle.lra_path_disjuncts.specs.{Tables.Has, declared.conditions.Both.Both, declared.tables.MovesEntry.MovesEntry}
 
 -- both where the condition is true and where it is false

@@ -1,10 +1,12 @@
 -- Moves written out: one list of actions for each side of their joins.
 use Rattle.std.specs.List.Sorted.{IsPermutation}
 use Rattle.std.specs.Prelude.{◌≡◌, ◌↔◌, ℕ, ℤ, List, [], ◌∷◌, ◌++◌, map, length}
-use Rattle.lra_domain.specs.Moves.{Moves, stay, make, first_then, join_of, MayLead, SomeLeads, cases}
-use Rattle.lra_domain.specs.{Actions.Action, declared.Exactness.Exactness, declared.Exactness.TheVariants.Exact}
+use Rattle.lra_path_disjuncts.specs.Crates.lra_domain.Moves.{Moves, stay, make, first_then, join_of, MayLead, SomeLeads}
+use Rattle.lra_path_disjuncts.specs.Crates.lra_domain.Moves.{cases}
+use Rattle.lra_path_disjuncts.specs.Crates.{lra_analysis_spec.Moves.AreMade, lra_analysis_spec.Operations.Operations}
+use Rattle.lra_path_disjuncts.specs.Crates.{lra_domain.Actions.Action, lra_domain.declared.Exactness.Exactness}
+use Rattle.lra_path_disjuncts.specs.Crates.{lra_domain.declared.Exactness.TheVariants.Exact}
 use Rattle.lra_program.specs.Step.{State}
-use Rattle.lra_analysis_spec.specs.{Moves.AreMade, Operations.Operations}
 use Rattle.lra_path_segments.specs.Segments.{SegmentStep, each_then, RunsOps}
 use Rattle.lra_path_disjuncts.specs.StepMoves.{step_moves, dims_after_step}
 

@@ -6,3 +6,5 @@ pub mod TableDisjuncts
 pub mod Conditions
 pub mod SegmentMoves
 pub mod PassedLabels
+-- The crates below
+pub mod Crates

@@ -1,6 +1,6 @@
 -- The moves of a segment: its changes of the program, one after the other.
 use Rattle.std.specs.Prelude.{ℕ, List, [], ◌∷◌}
-use Rattle.lra_domain.specs.Moves.{Moves, stay, first_then}
+use Rattle.lra_path_disjuncts.specs.Crates.lra_domain.Moves.{Moves, stay, first_then}
 use Rattle.lra_path_segments.specs.Segments.{SegmentStep}
 use Rattle.lra_path_disjuncts.specs.StepMoves.{step_moves, dims_after_step}
 

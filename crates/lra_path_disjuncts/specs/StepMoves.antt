@@ -3,9 +3,11 @@
 use Rattle.std.specs.Prelude.{ℕ, List, [], ◌∷◌, true, false}
 use Rattle.lra_base.specs.declared.case_labels.CaseLabel.{CaseLabel}
 use Rattle.lra_base.specs.declared.case_labels.CaseLabel.TheVariants.{Case, Default}
-use Rattle.lra_domain.specs.Moves.{Moves, stay, first_then}
-use Rattle.lra_analysis_spec.specs.{Linearization.linearized, Live.live_after_op, MovesOf.moves_of}
-use Rattle.lra_analysis_spec.specs.{MovesOf.number_moves, declared.linearization.Linearized.Linearized}
+use Rattle.lra_path_disjuncts.specs.Crates.lra_analysis_spec.Linearization.{linearized}
+use Rattle.lra_path_disjuncts.specs.Crates.lra_analysis_spec.Live.{live_after_op}
+use Rattle.lra_path_disjuncts.specs.Crates.lra_analysis_spec.MovesOf.{moves_of, number_moves}
+use Rattle.lra_path_disjuncts.specs.Crates.lra_analysis_spec.declared.linearization.Linearized.{Linearized}
+use Rattle.lra_path_disjuncts.specs.Crates.lra_domain.Moves.{Moves, stay, first_then}
 use Rattle.lra_path_segments.specs.Segments.{SegmentStep, does, goes}
 
 -- what is seen has none of the labels' values: `!=` for one after the other, so the last one's disjuncts are the outer

@@ -1,8 +1,9 @@
 -- What is still to be written of the disjuncts of moves in a table.
 use Rattle.std.specs.Prelude.{ℕ, ◌+◌, ◌-◌, nat_lt, if◌then◌else◌, List, [], ◌∷◌, ◌++◌, map, Vec}
 use Rattle.std.specs.{Borrow.Bor, Global.Global, List.sum_by}
-use Rattle.lra_domain.specs.Moves.{Moves, stay, make, first_then, join_of}
-use Rattle.lra_domain.specs.{Actions.Action, Changes.action_of, declared.changes.Change.Change}
+use Rattle.lra_path_disjuncts.specs.Crates.lra_domain.Changes.{action_of}
+use Rattle.lra_path_disjuncts.specs.Crates.lra_domain.Moves.{Moves, stay, make, first_then, join_of}
+use Rattle.lra_path_disjuncts.specs.Crates.{lra_domain.Actions.Action, lra_domain.declared.changes.Change.Change}
 use Rattle.lra_path_disjuncts.specs.{Tables.moves_at, Tables.disjunct_at, declared.tables.MovesEntry.MovesEntry}
 use Rattle.lra_path_disjuncts.specs.{declared.tables.PendingDisjunct.PendingDisjunct}
 

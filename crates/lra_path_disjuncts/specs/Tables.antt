@@ -2,8 +2,8 @@
 -- and how many disjuncts each has, counted no further than is asked.
 use Rattle.std.specs.Prelude.{◌≡◌, ◌<◌, ℕ, suc, ◌-◌, ◌/◌, ◌%◌, min, nat_lt, if◌then◌else◌, List, [], ◌∷◌, ◌++◌, length}
 use Rattle.std.specs.Prelude.{Option, Some, None, slice_get}
-use Rattle.lra_domain.specs.Moves.{Moves, stay, make, first_then, join_of}
-use Rattle.lra_domain.specs.{Actions.Action, Changes.action_of}
+use Rattle.lra_path_disjuncts.specs.Crates.lra_domain.Moves.{Moves, stay, make, first_then, join_of}
+use Rattle.lra_path_disjuncts.specs.Crates.{lra_domain.Actions.Action, lra_domain.Changes.action_of}
 use Rattle.lra_path_disjuncts.specs.Disjuncts.{disjuncts, greatest_paths}
 use Rattle.lra_path_disjuncts.specs.declared.tables.MovesNode.TheVariants.{Stay, Make, FirstThen, JoinOf}
 use Rattle.lra_path_disjuncts.specs.{declared.tables.MovesEntry.MovesEntry, declared.tables.MovesNode.MovesNode}

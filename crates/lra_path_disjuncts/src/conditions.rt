@@ -2,23 +2,26 @@
 
 ghost use Rattle.std.specs.Prelude.{◌≡◌, ◌<◌, ◌^◌, ◌-◌, length, map, true, false, IfOk, OnOk};
 ghost use Rattle.lra_base.specs.{OperatorViews.comparison_view, Operators.differs};
-ghost use Rattle.lra_domain.specs.Moves.{make, first_then, join_of};
-ghost use Rattle.lra_domain.specs.{Actions.remove_last, Changes.action_of, Changes.actions_of};
-ghost use Rattle.lra_analysis_spec.specs.Linear.{comparison_test};
-ghost use Rattle.lra_analysis_spec.specs.MovesOf as moves;
-ghost use Rattle.lra_analysis_spec.specs.Linearization.{Divides, LinearizedFits, linearized_difference};
-ghost use Rattle.lra_analysis_spec.specs.MovesOf.{comparison_moves, in_cases, in_turn, linearized_moves, test_moves};
+ghost use Rattle.lra_path_disjuncts.specs.Crates.lra_analysis_spec.Linear.{comparison_test};
+ghost use Rattle.lra_path_disjuncts.specs.Crates.lra_domain.Actions.{remove_last};
+ghost use Rattle.lra_path_disjuncts.specs.Crates.lra_domain.Changes.{action_of, actions_of};
+ghost use Rattle.lra_path_disjuncts.specs.Crates.lra_domain.Moves.{make, first_then, join_of};
+ghost use Rattle.lra_path_disjuncts.specs.Crates.lra_analysis_spec.MovesOf as moves;
+ghost use Rattle.lra_path_disjuncts.specs.Crates.lra_analysis_spec.Linearization.{Divides, LinearizedFits};
+ghost use Rattle.lra_path_disjuncts.specs.Crates.lra_analysis_spec.Linearization.{linearized_difference};
+ghost use Rattle.lra_path_disjuncts.specs.Crates.lra_analysis_spec.MovesOf.{comparison_moves, in_cases, in_turn};
+ghost use Rattle.lra_path_disjuncts.specs.Crates.lra_analysis_spec.MovesOf.{linearized_moves, test_moves};
 ghost use Rattle.lra_path_disjuncts.specs.Conditions.{AreIn, HasBoth};
 ghost use Rattle.lra_path_disjuncts.specs.Tables.{Grows, Has, IsTable, moves_at};
 ghost use Rattle.lra_program.specs.Program.{compare, nonzero};
 ghost use Rattle.lra_program.specs.ProgramViews.{all_of, any_of, cond_view, expr_view};
 
 use crate::tables::{MovesEntry, push_first_then, push_join, push_make, push_stay};
-use lra_analysis_spec::{Division, Linearized};
 use lra_base::{Comparison, NumberType};
-use lra_domain::Change;
-use lra_linear_forms::Test;
-use lra_linearize::{first_case, linearize_difference, opposite_of, second_case, test_of};
+use lra_linearize::{
+    Change, Division, Linearized, Test, first_case, linearize_difference, opposite_of, second_case,
+    test_of,
+};
 use lra_program::{Cond, Expr};
 use std::alloc::{AllocError, Global};
 

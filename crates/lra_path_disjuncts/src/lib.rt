@@ -15,6 +15,8 @@ pub use conditions::{
     push_nonzero_guards,
 };
 pub use laws::{disjuncts_are_cases, disjuncts_are_made, disjuncts_lead, written_lead};
+pub use lra_linearize::Change;
+pub use lra_path_segments::{End, Goal, Move, TreeSegment, segments_of};
 pub use tables::{
     GREATEST_PATHS, MovesEntry, MovesNode, add_capped, disjuncts_at, push_first_then, push_join,
     push_make, push_stay, write_disjuncts,

@@ -2,17 +2,16 @@
 
 ghost use Rattle.std.specs.Prelude.{List, ◌∷◌, ◌<◌, ◌^◌, ◌-◌, length, IfOk, OnOk};
 ghost use Rattle.lra_base.specs.declared.case_labels.CaseLabel.{CaseLabel};
-ghost use Rattle.lra_analysis_spec.specs.{Linearization.LinearizedFits, MovesOf.number_moves};
+ghost use Rattle.lra_path_disjuncts.specs.Crates.lra_analysis_spec.Linearization.{LinearizedFits};
+ghost use Rattle.lra_path_disjuncts.specs.Crates.lra_analysis_spec.MovesOf.{number_moves};
 ghost use Rattle.lra_path_disjuncts.specs.StepMoves.{step_moves, unmatched_moves};
 ghost use Rattle.lra_path_disjuncts.specs.{PassedLabels.PutsLabel, Tables.Grows, Tables.Has, Tables.IsTable};
 ghost use Rattle.lra_path_segments.specs.{Labels.labels_in, TreeSegmentViews.selection_view};
 
 use crate::conditions::push_comparison;
 use crate::tables::{MovesEntry, push_first_then, push_stay};
-use lra_analysis_spec::Linearized;
 use lra_base::{CaseLabel, Comparison};
-use lra_linearize::{comparison_where, linearize, subtract_number};
-use lra_operations::Arm;
+use lra_linearize::{Arm, Linearized, comparison_where, linearize, subtract_number};
 use lra_path_segments::Selection;
 use std::alloc::{AllocError, Global};
 

@@ -2,14 +2,15 @@
 //! and their disjuncts, which are counted before they are written out.
 
 ghost use Rattle.std.specs.Prelude.{[], ◌∷◌, ◌≡◌, ◌<◌, ◌≤◌, ◌+◌, ◌*◌, ◌++◌, length, IfOk, OnOk};
-ghost use Rattle.lra_domain.specs.{Changes.action_of, Moves.stay, Moves.make, Moves.first_then, Moves.join_of};
+ghost use Rattle.lra_path_disjuncts.specs.Crates.lra_domain.Changes.{action_of};
+ghost use Rattle.lra_path_disjuncts.specs.Crates.lra_domain.Moves.{stay, make, first_then, join_of};
 ghost use Rattle.lra_path_disjuncts.specs.Disjuncts.{greatest_paths, disjuncts};
 ghost use Rattle.lra_path_disjuncts.specs.TableDisjuncts.{all_done, all_pending, pending_disjuncts_size, pending_size};
 ghost use Rattle.lra_path_disjuncts.specs.TableDisjuncts.{lists_done, one_of, disjunct_pending};
 ghost use Rattle.lra_path_disjuncts.specs.Tables.{all_moves, capped, count_of, made_of, moves_at, disjunct_at};
 ghost use Rattle.lra_path_disjuncts.specs.Tables.{IsMadeOfEarlier, IsTable, Has, Grows};
 
-use lra_domain::Change;
+use lra_linearize::Change;
 use std::alloc::{AllocError, Global};
 
 /// How moves are made: of nothing, of a change, or of the moves at two places before them, the one after the other or

@@ -1,6 +1,6 @@
 -- Arms of a `switch`: each is a label or a tree; the labels among them.
 use Rattle.std.proofs.Common.{◌≡◌, List, [], ◌∷◌, ◌++◌, map, refl, sym, ap, ◌∙◌, subst, append_assoc}
-use Rattle.lra_base.specs.declared.case_labels.CaseLabel.{CaseLabel}
+use Rattle.lra_path_segments.specs.Crates.lra_base.declared.case_labels.CaseLabel.{CaseLabel}
 use Rattle.lra_operations.specs.TreeViews.{ArmPart, arm_view, arms_before, arms_of}
 use Rattle.lra_operations.specs.declared.tree.Arm.{Arm, Arm-F, out-Arm, roll-Arm, roll-out-Arm}
 use Rattle.lra_operations.specs.{Tree.Arms, Tree.no_arms, Tree.entries_of, declared.tree.Arm.TheVariants.Entry, declared.tree.Arm.TheVariants.Tree, declared.tree.Node.Node}

@@ -2,8 +2,8 @@
 use Rattle.std.proofs.{Common.◌≡◌, Common.ℤ, Common.List, Common.◌++◌, Common.Bool, Common.true, Common.false, Common.refl, Common.sym, Common.ap, Common.◌∙◌, lemmas.Bool.Decides.Decides-int_eq}
 use Rattle.std.specs.{List.list_any, Prelude.cond, Prelude.if◌then◌else◌}
 use Rattle.std.proofs.lemmas.Bool.{or_parts}
-use Rattle.lra_base.specs.CaseLabels.{is_same_case, goal_of}
-use Rattle.lra_base.specs.{declared.case_labels.CaseLabel.CaseLabel, declared.case_labels.CaseLabel.TheVariants.Case, declared.case_labels.CaseLabel.TheVariants.Default}
+use Rattle.lra_path_segments.specs.Crates.lra_base.declared.case_labels.CaseLabel.TheVariants.{Case, Default}
+use Rattle.lra_path_segments.specs.Crates.{lra_base.CaseLabels.is_same_case, lra_base.CaseLabels.goal_of, lra_base.declared.case_labels.CaseLabel.CaseLabel}
 use Rattle.lra_operations.specs.Tree.{Completion, normal, jump, empty, Arms, no_arms, entry, arm, entries_of}
 use Rattle.lra_operations.proofs.ArmRows.{arms_row, row_behind}
 use Rattle.lra_path_segments.specs.Segments.{each_then, segments_by, then_outs, then_ways, through, through_arms, enter, enter_arms, exit_suffixes, arms_exit_suffixes, inside, inside_arms}

@@ -6,3 +6,5 @@ pub mod StretchSteps
 pub mod StretchLists
 pub mod ArmSteps
 pub mod TaskSteps
+-- The crates below
+pub mod Crates

@@ -2,7 +2,7 @@
 use Rattle.std.proofs.Common.{◌≡◌, List, [], ◌∷◌, ◌++◌, map, inl, inr, refl, sym, ap, ◌∙◌, subst, append_assoc, append-nil}
 use Rattle.std.proofs.{lemmas.Grind.flat_map-append, lemmas.List.map-append, lemmas.List.Elements.Contains-append_left, lemmas.List.Elements.Contains-append_right}
 use Rattle.std.specs.List.{Contains, flat_map}
-use Rattle.lra_linear_spec.proofs.Membership.{contains_none, contains_cases, map_has}
+use Rattle.lra_path_segments.proofs.Crates.lra_linear_spec.Membership.{contains_none, contains_cases, map_has}
 use Rattle.lra_path_segments.specs.Segments.{each_then}
 
 pub flat_map_has : {A B : Type 0} (f : A → List B) (ys : List A) (y : A) (z : B) → Contains ys y → Contains (f y) z → Contains (flat_map f ys) z

@@ -1,8 +1,8 @@
 -- The tree segments of a tree are its segments, each kind in its order.
 use Rattle.std.proofs.Common.{◌≡◌, ℕ, List, [], ◌∷◌, ◌++◌, map, filter, flat_map, Bool, true, false, not, cond, Option, Some, None, refl, sym, ap, ◌∙◌, append-nil, append_assoc}
 use Rattle.std.specs.List.{list_any}
-use Rattle.lra_base.specs.{CaseLabels.is_same_case, declared.case_labels.CaseLabel.CaseLabel, declared.case_labels.CaseLabel.TheVariants.Default}
-use Rattle.lra_program.specs.{Program.Expr, Program.Cond, Step.Op, Step.test}
+use Rattle.lra_path_segments.specs.Crates.{lra_base.CaseLabels.is_same_case, lra_base.declared.case_labels.CaseLabel.CaseLabel, lra_base.declared.case_labels.CaseLabel.TheVariants.Default}
+use Rattle.lra_path_segments.specs.Crates.{lra_program.Program.Expr, lra_program.Program.Cond, lra_program.Step.Op, lra_program.Step.test}
 use Rattle.lra_operations.specs.Tree.{Exit, broken, continued, returned, Completion, normal, jump, Node, empty, probe, point, act, check, seq, choose, iterate, catch, leave, select, Arms, no_arms}
 use Rattle.lra_operations.specs.Tree.{entry, arm, entries_of}
 use Rattle.lra_operations.proofs.ArmRows.{arms_row}

@@ -4,8 +4,8 @@ use Rattle.std.proofs.Common.{rules, Box, Vec, Global, ◌≡◌, ◌∙◌, Boo
 use Rattle.std.proofs.{lemmas.List.map-append, lemmas.List.nil_from_length, lemmas.List.Sums.sum_by_push}
 use Rattle.std.specs.Prelude as outcome
 use Rattle.std.specs.{List.list_any, Prelude.OnOk}
-use Rattle.lra_program.specs.{ProgramViews.expr_view, declared.program.Cond.Cond, declared.program.Expr.Expr}
-use Rattle.lra_base.specs.{CaseLabels.is_same_case, declared.case_labels.CaseLabel.CaseLabel, declared.case_labels.CaseLabel.TheVariants.Default}
+use Rattle.lra_path_segments.specs.Crates.{lra_base.CaseLabels.is_same_case, lra_base.declared.case_labels.CaseLabel.CaseLabel, lra_base.declared.case_labels.CaseLabel.TheVariants.Default}
+use Rattle.lra_path_segments.specs.Crates.{lra_program.ProgramViews.expr_view, lra_program.declared.program.Cond.Cond, lra_program.declared.program.Expr.Expr}
 use Rattle.lra_operations.specs.TreeViews.{arm_view, arms_before, arms_of, node_view, row}
 use Rattle.lra_operations.specs.declared.tree.Node.{the_lemmas as node_lemmas, Node-F, out-Node, roll-Node, roll-out-Node}
 use Rattle.lra_operations.specs.{Tree.Node, Tree.Arms, Tree.no_arms, Tree.entry, Tree.arm, declared.probes.Probe.Probe, declared.tree.Arm.Arm}

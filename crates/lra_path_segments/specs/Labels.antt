@@ -1,6 +1,6 @@
 -- The labels among the arms of a `switch`.
 use Rattle.std.specs.Prelude.{List, map}
-use Rattle.lra_base.specs.declared.case_labels.CaseLabel.{CaseLabel}
+use Rattle.lra_path_segments.specs.Crates.lra_base.declared.case_labels.CaseLabel.{CaseLabel}
 use Rattle.lra_operations.specs.Tree.{no_arms, entries_of}
 use Rattle.lra_operations.specs.{TreeViews.arm_view, TreeViews.arms_of, declared.tree.Arm.Arm}
 

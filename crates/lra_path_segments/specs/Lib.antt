@@ -4,3 +4,5 @@ pub mod TreeSegments
 pub mod TreeSegmentViews
 pub mod Labels
 pub mod Tasks
+-- The crates below
+pub mod Crates

@@ -2,10 +2,12 @@
 -- false. A loop isn't passed without its point, so there are finitely many of them.
 use Rattle.std.specs.List.{flat_map, list_any}
 use Rattle.std.specs.Prelude.{◌≡◌, ℕ, ℤ, List, [], ◌∷◌, ◌++◌, map, Bool, true, false, if◌then◌else◌, Some}
-use Rattle.lra_base.specs.CaseLabels.{is_same_case, goal_of}
-use Rattle.lra_base.specs.{declared.case_labels.CaseLabel.CaseLabel, declared.case_labels.CaseLabel.TheVariants.Default}
-use Rattle.lra_program.specs.Step.{State, environment_at, Op, run_op, test}
-use Rattle.lra_program.specs.{Program.Expr, Program.Cond, Value.value_of}
+use Rattle.lra_path_segments.specs.Crates.lra_base.CaseLabels.{is_same_case, goal_of}
+use Rattle.lra_path_segments.specs.Crates.lra_base.declared.case_labels.CaseLabel.{CaseLabel}
+use Rattle.lra_path_segments.specs.Crates.lra_base.declared.case_labels.CaseLabel.TheVariants.{Default}
+use Rattle.lra_path_segments.specs.Crates.lra_program.Program.{Expr, Cond}
+use Rattle.lra_path_segments.specs.Crates.lra_program.Step.{State, environment_at, Op, run_op, test}
+use Rattle.lra_path_segments.specs.Crates.lra_program.Value.{value_of}
 use Rattle.lra_operations.specs.Tree.{Exit, broken, continued, returned, Completion, normal, jump, Node, empty, probe}
 use Rattle.lra_operations.specs.Tree.{point, act, check, seq, choose, iterate, catch, leave, select, Arms, no_arms}
 use Rattle.lra_operations.specs.Tree.{entry, arm, entries_of}

@@ -1,8 +1,8 @@
 -- What is still to be done while the segments of a tree are made, from its leaves up.
 use Rattle.std.specs.Prelude.{ℕ, ◌+◌, List, [], ◌∷◌, map, Vec}
 use Rattle.std.specs.{Global.Global, List.sum_by}
-use Rattle.lra_base.specs.declared.case_labels.CaseLabel.{CaseLabel}
-use Rattle.lra_program.specs.ProgramViews.{cond_view}
+use Rattle.lra_path_segments.specs.Crates.lra_base.declared.case_labels.CaseLabel.{CaseLabel}
+use Rattle.lra_path_segments.specs.Crates.lra_program.ProgramViews.{cond_view}
 use Rattle.lra_operations.specs.TreeViews.{arm_view, arms_of, exit_view, node_view}
 use Rattle.lra_operations.specs.declared.tree.Arm.TheFolds.{fold-Arm, fold-Node}
 use Rattle.lra_operations.specs.declared.tree.Arm.TheOpen.{Arm-F, Node-F}

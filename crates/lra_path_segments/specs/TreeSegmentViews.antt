@@ -1,14 +1,13 @@
 -- The segments, their moves and ends, that values of the code's types stand for.
 use Rattle.std.specs.Prelude.{List, map}
-use Rattle.lra_base.specs.declared.case_labels.CaseLabel.{CaseLabel}
-use Rattle.lra_program.specs.ProgramViews.{cond_view, expr_view}
-use Rattle.lra_program.specs.Step as step
+use Rattle.lra_path_segments.specs.Crates.lra_base.declared.case_labels.CaseLabel.{CaseLabel}
+use Rattle.lra_path_segments.specs.Crates.lra_program.ProgramViews.{cond_view, expr_view}
+use Rattle.lra_path_segments.specs.Crates.lra_program.Step as step
 use Rattle.lra_operations.specs.Tree as graph
 use Rattle.lra_operations.specs.TreeViews.{arm_view, arms_of, exit_view, op_view}
 use Rattle.lra_path_segments.specs.Segments as ways
 use Rattle.lra_path_segments.specs.TreeSegments as stretches
-use Rattle.lra_path_segments.specs.declared.segments.Completion.{Completion}
-use Rattle.lra_path_segments.specs.declared.segments.TreeSegment.{TreeSegment}
+use Rattle.lra_path_segments.specs.{declared.segments.Completion.Completion, declared.segments.TreeSegment.TreeSegment}
 use Rattle.lra_path_segments.specs.{declared.segments.End.End, declared.segments.Goal.Goal, declared.segments.Kind.Kind}
 use Rattle.lra_path_segments.specs.{declared.segments.Move.Move, declared.segments.Selection.Selection}
 use Rattle.lra_path_segments.specs.declared.segments.End.TheVariants as end

@@ -2,9 +2,10 @@
 -- where it is left or a goal is met.
 use Rattle.std.specs.Prelude.{◌≡◌, ℕ, List, [], ◌∷◌, ◌++◌, map, Bool, true, false, not, if◌then◌else◌, Option, None}
 use Rattle.std.specs.{List.flat_map, List.filter, List.list_any, Prelude.Some}
-use Rattle.lra_base.specs.CaseLabels.{is_same_case}
-use Rattle.lra_base.specs.{declared.case_labels.CaseLabel.CaseLabel, declared.case_labels.CaseLabel.TheVariants.Default}
-use Rattle.lra_program.specs.{Program.Cond, Step.test}
+use Rattle.lra_path_segments.specs.Crates.lra_base.CaseLabels.{is_same_case}
+use Rattle.lra_path_segments.specs.Crates.lra_base.declared.case_labels.CaseLabel.{CaseLabel}
+use Rattle.lra_path_segments.specs.Crates.lra_base.declared.case_labels.CaseLabel.TheVariants.{Default}
+use Rattle.lra_path_segments.specs.Crates.{lra_program.Program.Cond, lra_program.Step.test}
 use Rattle.lra_operations.specs.Tree.{Exit, Completion, normal, jump, Node, empty, probe, point, act, check, seq}
 use Rattle.lra_operations.specs.Tree.{choose, iterate, catch, leave, select, Arms, no_arms, entry, arm, entries_of}
 use Rattle.lra_path_segments.specs.Segments.{SegmentStep, does, Goal, comes_to, violates, GoalSegment, Segment, Suffix}

@@ -2,7 +2,7 @@
 //! What trees make of the lists of the trees in them.
 
 ghost use Rattle.std.specs.Prelude.{◌≡◌, [], ◌∷◌, ◌++◌, cond, map, option_to_list, IfOk, OnOk};
-ghost use Rattle.lra_program.specs.ProgramViews.{cond_view};
+ghost use Rattle.lra_path_segments.specs.Crates.lra_program.ProgramViews.{cond_view};
 ghost use Rattle.lra_operations.specs.{Tree.normal, TreeViews.exit_view};
 ghost use Rattle.lra_path_segments.specs.TreeSegments as ways;
 ghost use Rattle.lra_path_segments.specs.TreeSegmentViews.{end_view, completion_view, kind_view, move_view, seen};
@@ -10,9 +10,7 @@ ghost use Rattle.lra_path_segments.specs.TreeSegments.{all_joined, body_order, e
 ghost use Rattle.lra_path_segments.specs.TreeSegments.{tree_segment, segments_of_kind};
 ghost use Rattle.lra_path_segments.specs.{Segments.same_exit, TreeSegmentViews.tree_segment_view};
 
-use lra_base::CaseLabel;
-use lra_operations::{Arm, Exit, Op};
-use lra_program::{Cond, Expr};
+use lra_operations::{Arm, CaseLabel, Cond, Exit, Expr, Op};
 use std::alloc::{AllocError, Global};
 
 /// The value of a `switch` and its arms; the base is where the variables of its call begin.

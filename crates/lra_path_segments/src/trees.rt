@@ -3,8 +3,9 @@
 
 ghost use Rattle.std.specs.List.{list_any};
 ghost use Rattle.std.specs.Prelude.{◌≡◌, ◌<◌, ◌+◌, ◌||◌, [], ◌∷◌, IfOk, OnOk, List, None, map, option_to_list};
-ghost use Rattle.lra_base.specs.{CaseLabels.is_same_case, declared.case_labels.CaseLabel.TheVariants.Default};
-ghost use Rattle.lra_program.specs.ProgramViews.{cond_view};
+ghost use Rattle.lra_path_segments.specs.Crates.lra_base.CaseLabels.{is_same_case};
+ghost use Rattle.lra_path_segments.specs.Crates.lra_base.declared.case_labels.CaseLabel.TheVariants.{Default};
+ghost use Rattle.lra_path_segments.specs.Crates.lra_program.ProgramViews.{cond_view};
 ghost use Rattle.lra_operations.specs.Tree as graph;
 ghost use Rattle.lra_operations.specs.TreeViews.{arm_view, arms_of, exit_view, node_view};
 ghost use Rattle.lra_path_segments.specs.Labels.{label_at, labels_in};
@@ -19,9 +20,7 @@ use crate::segments::{
     Completion, End, Goal, Move, Selection, TreeSegment, catch_jumps, choose, enter_row, go_round,
     push_short, select, sequence,
 };
-use lra_base::CaseLabel;
-use lra_operations::{Arm, Exit, Node, any_default};
-use lra_program::Cond;
+use lra_operations::{Arm, CaseLabel, Cond, Exit, Node, any_default};
 use std::alloc::{AllocError, Global};
 
 /// What is still to be done with the segments that are there, of which the last are the newest.

@@ -2,22 +2,23 @@
 use Rattle.std.proofs.Common.{◌≡◌, ◌≢◌, ℕ, zero, suc, ℤ, List, [], ◌∷◌, ◌++◌, map, Some, None, Bool, true, false, inl, inr, refl, sym, ap, ◌∙◌, subst}
 use Rattle.std.proofs.{lemmas.List.Elements.Contains-append_left, lemmas.List.Elements.Contains-append_right, lemmas.Option.same_Some, lemmas.Option.none-some}
 use Rattle.std.specs.{List.Contains, List.list_any, Prelude.cond, Prelude.◌||◌, Prelude.if◌then◌else◌}
-use Rattle.lra_linear_spec.proofs.Membership.{contains_cases, contains_head, contains_none, map_has}
-use Rattle.lra_base.specs.{CaseLabels.is_same_case, CaseLabels.goal_of, declared.case_labels.CaseLabel.CaseLabel, declared.case_labels.CaseLabel.TheVariants.Default}
-use Rattle.lra_program.specs.Step.{State, run_op, test, tested, kept_if, environment_at}
-use Rattle.lra_program.specs.{Program.Expr, Program.Cond, Traces.visit, Traces.Trace, Traces.NoChange, Value.Drawn, Value.truth_of}
-use Rattle.lra_program.specs.Step as step
+use Rattle.lra_paths.proofs.Crates.lra_linear_spec.Membership.{contains_cases, contains_head, contains_none, map_has}
+use Rattle.lra_paths.proofs.Crates.lra_path_segments.LabelLaws.{alike_are, goal_out, through_row, enter_row, outs_row, inside_row, none_behind}
+use Rattle.lra_paths.proofs.Crates.lra_path_segments.Lists.{pairs_have, each_then_has}
+use Rattle.lra_paths.specs.Crates.lra_path_segments.Segments.{SegmentStep, does, Goal, comes_to, violates, GoalSegment, Segment, Suffix, same_exit, each_then, then_way, then_out, segment_by}
+use Rattle.lra_paths.specs.Crates.lra_path_segments.Segments.{segment_to, tested_way, into_body, out_of_body, through, enter, exit_suffixes, inside, RunsOps, RunsStep, goes_in, prepend_step}
+use Rattle.lra_paths.specs.Crates.lra_path_segments.Segments.{prepend_step_to_goal, past_labels, through_arms, through_labels, enter_arms, enter_labels}
+use Rattle.lra_paths.specs.Crates.lra_program.Step.{State, run_op, test, tested, kept_if, environment_at}
+use Rattle.lra_paths.specs.Crates.lra_program.Traces.{visit, Trace, NoChange}
+use Rattle.lra_paths.specs.Crates.{lra_base.CaseLabels.is_same_case, lra_base.CaseLabels.goal_of, lra_base.declared.case_labels.CaseLabel.CaseLabel}
+use Rattle.lra_paths.specs.Crates.{lra_base.declared.case_labels.CaseLabel.TheVariants.Default, lra_program.Program.Expr, lra_program.Program.Cond, lra_program.Value.Drawn, lra_program.Value.truth_of}
+use Rattle.lra_paths.specs.Crates.lra_program.Step as step
 use Rattle.lra_operations.specs.Traces.{Stop, by_jump, to_point, to_failure, StopsAtPoint, RunExtent, to_end, stopped, RunsUpTo, VisitsAndTests, TrailRounds}
 use Rattle.lra_operations.specs.Tree.{Exit, broken, continued, returned, normal, jump, Node, empty, probe, point, act, check, seq, choose, iterate, catch, leave, select, Arms, no_arms, entry, arm}
 use Rattle.lra_operations.specs.Tree.{entries_of}
 use Rattle.lra_operations.proofs.ArmRows.{arms_row, row_behind, row_of_behind, behind_of_row}
-use Rattle.lra_path_segments.specs.Segments.{SegmentStep, does, Goal, comes_to, violates, GoalSegment, Segment, Suffix, same_exit, each_then, then_way, then_out, segment_by, segment_to, tested_way}
-use Rattle.lra_path_segments.specs.Segments.{into_body, out_of_body, through, enter, exit_suffixes, inside, RunsOps, RunsStep, goes_in, prepend_step, prepend_step_to_goal, past_labels, through_arms}
-use Rattle.lra_path_segments.specs.Segments.{through_labels, enter_arms, enter_labels}
-use Rattle.lra_path_segments.specs.Segments as ways
+use Rattle.lra_paths.specs.Crates.lra_path_segments.Segments as ways
 use Rattle.lra_paths.specs.Covers.{IsFirstSegment, IsNextSegment, LeadsSo, HasGone, along_first, along_next}
-use Rattle.lra_path_segments.proofs.LabelLaws.{alike_are, goal_out, through_row, enter_row, outs_row, inside_row, none_behind}
-use Rattle.lra_path_segments.proofs.Lists.{pairs_have, each_then_has}
 
 -- states -----------------------------------------------------------------------------------------------------------------
 

@@ -2,13 +2,14 @@
 use Rattle.std.proofs.Common.{◌≡◌, ℕ, suc, ℤ, List, [], ◌∷◌, Some, true, length, inl, inr, refl, sym, ap, ◌∙◌, subst}
 use Rattle.std.proofs.lemmas.Bool.{eq-eqb}
 use Rattle.std.specs.{Cmp.Derive.both_true, List.Contains, List.flat_map, Prelude.slice_get, Prelude.nat_eq, Prelude.◌&&◌}
-use Rattle.lra_linear_spec.proofs.Membership.{contains_none, contains_cases, filter_has}
-use Rattle.lra_domain.specs.{Actions.Action, Moves.SomeLeads}
-use Rattle.lra_program.specs.Traces.{TraceEvent, visit, Trace, NoChange, TracedSteps, RunSegment}
-use Rattle.lra_program.specs.{Program.Program, Run.start, Run.begun, Run.Point, Run.IsOn, Run.Reaches, Run.At, Run.Fails, Run.IsFailing, Sites.Site, Sites.sites_of, Step.State, Step.Config}
-use Rattle.lra_program.proofs.TraceLaws.{walk_of, walk_on}
+use Rattle.lra_paths.proofs.Crates.lra_linear_spec.Membership.{contains_none, contains_cases, filter_has}
+use Rattle.lra_paths.proofs.Crates.lra_program.TraceLaws.{walk_of, walk_on}
+use Rattle.lra_paths.specs.Crates.lra_path_segments.Segments.{SegmentStep, Goal, comes_to, violates, GoalSegment, Segment, enter, inside}
+use Rattle.lra_paths.specs.Crates.lra_program.Run.{start, begun, Point, IsOn, Reaches, At, Fails, IsFailing}
+use Rattle.lra_paths.specs.Crates.lra_program.Sites.{Site, sites_of}
+use Rattle.lra_paths.specs.Crates.lra_program.Traces.{TraceEvent, visit, Trace, NoChange, TracedSteps, RunSegment}
+use Rattle.lra_paths.specs.Crates.{lra_domain.Actions.Action, lra_domain.Moves.SomeLeads, lra_program.Program.Program, lra_program.Step.State, lra_program.Step.Config}
 use Rattle.lra_operations.specs.{Agree.point_of, Traces.to_point, Traces.to_failure, Traces.stopped, TracesAgree.point_at, TracesAgree.point_or_none, TracesAgree.TreeRunsUpTo, Tree.Node}
-use Rattle.lra_path_segments.specs.Segments.{SegmentStep, Goal, comes_to, violates, GoalSegment, Segment, enter, inside}
 use Rattle.lra_path_disjuncts.specs.Disjuncts.{written}
 use Rattle.lra_paths.specs.Covers.{HasGone, along_first, along_next, PathsCover, AreInductiveAlong, HoldInAllRuns}
 use Rattle.lra_paths.specs.Paths.{same_goal, live_of, live_at, from_start, first_segments, next_segments, actions_between}

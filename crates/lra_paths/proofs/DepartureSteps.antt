@@ -3,21 +3,20 @@
 use Rattle.std.proofs.Common.{◌≡◌, ◌≤◌, ◌<◌, ℕ, zero, suc, ◌+◌, List, [], ◌∷◌, ◌++◌, length, map, take, Option, Some, None, Bool, true, false, inl, inr, refl, sym, ap, ◌∙◌, subst, arith, append-nil}
 use Rattle.std.proofs.{Common.append_assoc, Common.get_or, Common.◌&&◌, lemmas.Bool.cases_lt, lemmas.Grind.flat_map-append, lemmas.List.map-append, lemmas.List.take_more}
 use Rattle.std.specs.{List.flat_map, List.filter, Prelude.slice_get, Prelude.cond, Prelude.nat_eq}
-use Rattle.lra_domain.specs.{Actions.Action, Moves.Moves, Moves.stay, Moves.first_then}
-use Rattle.lra_program.specs.{Sites.Site, declared.program.GlobalVariable.GlobalVariable}
+use Rattle.lra_paths.specs.Crates.lra_domain.Moves.{Moves, stay, first_then}
+use Rattle.lra_paths.specs.Crates.lra_path_segments.Segments.{SegmentStep, Goal, each_then, enter, inside, GoalSegment, Segment}
+use Rattle.lra_paths.specs.Crates.lra_path_segments.TreeSegmentViews.{goal_view, seen, tree_segment_view}
+use Rattle.lra_paths.specs.Crates.lra_path_segments.TreeSegments.{AreSegmentsOf, entered, met, TreeSegment, tree_segment, End, exits, reaches}
+use Rattle.lra_paths.specs.Crates.{lra_analysis_spec.MovesOf.first_values, lra_domain.Actions.Action, lra_program.Sites.Site, lra_program.declared.program.GlobalVariable.GlobalVariable}
 use Rattle.lra_operations.specs.Tree.{Node}
-use Rattle.lra_analysis_spec.specs.MovesOf.{first_values}
-use Rattle.lra_path_segments.specs.Segments.{SegmentStep, Goal, each_then, enter, inside, GoalSegment, Segment}
-use Rattle.lra_path_segments.specs.TreeSegmentViews.{goal_view, seen, tree_segment_view}
-use Rattle.lra_path_segments.specs.TreeSegments.{AreSegmentsOf, entered, met, TreeSegment, tree_segment, End, exits, reaches}
 use Rattle.lra_path_disjuncts.specs.Disjuncts.{disjuncts, written, greatest_paths}
 use Rattle.lra_path_disjuncts.specs.{SegmentMoves.segment_moves, Tables.IsTable, Tables.Has, Tables.Grows, Tables.moves_at, declared.tables.MovesEntry.MovesEntry}
 use Rattle.lra_paths.specs.Paths.{live_of, same_goal, started, actions_between_in, AreFewFrom, HasTooManyIn}
 use Rattle.lra_paths.specs.Sources.{ArePlaced, all_departing, departing, ending, to_goal, to_goal_by, first_from, live_from, point_from, same_point, AreFewTo, AreManyTo, IsDeparture, IsSource, Adds}
 use Rattle.lra_paths.specs.{declared.paths.Departure.Departure, declared.sources.Source.Source, declared.sources.SourceSegment.SourceSegment}
-use Rattle.lra_path_segments.specs.declared.segments.Goal as declared
-use Rattle.lra_path_segments.specs.declared.segments.TreeSegment as declared_stretch
-use Rattle.lra_path_segments.proofs.FlatSteps.{flat_same, flat_filter, flat_flat, both_same}
+use Rattle.lra_paths.specs.Crates.lra_path_segments.declared.segments.Goal as declared
+use Rattle.lra_paths.specs.Crates.lra_path_segments.declared.segments.TreeSegment as declared_stretch
+use Rattle.lra_paths.proofs.Crates.lra_path_segments.FlatSteps.{flat_same, flat_filter, flat_flat, both_same}
 use Rattle.lra_path_disjuncts.proofs.{GuardSteps.still_in, GuardSteps.still_at, GuardSteps.grows_on, TableSteps.has_at, TableSteps.within, WayMoveSteps.way_sides}
 
 -- one list ---------------------------------------------------------------------------------------------------------------

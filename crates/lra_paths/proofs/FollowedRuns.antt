@@ -1,9 +1,10 @@
 -- The tree that stands for a well-formed program follows its runs.
 use Rattle.std.proofs.Common.{◌≡◌, ℕ, ℤ, List, length, Some, ap}
 use Rattle.std.specs.Prelude.{slice_get}
-use Rattle.lra_program.specs.{Program.Program, Run.Point, Sites.Site, Sites.sites_of, Step.State, Traces.Trace, Traces.NoChange, WellFormed.AreGoodGlobals, WellFormed.IsWellFormed}
+use Rattle.lra_paths.specs.Crates.{lra_program.Program.Program, lra_program.Run.Point, lra_program.Sites.Site, lra_program.Sites.sites_of, lra_program.Step.State, lra_program.Traces.Trace}
+use Rattle.lra_paths.specs.Crates.{lra_program.Traces.NoChange, lra_program.WellFormed.AreGoodGlobals, lra_program.WellFormed.IsWellFormed}
 use Rattle.lra_operations.specs.{Agree.AreDistinct, Agree.IsInlinedTree, Traces.to_point, TracesAgree.TreeRunsUpTo, TracesAgree.TracesAgree, Tree.Node}
-use Rattle.lra_inline_sound.proofs.{Agreement.graphs_have_trails, DistinctSites.distinct_sites, Performed.performed}
+use Rattle.lra_paths.proofs.Crates.{lra_inline_sound.Agreement.graphs_have_trails, lra_inline_sound.DistinctSites.distinct_sites, lra_inline_sound.Performed.performed}
 
 -- the tree reaches the points of the program's runs, on their traces; no two points are the same
 pub record FollowsRuns (P : Program) (g : Node) : Type 0 where

@@ -1,9 +1,8 @@
 -- The laws on programs, as they are claimed.
 use Rattle.std.proofs.Common.{ℕ, ℤ, List, Bool}
 use Rattle.std.specs.Prelude.{IsTrue}
-use Rattle.lra_program.specs.{Program.Program, Traces.Trace, Traces.NoChange, WellFormed.IsWellFormed}
+use Rattle.lra_paths.specs.Crates.{lra_path_segments.Segments.Goal, lra_program.Program.Program, lra_program.Traces.Trace, lra_program.Traces.NoChange, lra_program.WellFormed.IsWellFormed}
 use Rattle.lra_operations.specs.{Agree.IsInlinedTree, Traces.RunExtent, Traces.RunsUpTo, Tree.Node}
-use Rattle.lra_path_segments.specs.Segments.{Goal}
 use Rattle.lra_paths.proofs.{Came.came, CoverSteps.paths_cover, CoverSteps.kept, FollowedRuns.graphs_follow_runs}
 use Rattle.lra_paths.specs.Covers.{HasGone, PathsCover, AreInductiveAlong, HoldInAllRuns}
 

@@ -12,3 +12,5 @@ pub mod OwnDenials
 -- Paths from one source, from tables of moves.
 pub mod DepartureSteps
 pub mod SourceSteps
+-- The crates below
+pub mod Crates

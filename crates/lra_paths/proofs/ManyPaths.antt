@@ -1,6 +1,6 @@
 -- More paths than may be aren't few.
 use Rattle.std.proofs.Common.{ℕ, List, arith}
-use Rattle.lra_program.specs.{Sites.Site, declared.program.GlobalVariable.GlobalVariable}
+use Rattle.lra_paths.specs.Crates.{lra_program.Sites.Site, lra_program.declared.program.GlobalVariable.GlobalVariable}
 use Rattle.lra_operations.specs.Tree.{Node}
 use Rattle.lra_paths.specs.Paths.{AreFewIn, HasTooManyIn}
 

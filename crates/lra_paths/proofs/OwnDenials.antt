@@ -4,18 +4,18 @@ use Rattle.std.proofs.Common.{◌≡◌, ◌≢◌, ℕ, zero, suc, ◌+◌, ◌
 use Rattle.std.proofs.lemmas.List.Elements.{All-nil, All-cons, All-head, All-tail, All-append, All-map, All-weaker}
 use Rattle.std.proofs.{Common.append-nil, lemmas.Bool.cases_lt, lemmas.Bool.eqb-true}
 use Rattle.std.specs.{List.All, List.range_with_len, Prelude.nat_eq, Prelude.◌&&◌}
-use Rattle.lra_base.specs.{declared.case_labels.CaseLabel.CaseLabel, declared.number_types.NumberType.NumberType}
-use Rattle.lra_program.specs.Program.{Expr, Cond, Call, Rvalue, Stmt, Cases, BlockItems, Program}
-use Rattle.lra_program.specs.{Sites.Site, Sites.sites_of, Step.Op, Step.test, Value.Argument, declared.receivers.Receiver.Receiver}
+use Rattle.lra_paths.specs.Crates.lra_path_segments.Segments.{SegmentStep, does, goes_in, prepend_step_to_goal, enter_arms, enter_labels, Goal, comes_to, violates, GoalSegment, Segment, then_way}
+use Rattle.lra_paths.specs.Crates.lra_path_segments.Segments.{segment_by, tested_way, into_body, out_of_body, segment_to, through, enter, exit_suffixes, inside, Suffix, then_ways, segments_by}
+use Rattle.lra_paths.specs.Crates.lra_program.Program.{Expr, Cond, Call, Rvalue, Stmt, Cases, BlockItems, Program}
+use Rattle.lra_paths.specs.Crates.{lra_base.declared.case_labels.CaseLabel.CaseLabel, lra_base.declared.number_types.NumberType.NumberType, lra_program.Sites.Site, lra_program.Sites.sites_of}
+use Rattle.lra_paths.specs.Crates.{lra_program.Step.Op, lra_program.Step.test, lra_program.Value.Argument, lra_program.declared.receivers.Receiver.Receiver}
 use Rattle.lra_operations.specs.Inlined.{InlineState, InlineStmt, InlineItems, InlineCases, InlineDeclarator, InlineLoop, InlineRvalue, InlineCall, as_nothing, as_block, as_absent, as_assign}
 use Rattle.lra_operations.specs.Inlined.{as_write, as_write_call, as_call, as_if, as_loop, as_for, as_break, as_continue, as_return, as_return_value, as_return_call, as_end, as_end_value, as_end_call}
 use Rattle.lra_operations.specs.Inlined.{as_assert, as_switch, as_no_cases, as_labelled, as_stated, as_assume, as_none, as_declaration, as_array, as_statement, as_fresh, as_given, is_loop, as_value}
 use Rattle.lra_operations.specs.Tree.{Exit, normal, Node, empty, point, act, check, seq, choose, iterate, catch, leave, select, Arms, no_arms, entry, arm}
 use Rattle.lra_operations.specs.{Agree.IsInlinedTree, Inlined.as_result, Inlined.is_call}
 use Rattle.lra_operations.proofs.ArmRows.{arms_row}
-use Rattle.lra_path_segments.specs.Segments.{SegmentStep, does, goes_in, prepend_step_to_goal, enter_arms, enter_labels, Goal, comes_to, violates, GoalSegment, Segment, then_way, segment_by}
-use Rattle.lra_path_segments.specs.Segments.{tested_way, into_body, out_of_body, segment_to, through, enter, exit_suffixes, inside, Suffix, then_ways, segments_by}
-use Rattle.lra_path_segments.proofs.LabelLaws.{enter_row, inside_row}
+use Rattle.lra_paths.proofs.Crates.lra_path_segments.LabelLaws.{enter_row, inside_row}
 use Rattle.lra_path_disjuncts.specs.Disjuncts.{written}
 use Rattle.lra_paths.specs.Paths.{same_goal, started, live_at, actions_between, path_by, paths_between, violations_of}
 

@@ -1,8 +1,8 @@
 -- Paths to one goal, segment by segment.
 use Rattle.std.proofs.Common.{◌≡◌, ◌≤◌, ◌<◌, ℕ, suc, ◌+◌, List, [], ◌∷◌, ◌++◌, length, take, sym, ap, ◌∙◌, arith, append-nil, get_or, length-append, Bool, true, false, cond, subst, refl, inl, inr}
 use Rattle.std.proofs.{Common.◌⊎◌, Math.Seq.take-suc, lemmas.Bool.cases_lt, lemmas.Bool.eqb-true, lemmas.Grind.flat_map-append, lemmas.List.take_all, lemmas.List.Folds.length-flat_map-take}
-use Rattle.lra_domain.specs.Actions.{Action}
-use Rattle.lra_path_segments.specs.{Segments.Goal, Segments.comes_to, Segments.violates, TreeSegmentViews.goal_view}
+use Rattle.lra_paths.specs.Crates.lra_path_segments.Segments.{Goal, comes_to, violates}
+use Rattle.lra_paths.specs.Crates.{lra_domain.Actions.Action, lra_path_segments.TreeSegmentViews.goal_view}
 use Rattle.lra_path_disjuncts.specs.{Disjuncts.disjuncts, Disjuncts.greatest_paths, Tables.capped, Tables.moves_at, declared.tables.MovesEntry.MovesEntry}
 use Rattle.lra_paths.specs.{Paths.same_goal, Sources.AreFewFor, Sources.AreFewTo, Sources.to_goal, Sources.to_goal_by, declared.sources.SourceSegment.SourceSegment}
 use Rattle.lra_path_disjuncts.proofs.TableSteps.{capped_few, capped_many, capped_plus}

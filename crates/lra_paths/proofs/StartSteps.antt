@@ -1,10 +1,9 @@
 -- Operations from the start lead where one of their lists of actions leads.
 use Rattle.std.proofs.{Common.ℤ, Common.List, Common.[], Common.map, Common.length, lemmas.List.length-map}
-use Rattle.lra_domain.specs.Moves.{SomeLeads}
-use Rattle.lra_program.specs.{Program.Program, Run.begun, Step.State, WellFormed.AreGoodGlobals, declared.program.GlobalVariable.GlobalVariable}
-use Rattle.lra_analysis_spec.specs.MovesOf.{first_values}
-use Rattle.lra_analysis_spec.proofs.Keeping.{first_lead}
-use Rattle.lra_path_segments.specs.Segments.{SegmentStep, RunsOps}
+use Rattle.lra_paths.specs.Crates.lra_path_segments.Segments.{SegmentStep, RunsOps}
+use Rattle.lra_paths.specs.Crates.{lra_analysis_spec.MovesOf.first_values, lra_domain.Moves.SomeLeads, lra_program.Program.Program, lra_program.Run.begun, lra_program.Step.State}
+use Rattle.lra_paths.specs.Crates.{lra_program.WellFormed.AreGoodGlobals, lra_program.declared.program.GlobalVariable.GlobalVariable}
+use Rattle.lra_paths.proofs.Crates.lra_analysis_spec.Keeping.{first_lead}
 use Rattle.lra_path_disjuncts.specs.Disjuncts.{disjuncts, written}
 use Rattle.lra_paths.specs.Paths.{from_start}
 use Rattle.lra_path_disjuncts.proofs.{SideSteps.disjuncts_lead, SideSteps.then_leads, WrittenSteps.written_from}

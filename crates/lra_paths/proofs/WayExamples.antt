@@ -1,14 +1,14 @@
 -- Segments of small trees, and what they are written out as. Which slip an example would catch stands beside it.
 use Rattle.std.proofs.Common.{◌≡◌, ℤ, pos, negsuc, List, [], ◌∷◌, true, false, refl}
-use Rattle.lra_linear_spec.specs.declared.ConKind.TheVariants.{Ge, Eq}
-use Rattle.lra_base.specs.declared.case_labels.CaseLabel.TheVariants.{Case, Default}
-use Rattle.lra_base.specs.{Operators.below, Operators.differs, declared.case_labels.CaseLabel.CaseLabel, declared.number_types.NumberType.TheVariants.Long}
-use Rattle.lra_program.specs.{Program.Expr, Program.Cond, Program.literal, Program.read, Program.input, Program.compare, Program.local, Step.Op, Step.truncate_to, Step.test}
-use Rattle.lra_program.proofs.RunExamples.{long_variable}
+use Rattle.lra_paths.specs.Crates.lra_path_segments.Segments.{SegmentStep, does, goes, comes_to, violates, through, enter, exit_suffixes, inside}
+use Rattle.lra_paths.specs.Crates.lra_program.Program.{Expr, Cond, literal, read, input, compare, local}
+use Rattle.lra_paths.specs.Crates.{lra_base.Operators.below, lra_base.Operators.differs, lra_base.declared.case_labels.CaseLabel.CaseLabel, lra_base.declared.case_labels.CaseLabel.TheVariants.Case}
+use Rattle.lra_paths.specs.Crates.{lra_base.declared.case_labels.CaseLabel.TheVariants.Default, lra_base.declared.number_types.NumberType.TheVariants.Long, lra_domain.Actions.Action}
+use Rattle.lra_paths.specs.Crates.{lra_domain.Moves.make, lra_domain.Moves.first_then, lra_domain.Moves.join_of, lra_domain.Moves.cases, lra_linear_spec.declared.ConKind.TheVariants.Ge}
+use Rattle.lra_paths.specs.Crates.{lra_linear_spec.declared.ConKind.TheVariants.Eq, lra_program.Step.Op, lra_program.Step.truncate_to, lra_program.Step.test}
+use Rattle.lra_paths.proofs.Crates.lra_program.RunExamples.{long_variable}
 use Rattle.lra_operations.specs.Tree.{broken, continued, normal, Node, empty, point, act, check, seq, choose, iterate, catch, leave, select, no_arms, entry, arm}
-use Rattle.lra_domain.specs.{Actions.Action, Moves.make, Moves.first_then, Moves.join_of, Moves.cases}
-use Rattle.lra_domain.specs.Actions as action
-use Rattle.lra_path_segments.specs.Segments.{SegmentStep, does, goes, comes_to, violates, through, enter, exit_suffixes, inside}
+use Rattle.lra_paths.specs.Crates.lra_domain.Actions as action
 use Rattle.lra_path_disjuncts.specs.Disjuncts.{disjuncts, written}
 
 abbrev x : Expr

@@ -1,14 +1,14 @@
 -- What paths must guarantee to runs: each piece of a run goes along one of them, and what they keep holds in all runs.
 use Rattle.std.specs.Prelude.{◌≡◌, ℕ, suc, ℤ, List, [], ◌∷◌, Bool, IsTrue, Some, slice_get, Contains, length}
-use Rattle.lra_domain.specs.Moves.{SomeLeads}
-use Rattle.lra_program.specs.Run.{start, Point, IsOn, Reaches, At, Fails, IsFailing}
-use Rattle.lra_program.specs.Sites.{Site, sites_of}
-use Rattle.lra_program.specs.Traces.{TraceEvent, visit, Trace, NoChange, TracedSteps, RunSegment}
-use Rattle.lra_program.specs.{Program.Program, Step.State, Step.Config, WellFormed.IsWellFormed}
+use Rattle.lra_paths.specs.Crates.lra_path_segments.Segments.{SegmentStep, Goal, comes_to, violates, through, enter}
+use Rattle.lra_paths.specs.Crates.lra_path_segments.Segments.{exit_suffixes, inside, RunsOps}
+use Rattle.lra_paths.specs.Crates.lra_program.Run.{start, Point, IsOn, Reaches, At, Fails, IsFailing}
+use Rattle.lra_paths.specs.Crates.lra_program.Sites.{Site, sites_of}
+use Rattle.lra_paths.specs.Crates.lra_program.Traces.{TraceEvent, visit, Trace, NoChange, TracedSteps, RunSegment}
+use Rattle.lra_paths.specs.Crates.{lra_domain.Moves.SomeLeads, lra_program.Program.Program, lra_program.Step.State}
+use Rattle.lra_paths.specs.Crates.{lra_program.Step.Config, lra_program.WellFormed.IsWellFormed}
 use Rattle.lra_operations.specs.Traces.{by_jump, to_point, to_failure, RunExtent, to_end, stopped, RunsUpTo}
 use Rattle.lra_operations.specs.{Agree.IsInlinedTree, Agree.point_of, Tree.normal, Tree.jump, Tree.Node}
-use Rattle.lra_path_segments.specs.Segments.{SegmentStep, Goal, comes_to, violates, through, enter, exit_suffixes}
-use Rattle.lra_path_segments.specs.Segments.{inside, RunsOps}
 use Rattle.lra_paths.specs.Paths.{live_at, actions_between}
 
 -- trees ------------------------------------------------------------------------------------------------------------

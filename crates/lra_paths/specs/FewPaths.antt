@@ -1,6 +1,6 @@
 -- A program has few paths, or too many from some source, but not both.
 use Rattle.std.specs.Prelude.{ℕ, List}
-use Rattle.lra_program.specs.{Sites.Site, declared.program.GlobalVariable.GlobalVariable}
+use Rattle.lra_paths.specs.Crates.{lra_program.Sites.Site, lra_program.declared.program.GlobalVariable.GlobalVariable}
 use Rattle.lra_operations.specs.Tree.{Node}
 use Rattle.lra_paths.specs.Paths.{AreFewIn, HasTooManyIn}
 

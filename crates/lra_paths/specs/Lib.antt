@@ -4,3 +4,5 @@ pub mod FewPaths
 pub mod Violations
 pub mod Covers
 pub mod Sources
+-- The crates below
+pub mod Crates

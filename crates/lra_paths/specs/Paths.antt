@@ -2,13 +2,12 @@
 -- is done between. The start has the number 0, the points those from 1 on.
 use Rattle.std.specs.Prelude.{◌≤◌, ◌<◌, ℕ, zero, suc, List, map, length, Bool, false, ◌&&◌, nat_eq, Option, Some, None}
 use Rattle.std.specs.{List.flat_map, List.filter, List.range_with_len, Prelude.slice_get}
-use Rattle.lra_domain.specs.Actions.{Action}
-use Rattle.lra_program.specs.declared.program.GlobalVariable.{GlobalVariable}
-use Rattle.lra_program.specs.{Program.Program, Sites.Site, Sites.sites_of}
+use Rattle.lra_paths.specs.Crates.lra_path_segments.Segments.{SegmentStep, Goal, comes_to, violates, GoalSegment}
+use Rattle.lra_paths.specs.Crates.lra_path_segments.Segments.{Segment, each_then, enter, inside}
+use Rattle.lra_paths.specs.Crates.lra_program.declared.program.GlobalVariable.{GlobalVariable}
+use Rattle.lra_paths.specs.Crates.{lra_analysis_spec.MovesOf.first_values, lra_domain.Actions.Action}
+use Rattle.lra_paths.specs.Crates.{lra_program.Program.Program, lra_program.Sites.Site, lra_program.Sites.sites_of}
 use Rattle.lra_operations.specs.Tree.{Node}
-use Rattle.lra_analysis_spec.specs.MovesOf.{first_values}
-use Rattle.lra_path_segments.specs.Segments.{SegmentStep, Goal, comes_to, violates, GoalSegment, Segment, each_then}
-use Rattle.lra_path_segments.specs.Segments.{enter, inside}
 use Rattle.lra_path_disjuncts.specs.Disjuncts.{disjuncts, written, greatest_paths}
 
 abbrev pub same_goal : Goal → Goal → Bool

@@ -1,11 +1,12 @@
 -- The segments from one source, with a table of their moves, and the paths that are written out of it.
 use Rattle.std.specs.Prelude.{◌≡◌, ◌<◌, ◌≤◌, ℕ, zero, suc, List, [], ◌∷◌, ◌++◌, Bool, true, false, cond, nat_eq, length}
 use Rattle.std.specs.{List.flat_map, Prelude.Option, Prelude.Some, Prelude.None, Prelude.slice_get}
-use Rattle.lra_domain.specs.{Actions.Action, Moves.Moves, Moves.stay, Moves.first_then}
-use Rattle.lra_program.specs.{Sites.Site, declared.program.GlobalVariable.GlobalVariable}
-use Rattle.lra_analysis_spec.specs.MovesOf.{first_values}
-use Rattle.lra_path_segments.specs.TreeSegments.{End, exits, reaches, TreeSegment}
-use Rattle.lra_path_segments.specs.{Segments.SegmentStep, Segments.Goal, TreeSegmentViews.goal_view}
+use Rattle.lra_paths.specs.Crates.lra_domain.Moves.{Moves, stay, first_then}
+use Rattle.lra_paths.specs.Crates.lra_path_segments.Segments.{SegmentStep, Goal}
+use Rattle.lra_paths.specs.Crates.lra_path_segments.TreeSegments.{End, exits, reaches, TreeSegment}
+use Rattle.lra_paths.specs.Crates.lra_program.declared.program.GlobalVariable.{GlobalVariable}
+use Rattle.lra_paths.specs.Crates.{lra_analysis_spec.MovesOf.first_values, lra_domain.Actions.Action}
+use Rattle.lra_paths.specs.Crates.{lra_path_segments.TreeSegmentViews.goal_view, lra_program.Sites.Site}
 use Rattle.lra_path_disjuncts.specs.Disjuncts.{disjuncts, greatest_paths}
 use Rattle.lra_path_disjuncts.specs.Tables.{Has, IsTable, Grows, moves_at}
 use Rattle.lra_path_disjuncts.specs.{SegmentMoves.segment_moves, declared.tables.MovesEntry.MovesEntry}

@@ -13,5 +13,6 @@ mod sources;
 pub use laws::{
     few_exclude_many, inductive_holds, paths_cover, segments_cover, violations_are_own,
 };
+pub use lra_path_disjuncts::{End, Goal, Move, TreeSegment};
 pub use paths::{Paths, PathsFailure, find_paths};
 pub use sources::{Source, SourceSegment};

@@ -7,18 +7,20 @@ ghost use Rattle.lra_paths.specs.Paths.{AreFewIn, HasTooManyIn, actions_between_
 ghost use Rattle.lra_paths.specs.Sources as sources;
 ghost use Rattle.lra_paths.specs.Sources.{Adds, IsDeparture, IsSource, all_departing, departing, ending, same_point};
 ghost use Rattle.lra_paths.specs.Sources.{to_goal};
-ghost use Rattle.lra_path_segments.specs.TreeSegments as ways;
-ghost use Rattle.lra_path_segments.specs.TreeSegmentViews.{end_view, goal_view, move_view, seen, tree_segment_view};
-ghost use Rattle.lra_path_segments.specs.TreeSegments.{AreSegmentsOf};
+ghost use Rattle.lra_paths.specs.Crates.lra_path_segments.TreeSegments as ways;
+ghost use Rattle.lra_paths.specs.Crates.lra_path_segments.TreeSegmentViews.{end_view, goal_view, move_view, seen};
+ghost use Rattle.lra_paths.specs.Crates.lra_path_segments.TreeSegmentViews.{tree_segment_view};
+ghost use Rattle.lra_paths.specs.Crates.lra_path_segments.TreeSegments.{AreSegmentsOf};
 ghost use Rattle.lra_path_disjuncts.specs.Tables.{IsTable, moves_at};
-ghost use Rattle.lra_path_segments.specs.Segments as trees;
+ghost use Rattle.lra_paths.specs.Crates.lra_path_segments.Segments as trees;
 ghost use Rattle.lra_paths.specs.declared.paths.PathsFailure.TheVariants.{TooMany};
 
 use crate::sources::{Source, SourceSegment};
-use lra_operations::{InlinedProgram, Site};
-use lra_path_disjuncts::{MovesEntry, push_first_then, push_globals, push_segment, push_stay};
-use lra_path_segments::{End, Goal, Move, TreeSegment, segments_of};
-use lra_program::GlobalVariable;
+use lra_operations::{GlobalVariable, InlinedProgram, Site};
+use lra_path_disjuncts::{
+    End, Goal, Move, MovesEntry, TreeSegment, push_first_then, push_globals, push_segment,
+    push_stay, segments_of,
+};
 use std::alloc::{AllocError, Global};
 
 /// The globals and the points of a program, and all its segments.

@@ -4,11 +4,11 @@ ghost use Rattle.std.specs.Prelude.{[], ◌≡◌, ◌≤◌, ◌++◌, length, 
 ghost use Rattle.lra_path_disjuncts.specs.Tables.{IsTable, capped, count_of, moves_at};
 ghost use Rattle.lra_path_disjuncts.specs.{Disjuncts.greatest_paths, Disjuncts.disjuncts, TableDisjuncts.lists_done};
 ghost use Rattle.lra_paths.specs.{Paths.same_goal, Sources.AreFewTo, Sources.AreManyTo, Sources.to_goal};
-ghost use Rattle.lra_path_segments.specs.TreeSegmentViews.{goal_view};
+ghost use Rattle.lra_paths.specs.Crates.lra_path_segments.TreeSegmentViews.{goal_view};
 
-use lra_domain::Change;
-use lra_path_disjuncts::{GREATEST_PATHS, MovesEntry, add_capped, disjuncts_at, write_disjuncts};
-use lra_path_segments::Goal;
+use lra_path_disjuncts::{
+    Change, GREATEST_PATHS, Goal, MovesEntry, add_capped, disjuncts_at, write_disjuncts,
+};
 use std::alloc::{AllocError, Global};
 
 /// A segment from the source: its goal, and where its moves stand in the source's table.

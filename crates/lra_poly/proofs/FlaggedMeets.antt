@@ -2,9 +2,9 @@
 use Rattle.std.proofs.Common.{◌≡◌, ◌∙◌, ℕ, suc, List, [], ◌∷◌, ◌++◌, ap, refl, subst, sym, inl, inr}
 use Rattle.std.proofs.lemmas.List.{append-nil, append_assoc}
 use Rattle.std.specs.List.{Contains}
-use Rattle.lra_linear_spec.specs.{Descriptions.LinearRow, OperationStrain.with_positivity, Polyhedra.Polyhedron, Strain.Loss, Strain.Strains}
-use Rattle.lra_linear_spec.proofs.Membership.{contains_cases, contains_head, contains_none, contains_tail}
-use Rattle.lra_cone.specs.{Cones.ConeContent, Conversions.AreTried, Conversions.IsConversion}
+use Rattle.lra_poly.specs.Crates.{lra_cone.Cones.ConeContent, lra_cone.Conversions.AreTried, lra_cone.Conversions.IsConversion, lra_linear_spec.Descriptions.LinearRow}
+use Rattle.lra_poly.specs.Crates.{lra_linear_spec.OperationStrain.with_positivity, lra_linear_spec.Polyhedra.Polyhedron, lra_linear_spec.Strain.Loss, lra_linear_spec.Strain.Strains}
+use Rattle.lra_poly.proofs.Crates.lra_linear_spec.Membership.{contains_cases, contains_head, contains_none, contains_tail}
 use Rattle.lra_duality.specs.Incremental.{MayGoOn}
 use Rattle.lra_description_pair.specs.TriedRows.{IsOfTried, OwnListStrains}
 use Rattle.lra_description_pair.proofs.PairLosses.{own_strain}

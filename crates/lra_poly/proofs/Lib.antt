@@ -6,3 +6,5 @@ pub mod MetRows
 pub mod UnitedLists
 pub mod FlaggedMeets
 pub mod TakenGenerators
+-- The crates below
+pub mod Crates

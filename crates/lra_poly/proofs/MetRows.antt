@@ -2,10 +2,10 @@
 use Rattle.std.proofs.Common.{◌≡◌, ◌∙◌, ◌↔◌, ℕ, List, ◌∷◌, ◌++◌, ap, refl, subst, sym, Bool, true, false, drop, IsTrue, inl, inr, []}
 use Rattle.std.proofs.lemmas.List.Elements.{All-contains, Contains-append_right}
 use Rattle.std.specs.List.{Contains}
-use Rattle.lra_linear_spec.specs.OperationStrain.{FromRowsStrains, with_positivity}
-use Rattle.lra_linear_spec.specs.{Descriptions.Con, Descriptions.LinearRow, Descriptions.inequality, Polyhedra.Polyhedron, Polyhedra.positivity, Strain.Loss}
-use Rattle.lra_linear_spec.proofs.Membership.{contains_head}
-use Rattle.lra_systems.specs.FirstPlaces.{FirstAt}
+use Rattle.lra_poly.specs.Crates.lra_linear_spec.Descriptions.{Con, LinearRow, inequality}
+use Rattle.lra_poly.specs.Crates.lra_linear_spec.OperationStrain.{FromRowsStrains, with_positivity}
+use Rattle.lra_poly.specs.Crates.{lra_linear_spec.Polyhedra.Polyhedron, lra_linear_spec.Polyhedra.positivity, lra_linear_spec.Strain.Loss, lra_systems.FirstPlaces.FirstAt}
+use Rattle.lra_poly.proofs.Crates.lra_linear_spec.Membership.{contains_head}
 use Rattle.lra_duality.specs.Inclusions.{IsInclusion, Satisfies, SatisfiesAll, Passes, ViolatesFirst, Violates}
 use Rattle.lra_duality.specs.declared.inclusion.Inclusion.TheVariants.{Yes, No, Wide}
 use Rattle.lra_duality.specs.{Incremental.MayGoOn, declared.inclusion.Inclusion.Inclusion}

@@ -1,20 +1,22 @@
 -- What the operations' lists say of sets of points.
 use Rattle.std.proofs.Common.{◌≡◌, ◌≢◌, ℕ, suc, Bool, List, [], ◌∷◌, ◌++◌, length, ap, sym, ◌∙◌, subst, ℤ, pos, ◌≤ℤ◌, inl, inr, refl, arith}
 use Rattle.std.specs.{List.Contains, Prelude.◌↔◌, Prelude.◌==◌, Prelude.IsTrue}
-use Rattle.lra_linear_spec.specs.OperationStrain.{ConstraintsStrain, FromRowsStrains, FromGeneratorsStrains, MeetStrains, AddTestStrains, HullStrains, ResultStrains}
-use Rattle.lra_linear_spec.specs.{Descriptions.Con, Descriptions.Gen, Descriptions.LinearRow, Descriptions.Holds, Descriptions.inequality, Descriptions.system_of, Kinds.is_line, Points.IsPoint}
-use Rattle.lra_linear_spec.specs.{Points.IsWithin, Points.IsEmptySet, Points.SameSet, Points.PointSet, Polyhedra.Polyhedron, Polyhedra.IsPolyhedron, Polyhedra.IsPolyhedronOf, Polyhedra.positivity}
-use Rattle.lra_linear_spec.specs.{SetOperations.Meet, SetOperations.Union, SetOperations.Hull, Strain.Loss, Vectors.entry, Vectors.product, declared.GenKind.GenKind}
-use Rattle.lra_linear_spec.proofs.Descriptions.{con_cons, con_head, con_none, con_solves, solves_con, generated_gen, gen_generated}
-use Rattle.lra_linear_spec.proofs.SetOperations.{has_vertex, meet_con, system_append, system_append_in, valid_on_rows}
-use Rattle.lra_linear_spec.proofs.{Combinations.generated_row, LinearMaps.generated_nonneg, LinearMaps.generated_through, Membership.contains_none, Polyhedra.con_gen}
+use Rattle.lra_poly.specs.Crates.lra_linear_spec.Descriptions.{Con, Gen, LinearRow, Holds, inequality, system_of}
+use Rattle.lra_poly.specs.Crates.lra_linear_spec.OperationStrain.{ConstraintsStrain, FromRowsStrains, FromGeneratorsStrains, MeetStrains, AddTestStrains, HullStrains, ResultStrains}
+use Rattle.lra_poly.specs.Crates.lra_linear_spec.Points.{IsPoint, IsWithin, IsEmptySet, SameSet, PointSet}
+use Rattle.lra_poly.specs.Crates.lra_linear_spec.Polyhedra.{Polyhedron, IsPolyhedron, IsPolyhedronOf, positivity}
+use Rattle.lra_poly.specs.Crates.lra_systems.LinearSystems.{LinearSystem, generators, rows_by_kind}
+use Rattle.lra_poly.specs.Crates.{lra_cone.Losses.IfLost, lra_linear_spec.Kinds.is_line, lra_linear_spec.SetOperations.Meet, lra_linear_spec.SetOperations.Union, lra_linear_spec.SetOperations.Hull}
+use Rattle.lra_poly.specs.Crates.{lra_linear_spec.Strain.Loss, lra_linear_spec.Vectors.entry, lra_linear_spec.Vectors.product, lra_linear_spec.declared.GenKind.GenKind}
+use Rattle.lra_poly.proofs.Crates.lra_linear_spec.Descriptions.{con_cons, con_head, con_none, con_solves, solves_con, generated_gen, gen_generated}
+use Rattle.lra_poly.proofs.Crates.lra_linear_spec.LinearMaps.{generated_nonneg, generated_through}
+use Rattle.lra_poly.proofs.Crates.lra_linear_spec.SetOperations.{has_vertex, meet_con, system_append, system_append_in, valid_on_rows}
+use Rattle.lra_poly.proofs.Crates.{lra_linear_spec.Combinations.generated_row, lra_linear_spec.Membership.contains_none, lra_linear_spec.Polyhedra.con_gen}
 use Rattle.lra_poly.specs.Outcomes.{Becomes, IfExact, IfFlagged, IsOfGenerators, IsOfRows, first_loss}
 use Rattle.lra_poly.specs.{declared.outcome.Outcome.Outcome, declared.outcome.Outcome.TheVariants.Exact, declared.outcome.Outcome.TheVariants.Flagged}
 use Rattle.lra_duality.proofs.PolyhedronLemmas.{empty_where_none, none_where_empty, rows_width}
-use Rattle.lra_cone.specs.Losses.{IfLost}
 use Rattle.lra_description_pair.specs.{Made.IsMadeFor, OwnLists.IsPositive}
 use Rattle.lra_description_pair.proofs.OwnRows.{none_of}
-use Rattle.lra_systems.specs.LinearSystems.{LinearSystem, generators, rows_by_kind}
 
 -- ---- other words for the exact result
 pub same_polyhedron : (n : ℕ) (P Q : PointSet) (p : Polyhedron) → SameSet n P Q → IsPolyhedronOf n Q p → IsPolyhedronOf n P p

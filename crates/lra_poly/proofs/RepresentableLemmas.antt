@@ -2,12 +2,13 @@
 use Rattle.std.proofs.Common.{◌≡◌, ◌∙◌, ℕ, ℤ, Bool, List, [], ◌∷◌, ap, inl, inr, refl, subst, sym}
 use Rattle.std.proofs.lemmas.List.Elements.{All-contains}
 use Rattle.std.specs.List.{All, Contains}
-use Rattle.lra_linear_spec.specs.{Descriptions.LinearRow, Kinds.is_equality, Kinds.is_line, Polyhedra.IsPolyhedron, Polyhedra.Polyhedron, Range.InRange, Representable.AreInRange}
-use Rattle.lra_linear_spec.specs.{Representable.IsRepresentable, Representable.KeepsLimit, declared.ConKind.ConKind, declared.GenKind.GenKind}
-use Rattle.lra_systems.specs.LinearSystems.{FitKinds, LinearSystem, constraints, generators, rows_by_kind}
-use Rattle.lra_bits.specs.Matrix.{Matrix}
+use Rattle.lra_poly.specs.Crates.lra_linear_spec.Polyhedra.{IsPolyhedron, Polyhedron}
+use Rattle.lra_poly.specs.Crates.lra_linear_spec.Representable.{AreInRange, IsRepresentable, KeepsLimit}
+use Rattle.lra_poly.specs.Crates.lra_systems.LinearSystems.{FitKinds, LinearSystem, constraints, generators, rows_by_kind}
+use Rattle.lra_poly.specs.Crates.{lra_bits.Matrix.Matrix, lra_linear_spec.Descriptions.LinearRow, lra_linear_spec.Kinds.is_equality, lra_linear_spec.Kinds.is_line, lra_linear_spec.Range.InRange}
+use Rattle.lra_poly.specs.Crates.{lra_linear_spec.declared.ConKind.ConKind, lra_linear_spec.declared.GenKind.GenKind}
 use Rattle.lra_duality.specs.Saturations.{saturation_of}
-use Rattle.lra_linear_spec.proofs.Membership.{contains_cases, contains_head, contains_none, contains_tail}
+use Rattle.lra_poly.proofs.Crates.lra_linear_spec.Membership.{contains_cases, contains_head, contains_none, contains_tail}
 
 given_row : {K : Type 0} (k : K → Bool) (rows : List (List ℤ)) (kinds : List K) (g : LinearRow) →
     Contains (rows_by_kind k rows kinds) g → Contains rows g.row

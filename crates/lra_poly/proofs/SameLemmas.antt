@@ -1,9 +1,10 @@
 -- Polyhedra of the same dimensions and constraints are the same.
 use Rattle.std.proofs.Common.{◌≡◌, ◌≢◌, ◌∙◌, Bool, false, ap, length, sym, subst}
 use Rattle.std.specs.{Bool.one_answer, Prelude.◌↔◌, Prelude.IsTrue}
-use Rattle.lra_linear_spec.specs.{Descriptions.Con, Descriptions.rows_of, Kinds.is_equality, Points.SameSet, Polyhedra.IsPolyhedron, Polyhedra.Polyhedron, declared.ConKind.ConKind}
-use Rattle.lra_systems.specs.LinearSystems.{LinearSystem, constraints}
-use Rattle.lra_linear_spec.proofs.OneSpelling.{same_points_same_lists}
+use Rattle.lra_poly.specs.Crates.lra_systems.LinearSystems.{LinearSystem, constraints}
+use Rattle.lra_poly.specs.Crates.{lra_linear_spec.Descriptions.Con, lra_linear_spec.Descriptions.rows_of, lra_linear_spec.Kinds.is_equality, lra_linear_spec.Points.SameSet}
+use Rattle.lra_poly.specs.Crates.{lra_linear_spec.Polyhedra.IsPolyhedron, lra_linear_spec.Polyhedra.Polyhedron, lra_linear_spec.declared.ConKind.ConKind}
+use Rattle.lra_poly.proofs.Crates.lra_linear_spec.OneSpelling.{same_points_same_lists}
 use Rattle.lra_description_pair.proofs.OwnRows.{rows_of_given}
 use Rattle.lra_poly.specs.Equality.{polyhedron_Decides, polyhedron_eq}
 

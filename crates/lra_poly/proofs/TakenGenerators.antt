@@ -1,8 +1,9 @@
 -- An operation that takes in generators which give its exact result.
 use Rattle.std.proofs.Common.{◌≡◌, ℕ, List, subst, inl, inr}
-use Rattle.lra_linear_spec.specs.OperationStrain.{FromGeneratorsStrains, GeneratorsStrain, with_positivity}
-use Rattle.lra_linear_spec.specs.{Descriptions.Gen, Descriptions.LinearRow, Points.IsWithin, Points.PointSet, Points.SameSet, Polyhedra.Polyhedron, Strain.Loss, declared.GenKind.GenKind}
-use Rattle.lra_systems.specs.LinearSystems.{LinearSystem, generators}
+use Rattle.lra_poly.specs.Crates.lra_linear_spec.OperationStrain.{FromGeneratorsStrains, GeneratorsStrain, with_positivity}
+use Rattle.lra_poly.specs.Crates.lra_linear_spec.Points.{IsWithin, PointSet, SameSet}
+use Rattle.lra_poly.specs.Crates.{lra_linear_spec.Descriptions.Gen, lra_linear_spec.Descriptions.LinearRow, lra_linear_spec.Polyhedra.Polyhedron, lra_linear_spec.Strain.Loss}
+use Rattle.lra_poly.specs.Crates.{lra_linear_spec.declared.GenKind.GenKind, lra_systems.LinearSystems.LinearSystem, lra_systems.LinearSystems.generators}
 use Rattle.lra_poly.specs.{Outcomes.Becomes, Outcomes.IsOfGenerators, declared.outcome.Outcome.Outcome}
 use Rattle.lra_poly.proofs.PolyLemmas.{becomes_same, result_strain}
 

@@ -1,7 +1,7 @@
 -- What is reported about generators that exceed a limit.
 use Rattle.std.proofs.Common.{◌≡◌, ◌≢◌, ◌∙◌, ℕ, List, [], ◌∷◌, ◌++◌, refl, subst, sym, inl, inr}
-use Rattle.lra_linear_spec.specs.{Descriptions.LinearRow, Polyhedra.Polyhedron, Strain.Loss, declared.GenKind.GenKind}
-use Rattle.lra_systems.specs.LinearSystems.{LinearSystem, generators}
+use Rattle.lra_poly.specs.Crates.lra_systems.LinearSystems.{LinearSystem, generators}
+use Rattle.lra_poly.specs.Crates.{lra_linear_spec.Descriptions.LinearRow, lra_linear_spec.Polyhedra.Polyhedron, lra_linear_spec.Strain.Loss, lra_linear_spec.declared.GenKind.GenKind}
 use Rattle.lra_duality.specs.Incremental.{MayTurn}
 use Rattle.lra_description_pair.specs.{TakenPoints.IsOfPoints, TriedRows.StrainsWhenTried}
 use Rattle.lra_poly.specs.United.{AreTriedPoints, CannotExtend, UnitesAnew}

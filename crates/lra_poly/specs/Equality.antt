@@ -4,7 +4,8 @@ use Rattle.std.specs.Cmp.{IsEquivalence, booleans_Decides, decided, unsigned_Dec
 use Rattle.std.specs.Cmp.Lexicographic.{pointwise, pointwise_decides}
 use Rattle.std.specs.{Bool.Decides, Cmp.Rules.signed_items, Ordering.int_eq, Prelude.◌&&◌, Prelude.nat_eq}
 use Rattle.std.specs.Hash as fed
-use Rattle.lra_linear_spec.specs.{Descriptions.LinearRow, Descriptions.rows_of, Polyhedra.Polyhedron}
+use Rattle.lra_poly.specs.Crates.lra_linear_spec.Descriptions.{LinearRow, rows_of}
+use Rattle.lra_poly.specs.Crates.lra_linear_spec.Polyhedra.{Polyhedron}
 
 abbrev pub given_eq : LinearRow → LinearRow → Bool
 given_eq g h = pointwise int_eq g.row h.row && beq g.equal h.equal

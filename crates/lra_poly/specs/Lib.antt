@@ -4,3 +4,5 @@ pub mod Outcomes
 pub mod Restricted
 pub mod United
 pub mod StrainsAfter
+-- The crates below
+pub mod Crates

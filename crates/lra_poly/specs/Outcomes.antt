@@ -1,10 +1,10 @@
 -- What the calls that make or change a polyhedron report: that the result is the exact one, or a loss.
 use Rattle.std.specs.Prelude.{◌≡◌, ℕ, List, [], ◌∷◌}
-use Rattle.lra_linear_spec.specs.Descriptions.{Con, Gen, LinearRow}
-use Rattle.lra_linear_spec.specs.OperationStrain.{FromRowsStrains, FromGeneratorsStrains}
-use Rattle.lra_linear_spec.specs.Points.{IsWithin, PointSet}
-use Rattle.lra_linear_spec.specs.Polyhedra.{IsPolyhedron, IsPolyhedronOf, Polyhedron}
-use Rattle.lra_linear_spec.specs.Strain as strain
+use Rattle.lra_poly.specs.Crates.lra_linear_spec.Descriptions.{Con, Gen, LinearRow}
+use Rattle.lra_poly.specs.Crates.lra_linear_spec.OperationStrain.{FromRowsStrains, FromGeneratorsStrains}
+use Rattle.lra_poly.specs.Crates.lra_linear_spec.Points.{IsWithin, PointSet}
+use Rattle.lra_poly.specs.Crates.lra_linear_spec.Polyhedra.{IsPolyhedron, IsPolyhedronOf, Polyhedron}
+use Rattle.lra_poly.specs.Crates.lra_linear_spec.Strain as strain
 use Rattle.lra_poly.specs.declared.outcome.Outcome.{Outcome}
 use Rattle.lra_poly.specs.declared.outcome.Outcome.TheVariants.{Exact, Flagged}
 

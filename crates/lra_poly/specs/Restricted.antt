@@ -1,7 +1,8 @@
 -- What meets and tests make of a polyhedron, flagged or not.
 use Rattle.std.specs.Prelude.{◌≡◌, ◌⊎◌, ℕ, List, [], ◌++◌}
-use Rattle.lra_linear_spec.specs.OperationStrain.{with_positivity}
-use Rattle.lra_linear_spec.specs.{Descriptions.LinearRow, Polyhedra.Polyhedron, Strain.Loss}
+use Rattle.lra_poly.specs.Crates.lra_linear_spec.OperationStrain.{with_positivity}
+use Rattle.lra_poly.specs.Crates.lra_linear_spec.Polyhedra.{Polyhedron}
+use Rattle.lra_poly.specs.Crates.{lra_linear_spec.Descriptions.LinearRow, lra_linear_spec.Strain.Loss}
 use Rattle.lra_description_pair.specs.TriedRows.{IsOfTried}
 use Rattle.lra_duality.specs.{Inclusions.IsInclusion, Incremental.MayGoOn, declared.inclusion.Inclusion.TheVariants.Yes}
 use Rattle.lra_poly.specs.declared.outcome.Outcome.TheVariants.{Exact, Flagged}

@@ -1,6 +1,7 @@
 -- What hulls, and generators that are added, make of a polyhedron where they are flagged.
 use Rattle.std.specs.Prelude.{◌≡◌, ◌⊎◌, ℕ, List, ◌++◌}
-use Rattle.lra_linear_spec.specs.{Descriptions.LinearRow, Polyhedra.Polyhedron, Strain.Loss}
+use Rattle.lra_poly.specs.Crates.lra_linear_spec.Polyhedra.{Polyhedron}
+use Rattle.lra_poly.specs.Crates.{lra_linear_spec.Descriptions.LinearRow, lra_linear_spec.Strain.Loss}
 use Rattle.lra_description_pair.specs.{TakenPoints.IsOfPoints, TriedRows.StrainsWhenTried}
 use Rattle.lra_duality.specs.Incremental.{MayTurn}
 use Rattle.lra_poly.specs.{Outcomes.first_loss, declared.outcome.Outcome.Outcome}

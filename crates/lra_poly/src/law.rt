@@ -1,10 +1,11 @@
 //! One spelling of each set of points, and what a flag of a meet reports.
 
 ghost use Rattle.std.specs.Prelude.{◌≡◌, List};
-ghost use Rattle.lra_linear_spec.specs.Descriptions.{Con, Gen, LinearRow};
-ghost use Rattle.lra_linear_spec.specs.Polyhedra.{Polyhedron, IsPolyhedron};
-ghost use Rattle.lra_linear_spec.specs.{OperationStrain.with_positivity, Points.SameSet};
-ghost use Rattle.lra_linear_spec.specs.Strain as strain;
+ghost use Rattle.lra_poly.specs.Crates.lra_linear_spec.Descriptions.{Con, Gen, LinearRow};
+ghost use Rattle.lra_poly.specs.Crates.lra_linear_spec.OperationStrain.{with_positivity};
+ghost use Rattle.lra_poly.specs.Crates.lra_linear_spec.Points.{SameSet};
+ghost use Rattle.lra_poly.specs.Crates.lra_linear_spec.Polyhedra.{Polyhedron, IsPolyhedron};
+ghost use Rattle.lra_poly.specs.Crates.lra_linear_spec.Strain as strain;
 ghost use Rattle.lra_duality.specs.Incremental.{MayGoOn};
 ghost use Rattle.lra_poly.specs.StrainsAfter.{StrainsAfter};
 ghost use Rattle.lra_poly.specs.{Restricted.IsRestricted, declared.outcome.Outcome.TheVariants.Flagged};

@@ -7,5 +7,9 @@ mod outcome;
 mod poly;
 
 pub use law::{flagged_meets_go_on, polyhedra_have_one_spelling};
+pub use lra_description_pair::Loss;
+pub use lra_duality::{
+    BitRow, Inclusion, LinExpr, Maximum, SatMatrix, Test, accepts, mark_saturated,
+};
 pub use outcome::Outcome;
 pub use poly::Poly;

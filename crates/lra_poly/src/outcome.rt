@@ -3,7 +3,7 @@
 ghost use Rattle.std.specs.Prelude.{◌≡◌, ◌↔◌, IsTrue};
 ghost use Rattle.lra_poly.specs.Outcomes.{first_loss, first_of};
 
-use lra_cone::Loss;
+use lra_description_pair::Loss;
 
 /// Whether the result is the exact one; or what was lost first, and then the result may have more points.
 pub enum Outcome {

@@ -2,14 +2,16 @@
 
 ghost use Rattle.std.specs.Prelude.{◌≡◌, ◌↔◌, ◌<◌, ◌∷◌, ◌++◌, [], length, drop, IsTrue, IfOk, IfSome, IsSome, IfNone};
 ghost use Rattle.std.specs.Prelude.{OnErr};
-ghost use Rattle.lra_linear_spec.specs.Descriptions.{AreGenerators, Con, Gen, Holds};
-ghost use Rattle.lra_linear_spec.specs.OperationStrain.{AddTestStrains, MeetStrains, HullStrains, with_positivity};
-ghost use Rattle.lra_linear_spec.specs.Points.{IsEmptySet, IsWithin, SameSet};
-ghost use Rattle.lra_linear_spec.specs.Polyhedra.{IsPolyhedron, IsPolyhedronOf};
-ghost use Rattle.lra_linear_spec.specs.Representable.{IsRepresentable, KeepsLimit};
-ghost use Rattle.lra_linear_spec.specs.{SetOperations.Meet, SetOperations.Union, SetOperations.Hull, Vectors.negated};
-ghost use Rattle.lra_systems.specs.Dimensions.{too_many_dimensions};
-ghost use Rattle.lra_systems.specs.LinearSystems.{constraints, generators, FitKinds};
+ghost use Rattle.lra_poly.specs.Crates.lra_linear_spec.Descriptions.{AreGenerators, Con, Gen, Holds};
+ghost use Rattle.lra_poly.specs.Crates.lra_linear_spec.OperationStrain.{AddTestStrains, MeetStrains, HullStrains};
+ghost use Rattle.lra_poly.specs.Crates.lra_linear_spec.OperationStrain.{with_positivity};
+ghost use Rattle.lra_poly.specs.Crates.lra_linear_spec.Points.{IsEmptySet, IsWithin, SameSet};
+ghost use Rattle.lra_poly.specs.Crates.lra_linear_spec.Polyhedra.{IsPolyhedron, IsPolyhedronOf};
+ghost use Rattle.lra_poly.specs.Crates.lra_linear_spec.Representable.{IsRepresentable, KeepsLimit};
+ghost use Rattle.lra_poly.specs.Crates.lra_linear_spec.SetOperations.{Meet, Union, Hull};
+ghost use Rattle.lra_poly.specs.Crates.lra_linear_spec.Vectors.{negated};
+ghost use Rattle.lra_poly.specs.Crates.lra_systems.Dimensions.{too_many_dimensions};
+ghost use Rattle.lra_poly.specs.Crates.lra_systems.LinearSystems.{constraints, generators, FitKinds};
 ghost use Rattle.lra_description_pair.specs.{KeptRows.IsOfSome, OwnLists.IsPositive, TriedRows.StrainsWhenTried};
 ghost use Rattle.lra_duality.specs.{Inclusions.IsInclusion, Inclusions.TellsInclusion, Maxima.IsMaximum};
 ghost use Rattle.lra_duality.specs.{Maxima.TellsMaximum, Maxima.ValueInRange, Rows.test_row, Saturations.saturation_of};
@@ -17,19 +19,14 @@ ghost use Rattle.lra_poly.specs.Outcomes.{Becomes, IfFlagged, IsOfGenerators, Is
 ghost use Rattle.lra_poly.specs.Restricted.{IsMetWith, IsRestricted, IsSeenWithin, IsTried};
 ghost use Rattle.lra_poly.specs.United.{AreTriedPoints, CannotExtend, UnitesAnew};
 ghost use Rattle.lra_poly.specs.declared.outcome.Outcome.TheVariants.{Exact};
-ghost use Rattle.lra_linear_forms.specs.Form.{form_row};
+ghost use Rattle.lra_poly.specs.Crates.lra_linear_forms.Form.{form_row};
 
 use crate::outcome::{Outcome, outcome_of};
-use lra_bits::SatMatrix;
-use lra_cone::Cone;
-use lra_description_pair::DescriptionPair;
-use lra_descriptions::nothing;
+use lra_description_pair::{DescriptionPair, nothing};
 use lra_duality::{
-    Inclusion, Maximum, cone_of, facet_cone, inclusion_of, join_generators, join_rows, list_test,
-    maximum_of, saturation_matrix,
+    ConSys, Cone, GenSys, Inclusion, LinExpr, Maximum, SatMatrix, Test, are_same, cone_of,
+    facet_cone, inclusion_of, join_generators, join_rows, list_test, maximum_of, saturation_matrix,
 };
-use lra_linear_forms::{LinExpr, Test};
-use lra_systems::{ConSys, GenSys, are_same};
 use std::alloc::{AllocError, Global};
 use std::marker::Model;
 
@@ -55,8 +52,9 @@ impl Drop for Poly {
 
 impl Model for Poly {
     ghost use Rattle.std.specs.Prelude.{◌≡◌};
-    ghost use Rattle.lra_linear_spec.specs.{Polyhedra.Polyhedron, Polyhedra.IsPolyhedron, Representable.KeepsLimit};
-    ghost use Rattle.lra_systems.specs.LinearSystems.{constraints, generators, FitKinds};
+    ghost use Rattle.lra_poly.specs.Crates.lra_linear_spec.Polyhedra.{Polyhedron, IsPolyhedron};
+    ghost use Rattle.lra_poly.specs.Crates.lra_linear_spec.Representable.{KeepsLimit};
+    ghost use Rattle.lra_poly.specs.Crates.lra_systems.LinearSystems.{constraints, generators, FitKinds};
     ghost use Rattle.lra_duality.specs.Saturations.{saturation_of};
 
     ghost Value = { Polyhedron };

@@ -2,10 +2,10 @@
 use Rattle.std.proofs.{Common.◌≡◌, Common.◌∙◌, Common.ℕ, Common.suc, Common.ℤ, Common.pos, Common.List, Common.◌∷◌, Common.length, Common.ap, Common.subst, Common.sym, Math.ListN.length-set}
 use Rattle.std.specs.Prelude.{slice_set}
 use Rattle.lra_domain.specs.{Actions.Leads, Actions.assign, Actions.test, Backward.TransfersBackTo, Backward.MeetsBoth}
-use Rattle.lra_linear_forms.specs.Form.{Form, form_row, form_value}
+use Rattle.lra_poly_domain.specs.Crates.lra_linear_forms.Form.{Form, form_row, form_value}
+use Rattle.lra_poly_domain.specs.Crates.{lra_poly.Outcomes.Becomes, lra_poly.declared.outcome.Outcome.Outcome}
 use Rattle.lra_linear_spec.specs.{Descriptions.Con, OperationStrain.AddTestStrains, OperationStrain.MeetStrains, OperationStrain.PreimageStrains, Points.IsPoint, Polyhedra.IsPolyhedronOf}
 use Rattle.lra_linear_spec.specs.{Polyhedra.Polyhedron, Representable.IsRepresentable, SetOperations.Meet, SetOperations.Preimage, declared.ConKind.ConKind}
-use Rattle.lra_poly.specs.{Outcomes.Becomes, declared.outcome.Outcome.Outcome}
 use Rattle.lra_duality.specs.Rows.{test_row}
 use Rattle.lra_poly_domain.specs.{Abstraction.polyhedron_abstraction, Backward.IsPre, Backward.PreStrains, Backward.polyhedron_backward, Content.PolyhedronGamma, Covering.covered_from}
 use Rattle.lra_poly_domain.specs.{Covering.store_point, Growth.exactness_of, Reach.form_product, Reach.leads_reach, Sets.reached}

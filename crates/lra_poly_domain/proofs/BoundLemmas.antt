@@ -2,7 +2,7 @@
 use Rattle.std.proofs.Common.{◌≡◌, ◌⊎◌, ℤ, neg_ℤ, List, [], ◌∷◌, None, Result, Ok, Err, IsErr, inl, inr, true, ap, refl, subst, sym}
 use Rattle.std.proofs.lemmas.List.Elements.{All-contains}
 use Rattle.std.specs.{List.All, List.Contains, Prelude.option_map}
-use Rattle.lra_linear_forms.specs.Form.{Form, form_row}
+use Rattle.lra_poly_domain.specs.Crates.lra_linear_forms.Form.{Form, form_row}
 use Rattle.lra_linear_spec.specs.{CheckedArithmetic.checked_product, Descriptions.LinearRow, Descriptions.inequality, OperationStrain.MaximiseStrains, Polyhedra.Polyhedron, Vectors.negated}
 use Rattle.lra_linear_spec.specs.declared.Excess as E
 use Rattle.lra_linear_spec.proofs.{Membership.contains_cases, Membership.contains_head, Membership.contains_none, Products.negated_twice}

@@ -2,7 +2,7 @@
 use Rattle.std.proofs.Common.{◌≡◌, ◌∙◌, ℕ, inl, inr, sym, subst}
 use Rattle.lra_domain.specs.{Abstraction.Joins, Abstraction.TransfersTo, Actions.Action, Actions.ActionFits, Actions.dims_after}
 use Rattle.lra_linear_spec.specs.{Descriptions.Con, OperationStrain.HullStrains, Points.IsPoint, Points.IsWithin, Polyhedra.IsPolyhedron, Polyhedra.Polyhedron, Representable.IsRepresentable}
-use Rattle.lra_poly.specs.{Outcomes.Becomes, declared.outcome.Outcome.Outcome}
+use Rattle.lra_poly_domain.specs.Crates.{lra_poly.Outcomes.Becomes, lra_poly.declared.outcome.Outcome.Outcome}
 use Rattle.lra_poly_domain.specs.{Abstraction.polyhedron_abstraction, Covering.covered_from, Growth.exactness_of, Sets.ChangeStrains, Sets.IsChanged, Sets.IsJoin, Sets.hull_of, Sets.reached}
 use Rattle.lra_poly_domain.proofs.OutcomeLemmas.{of_exact, of_flagged}
 

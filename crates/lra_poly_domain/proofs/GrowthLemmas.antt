@@ -1,8 +1,8 @@
 -- How a head grows.
 use Rattle.std.proofs.Common.{◌≡◌, ◌≢◌, ◌∙◌, ℕ, ℤ, Bool, true, false, ◌⊎◌, List, [], ◌∷◌, ◌++◌, inl, inr, sym, refl, subst}
+use Rattle.std.proofs.lemmas.Bool.{or_from}
 use Rattle.std.proofs.{lemmas.Bool.false≢true, lemmas.Bool.or_parts, lemmas.List.Elements.Contains-append_right}
 use Rattle.std.specs.{List.Contains, Prelude.◌||◌, Prelude.IsTrue}
-use Rattle.std.proofs.lemmas.Bool.{or_from}
 use Rattle.lra_domain.specs.{Abstraction.Grew, Rank.RankBelow, declared.Exactness.Exactness, declared.Mode.Mode}
 use Rattle.lra_domain.specs.declared.Exactness.TheVariants as degree
 use Rattle.lra_domain.specs.declared.Grown.TheVariants as Grown
@@ -12,7 +12,7 @@ use Rattle.lra_linear_spec.specs.OperationStrain.{HullStrains, InclusionStrains,
 use Rattle.lra_linear_spec.specs.{Descriptions.Con, Descriptions.LinearRow, Points.IsPoint, Points.IsWithin, Polyhedra.IsPolyhedron, Polyhedra.IsPolyhedronOf, Polyhedra.Polyhedron, Strain.Loss}
 use Rattle.lra_linear_spec.specs.{Widening.LimitedWidening, Widening.StandardWidening, Widening.StandardFrom, declared.Cause.TheVariants.Excess}
 use Rattle.lra_linear_spec.proofs.{Descriptions.con_none, Polyhedra.polyhedron_unique}
-use Rattle.lra_poly.specs.{Outcomes.Becomes, declared.outcome.Outcome.Outcome}
+use Rattle.lra_poly_domain.specs.Crates.{lra_poly.Outcomes.Becomes, lra_poly.declared.outcome.Outcome.Outcome}
 use Rattle.lra_duality.specs.declared.inclusion.Inclusion.TheVariants as inclusion
 use Rattle.lra_duality.proofs.InclusionLemmas.{inclusion_tells}
 use Rattle.lra_poly_widening.specs.Rank.{Falls, IsLowerRank, kept_thresholds, rank_of}

@@ -10,3 +10,5 @@ mod StrikeLemmas
 pub mod InsideLemmas
 mod GrowthLemmas
 pub mod HeadExamples
+-- The crates below
+pub mod Crates

@@ -2,7 +2,7 @@
 use Rattle.std.proofs.Common.{◌≡◌, ℤ, Bool, List, [], ◌∷◌, length, ap, refl, arith}
 use Rattle.std.specs.{List.list_any, Prelude.◌||◌}
 use Rattle.lra_linear_spec.specs.Descriptions.{LinearRow}
-use Rattle.lra_systems.specs.LinearSystems.{rows_by_kind}
+use Rattle.lra_poly_domain.specs.Crates.lra_systems.LinearSystems.{rows_by_kind}
 
 -- a test of the rows alone
 pub any_given : {K : Type 0} (equal : K → Bool) (f : List ℤ → Bool) (rows : List (List ℤ)) (kinds : List K) → length kinds ≡ length rows →

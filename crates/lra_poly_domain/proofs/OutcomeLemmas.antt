@@ -2,8 +2,8 @@
 use Rattle.std.proofs.Common.{◌≡◌}
 use Rattle.lra_domain.specs.declared.Exactness.TheVariants as degree
 use Rattle.lra_linear_spec.specs.Strain.{Loss}
-use Rattle.lra_poly.specs.{Outcomes.IfExact, Outcomes.IfFlagged, declared.outcome.Outcome.Outcome}
-use Rattle.lra_poly.specs.declared.outcome.Outcome.TheVariants as told
+use Rattle.lra_poly_domain.specs.Crates.{lra_poly.Outcomes.IfExact, lra_poly.Outcomes.IfFlagged, lra_poly.declared.outcome.Outcome.Outcome}
+use Rattle.lra_poly_domain.specs.Crates.lra_poly.declared.outcome.Outcome.TheVariants as told
 use Rattle.lra_poly_domain.specs.Growth.{exactness_of}
 
 pub of_exact : (P : Type 0) (o : Outcome) → IfExact P o → exactness_of o ≡ degree.Exact → P

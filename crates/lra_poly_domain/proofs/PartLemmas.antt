@@ -7,7 +7,7 @@ use Rattle.lra_linear_spec.specs.Polyhedra.{IsPolyhedron, IsPolyhedronOf, Polyhe
 use Rattle.lra_linear_spec.specs.{Descriptions.Con, Descriptions.LinearRow, Descriptions.rows_of, Kinds.constraint_kind, Kinds.is_equality, Points.IsEmptySet, declared.ConKind.ConKind}
 use Rattle.lra_linear_spec.specs.declared.ConKind.TheVariants as con
 use Rattle.lra_linear_spec.proofs.Descriptions.{con_none}
-use Rattle.lra_systems.specs.LinearSystems.{LinearSystem, constraints, rows_by_kind}
+use Rattle.lra_poly_domain.specs.Crates.lra_systems.LinearSystems.{LinearSystem, constraints, rows_by_kind}
 use Rattle.lra_poly_domain.specs.Content.{PolyhedronGamma, is_absurd, listed, polyhedron_parts}
 use Rattle.lra_poly_domain.specs.{Abstraction.polyhedron_abstraction, Covering.empty_parts, Covering.parts_empty, Covering.store_point}
 

@@ -2,8 +2,8 @@
 use Rattle.std.proofs.Common.{◌≡◌, suc, ℤ, List, length}
 use Rattle.std.specs.List.{All}
 use Rattle.lra_linear_spec.specs.{Kinds.is_equality, Polyhedra.Polyhedron, Range.InRange, Representable.IsRepresentable, declared.ConKind.ConKind}
-use Rattle.lra_poly.proofs.RepresentableLemmas.{listed_in_range}
-use Rattle.lra_systems.specs.LinearSystems.{LinearSystem, constraints}
+use Rattle.lra_poly_domain.proofs.Crates.lra_poly.RepresentableLemmas.{listed_in_range}
+use Rattle.lra_poly_domain.specs.Crates.lra_systems.LinearSystems.{LinearSystem, constraints}
 use Rattle.lra_poly_widening.proofs.WideningLemmas.{seen_columns}
 use Rattle.lra_poly_domain.specs.{Content.WellFormedHead, Growth.head}
 

@@ -7,7 +7,7 @@ use Rattle.lra_linear_spec.specs.{Polyhedra.HasPoint, Polyhedra.IsPolyhedron, Po
 use Rattle.lra_linear_spec.proofs.Products.{entry_past, entry_set_other, product_comm}
 use Rattle.lra_linear_spec.proofs.{Descriptions.con_none, Lines.in_lines, Lines.zeros_length, Membership.contains_none, OneSpelling.given_from, OneSpelling.positivity_product, Pivots.echelon_pivot}
 use Rattle.lra_linear_spec.proofs.{Pivots.echelon_positive, Ring.ring, Ring.v, Ring.◌⊕◌, Ring.◌⊗◌, SetOperations.product_set, Signs.not_both}
-use Rattle.lra_description_pair.proofs.PairLists.{origin}
+use Rattle.lra_poly_domain.proofs.Crates.lra_description_pair.PairLists.{origin}
 use Rattle.lra_duality.proofs.PolyhedronLemmas.{falsity_is_empty}
 use Rattle.lra_poly_widening.specs.{Rank.Falls, Widenings.HaveColumns}
 use Rattle.lra_poly_widening.proofs.{Facets.facet_row, Facets.no_pivot_first, RankLaw.rank_falls}

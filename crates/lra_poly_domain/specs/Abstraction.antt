@@ -5,7 +5,7 @@ use Rattle.lra_linear_spec.specs.declared.Excess as E
 use Rattle.lra_linear_spec.specs.OperationStrain.{HullStrains, InclusionStrains}
 use Rattle.lra_linear_spec.specs.Polyhedra.{IsPolyhedron, IsPolyhedronOf, Polyhedron}
 use Rattle.lra_linear_spec.specs.{Descriptions.Con, Points.IsEmptySet, Representable.IsRepresentable, Strain.Loss}
-use Rattle.lra_systems.specs.LinearSystems.{constraints}
+use Rattle.lra_poly_domain.specs.Crates.lra_systems.LinearSystems.{constraints}
 use Rattle.lra_poly_domain.specs.Bounded.{PolyhedronBounded}
 use Rattle.lra_poly_domain.specs.Content.{PolyhedronAnswers, PolyhedronLeq, HeadContent, WellFormedHead}
 use Rattle.lra_poly_domain.specs.Content.{PolyhedronGamma, polyhedron_parts}

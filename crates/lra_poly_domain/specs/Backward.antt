@@ -3,7 +3,7 @@
 use Rattle.std.specs.Prelude.{suc}
 use Rattle.lra_domain.specs.Actions.{Action, assign, forget, test, embed, remove_last}
 use Rattle.lra_domain.specs.Backward.{BackwardAbstraction}
-use Rattle.lra_linear_forms.specs.Form.{form_row}
+use Rattle.lra_poly_domain.specs.Crates.lra_linear_forms.Form.{form_row}
 use Rattle.lra_linear_spec.specs.OperationStrain.{AddTestStrains, MeetStrains, PreimageStrains}
 use Rattle.lra_linear_spec.specs.Polyhedra.{IsPolyhedronOf, Polyhedron}
 use Rattle.lra_linear_spec.specs.{Descriptions.Con, SetOperations.Meet, SetOperations.Preimage, Strain.Loss}

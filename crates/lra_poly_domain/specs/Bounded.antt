@@ -3,7 +3,7 @@
 -- with a generator passes the range.
 use Rattle.std.specs.Int.{int_div_euclid}
 use Rattle.std.specs.Prelude.{◌≡◌, ◌⊎◌, ℤ, neg_ℤ, List, Option, None, Some, option_map}
-use Rattle.lra_linear_forms.specs.Form.{Form, form_row}
+use Rattle.lra_poly_domain.specs.Crates.lra_linear_forms.Form.{Form, form_row}
 use Rattle.lra_linear_spec.specs.declared.Excess as E
 use Rattle.lra_linear_spec.specs.OperationStrain.{MaximiseStrains}
 use Rattle.lra_linear_spec.specs.{Descriptions.Con, Points.IsEmptySet, Polyhedra.Polyhedron, Vectors.negated}

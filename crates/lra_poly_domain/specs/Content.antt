@@ -7,7 +7,7 @@ use Rattle.lra_linear_spec.specs.declared.Excess as E
 use Rattle.lra_linear_spec.specs.{Descriptions.Con, Descriptions.LinearRow, Descriptions.rows_of, Kinds.constraint_kind}
 use Rattle.lra_linear_spec.specs.{OperationStrain.InclusionStrains, Points.IsWithin, Polyhedra.Polyhedron}
 use Rattle.lra_linear_spec.specs.{Range.InRange, Representable.IsRepresentable, declared.ConKind.ConKind}
-use Rattle.lra_systems.specs.LinearSystems.{LinearSystem}
+use Rattle.lra_poly_domain.specs.Crates.lra_systems.LinearSystems.{LinearSystem}
 
 -- what a loop's head holds: the polyhedron that was reached, and the widening thresholds that no growth has struck
 pub record HeadContent : Type 0 where

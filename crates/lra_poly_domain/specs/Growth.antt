@@ -7,8 +7,8 @@ use Rattle.lra_domain.specs.declared.Mode.TheVariants as how
 use Rattle.lra_linear_spec.specs.Polyhedra.{IsPolyhedron, IsPolyhedronOf, Polyhedron}
 use Rattle.lra_linear_spec.specs.{CheckedArithmetic.checked_product, Descriptions.Con, Descriptions.LinearRow}
 use Rattle.lra_linear_spec.specs.{OperationStrain.HullStrains, Points.IsWithin, Strain.Loss}
-use Rattle.lra_poly.specs.declared.outcome.Outcome.{Outcome}
-use Rattle.lra_poly.specs.declared.outcome.Outcome.TheVariants as told
+use Rattle.lra_poly_domain.specs.Crates.lra_poly.declared.outcome.Outcome.{Outcome}
+use Rattle.lra_poly_domain.specs.Crates.lra_poly.declared.outcome.Outcome.TheVariants as told
 use Rattle.lra_poly_widening.specs.Rank.{Falls, IsLowerRank, fits, rank_of}
 use Rattle.lra_poly_domain.specs.Heads.{PolyhedronGrowthStrains, IsGrown, IsLeft, WideningStrains, grown_set}
 use Rattle.lra_poly_domain.specs.{Content.HeadContent, Sets.IsJoin, Sets.hull_of}

@@ -3,7 +3,7 @@ use Rattle.std.proofs.Common.{◌≡◌, ◌∙◌, ◌≤◌, ℕ, suc, ℤ, po
 use Rattle.std.proofs.{Common.replicate, lemmas.List.length-replicate}
 use Rattle.lra_domain.specs.Actions.{Action, Leads, Within, assign, dims_after, embed, forget, remove_last, test}
 use Rattle.lra_domain.specs.{Backward.SingleBackward, Laws.Laws, Laws.BaseLaws, Laws.SingleLaws, declared.Mode.Mode}
-use Rattle.lra_linear_forms.specs.Form.{form_row}
+use Rattle.lra_poly_domain.specs.Crates.lra_linear_forms.Form.{form_row}
 use Rattle.lra_linear_spec.specs.Polyhedra.{IsPolyhedronOf, Polyhedron}
 use Rattle.lra_linear_spec.specs.{Descriptions.Con, Descriptions.LinearRow, Points.IsWithin, Points.PointSet}
 use Rattle.lra_linear_spec.specs.{Representable.IsRepresentable, SetOperations.Meet, SetOperations.Preimage}

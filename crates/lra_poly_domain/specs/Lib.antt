@@ -10,3 +10,5 @@ pub mod Reach
 pub mod Rounding
 pub mod Backward
 pub mod Laws
+-- The crates below
+pub mod Crates

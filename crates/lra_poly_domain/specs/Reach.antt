@@ -4,7 +4,7 @@ use Rattle.std.proofs.Common.{length, take, ap, sym, refl, subst, arith}
 use Rattle.std.proofs.{Math.ListN.length-set, lemmas.List.length-append}
 use Rattle.std.specs.Prelude.{slice_set}
 use Rattle.lra_domain.specs.Actions.{ActionFits, Action, Leads, assign, dims_after, embed, forget, remove_last, test}
-use Rattle.lra_linear_forms.specs.Form.{Form, KindHolds, form_value, form_row}
+use Rattle.lra_poly_domain.specs.Crates.lra_linear_forms.Form.{Form, KindHolds, form_value, form_row}
 use Rattle.lra_linear_spec.specs.Descriptions.{Con, Holds, HoldsWith}
 use Rattle.lra_linear_spec.specs.{Kinds.is_equality, Points.SamePoint, Polyhedra.Polyhedron, SetOperations.assigned}
 use Rattle.lra_linear_spec.specs.{Vectors.entry, Vectors.product, declared.ConKind.ConKind}

@@ -5,7 +5,7 @@ use Rattle.std.proofs.lemmas.Int.{ints}
 use Rattle.std.specs.{Cmp.int_cmp_is, Cmp.int_ranks, Int.int_div_euclid, Ordering.int_cmp, Ordering.MatchOrdering}
 use Rattle.std.specs.{Prelude.option_map, declared.cmp.Ordering.Ordering, declared.cmp.Ordering.TheVariants.Equal}
 use Rattle.lra_domain.specs.Bounds.{IsLowerBound, IsBetween, IsUpperBound}
-use Rattle.lra_linear_forms.specs.Form.{Form, form_row, form_value}
+use Rattle.lra_poly_domain.specs.Crates.lra_linear_forms.Form.{Form, form_row, form_value}
 use Rattle.lra_linear_spec.specs.Vectors.{entry, negated, product}
 use Rattle.lra_linear_spec.specs.{Descriptions.Con, Points.IsEmptySet, Polyhedra.Polyhedron}
 use Rattle.lra_linear_spec.proofs.Products.{negated_dot}

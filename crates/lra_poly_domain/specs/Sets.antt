@@ -6,7 +6,7 @@ use Rattle.lra_linear_spec.specs.OperationStrain.{RemoveLastStrains}
 use Rattle.lra_linear_spec.specs.Polyhedra.{IsPolyhedronOf, Polyhedron}
 use Rattle.lra_linear_spec.specs.SetOperations.{Embed, Forget, Hull, Image, Meet, RemoveLast, Union}
 use Rattle.lra_linear_spec.specs.{Descriptions.Con, Descriptions.Holds, Points.IsWithin, Points.PointSet, Strain.Loss}
-use Rattle.lra_linear_forms.specs.Form.{form_row}
+use Rattle.lra_poly_domain.specs.Crates.lra_linear_forms.Form.{form_row}
 use Rattle.lra_duality.specs.Rows.{test_row}
 
 -- the points to which the change leads; dimension x is column x + 1

@@ -4,15 +4,14 @@ ghost use Rattle.std.specs.Prelude.{◌≡◌, ◌≢◌, [], IfOk};
 ghost use Rattle.lra_domain.specs.{declared.Exactness.TheVariants.Flagged, declared.Mode.TheVariants.Join};
 ghost use Rattle.lra_linear_spec.specs.{Descriptions.Con, Polyhedra.IsPolyhedronOf};
 ghost use Rattle.lra_poly_widening.specs.Rank.{kept_thresholds};
-ghost use Rattle.lra_systems.specs.LinearSystems.{constraints};
+ghost use Rattle.lra_poly_domain.specs.Crates.lra_systems.LinearSystems.{constraints};
 ghost use Rattle.lra_poly_domain.specs.Growth.{HasGrown, IsStruck, head, takes_thresholds};
 
 use crate::lists::some_passes;
 use crate::widening::{join_values, widen_value};
-use lra_domain::{Exactness, Mode};
-use lra_poly::Poly;
-use lra_poly_widening::held_on_both;
-use lra_systems::{ConSys, TOO_MANY_DIMENSIONS};
+use lra_domain::{ConSys, Exactness, Mode};
+use lra_duality::TOO_MANY_DIMENSIONS;
+use lra_poly_widening::{Poly, held_on_both};
 use std::alloc::{AllocError, Global};
 
 /// What a head holds after a growth: its value, the widening thresholds that are left; and whether that is the defined

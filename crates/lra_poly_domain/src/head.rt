@@ -5,15 +5,13 @@ ghost use Rattle.lra_domain.specs.{Abstraction.Grew, Rank.RankBelow, Rank.RankFi
 ghost use Rattle.lra_domain.specs.{declared.Exactness.TheVariants.Flagged, declared.Mode.TheVariants.Join};
 ghost use Rattle.lra_linear_spec.specs.declared.Excess as E;
 ghost use Rattle.lra_linear_spec.specs.OperationStrain.{InclusionStrains};
-ghost use Rattle.lra_systems.specs.LinearSystems.{constraints};
+ghost use Rattle.lra_poly_domain.specs.Crates.lra_systems.LinearSystems.{constraints};
 ghost use Rattle.lra_poly_domain.specs.Content.{PolyhedronLeq, WellFormedHead};
 ghost use Rattle.lra_poly_domain.specs.{Abstraction.polyhedron_abstraction, Growth.head, Heads.head_rank};
 
 use crate::growth::{give_up, grow_value};
-use lra_domain::{Exactness, Mode, Rank};
-use lra_poly::Poly;
-use lra_poly_widening::rank;
-use lra_systems::ConSys;
+use lra_domain::{ConSys, Exactness, Mode, Rank};
+use lra_poly_widening::{Poly, rank};
 use std::alloc::{AllocError, Global};
 use std::marker::Model;
 
@@ -37,7 +35,7 @@ impl Drop for PolyhedronHead {
 impl Model for PolyhedronHead {
     ghost use Rattle.std.specs.Prelude.{◌≡◌};
     ghost use Rattle.lra_domain.specs.Rank.{RankFits};
-    ghost use Rattle.lra_systems.specs.LinearSystems.{constraints};
+    ghost use Rattle.lra_poly_domain.specs.Crates.lra_systems.LinearSystems.{constraints};
     ghost use Rattle.lra_poly_domain.specs.{Content.HeadContent, Heads.head_rank};
 
     ghost Value = { HeadContent };

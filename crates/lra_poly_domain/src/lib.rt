@@ -9,4 +9,7 @@ mod polyhedron;
 mod widening;
 
 pub use head::PolyhedronHead;
+pub use lra_domain::{BaseDomain, Domain, ExactParts, Test};
+pub use lra_duality::{Inclusion, Maximum};
+pub use lra_row::Row;
 pub use polyhedron::Polyhedron;

@@ -1,11 +1,12 @@
 //! Lists of constraints.
 
 ghost use Rattle.std.specs.{List.All, List.list_any, Prelude.◌≡◌, Prelude.suc, Prelude.length};
-ghost use Rattle.lra_systems.specs.LinearSystems.{constraints, generators};
+ghost use Rattle.lra_poly_domain.specs.Crates.lra_systems.LinearSystems.{constraints, generators};
 ghost use Rattle.lra_poly_domain.specs.Growth.{product_passes, row_passes, some_passes};
 
+use lra_domain::ConSys;
+use lra_duality::GenSys;
 use lra_row::Row;
-use lra_systems::{ConSys, GenSys};
 
 // Whether the product of two rows passes the range.
 fn passes(row: &Row, generator: &Row) -> bool

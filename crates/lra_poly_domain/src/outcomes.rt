@@ -7,7 +7,7 @@ ghost use Rattle.lra_poly_domain.specs.{Bounded.rounded_down, Content.Polyhedron
 
 use lra_domain::{Exactness, Included};
 use lra_duality::{Inclusion, Maximum};
-use lra_poly::{Outcome, Poly};
+use lra_poly_widening::{Outcome, Poly};
 use lra_row::opposite;
 
 /// Exact where nothing was lost.

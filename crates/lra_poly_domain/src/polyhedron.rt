@@ -3,18 +3,18 @@
 ghost use Rattle.std.specs.Prelude.{◌≡◌, ◌≢◌, IfOk, OnErr, OnOk};
 ghost use Rattle.lra_domain.specs.{Abstraction.Grew, Parts.CapsWithin, Rank.RankBelow, Rank.RankFits};
 ghost use Rattle.lra_linear_spec.specs.{Polyhedra.IsPolyhedron, Representable.IsRepresentable};
-ghost use Rattle.lra_systems.specs.LinearSystems.{constraints, generators, FitKinds};
+ghost use Rattle.lra_poly_domain.specs.Crates.lra_systems.LinearSystems.{constraints, generators, FitKinds};
 ghost use Rattle.lra_poly_domain.specs.Abstraction.{polyhedron_abstraction};
 
 use crate::head::PolyhedronHead;
 use crate::outcomes::{exactness_of, included, opposite_of, rounded_down};
 use lra_domain::{
-    Backward, BaseDomain, Domain, ExactParts, Exactness, Grown, Included, Mode, Rank,
+    Backward, BaseDomain, ConSys, Domain, ExactParts, Exactness, Grown, Included, LinExpr, Mode,
+    Rank, Test,
 };
-use lra_linear_forms::{LinExpr, Test};
-use lra_poly::Poly;
+use lra_duality::GenSys;
 use lra_poly_images::{embed, forget, image, preimage, remove_last};
-use lra_systems::{ConSys, GenSys};
+use lra_poly_widening::Poly;
 use std::alloc::{AllocError, Global};
 use std::marker::Model;
 

@@ -3,14 +3,12 @@
 ghost use Rattle.std.specs.Prelude.{◌≡◌, ◌≢◌, IfOk};
 ghost use Rattle.lra_domain.specs.declared.Mode.TheVariants.{Join, Widen, Limited, Tightest};
 ghost use Rattle.lra_linear_spec.specs.{Descriptions.Con, Points.IsWithin};
-ghost use Rattle.lra_systems.specs.LinearSystems.{constraints};
+ghost use Rattle.lra_poly_domain.specs.Crates.lra_systems.LinearSystems.{constraints};
 ghost use Rattle.lra_poly_domain.specs.Growth.{IsJoined, IsWidening};
 
 use crate::outcomes::exactness_of;
-use lra_domain::{Exactness, Mode};
-use lra_poly::Poly;
-use lra_poly_widening::{WidenError, limited, limited_by_tightest, standard};
-use lra_systems::ConSys;
+use lra_domain::{ConSys, Exactness, Mode};
+use lra_poly_widening::{Poly, WidenError, limited, limited_by_tightest, standard};
 use std::alloc::{AllocError, Global};
 
 /// The join with next.

@@ -1,10 +1,12 @@
 -- Images: the generators with the form's value as one coordinate.
 use Rattle.std.proofs.Common.{◌≡◌, ℕ, suc, ◌<◌, List, ap, sym, ◌∙◌, subst, ℤ, ◌*ℤ◌, arith}
 use Rattle.std.specs.Prelude.{IfOk, Result, Ok}
-use Rattle.lra_linear_spec.specs.{Descriptions.Con, Descriptions.Gen, OperationStrain.mapped, Points.IsWithin, Points.PointSet, Points.SameSet, Polyhedra.IsPolyhedron, Polyhedra.Polyhedron}
-use Rattle.lra_linear_spec.specs.{SetOperations.Forget, SetOperations.Image, SetOperations.assigned, Strain.Loss, Vectors.entry, Vectors.product, declared.GenKind.GenKind}
-use Rattle.lra_linear_spec.proofs.{Polyhedra.con_gen, Products.entry_set_other}
-use Rattle.lra_systems.specs.LinearSystems.{LinearSystem, generators}
+use Rattle.lra_poly_images.specs.Crates.lra_linear_spec.Points.{IsWithin, PointSet, SameSet}
+use Rattle.lra_poly_images.specs.Crates.lra_systems.LinearSystems.{LinearSystem, generators}
+use Rattle.lra_poly_images.specs.Crates.{lra_linear_spec.Descriptions.Con, lra_linear_spec.Descriptions.Gen, lra_linear_spec.OperationStrain.mapped, lra_linear_spec.Polyhedra.IsPolyhedron}
+use Rattle.lra_poly_images.specs.Crates.{lra_linear_spec.Polyhedra.Polyhedron, lra_linear_spec.SetOperations.Forget, lra_linear_spec.SetOperations.Image, lra_linear_spec.SetOperations.assigned}
+use Rattle.lra_poly_images.specs.Crates.{lra_linear_spec.Strain.Loss, lra_linear_spec.Vectors.entry, lra_linear_spec.Vectors.product, lra_linear_spec.declared.GenKind.GenKind}
+use Rattle.lra_poly_images.proofs.Crates.{lra_linear_spec.Polyhedra.con_gen, lra_linear_spec.Products.entry_set_other}
 use Rattle.lra_mapped_systems.proofs.{Assigning.assigned_map, Assigning.assigning, MappedSets.mapped_from, MappedSets.mapped_in, MappedSets.widths_of}
 use Rattle.lra_poly.proofs.TakenGenerators.{Takes}
 

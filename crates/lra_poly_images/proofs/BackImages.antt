@@ -2,10 +2,12 @@
 use Rattle.std.proofs.Common.{◌≡◌, ℕ, suc, ◌<◌, List, length, ap, arith, refl, sym, ◌∙◌, subst, ℤ, pos, ◌*ℤ◌, ◌<ℤ◌, Option, Some, ◌+◌, add-one}
 use Rattle.std.proofs.lemmas.Option.{IfSome_then}
 use Rattle.std.specs.Option.{IfSome}
-use Rattle.lra_linear_spec.specs.{Descriptions.Con, Descriptions.system_of, Points.IsPoint, Points.SamePoint, Points.SameSet, Polyhedra.IsPolyhedron, Polyhedra.IsPolyhedronOf, Polyhedra.Polyhedron}
-use Rattle.lra_linear_spec.specs.{SetOperations.Image, SetOperations.Preimage, SetOperations.assigned, Vectors.entry, Vectors.product}
-use Rattle.lra_linear_spec.proofs.{Descriptions.gen_generated, Descriptions.generated_gen, Polyhedra.con_gen, Ring.ring, Ring.v, Ring.◌⊗◌}
-use Rattle.lra_linear_forms.specs.Form.{Form, form_row}
+use Rattle.lra_poly_images.specs.Crates.lra_linear_spec.Polyhedra.{IsPolyhedron, IsPolyhedronOf, Polyhedron}
+use Rattle.lra_poly_images.specs.Crates.{lra_linear_forms.Form.Form, lra_linear_forms.Form.form_row, lra_linear_spec.Descriptions.Con, lra_linear_spec.Descriptions.system_of}
+use Rattle.lra_poly_images.specs.Crates.{lra_linear_spec.Points.IsPoint, lra_linear_spec.Points.SamePoint, lra_linear_spec.Points.SameSet, lra_linear_spec.SetOperations.Image}
+use Rattle.lra_poly_images.specs.Crates.{lra_linear_spec.SetOperations.Preimage, lra_linear_spec.SetOperations.assigned, lra_linear_spec.Vectors.entry, lra_linear_spec.Vectors.product}
+use Rattle.lra_poly_images.proofs.Crates.lra_linear_spec.Descriptions.{gen_generated, generated_gen}
+use Rattle.lra_poly_images.proofs.Crates.{lra_linear_spec.Polyhedra.con_gen, lra_linear_spec.Ring.ring, lra_linear_spec.Ring.v, lra_linear_spec.Ring.◌⊗◌}
 use Rattle.lra_poly.proofs.PolyLemmas.{same_polyhedron}
 use Rattle.lra_mapped_systems.specs.Moving.{IsInverse}
 use Rattle.lra_mapped_systems.proofs.TakenBack.{assigned_twice, assigned_width, first_stays, taken_forth}

@@ -2,19 +2,22 @@
 use Rattle.std.proofs.Common.{◌≡◌, ℕ, zero, suc, ◌<◌, List, [], ◌∷◌, ◌++◌, length, map, ap, refl, sym, ◌∙◌, subst, ℤ, pos, ◌+ℤ◌, ◌*ℤ◌, ◌<ℤ◌, ◌≤ℤ◌, arith, inl, inr, ◌⊎◌}
 use Rattle.std.proofs.lemmas.List.Elements.{Contains-append_cases}
 use Rattle.std.specs.List.{Contains}
-use Rattle.lra_linear_spec.specs.OperationStrain.{FromGeneratorsStrains, TimeElapseStrains, as_directions}
-use Rattle.lra_linear_spec.specs.Polyhedra.{HasPoint, IsPolyhedron, IsPolyhedronOf, Polyhedron, falsity}
-use Rattle.lra_linear_spec.specs.{Cones.Generated, Descriptions.Con, Descriptions.Gen, Descriptions.LinearRow, Descriptions.system_of, Points.IsEmptySet, Points.IsPoint, Points.IsWithin}
-use Rattle.lra_linear_spec.specs.{SetOperations.OnTheWay, SetOperations.TimeElapse, Strain.Loss, Vectors.blend, Vectors.cleared, Vectors.entry, Vectors.negated, Vectors.product}
-use Rattle.lra_linear_spec.proofs.Combinations.{generated_divided, generated_plus, generated_row, generated_same, generated_times}
-use Rattle.lra_linear_spec.proofs.Products.{blend_length, dot_linear, dot_same, entry_blend, product_none}
-use Rattle.lra_linear_spec.proofs.Signs.{as_nat, divide_nonnegative, positive_is_nonnegative, positive_nat, times_positive}
-use Rattle.lra_linear_spec.proofs.{Descriptions.gen_generated, Descriptions.generated_gen, LinearMaps.generated_left, LinearMaps.generated_nonneg, LinearMaps.generated_right, Lines.zeros_length}
-use Rattle.lra_linear_spec.proofs.{Membership.map_from, OneSpelling.falsity_never, OneSpelling.far, Polyhedra.con_gen, Ring.ring, Ring.v, Ring.◌⊕◌, Ring.◌⊗◌, SetOperations.has_vertex}
-use Rattle.lra_descriptions.proofs.SeveralKinds.{system_append}
+use Rattle.lra_poly_images.specs.Crates.lra_linear_spec.Descriptions.{Con, Gen, LinearRow, system_of}
+use Rattle.lra_poly_images.specs.Crates.lra_linear_spec.OperationStrain.{FromGeneratorsStrains, TimeElapseStrains, as_directions}
+use Rattle.lra_poly_images.specs.Crates.lra_linear_spec.Points.{IsEmptySet, IsPoint, IsWithin}
+use Rattle.lra_poly_images.specs.Crates.lra_linear_spec.Polyhedra.{HasPoint, IsPolyhedron, IsPolyhedronOf, Polyhedron, falsity}
+use Rattle.lra_poly_images.specs.Crates.lra_linear_spec.Vectors.{blend, cleared, entry, negated, product}
+use Rattle.lra_poly_images.specs.Crates.{lra_linear_spec.Cones.Generated, lra_linear_spec.SetOperations.OnTheWay, lra_linear_spec.SetOperations.TimeElapse, lra_linear_spec.Strain.Loss}
+use Rattle.lra_poly_images.proofs.Crates.lra_linear_spec.Combinations.{generated_divided, generated_plus, generated_row, generated_same, generated_times}
+use Rattle.lra_poly_images.proofs.Crates.lra_linear_spec.Descriptions.{gen_generated, generated_gen}
+use Rattle.lra_poly_images.proofs.Crates.lra_linear_spec.LinearMaps.{generated_left, generated_nonneg, generated_right}
+use Rattle.lra_poly_images.proofs.Crates.lra_linear_spec.Products.{blend_length, dot_linear, dot_same, entry_blend, product_none}
+use Rattle.lra_poly_images.proofs.Crates.lra_linear_spec.Ring.{ring, v, ◌⊕◌, ◌⊗◌}
+use Rattle.lra_poly_images.proofs.Crates.lra_linear_spec.Signs.{as_nat, divide_nonnegative, positive_is_nonnegative, positive_nat, times_positive}
+use Rattle.lra_poly_images.proofs.Crates.{lra_descriptions.SeveralKinds.system_append, lra_duality.PolyhedronLemmas.rows_width, lra_linear_spec.Lines.zeros_length, lra_linear_spec.Membership.map_from}
+use Rattle.lra_poly_images.proofs.Crates.{lra_linear_spec.OneSpelling.falsity_never, lra_linear_spec.OneSpelling.far, lra_linear_spec.Polyhedra.con_gen, lra_linear_spec.SetOperations.has_vertex}
 use Rattle.lra_poly.specs.{Outcomes.Becomes, Outcomes.IfExact, Outcomes.IfFlagged, Outcomes.IsOfGenerators, declared.outcome.Outcome.Outcome}
 use Rattle.lra_poly.proofs.PolyLemmas.{hull_holds, if_exact, if_flagged, valid_with}
-use Rattle.lra_duality.proofs.PolyhedronLemmas.{rows_width}
 use Rattle.lra_mapped_systems.proofs.Sums.{IsLinear, generated_mapped, system_mapped}
 
 -- ---- 0 in column 0

@@ -2,14 +2,16 @@
 use Rattle.std.proofs.Common.{◌≡◌, ℕ, zero, suc, ◌+◌, ◌-◌, List, [], ◌∷◌, ◌++◌, length, map, take, drop, true, ap, refl, sym, ◌∙◌, subst, ℤ, pos, neg_ℤ, ◌+ℤ◌, ◌*ℤ◌, ◌<ℤ◌, arith, inl, inr}
 use Rattle.std.proofs.{lemmas.List.length-drop, lemmas.List.length-take-le, lemmas.List.take_all, lemmas.List.Elements.Contains-append_cases}
 use Rattle.std.specs.List.{Contains}
-use Rattle.lra_linear_spec.specs.Descriptions.{Con, Gen, LinearRow, rows_as, system_of}
-use Rattle.lra_linear_spec.specs.{Cones.Generated, Cones.both_ways, OperationStrain.embedded, Points.IsPoint, Points.SameSet, Polyhedra.IsPolyhedron, Polyhedra.Polyhedron, SetOperations.Embed}
-use Rattle.lra_linear_spec.specs.{Vectors.entry, Vectors.negated, Vectors.units, Vectors.zeros, declared.GenKind.GenKind}
-use Rattle.lra_linear_spec.proofs.Combinations.{generated_plus, generated_row, generated_same, generated_zero}
-use Rattle.lra_linear_spec.proofs.{Descriptions.gen_generated, Descriptions.generated_gen, LinearMaps.generated_left, LinearMaps.generated_right, Lines.generated_described, Lines.whole_described}
-use Rattle.lra_linear_spec.proofs.{Membership.map_from, Polyhedra.con_gen, Ring.ring, Ring.v, Ring.◌⊕◌, Ring.◌⊗◌}
-use Rattle.lra_systems.specs.LinearSystems.{LinearSystem, generators}
-use Rattle.lra_descriptions.proofs.SeveralKinds.{system_append, system_lines}
+use Rattle.lra_poly_images.specs.Crates.lra_linear_spec.Descriptions.{Con, Gen, LinearRow, rows_as, system_of}
+use Rattle.lra_poly_images.specs.Crates.lra_linear_spec.Vectors.{entry, negated, units, zeros}
+use Rattle.lra_poly_images.specs.Crates.{lra_linear_spec.Cones.Generated, lra_linear_spec.Cones.both_ways, lra_linear_spec.OperationStrain.embedded, lra_linear_spec.Points.IsPoint}
+use Rattle.lra_poly_images.specs.Crates.{lra_linear_spec.Points.SameSet, lra_linear_spec.Polyhedra.IsPolyhedron, lra_linear_spec.Polyhedra.Polyhedron, lra_linear_spec.SetOperations.Embed}
+use Rattle.lra_poly_images.specs.Crates.{lra_linear_spec.declared.GenKind.GenKind, lra_systems.LinearSystems.LinearSystem, lra_systems.LinearSystems.generators}
+use Rattle.lra_poly_images.proofs.Crates.lra_linear_spec.Combinations.{generated_plus, generated_row, generated_same, generated_zero}
+use Rattle.lra_poly_images.proofs.Crates.lra_linear_spec.Ring.{ring, v, ◌⊕◌, ◌⊗◌}
+use Rattle.lra_poly_images.proofs.Crates.{lra_descriptions.SeveralKinds.system_append, lra_descriptions.SeveralKinds.system_lines, lra_linear_spec.Descriptions.gen_generated}
+use Rattle.lra_poly_images.proofs.Crates.{lra_linear_spec.Descriptions.generated_gen, lra_linear_spec.LinearMaps.generated_left, lra_linear_spec.LinearMaps.generated_right}
+use Rattle.lra_poly_images.proofs.Crates.{lra_linear_spec.Lines.generated_described, lra_linear_spec.Lines.whole_described, lra_linear_spec.Membership.map_from, lra_linear_spec.Polyhedra.con_gen}
 use Rattle.lra_mapped_systems.proofs.Sums.{IsLinear, generated_linear, generated_mapped, mapped_by, system_mapped}
 use Rattle.lra_mapped_systems.proofs.{ListLemmas.longer_entry, ListLemmas.short_divisor, MappedSets.widths_of}
 use Rattle.lra_poly.proofs.TakenGenerators.{Takes}

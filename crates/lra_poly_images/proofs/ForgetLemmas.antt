@@ -2,15 +2,19 @@
 use Rattle.std.proofs.Common.{◌≡◌, ◌≢◌, ℕ, suc, ◌<◌, List, [], ◌∷◌, ◌++◌, length, ap, sym, ◌∙◌, subst, ℤ, pos, neg_ℤ, ◌+ℤ◌, ◌*ℤ◌, ◌<ℤ◌, arith, ◌⊎◌, inl, inr}
 use Rattle.std.proofs.{lemmas.Bool.cases_eq, lemmas.Int.ints}
 use Rattle.std.specs.Prelude.{IfSome, Option, None, Some}
-use Rattle.lra_linear_spec.specs.Polyhedra.{IsPolyhedron, IsPolyhedronOf, Polyhedron}
-use Rattle.lra_linear_spec.specs.{Cones.Generated, Descriptions.Con, Descriptions.Gen, Descriptions.LinearRow, Descriptions.line, Descriptions.system_of, OperationStrain.unit_row, Points.IsPoint}
-use Rattle.lra_linear_spec.specs.{Points.SameSet, SetOperations.Forget, SetOperations.SameBut, Vectors.blend, Vectors.entry, Vectors.negated, Vectors.sum_of, declared.GenKind.GenKind}
-use Rattle.lra_linear_spec.proofs.Combinations.{generated_divided, generated_plus, generated_same, generated_times}
-use Rattle.lra_linear_spec.proofs.{Descriptions.gen_generated, Descriptions.generated_gen, LinearMaps.generated_left, LinearMaps.generated_right, LinearMaps.sum_generated, Lines.line_times}
-use Rattle.lra_linear_spec.proofs.{Polyhedra.con_gen, Products.blend_length, Products.entry_blend, Ring.ring, Ring.v, Ring.⊖, Ring.◌⊕◌, Ring.◌⊗◌, Signs.as_nat, Signs.positive_is_nonnegative}
-use Rattle.lra_linear_spec.proofs.{Signs.positive_nat, Signs.times_positive, UnitRows.unit_here, UnitRows.unit_length, UnitRows.unit_other}
-use Rattle.lra_descriptions.proofs.SeveralKinds.{system_append}
-use Rattle.lra_systems.specs.LinearSystems.{LinearSystem, generators}
+use Rattle.lra_poly_images.specs.Crates.lra_linear_spec.Descriptions.{Con, Gen, LinearRow, line, system_of}
+use Rattle.lra_poly_images.specs.Crates.lra_linear_spec.Polyhedra.{IsPolyhedron, IsPolyhedronOf, Polyhedron}
+use Rattle.lra_poly_images.specs.Crates.lra_linear_spec.Vectors.{blend, entry, negated, sum_of}
+use Rattle.lra_poly_images.specs.Crates.lra_systems.LinearSystems.{LinearSystem, generators}
+use Rattle.lra_poly_images.specs.Crates.{lra_linear_spec.Cones.Generated, lra_linear_spec.OperationStrain.unit_row, lra_linear_spec.Points.IsPoint, lra_linear_spec.Points.SameSet}
+use Rattle.lra_poly_images.specs.Crates.{lra_linear_spec.SetOperations.Forget, lra_linear_spec.SetOperations.SameBut, lra_linear_spec.declared.GenKind.GenKind}
+use Rattle.lra_poly_images.proofs.Crates.lra_linear_spec.Combinations.{generated_divided, generated_plus, generated_same, generated_times}
+use Rattle.lra_poly_images.proofs.Crates.lra_linear_spec.LinearMaps.{generated_left, generated_right, sum_generated}
+use Rattle.lra_poly_images.proofs.Crates.lra_linear_spec.Ring.{ring, v, ⊖, ◌⊕◌, ◌⊗◌}
+use Rattle.lra_poly_images.proofs.Crates.lra_linear_spec.Signs.{as_nat, positive_is_nonnegative, positive_nat, times_positive}
+use Rattle.lra_poly_images.proofs.Crates.lra_linear_spec.UnitRows.{unit_here, unit_length, unit_other}
+use Rattle.lra_poly_images.proofs.Crates.{lra_descriptions.SeveralKinds.system_append, lra_linear_spec.Descriptions.gen_generated, lra_linear_spec.Descriptions.generated_gen}
+use Rattle.lra_poly_images.proofs.Crates.{lra_linear_spec.Lines.line_times, lra_linear_spec.Polyhedra.con_gen, lra_linear_spec.Products.blend_length, lra_linear_spec.Products.entry_blend}
 use Rattle.lra_mapped_systems.proofs.{ListLemmas.line_seen, Sums.with_line}
 use Rattle.lra_poly.proofs.{PolyLemmas.same_polyhedron, TakenGenerators.Takes}
 

@@ -1,8 +1,9 @@
 -- A coordinate that is given up where the outcome is flagged.
 use Rattle.std.proofs.Common.{◌≡◌, ◌∙◌, ◌<◌, ℕ, ℤ, List, inl, inr, refl, subst, sym}
-use Rattle.lra_linear_spec.specs.{Descriptions.Con, Descriptions.Gen, OperationStrain.ForgetStrains, OperationStrain.ImageStrains, Points.IsPoint, Points.IsWithin, Polyhedra.Polyhedron}
-use Rattle.lra_linear_spec.specs.{SetOperations.Forget, SetOperations.Image, Strain.Loss, declared.GenKind.GenKind}
-use Rattle.lra_systems.specs.LinearSystems.{LinearSystem, generators}
+use Rattle.lra_poly_images.specs.Crates.lra_linear_spec.OperationStrain.{ForgetStrains, ImageStrains}
+use Rattle.lra_poly_images.specs.Crates.{lra_linear_spec.Descriptions.Con, lra_linear_spec.Descriptions.Gen, lra_linear_spec.Points.IsPoint, lra_linear_spec.Points.IsWithin}
+use Rattle.lra_poly_images.specs.Crates.{lra_linear_spec.Polyhedra.Polyhedron, lra_linear_spec.SetOperations.Forget, lra_linear_spec.SetOperations.Image, lra_linear_spec.Strain.Loss}
+use Rattle.lra_poly_images.specs.Crates.{lra_linear_spec.declared.GenKind.GenKind, lra_systems.LinearSystems.LinearSystem, lra_systems.LinearSystems.generators}
 use Rattle.lra_poly.specs.Outcomes.{Becomes, IfFlagged, IsOfGenerators}
 use Rattle.lra_poly.specs.{declared.outcome.Outcome.Outcome, declared.outcome.Outcome.TheVariants.Exact, declared.outcome.Outcome.TheVariants.Flagged}
 use Rattle.lra_poly_images.specs.Forgetting.{IsForgetResult}

@@ -1,12 +1,13 @@
 -- Why lists aren't moved, and what is left of those that are formed.
 use Rattle.std.proofs.Common.{◌≡◌, ℕ, suc, ◌+◌, add-one, List, ℤ, [], inl, inr, ◌⊎◌, subst}
 use Rattle.std.specs.List.{Contains}
-use Rattle.lra_linear_spec.specs.{Descriptions.LinearRow, OperationStrain.substituted_rows, OperationStrain.with_positivity, Polyhedra.Polyhedron, declared.ConKind.ConKind}
-use Rattle.lra_systems.specs.LinearSystems.{LinearSystem, constraints}
+use Rattle.lra_poly_images.specs.Crates.lra_linear_spec.OperationStrain.{substituted_rows, with_positivity}
+use Rattle.lra_poly_images.specs.Crates.lra_systems.LinearSystems.{LinearSystem, constraints}
+use Rattle.lra_poly_images.specs.Crates.{lra_linear_spec.Descriptions.LinearRow, lra_linear_spec.Polyhedra.Polyhedron, lra_linear_spec.declared.ConKind.ConKind}
+use Rattle.lra_poly_images.specs.Crates.{lra_row.declared.error.RowError.RowError, lra_row.declared.error.RowError.TheVariants.Excess, lra_row.declared.error.RowError.TheVariants.Memory}
 use Rattle.lra_mapped_systems.specs.{Forming.AllFormed, Moving.AssignmentPasses, Moving.MovePasses, Moving.OnExcess, Moving.StaysBackFor, Moving.StaysFor, Moving.SubstitutionPasses, Moving.IsInverse}
 use Rattle.lra_poly.specs.{Restricted.IsTried, declared.outcome.Outcome.Outcome}
 use Rattle.lra_poly_images.specs.FormedPreimages.{IsOfFormed}
-use Rattle.lra_row.specs.{declared.error.RowError.RowError, declared.error.RowError.TheVariants.Excess, declared.error.RowError.TheVariants.Memory}
 
 -- a number passes in one of the lists
 pub rows_pass : (k : ℕ) (form back : List ℤ) (p : Polyhedron) (rows : List LinearRow) (error : RowError) → rows ≡ p.rows → OnExcess (SubstitutionPasses k back rows) error →

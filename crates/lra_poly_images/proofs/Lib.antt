@@ -11,3 +11,5 @@ pub mod KeptLists
 pub mod ShortenedSets
 pub mod EmbeddedSets
 pub mod ElapsedSets
+-- The crates below
+pub mod Crates

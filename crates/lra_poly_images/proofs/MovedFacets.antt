@@ -2,12 +2,14 @@
 use Rattle.std.proofs.Common.{◌≡◌, ◌≢◌, ℕ, zero, suc, ◌<◌, List, [], ◌∷◌, length, ap, refl, sym, ◌∙◌, subst, ℤ, pos, neg_ℤ, ◌+ℤ◌, ◌*ℤ◌, ◌<ℤ◌, ◌≤ℤ◌, arith, inl, inr}
 use Rattle.std.proofs.lemmas.Bool.{cases_eq}
 use Rattle.std.specs.List.{Contains}
-use Rattle.lra_linear_spec.specs.{Cones.AreDual, Cones.all_rows, Echelon.IsEchelonOf, Echelon.pivot, Polyhedra.positivity, Vectors.dot, Vectors.entry, Vectors.product, Vectors.substituted}
-use Rattle.lra_linear_spec.proofs.Signs.{between_opposites, not_both, times_positive}
-use Rattle.lra_linear_spec.proofs.{CanonicalForms.spanned_in_cone, CanonicalForms.spanned_negative, LinearMaps.generated_nonneg, Lines.entry_zeros, Lines.zeros_length, LowestTerms.primitive_at}
-use Rattle.lra_linear_spec.proofs.{Products.dot_minus, Products.product_comm, Products.row_same, Ring.ring, Ring.v, Ring.◌⊕◌, Ring.◌⊗◌, Spans.spanned_row, Spans.spanned_zero}
-use Rattle.lra_canonical.specs.Reduced.{IsReducedBy}
-use Rattle.lra_canonical.proofs.Extension.{member_leads}
+use Rattle.lra_poly_images.specs.Crates.lra_linear_spec.Echelon.{IsEchelonOf, pivot}
+use Rattle.lra_poly_images.specs.Crates.lra_linear_spec.Vectors.{dot, entry, product, substituted}
+use Rattle.lra_poly_images.specs.Crates.{lra_canonical.Reduced.IsReducedBy, lra_linear_spec.Cones.AreDual, lra_linear_spec.Cones.all_rows, lra_linear_spec.Polyhedra.positivity}
+use Rattle.lra_poly_images.proofs.Crates.lra_linear_spec.Signs.{between_opposites, not_both, times_positive}
+use Rattle.lra_poly_images.proofs.Crates.{lra_canonical.Extension.member_leads, lra_linear_spec.CanonicalForms.spanned_in_cone, lra_linear_spec.CanonicalForms.spanned_negative}
+use Rattle.lra_poly_images.proofs.Crates.{lra_linear_spec.LinearMaps.generated_nonneg, lra_linear_spec.Lines.entry_zeros, lra_linear_spec.Lines.zeros_length, lra_linear_spec.LowestTerms.primitive_at}
+use Rattle.lra_poly_images.proofs.Crates.{lra_linear_spec.Products.dot_minus, lra_linear_spec.Products.product_comm, lra_linear_spec.Products.row_same, lra_linear_spec.Ring.ring}
+use Rattle.lra_poly_images.proofs.Crates.{lra_linear_spec.Ring.v, lra_linear_spec.Ring.◌⊕◌, lra_linear_spec.Ring.◌⊗◌, lra_linear_spec.Spans.spanned_row, lra_linear_spec.Spans.spanned_zero}
 use Rattle.lra_mapped_systems.proofs.{Assigning.put, TakenBack.put_at, TakenBack.put_other, TakenBack.substituted_entry, TakenBack.substituted_width}
 
 positivity_entry : (n j : ℕ) → 0 < j → entry (positivity n) j ≡ pos 0

@@ -2,14 +2,16 @@
 use Rattle.std.proofs.Common.{◌≡◌, ℕ, List, [], ◌∷◌, ◌++◌, length, map, ◌<◌, ap, refl, sym, ◌∙◌, subst, ℤ, pos, neg_ℤ, ◌+ℤ◌, ◌*ℤ◌, arith, inl, inr}
 use Rattle.std.proofs.{lemmas.List.map-append, lemmas.List.Elements.Contains-append_cases, lemmas.List.Elements.Contains-append_left, lemmas.List.Elements.Contains-append_right}
 use Rattle.std.specs.{List.Contains, Prelude.slice_set}
-use Rattle.lra_linear_spec.specs.Cones.{AreDual, Generated, all_rows, both_ways}
-use Rattle.lra_linear_spec.specs.{Echelon.IsEchelonOf, Echelon.Spanned, SetOperations.assigned, Vectors.entry, Vectors.negated, Vectors.product, Vectors.substituted}
-use Rattle.lra_linear_spec.proofs.Combinations.{generated_divided, generated_plus, generated_row, generated_same, generated_times}
-use Rattle.lra_linear_spec.proofs.Products.{dot_negated, entry_negated, negated_length, row_same}
-use Rattle.lra_linear_spec.proofs.{CanonicalForms.spanned_in_cone, CanonicalForms.spanned_negative, Descriptions.dual_flipped, Lines.in_lines, Lines.signed_from, Membership.contains_head}
-use Rattle.lra_linear_spec.proofs.{Membership.contains_tail, OneSpelling.dual_same_cone, Ring.ring, Ring.v, Ring.⊖, Ring.◌⊕◌, Ring.◌⊗◌, Spans.spanned_row, Spans.spanned_same}
-use Rattle.lra_description_pair.specs.OwnLists.{AreReducedBy}
-use Rattle.lra_description_pair.proofs.TightRows.{reduced_from, reduced_has}
+use Rattle.lra_poly_images.specs.Crates.lra_linear_spec.Cones.{AreDual, Generated, all_rows, both_ways}
+use Rattle.lra_poly_images.specs.Crates.lra_linear_spec.Vectors.{entry, negated, product, substituted}
+use Rattle.lra_poly_images.specs.Crates.{lra_description_pair.OwnLists.AreReducedBy, lra_linear_spec.Echelon.IsEchelonOf, lra_linear_spec.Echelon.Spanned, lra_linear_spec.SetOperations.assigned}
+use Rattle.lra_poly_images.proofs.Crates.lra_description_pair.TightRows.{reduced_from, reduced_has}
+use Rattle.lra_poly_images.proofs.Crates.lra_linear_spec.CanonicalForms.{spanned_in_cone, spanned_negative}
+use Rattle.lra_poly_images.proofs.Crates.lra_linear_spec.Combinations.{generated_divided, generated_plus, generated_row, generated_same, generated_times}
+use Rattle.lra_poly_images.proofs.Crates.lra_linear_spec.Products.{dot_negated, entry_negated, negated_length, row_same}
+use Rattle.lra_poly_images.proofs.Crates.lra_linear_spec.Ring.{ring, v, ⊖, ◌⊕◌, ◌⊗◌}
+use Rattle.lra_poly_images.proofs.Crates.{lra_linear_spec.Descriptions.dual_flipped, lra_linear_spec.Lines.in_lines, lra_linear_spec.Lines.signed_from, lra_linear_spec.Membership.contains_head}
+use Rattle.lra_poly_images.proofs.Crates.{lra_linear_spec.Membership.contains_tail, lra_linear_spec.OneSpelling.dual_same_cone, lra_linear_spec.Spans.spanned_row, lra_linear_spec.Spans.spanned_same}
 use Rattle.lra_mapped_systems.specs.Moving.{IsInverse}
 use Rattle.lra_mapped_systems.proofs.TakenBack.{dual_moved, substituted_entry, substituted_width, substituting, substituting_linear}
 use Rattle.lra_mapped_systems.proofs.{Assigning.set_negated, MovedForms.linear_minus}

@@ -4,24 +4,28 @@ use Rattle.std.proofs.Common.{◌≡◌, ℕ, suc, ◌<◌, ◌≤◌, arith, co
 use Rattle.std.proofs.lemmas.List.{length-map}
 use Rattle.std.proofs.lemmas.List.Elements.{All-contains, Contains-append_cases, Contains-append_left, Contains-append_right}
 use Rattle.std.specs.{List.Contains, List.Sorted.IsPermutation, Ordering.is_eq, declared.cmp.Ordering.Ordering}
-use Rattle.lra_linear_spec.specs.{Canonical.IsCanonical, ConeStrain.row_limit, Cones.AreDual, Cones.Generated, Cones.all_rows, Cones.both_ways, Descriptions.Con, Descriptions.LinearRow}
-use Rattle.lra_linear_spec.specs.{Descriptions.lines_of, Descriptions.rays_of, Descriptions.system_of, Echelon.IsEchelonOf, OperationStrain.mapped, Points.IsEmptySet, Points.IsPoint}
-use Rattle.lra_linear_spec.specs.{Polyhedra.HasPoint, Polyhedra.IsPolyhedron, Polyhedra.IsPolyhedronOf, Polyhedra.Polyhedron, Polyhedra.positivity, Representable.KeepsLimit, RowOrder.row_cmp}
-use Rattle.lra_linear_spec.specs.{SetOperations.Image, SetOperations.assigned, Vectors.entry, Vectors.substituted, declared.ConKind.ConKind, declared.GenKind.GenKind}
-use Rattle.lra_linear_spec.proofs.Descriptions.{dual_flipped, gen_generated, generated_gen, in_all_rows, in_system}
-use Rattle.lra_linear_spec.proofs.Membership.{NoRepeat, at_most, contains_cases, contains_head, contains_none, contains_tail, map_from, map_has}
-use Rattle.lra_linear_spec.proofs.{CanonicalForms.same_from_dual, Combinations.generated_row, LinearMaps.generated_nonneg, LinearMaps.generated_through, Lines.in_lines, Lines.signed_from}
-use Rattle.lra_linear_spec.proofs.{OneSpelling.columns_of, OneSpelling.positivity_product, OneSpelling.some_member, Polyhedra.con_gen, Polyhedra.generators_lines, Polyhedra.generators_rays}
-use Rattle.lra_linear_spec.proofs.{Products.negated_length, RowOrder.row_cmp_total, Signs.positive_is_nonnegative, Signs.zero_at_least}
-use Rattle.lra_systems.specs.LinearSystems.{FitKinds, LinearSystem, constraints, generators}
-use Rattle.lra_canonical.specs.{Echelons.HaveWidth, Reduced.IsReducedBy}
-use Rattle.lra_canonical.proofs.Orders.{tied_itself}
-use Rattle.lra_descriptions.specs.ShownLists.{ListsGenerators, ShowsConstraints, ShowsGenerators, without}
-use Rattle.lra_description_pair.proofs.GeneratorLists.{flat_rows, listed_counted, listed_have, nothing_generated, system_of_generators}
-use Rattle.lra_description_pair.proofs.{ConstraintLists.listed_facets, ConstraintLists.listed_hold, OwnRows.reduced_length, PairLists.few_lists, PairLists.has_point}
-use Rattle.lra_cone.proofs.Reordered.{canonical_again, dual_again}
-use Rattle.lra_description_pair.specs.OwnLists.{AreReducedBy}
-use Rattle.lra_duality.proofs.{KeptFacets.ascending_once, KeptFacets.lines_split, KeptFacets.rays_split, PolyhedronLemmas.falsity_is_empty, PolyhedronLemmas.with_point}
+use Rattle.lra_poly_images.specs.Crates.lra_descriptions.ShownLists.{ListsGenerators, ShowsConstraints, ShowsGenerators, without}
+use Rattle.lra_poly_images.specs.Crates.lra_linear_spec.Cones.{AreDual, Generated, all_rows, both_ways}
+use Rattle.lra_poly_images.specs.Crates.lra_linear_spec.Descriptions.{Con, LinearRow, lines_of, rays_of, system_of}
+use Rattle.lra_poly_images.specs.Crates.lra_linear_spec.Points.{IsEmptySet, IsPoint}
+use Rattle.lra_poly_images.specs.Crates.lra_linear_spec.Polyhedra.{HasPoint, IsPolyhedron, IsPolyhedronOf, Polyhedron, positivity}
+use Rattle.lra_poly_images.specs.Crates.lra_systems.LinearSystems.{FitKinds, LinearSystem, constraints, generators}
+use Rattle.lra_poly_images.specs.Crates.{lra_canonical.Echelons.HaveWidth, lra_canonical.Reduced.IsReducedBy, lra_description_pair.OwnLists.AreReducedBy, lra_linear_spec.Canonical.IsCanonical}
+use Rattle.lra_poly_images.specs.Crates.{lra_linear_spec.ConeStrain.row_limit, lra_linear_spec.Echelon.IsEchelonOf, lra_linear_spec.OperationStrain.mapped, lra_linear_spec.Representable.KeepsLimit}
+use Rattle.lra_poly_images.specs.Crates.{lra_linear_spec.RowOrder.row_cmp, lra_linear_spec.SetOperations.Image, lra_linear_spec.SetOperations.assigned, lra_linear_spec.Vectors.entry}
+use Rattle.lra_poly_images.specs.Crates.{lra_linear_spec.Vectors.substituted, lra_linear_spec.declared.ConKind.ConKind, lra_linear_spec.declared.GenKind.GenKind}
+use Rattle.lra_poly_images.proofs.Crates.lra_description_pair.GeneratorLists.{flat_rows, listed_counted, listed_have, nothing_generated, system_of_generators}
+use Rattle.lra_poly_images.proofs.Crates.lra_duality.KeptFacets.{ascending_once, lines_split, rays_split}
+use Rattle.lra_poly_images.proofs.Crates.lra_linear_spec.Descriptions.{dual_flipped, gen_generated, generated_gen, in_all_rows, in_system}
+use Rattle.lra_poly_images.proofs.Crates.lra_linear_spec.Membership.{NoRepeat, at_most, contains_cases, contains_head, contains_none, contains_tail, map_from, map_has}
+use Rattle.lra_poly_images.proofs.Crates.lra_linear_spec.OneSpelling.{columns_of, positivity_product, some_member}
+use Rattle.lra_poly_images.proofs.Crates.lra_linear_spec.Polyhedra.{con_gen, generators_lines, generators_rays}
+use Rattle.lra_poly_images.proofs.Crates.{lra_canonical.Orders.tied_itself, lra_cone.Reordered.canonical_again, lra_cone.Reordered.dual_again, lra_description_pair.ConstraintLists.listed_facets}
+use Rattle.lra_poly_images.proofs.Crates.{lra_description_pair.ConstraintLists.listed_hold, lra_description_pair.OwnRows.reduced_length, lra_description_pair.PairLists.few_lists}
+use Rattle.lra_poly_images.proofs.Crates.{lra_description_pair.PairLists.has_point, lra_duality.PolyhedronLemmas.falsity_is_empty, lra_duality.PolyhedronLemmas.with_point}
+use Rattle.lra_poly_images.proofs.Crates.{lra_linear_spec.CanonicalForms.same_from_dual, lra_linear_spec.Combinations.generated_row, lra_linear_spec.LinearMaps.generated_nonneg}
+use Rattle.lra_poly_images.proofs.Crates.{lra_linear_spec.LinearMaps.generated_through, lra_linear_spec.Lines.in_lines, lra_linear_spec.Lines.signed_from, lra_linear_spec.Products.negated_length}
+use Rattle.lra_poly_images.proofs.Crates.{lra_linear_spec.RowOrder.row_cmp_total, lra_linear_spec.Signs.positive_is_nonnegative, lra_linear_spec.Signs.zero_at_least}
 use Rattle.lra_mapped_systems.specs.Moving.{IsAssignedList, IsSubstitutedList, IsInverse}
 use Rattle.lra_poly_images.proofs.MovedPairs.{assigned_negated, from_form, map_all_rows, mapped_dual, moved_dual, to_form}
 use Rattle.lra_poly_images.proofs.{AssignedSets.assigned_generators, MovedFacets.pivots_above, MovedFacets.positivity_reduced, MovedFacets.positivity_stays, MovedFacets.positivity_width}

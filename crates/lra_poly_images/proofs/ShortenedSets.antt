@@ -1,9 +1,10 @@
 -- Fewer dimensions: the generators without their last columns.
 use Rattle.std.proofs.Common.{◌≡◌, ℕ, zero, suc, ◌≤◌, ◌+◌, ◌-◌, List, [], ◌∷◌, take, ap, refl, sym, ◌∙◌, subst, ℤ, pos, neg_ℤ, ◌+ℤ◌, ◌*ℤ◌, arith}
-use Rattle.lra_linear_spec.specs.{Descriptions.Con, Descriptions.Gen, OperationStrain.shortened, Points.IsPoint, Points.SameSet, Polyhedra.IsPolyhedron, Polyhedra.Polyhedron, SetOperations.RemoveLast}
-use Rattle.lra_linear_spec.specs.{Vectors.entry, Vectors.negated, declared.GenKind.GenKind}
-use Rattle.lra_linear_spec.proofs.{Polyhedra.con_gen, Ring.ring, Ring.v, Ring.◌⊕◌, Ring.◌⊗◌}
-use Rattle.lra_systems.specs.LinearSystems.{LinearSystem, generators}
+use Rattle.lra_poly_images.specs.Crates.lra_systems.LinearSystems.{LinearSystem, generators}
+use Rattle.lra_poly_images.specs.Crates.{lra_linear_spec.Descriptions.Con, lra_linear_spec.Descriptions.Gen, lra_linear_spec.OperationStrain.shortened, lra_linear_spec.Points.IsPoint}
+use Rattle.lra_poly_images.specs.Crates.{lra_linear_spec.Points.SameSet, lra_linear_spec.Polyhedra.IsPolyhedron, lra_linear_spec.Polyhedra.Polyhedron, lra_linear_spec.SetOperations.RemoveLast}
+use Rattle.lra_poly_images.specs.Crates.{lra_linear_spec.Vectors.entry, lra_linear_spec.Vectors.negated, lra_linear_spec.declared.GenKind.GenKind}
+use Rattle.lra_poly_images.proofs.Crates.{lra_linear_spec.Polyhedra.con_gen, lra_linear_spec.Ring.ring, lra_linear_spec.Ring.v, lra_linear_spec.Ring.◌⊕◌, lra_linear_spec.Ring.◌⊗◌}
 use Rattle.lra_mapped_systems.proofs.{MappedSets.IsMapOf, MappedSets.mapped_from, MappedSets.mapped_in, MappedSets.widths_of, Sums.IsLinear}
 use Rattle.lra_poly.proofs.TakenGenerators.{Takes}
 

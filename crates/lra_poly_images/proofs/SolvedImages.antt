@@ -2,10 +2,13 @@
 use Rattle.std.proofs.Common.{◌≡◌, ◌≢◌, ℕ, zero, suc, ◌<◌, true, List, [], ◌∷◌, length, ap, sym, ◌∙◌, subst, ℤ, pos, negsuc, neg_ℤ, ◌+ℤ◌, ◌*ℤ◌, ◌<ℤ◌, arith, ◌⊎◌, inl, inr, refl}
 use Rattle.std.proofs.lemmas.Bool.{cases_eq}
 use Rattle.std.specs.Prelude.{slice_set, IfSome, Option, None, Some}
-use Rattle.lra_linear_spec.specs.{Descriptions.Con, Descriptions.LinearRow, Descriptions.Holds, Points.IsPoint, Points.PointSet, Points.SameSet, Polyhedra.IsPolyhedronOf, Polyhedra.Polyhedron}
-use Rattle.lra_linear_spec.specs.{SetOperations.Forget, SetOperations.Image, SetOperations.Meet, SetOperations.assigned, Vectors.dot, Vectors.entry, Vectors.product}
-use Rattle.lra_linear_spec.proofs.Signs.{as_nat, cancel_same, positive_is_nonnegative, positive_nat}
-use Rattle.lra_linear_spec.proofs.{Products.dot_same, Products.dot_scale, Products.entry_set_other, Products.entry_set_same, Ring.ring, Ring.v, Ring.⊖, Ring.◌⊕◌, Ring.◌⊗◌}
+use Rattle.lra_poly_images.specs.Crates.lra_linear_spec.Polyhedra.{IsPolyhedronOf, Polyhedron}
+use Rattle.lra_poly_images.specs.Crates.lra_linear_spec.SetOperations.{Forget, Image, Meet, assigned}
+use Rattle.lra_poly_images.specs.Crates.{lra_linear_spec.Descriptions.Con, lra_linear_spec.Descriptions.LinearRow, lra_linear_spec.Descriptions.Holds, lra_linear_spec.Points.IsPoint}
+use Rattle.lra_poly_images.specs.Crates.{lra_linear_spec.Points.PointSet, lra_linear_spec.Points.SameSet, lra_linear_spec.Vectors.dot, lra_linear_spec.Vectors.entry, lra_linear_spec.Vectors.product}
+use Rattle.lra_poly_images.proofs.Crates.lra_linear_spec.Products.{dot_same, dot_scale, entry_set_other, entry_set_same}
+use Rattle.lra_poly_images.proofs.Crates.lra_linear_spec.Ring.{ring, v, ⊖, ◌⊕◌, ◌⊗◌}
+use Rattle.lra_poly_images.proofs.Crates.lra_linear_spec.Signs.{as_nat, cancel_same, positive_is_nonnegative, positive_nat}
 use Rattle.lra_poly.proofs.PolyLemmas.{same_polyhedron}
 use Rattle.lra_poly_images.proofs.AssignedSets.{image_forgets}
 

@@ -1,12 +1,12 @@
 -- Preimages: the constraints with the form put in for one coordinate.
 use Rattle.std.proofs.Common.{◌≡◌, ◌∙◌, ℕ, suc, ◌<◌, List, length, arith, refl, sym, subst, ℤ, Option, None, Some, inl, inr}
 use Rattle.std.specs.{List.Contains, Prelude.IfNone, Prelude.IfSome}
-use Rattle.lra_linear_spec.specs.OperationStrain.{FormingPasses, FromRowsStrains, PreimageStrains, substituted_rows}
-use Rattle.lra_linear_spec.specs.Polyhedra.{IsPolyhedron, IsPolyhedronOf, Polyhedron}
-use Rattle.lra_linear_spec.specs.{CheckedArithmetic.checked_substitution, Descriptions.Con, Descriptions.LinearRow, Points.IsWithin, Points.SameSet, SetOperations.Preimage, Strain.Loss}
-use Rattle.lra_linear_spec.proofs.SetOperations.{preimage_con}
+use Rattle.lra_poly_images.specs.Crates.lra_linear_spec.OperationStrain.{FormingPasses, FromRowsStrains, PreimageStrains, substituted_rows}
+use Rattle.lra_poly_images.specs.Crates.lra_linear_spec.Polyhedra.{IsPolyhedron, IsPolyhedronOf, Polyhedron}
+use Rattle.lra_poly_images.specs.Crates.{lra_linear_spec.CheckedArithmetic.checked_substitution, lra_linear_spec.Descriptions.Con, lra_linear_spec.Descriptions.LinearRow}
+use Rattle.lra_poly_images.specs.Crates.{lra_linear_spec.Points.IsWithin, lra_linear_spec.Points.SameSet, lra_linear_spec.SetOperations.Preimage, lra_linear_spec.Strain.Loss}
+use Rattle.lra_poly_images.proofs.Crates.{lra_duality.PolyhedronLemmas.given_width, lra_linear_spec.SetOperations.preimage_con}
 use Rattle.lra_poly.proofs.PolyLemmas.{constraints_strain, if_exact, if_flagged, same_polyhedron}
-use Rattle.lra_duality.proofs.PolyhedronLemmas.{given_width}
 use Rattle.lra_poly.specs.{Outcomes.Becomes, Outcomes.IfExact, Outcomes.IfFlagged, Outcomes.IsOfRows, declared.outcome.Outcome.Outcome, declared.outcome.Outcome.TheVariants.Flagged}
 
 -- a form of the polyhedron's dimensions, for a column of it

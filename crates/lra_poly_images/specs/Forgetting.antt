@@ -1,8 +1,9 @@
 -- A coordinate that is given up.
 use Rattle.std.specs.Prelude.{◌≡◌, ◌⊎◌, ℕ}
-use Rattle.lra_linear_spec.specs.OperationStrain.{ForgetStrains}
-use Rattle.lra_linear_spec.specs.Polyhedra.{IsPolyhedron, IsPolyhedronOf, Polyhedron}
-use Rattle.lra_linear_spec.specs.{Descriptions.Con, Points.IsWithin, SetOperations.Forget, Strain.Loss}
+use Rattle.lra_poly_images.specs.Crates.lra_linear_spec.OperationStrain.{ForgetStrains}
+use Rattle.lra_poly_images.specs.Crates.lra_linear_spec.Polyhedra.{IsPolyhedron, IsPolyhedronOf, Polyhedron}
+use Rattle.lra_poly_images.specs.Crates.{lra_linear_spec.Descriptions.Con, lra_linear_spec.Points.IsWithin}
+use Rattle.lra_poly_images.specs.Crates.{lra_linear_spec.SetOperations.Forget, lra_linear_spec.Strain.Loss}
 
 -- q has the points of p with anything as coordinate k, and no others unless forgetting that coordinate exceeds a limit
 pub record IsForgetResult (k : ℕ) (p q : Polyhedron) : Type 0 where

@@ -1,7 +1,7 @@
 -- What is left of a preimage whose constraints are converted.
 use Rattle.std.specs.{List.Contains, Prelude.ℕ, Prelude.ℤ, Prelude.List, Prelude.[]}
-use Rattle.lra_linear_spec.specs.OperationStrain.{substituted_rows, with_positivity}
-use Rattle.lra_linear_spec.specs.{Descriptions.LinearRow, Polyhedra.Polyhedron}
+use Rattle.lra_poly_images.specs.Crates.lra_linear_spec.OperationStrain.{substituted_rows, with_positivity}
+use Rattle.lra_poly_images.specs.Crates.{lra_linear_spec.Descriptions.LinearRow, lra_linear_spec.Polyhedra.Polyhedron}
 use Rattle.lra_mapped_systems.specs.Forming.{AllFormed}
 use Rattle.lra_poly.specs.{Restricted.IsTried, declared.outcome.Outcome.Outcome}
 

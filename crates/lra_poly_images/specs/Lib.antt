@@ -2,3 +2,5 @@
 pub mod Forgetting
 -- Preimages.
 pub mod FormedPreimages
+-- The crates below
+pub mod Crates

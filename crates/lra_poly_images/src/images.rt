@@ -2,25 +2,24 @@
 
 ghost use Rattle.std.specs.Prelude.{◌≡◌, ◌<◌, ◌∷◌, ◌++◌, [], suc, length, None, Some, IfOk, OnErr, OnOk, pos, negsuc};
 ghost use Rattle.std.specs.Prelude.{slice_set, true, IfNone, IfSome};
-ghost use Rattle.lra_linear_spec.specs.Descriptions.{Con, Gen, Holds, line};
-ghost use Rattle.lra_linear_spec.specs.OperationStrain.{ForgetStrains, ImageStrains, PreimageStrains, unit_row};
-ghost use Rattle.lra_linear_spec.specs.SetOperations.{Forget, Image, Meet, Preimage};
-ghost use Rattle.lra_linear_spec.specs.{Points.IsWithin, Polyhedra.IsPolyhedronOf, Vectors.entry};
-ghost use Rattle.lra_linear_spec.specs.Strain as strain;
+ghost use Rattle.lra_poly_images.specs.Crates.lra_linear_spec.Descriptions.{Con, Gen, Holds, line};
+ghost use Rattle.lra_poly_images.specs.Crates.lra_linear_spec.OperationStrain.{ForgetStrains, ImageStrains};
+ghost use Rattle.lra_poly_images.specs.Crates.lra_linear_spec.OperationStrain.{PreimageStrains, unit_row};
+ghost use Rattle.lra_poly_images.specs.Crates.lra_linear_spec.Polyhedra.{IsPolyhedronOf};
+ghost use Rattle.lra_poly_images.specs.Crates.lra_linear_spec.SetOperations.{Forget, Image, Meet, Preimage};
+ghost use Rattle.lra_poly_images.specs.Crates.{lra_linear_spec.Points.IsWithin, lra_linear_spec.Vectors.entry};
+ghost use Rattle.lra_poly_images.specs.Crates.lra_linear_spec.Strain as strain;
 ghost use Rattle.lra_poly_images.specs.{Forgetting.IsForgetResult, FormedPreimages.IsOfFormed};
 ghost use Rattle.lra_mapped_systems.specs.Moving.{StaysBackFor, StaysFor};
 ghost use Rattle.lra_poly.specs.{Outcomes.Becomes, Outcomes.IfFlagged, Outcomes.IsOfGenerators, United.AreTriedPoints};
-ghost use Rattle.lra_duality.specs.Rows.{test_row};
-ghost use Rattle.lra_linear_forms.specs.Form.{form_row};
-ghost use Rattle.lra_systems.specs.LinearSystems.{generators, FitKinds};
+ghost use Rattle.lra_poly_images.specs.Crates.lra_systems.LinearSystems.{generators, FitKinds};
+ghost use Rattle.lra_poly_images.specs.Crates.{lra_duality.Rows.test_row, lra_linear_forms.Form.form_row};
 
 use crate::moved::{move_back, move_forward};
-use lra_cone::Loss;
-use lra_linear_forms::{LinExpr, Test};
-use lra_mapped_systems::{assign_list, line_along, substitute_list, with_line};
-use lra_poly::{Outcome, Poly};
-use lra_row::Row;
-use lra_systems::{ConKind, GenSys};
+use lra_mapped_systems::{
+    ConKind, GenSys, Row, assign_list, line_along, substitute_list, with_line,
+};
+use lra_poly::{LinExpr, Loss, Outcome, Poly, Test};
 use std::alloc::{AllocError, Global};
 
 // Lets the coordinate x be anything, where the generators are converted from nothing.

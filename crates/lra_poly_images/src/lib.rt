@@ -6,4 +6,5 @@ mod maps;
 mod moved;
 
 pub use images::{forget, image, preimage};
+pub use lra_poly::LinExpr;
 pub use maps::{embed, remove_last, time_elapse};

@@ -1,16 +1,17 @@
 //! Changes of the dimensions, and time-elapse.
 
 ghost use Rattle.std.specs.Prelude.{◌≡◌, ◌⊎◌, ◌<◌, ◌≤◌, ◌-◌, ◌+◌, ◌++◌, IfOk, OnErr};
-ghost use Rattle.lra_linear_spec.specs.OperationStrain.{EmbedStrains, RemoveLastStrains, TimeElapseStrains};
-ghost use Rattle.lra_linear_spec.specs.OperationStrain.{as_directions, embedded, shortened};
-ghost use Rattle.lra_linear_spec.specs.SetOperations.{Embed, RemoveLast, TimeElapse};
-ghost use Rattle.lra_linear_spec.specs.{Descriptions.Con, Points.IsEmptySet};
+ghost use Rattle.lra_poly_images.specs.Crates.lra_linear_spec.OperationStrain.{EmbedStrains, RemoveLastStrains};
+ghost use Rattle.lra_poly_images.specs.Crates.lra_linear_spec.OperationStrain.{TimeElapseStrains, as_directions};
+ghost use Rattle.lra_poly_images.specs.Crates.lra_linear_spec.OperationStrain.{embedded, shortened};
+ghost use Rattle.lra_poly_images.specs.Crates.lra_linear_spec.SetOperations.{Embed, RemoveLast, TimeElapse};
+ghost use Rattle.lra_poly_images.specs.Crates.{lra_linear_spec.Descriptions.Con, lra_linear_spec.Points.IsEmptySet};
 ghost use Rattle.lra_poly.specs.{Outcomes.Becomes, Outcomes.IfFlagged, Outcomes.IsOfGenerators, United.AreTriedPoints};
-ghost use Rattle.lra_systems.specs.{Dimensions.too_many_dimensions, LinearSystems.generators, LinearSystems.FitKinds};
+ghost use Rattle.lra_poly_images.specs.Crates.lra_systems.Dimensions.{too_many_dimensions};
+ghost use Rattle.lra_poly_images.specs.Crates.lra_systems.LinearSystems.{generators, FitKinds};
 
-use lra_mapped_systems::{directions_of, embed_list, shorten, with_directions};
+use lra_mapped_systems::{GenSys, directions_of, embed_list, shorten, with_directions};
 use lra_poly::{Outcome, Poly};
-use lra_systems::GenSys;
 use std::alloc::AllocError;
 
 // Becomes the polyhedron of the generators.

@@ -1,15 +1,16 @@
 //! Images and preimages by a form that can be inverted: both lists of a polyhedron are moved, with no conversion.
 
 ghost use Rattle.std.specs.Prelude.{◌≡◌, ◌<◌, ◌⊎◌, suc, length, IfErr, IfOk, IfSome, IfNone};
-ghost use Rattle.lra_linear_spec.specs.SetOperations.{Image, Preimage};
-ghost use Rattle.lra_linear_spec.specs.{Descriptions.Con, Points.IsEmptySet, Polyhedra.IsPolyhedronOf};
+ghost use Rattle.lra_poly_images.specs.Crates.lra_linear_spec.Polyhedra.{IsPolyhedronOf};
+ghost use Rattle.lra_poly_images.specs.Crates.lra_linear_spec.SetOperations.{Image, Preimage};
+ghost use Rattle.lra_poly_images.specs.Crates.{lra_linear_spec.Descriptions.Con, lra_linear_spec.Points.IsEmptySet};
 ghost use Rattle.lra_mapped_systems.specs.Moving.{AssignmentPasses, MovePasses, OnExcess, StaysBackFor, StaysFor};
 ghost use Rattle.lra_mapped_systems.specs.Moving.{SubstitutionPasses, IsInverse};
 
-use lra_mapped_systems::{assign_canonically, invert, substitute_canonically};
+use lra_mapped_systems::{
+    Row, RowError, TOO_MANY_DIMENSIONS, assign_canonically, invert, substitute_canonically,
+};
 use lra_poly::Poly;
-use lra_row::{Row, RowError};
-use lra_systems::TOO_MANY_DIMENSIONS;
 use std::alloc::AllocError;
 
 // The image under the assignment of the form to the column, which the other form takes back. Or names a number that

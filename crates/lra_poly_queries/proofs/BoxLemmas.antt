@@ -2,11 +2,13 @@
 use Rattle.std.proofs.Common.{◌≡◌, ℕ, zero, suc, ◌+◌, Bool, true, false, cond, List, [], ◌∷◌, ◌++◌, length, ap, refl, sym, ◌∙◌, subst, inl, inr, ◌⊎◌, arith, ℤ, pos, negsuc, neg_ℤ, ◌+ℤ◌, ◌*ℤ◌, Result}
 use Rattle.std.proofs.{Common.Ok, Common.Err, Common.IsOk, Common.slice_get, Common.slice_set, Common.Some, Common.replicate, Common.length-append, Common.true≢false, lemmas.Int.ints}
 use Rattle.std.specs.List.{All, Contains}
-use Rattle.lra_linear_forms.specs.Form.{Form, form_row}
-use Rattle.lra_linear_spec.specs.OperationStrain.{MaximiseStrains, ProductsPass, unit_row}
-use Rattle.lra_linear_spec.specs.{CheckedArithmetic.checked_product, CheckedArithmetic.checked_product_from, Descriptions.LinearRow, Descriptions.inequality, Polyhedra.Polyhedron, Range.InRange}
-use Rattle.lra_linear_spec.specs.{Range.in_range, Representable.AreInRange, Vectors.negated, Vectors.zeros, declared.Excess.Excess}
-use Rattle.lra_linear_spec.proofs.{CheckedArithmetic.in_range_yes, Membership.contains_cases, Membership.contains_none, UnitRows.zeros_are}
+use Rattle.lra_poly_queries.specs.Crates.lra_linear_spec.CheckedArithmetic.{checked_product, checked_product_from}
+use Rattle.lra_poly_queries.specs.Crates.lra_linear_spec.OperationStrain.{MaximiseStrains, ProductsPass, unit_row}
+use Rattle.lra_poly_queries.specs.Crates.{lra_linear_forms.Form.Form, lra_linear_forms.Form.form_row, lra_linear_spec.Descriptions.LinearRow, lra_linear_spec.Descriptions.inequality}
+use Rattle.lra_poly_queries.specs.Crates.{lra_linear_spec.Polyhedra.Polyhedron, lra_linear_spec.Range.InRange, lra_linear_spec.Range.in_range, lra_linear_spec.Representable.AreInRange}
+use Rattle.lra_poly_queries.specs.Crates.{lra_linear_spec.Vectors.negated, lra_linear_spec.Vectors.zeros, lra_linear_spec.declared.Excess.Excess}
+use Rattle.lra_poly_queries.proofs.Crates.lra_linear_spec.Membership.{contains_cases, contains_none}
+use Rattle.lra_poly_queries.proofs.Crates.{lra_linear_spec.CheckedArithmetic.in_range_yes, lra_linear_spec.UnitRows.zeros_are}
 use Rattle.lra_poly_queries.specs.{Boxed.IsExtent, Boxed.IsLeastBox, Boxed.coordinate_form, declared.boxes.Extent.Extent}
 
 -- ---- products with a unit row, or its opposite

@@ -2,17 +2,20 @@
 use Rattle.std.proofs.Common.{◌≡◌, ℕ, zero, suc, ◌<◌, ◌≤◌, ◌+◌, ◌-◌, Bool, true, false, List, [], ◌∷◌, ◌++◌, length, ap, refl, sym, ◌∙◌, subst, ℤ, pos, neg_ℤ, ◌<ℤ◌, ◌≤ℤ◌, inl, inr, arith}
 use Rattle.std.proofs.{lemmas.Bool.cases_lt, lemmas.List.Elements.Contains-append_left}
 use Rattle.std.specs.List.{Contains, prefix_len}
-use Rattle.lra_linear_spec.specs.Descriptions.{LinearRow, Con, equality, rows_as, rays_of, system_of}
-use Rattle.lra_linear_spec.specs.Polyhedra.{HasPoint, IsPolyhedron, Polyhedron}
-use Rattle.lra_linear_spec.specs.{Cones.Generated, Cones.all_rows, Echelon.IsEchelon, Echelon.HasPivot, Echelon.Spanned, Kinds.is_equality, Points.IsEmptySet, Points.IsPoint, SetOperations.ValidOn}
-use Rattle.lra_linear_spec.specs.{Vectors.dot, Vectors.entry, Vectors.negated, Vectors.product, declared.ConKind.ConKind, declared.ConKind.TheVariants.Eq, declared.ConKind.TheVariants.Ge}
-use Rattle.lra_linear_spec.proofs.CanonicalForms.{lines_are_all, spanned_in_cone, spanned_negative}
-use Rattle.lra_linear_spec.proofs.Products.{dot_minus, entry_negated, negated_dot, negated_length, product_comm, dot_first}
-use Rattle.lra_linear_spec.proofs.Signs.{between_opposites, not_both, opposite_of_zero, times_positive, zero_at_least}
-use Rattle.lra_linear_spec.proofs.{Combinations.generated_same, Descriptions.in_system, LinearMaps.generated_nonneg, Membership.contains_head, Membership.contains_tail, OneSpelling.cone_solved}
-use Rattle.lra_linear_spec.proofs.{OneSpelling.given_has, Polyhedra.con_gen, Polyhedra.generators_lines, Polyhedra.generators_rays, SetOperations.has_vertex, SetOperations.valid_on_rows}
-use Rattle.lra_linear_spec.proofs.Spans.{leads_inside}
-use Rattle.lra_duality.proofs.PolyhedronLemmas.{given_width, with_point}
+use Rattle.lra_poly_queries.specs.Crates.lra_linear_spec.Descriptions.{LinearRow, Con, equality, rows_as, rays_of, system_of}
+use Rattle.lra_poly_queries.specs.Crates.lra_linear_spec.Vectors.{dot, entry, negated, product}
+use Rattle.lra_poly_queries.specs.Crates.{lra_linear_spec.Cones.Generated, lra_linear_spec.Cones.all_rows, lra_linear_spec.Echelon.IsEchelon, lra_linear_spec.Echelon.HasPivot}
+use Rattle.lra_poly_queries.specs.Crates.{lra_linear_spec.Echelon.Spanned, lra_linear_spec.Kinds.is_equality, lra_linear_spec.Points.IsEmptySet, lra_linear_spec.Points.IsPoint}
+use Rattle.lra_poly_queries.specs.Crates.{lra_linear_spec.Polyhedra.HasPoint, lra_linear_spec.Polyhedra.IsPolyhedron, lra_linear_spec.Polyhedra.Polyhedron, lra_linear_spec.SetOperations.ValidOn}
+use Rattle.lra_poly_queries.specs.Crates.{lra_linear_spec.declared.ConKind.ConKind, lra_linear_spec.declared.ConKind.TheVariants.Eq, lra_linear_spec.declared.ConKind.TheVariants.Ge}
+use Rattle.lra_poly_queries.proofs.Crates.lra_linear_spec.CanonicalForms.{lines_are_all, spanned_in_cone, spanned_negative}
+use Rattle.lra_poly_queries.proofs.Crates.lra_linear_spec.Polyhedra.{con_gen, generators_lines, generators_rays}
+use Rattle.lra_poly_queries.proofs.Crates.lra_linear_spec.Products.{dot_minus, entry_negated, negated_dot, negated_length, product_comm, dot_first}
+use Rattle.lra_poly_queries.proofs.Crates.lra_linear_spec.SetOperations.{has_vertex, valid_on_rows}
+use Rattle.lra_poly_queries.proofs.Crates.lra_linear_spec.Signs.{between_opposites, not_both, opposite_of_zero, times_positive, zero_at_least}
+use Rattle.lra_poly_queries.proofs.Crates.{lra_duality.PolyhedronLemmas.given_width, lra_duality.PolyhedronLemmas.with_point, lra_linear_spec.Combinations.generated_same}
+use Rattle.lra_poly_queries.proofs.Crates.{lra_linear_spec.Descriptions.in_system, lra_linear_spec.LinearMaps.generated_nonneg, lra_linear_spec.Membership.contains_head}
+use Rattle.lra_poly_queries.proofs.Crates.{lra_linear_spec.Membership.contains_tail, lra_linear_spec.OneSpelling.cone_solved, lra_linear_spec.OneSpelling.given_has, lra_linear_spec.Spans.leads_inside}
 use Rattle.lra_systems.specs.LinearSystems.{LinearSystem, constraints, rows_by_kind}
 use Rattle.lra_poly_queries.specs.Shapes.{AffineDimension}
 

@@ -2,9 +2,10 @@
 -- points, constraints that a context gives, ends of boxes, polyhedra of parts.
 use Rattle.std.proofs.Common.{◌≡◌, suc, List, [], ◌∷◌, ◌++◌, replicate, pos, negsuc, ℤ, ◌+ℤ◌, ◌*ℤ◌, ◌<ℤ◌, ◌≤ℤ◌, refl, arith, inl, inr, Some}
 use Rattle.std.proofs.{Math.Nat.eq-one_of_dvd-one, lemmas.Int.ints, lemmas.List.Elements.All-nil, lemmas.List.Elements.All-cons}
-use Rattle.lra_linear_spec.specs.{Descriptions.LinearRow, Descriptions.generator, Descriptions.inequality, Polyhedra.Polyhedron, Strain.Loss, Vectors.entry}
-use Rattle.lra_linear_spec.proofs.{Descriptions.con_cons, Descriptions.con_none, Membership.contains_head, Membership.contains_tail, Membership.split_none, Membership.split_one}
-use Rattle.lra_duality.specs.Maxima.{DoesNotImprove, StaysInRange}
+use Rattle.lra_poly_queries.specs.Crates.{lra_duality.Maxima.DoesNotImprove, lra_duality.Maxima.StaysInRange, lra_linear_spec.Descriptions.LinearRow, lra_linear_spec.Descriptions.generator}
+use Rattle.lra_poly_queries.specs.Crates.{lra_linear_spec.Descriptions.inequality, lra_linear_spec.Polyhedra.Polyhedron, lra_linear_spec.Strain.Loss, lra_linear_spec.Vectors.entry}
+use Rattle.lra_poly_queries.proofs.Crates.lra_linear_spec.Descriptions.{con_cons, con_none}
+use Rattle.lra_poly_queries.proofs.Crates.lra_linear_spec.Membership.{contains_head, contains_tail, split_none, split_one}
 use Rattle.lra_poly_queries.specs.{Boxed.IsLeastEnd, Boxed.coordinate_form, Joined.counted, Minima.IsAtLeast, Minima.IsMinimum, Moved.Moved, Moved.chosen, Parted.SomeHas, Related.replaced}
 use Rattle.lra_poly_queries.specs.{Relations.HoldsNowhere, Relations.MissesZero, Shapes.AffineDimension, Shapes.HasBound, Simplified.AreNeeded, Simplified.IsRedundant, Simplified.IsSublist}
 use Rattle.lra_poly_queries.specs.{Simplified.SimplifyStrains, Tightened.IsTightened, declared.minimum.Minimum.TheVariants.Empty, declared.minimum.Minimum.TheVariants.Unbounded}

@@ -1,12 +1,13 @@
 -- A twin of a dimension: what the constraints ask of a point with one further coordinate.
 use Rattle.std.proofs.Common.{◌≡◌, ℕ, zero, suc, ◌<◌, ◌≤◌, ◌+◌, List, [], ◌∷◌, ◌++◌, length, map, drop, slice_set, ap, refl, sym, ◌∙◌, ℤ, pos, ◌+ℤ◌, ◌*ℤ◌, arith}
 use Rattle.std.proofs.lemmas.List.{map-append, length-set}
-use Rattle.lra_linear_spec.specs.Vectors.{cleared, dot, entry, product}
-use Rattle.lra_linear_spec.specs.{Descriptions.Con, Descriptions.LinearRow, Kinds.is_equality, Points.SameSet, Polyhedra.IsPolyhedron, Polyhedra.Polyhedron, declared.ConKind.ConKind}
-use Rattle.lra_linear_spec.proofs.{Products.entry_past, Ring.ring, Ring.v, Ring.◌⊕◌, Ring.◌⊗◌, SetOperations.meet_con, SetOperations.product_set}
+use Rattle.lra_poly_queries.specs.Crates.lra_linear_spec.Vectors.{cleared, dot, entry, product}
+use Rattle.lra_poly_queries.specs.Crates.{lra_linear_spec.Descriptions.Con, lra_linear_spec.Descriptions.LinearRow, lra_linear_spec.Kinds.is_equality, lra_linear_spec.Points.SameSet}
+use Rattle.lra_poly_queries.specs.Crates.{lra_linear_spec.Polyhedra.IsPolyhedron, lra_linear_spec.Polyhedra.Polyhedron, lra_linear_spec.declared.ConKind.ConKind}
+use Rattle.lra_poly_queries.proofs.Crates.{lra_duality.PolyhedronLemmas.given_width, lra_linear_spec.Products.entry_past, lra_linear_spec.Ring.ring, lra_linear_spec.Ring.v, lra_linear_spec.Ring.◌⊕◌}
+use Rattle.lra_poly_queries.proofs.Crates.{lra_linear_spec.Ring.◌⊗◌, lra_linear_spec.SetOperations.meet_con, lra_linear_spec.SetOperations.product_set}
 use Rattle.lra_systems.specs.LinearSystems.{LinearSystem, constraints, rows_by_kind}
 use Rattle.lra_poly_queries.specs.{Expanded.Expanded, Expanded.expanded, Joined.counted, Moved.chosen, Moved.moved, Related.replaced}
-use Rattle.lra_duality.proofs.PolyhedronLemmas.{given_width}
 use Rattle.lra_poly_queries.proofs.{JoinedSets.con_moved, JoinedSets.dot_within, JoinedSets.first_rows, RelatedSets.replaced_length, TakenRows.TakesRows}
 
 -- ---- lists with a member replaced

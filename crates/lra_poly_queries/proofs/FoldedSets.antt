@@ -1,7 +1,8 @@
 -- The hull of the points along some dimensions and along others.
 use Rattle.std.proofs.Common.{◌≡◌, ℕ, List, length, ap, sym, ◌∙◌, subst, inl, inr}
-use Rattle.lra_linear_spec.specs.Points.{IsWithin, PointSet, SameSet}
-use Rattle.lra_linear_spec.specs.{Descriptions.Con, OperationStrain.HullStrains, Polyhedra.IsPolyhedronOf, Polyhedra.Polyhedron, SetOperations.Hull, SetOperations.Union, Strain.Loss}
+use Rattle.lra_poly_queries.specs.Crates.lra_linear_spec.Points.{IsWithin, PointSet, SameSet}
+use Rattle.lra_poly_queries.specs.Crates.{lra_linear_spec.Descriptions.Con, lra_linear_spec.OperationStrain.HullStrains, lra_linear_spec.Polyhedra.IsPolyhedronOf, lra_linear_spec.Polyhedra.Polyhedron}
+use Rattle.lra_poly_queries.specs.Crates.{lra_linear_spec.SetOperations.Hull, lra_linear_spec.SetOperations.Union, lra_linear_spec.Strain.Loss}
 use Rattle.lra_poly.proofs.PolyLemmas.{same_polyhedron}
 use Rattle.lra_poly.specs.Outcomes.{Becomes, IfExact, IfFlagged, first_of}
 use Rattle.lra_poly.specs.{declared.outcome.Outcome.Outcome, declared.outcome.Outcome.TheVariants.Exact, declared.outcome.Outcome.TheVariants.Flagged}

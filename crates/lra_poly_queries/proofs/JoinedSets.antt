@@ -2,11 +2,12 @@
 use Rattle.std.proofs.Common.{◌≡◌, ℕ, zero, suc, ◌<◌, ◌≤◌, ◌+◌, List, [], ◌∷◌, ◌++◌, length, map, take, drop, get_or, replicate, ap, refl, sym, ◌∙◌, subst, ℤ, pos, ◌+ℤ◌, ◌*ℤ◌, add-one, append_assoc}
 use Rattle.std.proofs.{Common.arith, lemmas.List.get_or_default, lemmas.List.length-append, lemmas.List.map-append, lemmas.List.take_all}
 use Rattle.std.specs.List.{Contains}
-use Rattle.lra_linear_spec.specs.Descriptions.{Con, LinearRow, Holds, HoldsWith}
-use Rattle.lra_linear_spec.specs.{Kinds.is_equality, Points.SameSet, Polyhedra.IsPolyhedron, Polyhedra.Polyhedron, Vectors.dot, Vectors.entry, Vectors.product, declared.ConKind.ConKind}
-use Rattle.lra_linear_spec.proofs.Products.{dot_same, entry_past}
-use Rattle.lra_linear_spec.proofs.{Membership.map_from, Membership.map_has, Ring.ring, Ring.v, Ring.◌⊕◌, Ring.◌⊗◌, SetOperations.meet_con}
-use Rattle.lra_duality.proofs.PolyhedronLemmas.{given_width}
+use Rattle.lra_poly_queries.specs.Crates.lra_linear_spec.Descriptions.{Con, LinearRow, Holds, HoldsWith}
+use Rattle.lra_poly_queries.specs.Crates.{lra_linear_spec.Kinds.is_equality, lra_linear_spec.Points.SameSet, lra_linear_spec.Polyhedra.IsPolyhedron, lra_linear_spec.Polyhedra.Polyhedron}
+use Rattle.lra_poly_queries.specs.Crates.{lra_linear_spec.Vectors.dot, lra_linear_spec.Vectors.entry, lra_linear_spec.Vectors.product, lra_linear_spec.declared.ConKind.ConKind}
+use Rattle.lra_poly_queries.proofs.Crates.lra_linear_spec.Products.{dot_same, entry_past}
+use Rattle.lra_poly_queries.proofs.Crates.lra_linear_spec.Ring.{ring, v, ◌⊕◌, ◌⊗◌}
+use Rattle.lra_poly_queries.proofs.Crates.{lra_duality.PolyhedronLemmas.given_width, lra_linear_spec.Membership.map_from, lra_linear_spec.Membership.map_has, lra_linear_spec.SetOperations.meet_con}
 use Rattle.lra_systems.specs.LinearSystems.{LinearSystem, constraints, rows_by_kind}
 use Rattle.lra_systems.proofs.LinearRows.{constraints_pushed, given_more}
 use Rattle.lra_poly_queries.specs.{Joined.Concatenated, Joined.concatenated, Joined.counted, Moved.chosen, Moved.moved}

@@ -17,3 +17,5 @@ pub mod TriedRows
 pub mod BoxLemmas
 pub mod PartLemmas
 mod Examples
+-- The crates below
+pub mod Crates

@@ -2,10 +2,10 @@
 use Rattle.std.proofs.Common.{◌≡◌, ℕ, zero, suc, ℤ, pos, neg_ℤ, ◌*ℤ◌, List, [], ◌∷◌, ap, ◌∙◌, subst, arith, sym}
 use Rattle.std.proofs.lemmas.Int.{ints}
 use Rattle.std.specs.{Int.◌∣◌, Prelude.unsigned_abs}
-use Rattle.lra_linear_forms.proofs.FormLemmas.{neg_product}
-use Rattle.lra_linear_spec.specs.{Descriptions.LinearRow, LowestTerms.IsPrimitive, Polyhedra.Polyhedron, Vectors.entry, Vectors.product, Vectors.negated}
-use Rattle.lra_linear_spec.proofs.Products.{negated_dot}
-use Rattle.lra_duality.specs.{Maxima.IsGreatestValue, Maxima.IsMaximum, Maxima.IsUnbounded, Maxima.HasValue, Maxima.IsAtMost, declared.maximum.Maximum.TheVariants.At}
+use Rattle.lra_poly_queries.proofs.Crates.{lra_linear_forms.FormLemmas.neg_product, lra_linear_spec.Products.negated_dot}
+use Rattle.lra_poly_queries.specs.Crates.lra_duality.Maxima.{IsGreatestValue, IsMaximum, IsUnbounded, HasValue, IsAtMost}
+use Rattle.lra_poly_queries.specs.Crates.{lra_duality.declared.maximum.Maximum.TheVariants.At, lra_linear_spec.Descriptions.LinearRow, lra_linear_spec.LowestTerms.IsPrimitive}
+use Rattle.lra_poly_queries.specs.Crates.{lra_linear_spec.Polyhedra.Polyhedron, lra_linear_spec.Vectors.entry, lra_linear_spec.Vectors.product, lra_linear_spec.Vectors.negated}
 use Rattle.lra_poly_queries.specs.Minima.{IsAtLeast, IsLeastValue, IsUnboundedBelow}
 
 -- the opposite's value is the value, turned

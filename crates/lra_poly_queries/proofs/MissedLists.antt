@@ -3,10 +3,11 @@ use Rattle.std.proofs.Common.{◌≡◌, ℕ, ◌<◌, ◌≤◌, ◌+◌, add-o
 use Rattle.std.proofs.lemmas.List.{take_all}
 use Rattle.std.proofs.lemmas.List.Elements.{All-contains, All-nil, All-push, Contains-append_right, Contains-append_left}
 use Rattle.std.specs.{List.All, List.Contains, Prelude.◌↔◌, Prelude.IsTrue}
-use Rattle.lra_linear_spec.specs.declared.Excess as E
-use Rattle.lra_linear_spec.specs.{CheckedArithmetic.checked_product, Descriptions.LinearRow, Descriptions.inequality, Kinds.is_line, OperationStrain.ProductsPass, Vectors.entry, Vectors.negated}
-use Rattle.lra_linear_spec.specs.{Vectors.product, Widening.holds_with, declared.GenKind.GenKind}
-use Rattle.lra_linear_spec.proofs.{Membership.all_from, Membership.contains_head, Products.negated_dot}
+use Rattle.lra_poly_queries.specs.Crates.lra_linear_spec.declared.Excess as E
+use Rattle.lra_poly_queries.specs.Crates.lra_linear_spec.Vectors.{entry, negated, product}
+use Rattle.lra_poly_queries.specs.Crates.{lra_linear_spec.CheckedArithmetic.checked_product, lra_linear_spec.Descriptions.LinearRow, lra_linear_spec.Descriptions.inequality}
+use Rattle.lra_poly_queries.specs.Crates.{lra_linear_spec.Kinds.is_line, lra_linear_spec.OperationStrain.ProductsPass, lra_linear_spec.Widening.holds_with, lra_linear_spec.declared.GenKind.GenKind}
+use Rattle.lra_poly_queries.proofs.Crates.{lra_linear_spec.Membership.all_from, lra_linear_spec.Membership.contains_head, lra_linear_spec.Products.negated_dot}
 use Rattle.lra_systems.specs.LinearSystems.{rows_by_kind}
 use Rattle.lra_systems.proofs.FirstMembers.{front, given_more, given_split, member}
 use Rattle.lra_poly_queries.specs.{Relations.AreMissed, Relations.MissesAt, Relations.MissesZero, Relations.StaysAbove, Relations.StaysBelow, declared.relation.Missed.Missed}

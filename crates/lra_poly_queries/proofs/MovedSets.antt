@@ -1,8 +1,10 @@
 -- Dimensions moved: the generators with their columns in the new order.
 use Rattle.std.proofs.Common.{◌≡◌, ℕ, zero, suc, ◌<◌, ◌≤◌, ◌+◌, List, [], ◌∷◌, ◌++◌, length, map, take, get_or, ap, refl, sym, ◌∙◌, ℤ, pos, neg_ℤ, ◌+ℤ◌, ◌*ℤ◌, add-one, arith}
 use Rattle.std.proofs.{Math.Seq.take-suc, lemmas.List.map-append, lemmas.List.take_all}
-use Rattle.lra_linear_spec.specs.{Descriptions.Con, Descriptions.Gen, Points.SameSet, Polyhedra.IsPolyhedron, Polyhedra.Polyhedron, Vectors.entry, Vectors.negated, declared.GenKind.GenKind}
-use Rattle.lra_linear_spec.proofs.{Polyhedra.con_gen, Products.entry_negated, Ring.ring, Ring.v, Ring.◌⊕◌, Ring.◌⊗◌}
+use Rattle.lra_poly_queries.specs.Crates.{lra_linear_spec.Descriptions.Con, lra_linear_spec.Descriptions.Gen, lra_linear_spec.Points.SameSet, lra_linear_spec.Polyhedra.IsPolyhedron}
+use Rattle.lra_poly_queries.specs.Crates.{lra_linear_spec.Polyhedra.Polyhedron, lra_linear_spec.Vectors.entry, lra_linear_spec.Vectors.negated, lra_linear_spec.declared.GenKind.GenKind}
+use Rattle.lra_poly_queries.proofs.Crates.lra_linear_spec.Ring.{ring, v, ◌⊕◌, ◌⊗◌}
+use Rattle.lra_poly_queries.proofs.Crates.{lra_linear_spec.Polyhedra.con_gen, lra_linear_spec.Products.entry_negated}
 use Rattle.lra_systems.specs.LinearSystems.{LinearSystem, generators}
 use Rattle.lra_mapped_systems.proofs.{MappedSets.IsMapOf, MappedSets.mapped_from, MappedSets.mapped_in, MappedSets.widths_of, Sums.IsLinear}
 use Rattle.lra_poly.proofs.TakenGenerators.{Takes}

@@ -4,8 +4,9 @@ use Rattle.std.proofs.lemmas.List.Elements.{All-cons, All-nil, Contains-append_l
 use Rattle.std.proofs.{lemmas.Int.ints, lemmas.List.take_more}
 use Rattle.std.specs.List.{All}
 use Rattle.lra_domain.specs.Parts.{SomePartHolds}
-use Rattle.lra_linear_spec.specs.{Descriptions.Con, OperationStrain.FromRowsStrains, Points.IsPoint, Polyhedra.IsPolyhedronOf, Polyhedra.Polyhedron, Strain.Loss, declared.ConKind.ConKind}
-use Rattle.lra_linear_spec.proofs.Membership.{contains_head}
+use Rattle.lra_poly_queries.specs.Crates.{lra_linear_spec.Descriptions.Con, lra_linear_spec.OperationStrain.FromRowsStrains, lra_linear_spec.Points.IsPoint, lra_linear_spec.Polyhedra.IsPolyhedronOf}
+use Rattle.lra_poly_queries.specs.Crates.{lra_linear_spec.Polyhedra.Polyhedron, lra_linear_spec.Strain.Loss, lra_linear_spec.declared.ConKind.ConKind}
+use Rattle.lra_poly_queries.proofs.Crates.lra_linear_spec.Membership.{contains_head}
 use Rattle.lra_poly.specs.{Outcomes.IfExact, Outcomes.IsOfRows, Outcomes.first_of, declared.outcome.Outcome.Outcome, declared.outcome.Outcome.TheVariants.Exact}
 use Rattle.lra_poly.proofs.PolyLemmas.{if_exact}
 use Rattle.lra_systems.specs.LinearSystems.{LinearSystem, constraints}

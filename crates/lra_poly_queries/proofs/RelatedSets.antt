@@ -1,8 +1,9 @@
 -- A coordinate whose new values stand to the old point as a constraint reports.
 use Rattle.std.proofs.Common.{◌≡◌, ℕ, zero, suc, ◌+◌, List, [], ◌∷◌, ◌++◌, length, replicate, slice_set, ap, refl, sym, ◌∙◌, subst, ℤ, inl, inr}
-use Rattle.lra_linear_spec.specs.Polyhedra.{IsPolyhedron, IsPolyhedronOf, Polyhedron}
-use Rattle.lra_linear_spec.specs.{Descriptions.Con, Descriptions.LinearRow, Kinds.is_equality, Points.IsWithin, Points.PointSet, Points.SameSet, Strain.Loss, declared.ConKind.ConKind}
-use Rattle.lra_linear_spec.proofs.{Descriptions.con_cons, Descriptions.con_head, Descriptions.con_none, SetOperations.meet_con}
+use Rattle.lra_poly_queries.specs.Crates.lra_linear_spec.Polyhedra.{IsPolyhedron, IsPolyhedronOf, Polyhedron}
+use Rattle.lra_poly_queries.specs.Crates.{lra_linear_spec.Descriptions.Con, lra_linear_spec.Descriptions.LinearRow, lra_linear_spec.Kinds.is_equality, lra_linear_spec.Points.IsWithin}
+use Rattle.lra_poly_queries.specs.Crates.{lra_linear_spec.Points.PointSet, lra_linear_spec.Points.SameSet, lra_linear_spec.Strain.Loss, lra_linear_spec.declared.ConKind.ConKind}
+use Rattle.lra_poly_queries.proofs.Crates.{lra_linear_spec.Descriptions.con_cons, lra_linear_spec.Descriptions.con_head, lra_linear_spec.Descriptions.con_none, lra_linear_spec.SetOperations.meet_con}
 use Rattle.lra_poly.proofs.PolyLemmas.{same_polyhedron}
 use Rattle.lra_poly.specs.Outcomes.{Becomes, IfExact, IfFlagged, first_of}
 use Rattle.lra_poly.specs.{declared.outcome.Outcome.Outcome, declared.outcome.Outcome.TheVariants.Exact, declared.outcome.Outcome.TheVariants.Flagged}

@@ -2,17 +2,20 @@
 use Rattle.std.proofs.Common.{◌≡◌, ◌≢◌, ◌⊎◌, ℕ, suc, ◌+◌, Bool, true, false, List, [], ◌∷◌, length, ap, refl, sym, ◌∙◌, subst, ℤ, pos, negsuc, neg_ℤ, ◌+ℤ◌, ◌*ℤ◌, ◌<ℤ◌, ◌≤ℤ◌, inl, inr, arith}
 use Rattle.std.proofs.{lemmas.Int.ints, lemmas.List.Elements.All-contains}
 use Rattle.std.specs.{List.All, List.Contains, List.list_all, Prelude.◌↔◌, Prelude.IsTrue, Prelude.unsigned_abs}
-use Rattle.lra_linear_spec.specs.Descriptions.{LinearRow, Con, HoldsWith, equality, inequality, system_of}
-use Rattle.lra_linear_spec.specs.Polyhedra.{HasPoint, IsPolyhedron, Polyhedron, positivity}
-use Rattle.lra_linear_spec.specs.{Points.IsPoint, SetOperations.ValidOn, Vectors.blend, Vectors.entry, Vectors.negated, Vectors.product, Widening.holds_with}
-use Rattle.lra_linear_spec.proofs.Descriptions.{FromGiven, gen_generated, generated_gen, system_from, system_has}
-use Rattle.lra_linear_spec.proofs.Membership.{contains_cases, contains_none, all_from, list_all_at, list_all_from}
-use Rattle.lra_linear_spec.proofs.Products.{blend_length, entry_blend, entry_negated, negated_dot, negated_length, product_comm}
-use Rattle.lra_linear_spec.proofs.Signs.{above_zero, add_nonnegative, between_opposites, cases_sign, not_both, opposite_of_zero, positive_is_nonnegative, times_positive, zero_at_least}
-use Rattle.lra_linear_spec.proofs.{Combinations.generated_row, LinearMaps.generated_nonneg, Lines.zeros_length, OneSpelling.positivity_product, Polyhedra.con_gen, Polyhedra.generators_are_generators}
-use Rattle.lra_linear_spec.proofs.{Ring.mul_nonnegative, Ring.ring, Ring.v, Ring.⊖, Ring.◌⊕◌, Ring.◌⊗◌, SetOperations.has_vertex, SetOperations.valid_on_rows, Widening.valid_decides}
-use Rattle.lra_linear_spec.proofs.SetOperations.{blend_product}
-use Rattle.lra_duality.proofs.PolyhedronLemmas.{falsity_is_empty}
+use Rattle.lra_poly_queries.specs.Crates.lra_linear_spec.Descriptions.{LinearRow, Con, HoldsWith, equality, inequality, system_of}
+use Rattle.lra_poly_queries.specs.Crates.lra_linear_spec.Polyhedra.{HasPoint, IsPolyhedron, Polyhedron, positivity}
+use Rattle.lra_poly_queries.specs.Crates.lra_linear_spec.Vectors.{blend, entry, negated, product}
+use Rattle.lra_poly_queries.specs.Crates.{lra_linear_spec.Points.IsPoint, lra_linear_spec.SetOperations.ValidOn, lra_linear_spec.Widening.holds_with}
+use Rattle.lra_poly_queries.proofs.Crates.lra_linear_spec.Descriptions.{FromGiven, gen_generated, generated_gen, system_from, system_has}
+use Rattle.lra_poly_queries.proofs.Crates.lra_linear_spec.Membership.{contains_cases, contains_none, all_from, list_all_at, list_all_from}
+use Rattle.lra_poly_queries.proofs.Crates.lra_linear_spec.Polyhedra.{con_gen, generators_are_generators}
+use Rattle.lra_poly_queries.proofs.Crates.lra_linear_spec.Products.{blend_length, entry_blend, entry_negated, negated_dot, negated_length, product_comm}
+use Rattle.lra_poly_queries.proofs.Crates.lra_linear_spec.Ring.{mul_nonnegative, ring, v, ⊖, ◌⊕◌, ◌⊗◌}
+use Rattle.lra_poly_queries.proofs.Crates.lra_linear_spec.SetOperations.{has_vertex, valid_on_rows, blend_product}
+use Rattle.lra_poly_queries.proofs.Crates.lra_linear_spec.Signs.{above_zero, add_nonnegative, between_opposites, cases_sign, not_both, opposite_of_zero, positive_is_nonnegative, times_positive}
+use Rattle.lra_poly_queries.proofs.Crates.lra_linear_spec.Signs.{zero_at_least}
+use Rattle.lra_poly_queries.proofs.Crates.{lra_duality.PolyhedronLemmas.falsity_is_empty, lra_linear_spec.Combinations.generated_row, lra_linear_spec.LinearMaps.generated_nonneg}
+use Rattle.lra_poly_queries.proofs.Crates.{lra_linear_spec.Lines.zeros_length, lra_linear_spec.OneSpelling.positivity_product, lra_linear_spec.Widening.valid_decides}
 use Rattle.lra_poly_queries.specs.Relations.{AreMissed, HoldsNowhere, IsRelation, MissesZero, StaysAbove, StaysBelow}
 use Rattle.lra_poly_queries.specs.{declared.relation.Missed.Missed, declared.relation.Relation.Relation}
 

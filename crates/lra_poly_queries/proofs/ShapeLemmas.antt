@@ -1,22 +1,26 @@
 -- All points, and bounded polyhedra.
 use Rattle.std.proofs.Common.{◌≡◌, ◌⊎◌, ℕ, zero, suc, ◌<◌, ◌≤◌, ◌+◌, Bool, true, false, List, [], ◌∷◌, ◌++◌, length, ap, refl, sym, ◌∙◌, subst, ℤ, pos, negsuc, neg_ℤ, ◌+ℤ◌, ◌*ℤ◌, ◌<ℤ◌, ◌≤ℤ◌, inl, inr}
+use Rattle.std.proofs.lemmas.List.{length-set}
 use Rattle.std.proofs.lemmas.List.Elements.{All-contains, Contains-append_cases, Contains-append_left, Contains-append_right}
 use Rattle.std.proofs.{Common.arith, Common.slice_set, lemmas.Int.ints, lemmas.Nat.Gcd.dvd_refl, lemmas.Nat.Gcd.dvd-zero}
 use Rattle.std.specs.{Int.◌∣◌, List.All, List.Contains, Prelude.◌↔◌, Prelude.◌==◌, Prelude.IsTrue, Prelude.unsigned_abs}
-use Rattle.std.proofs.lemmas.List.{length-set}
-use Rattle.lra_linear_spec.specs.Descriptions.{LinearRow, Con, equality, rows_as, inequality, system_of}
-use Rattle.lra_linear_spec.specs.Polyhedra.{HasPoint, IsPolyhedron, Polyhedron, positivity}
-use Rattle.lra_linear_spec.specs.{Echelon.pivot, Kinds.is_equality, Kinds.is_line, Points.IsPoint, Points.IsWithin, Vectors.blend, Vectors.cleared, Vectors.entry, Vectors.product}
-use Rattle.lra_linear_spec.specs.{declared.ConKind.ConKind, declared.GenKind.GenKind, declared.GenKind.TheVariants.Point, declared.GenKind.TheVariants.Ray, declared.GenKind.TheVariants.Line}
-use Rattle.lra_linear_spec.proofs.{Descriptions.FromGiven, Descriptions.con_none, Descriptions.gen_generated, Descriptions.system_from, Descriptions.system_has, LinearMaps.generated_nonneg}
-use Rattle.lra_linear_spec.proofs.{Lines.entry_zeros, Lines.zeros_length, Membership.all_from, Membership.contains_cases, Membership.contains_head, Membership.contains_none, Membership.contains_tail}
-use Rattle.lra_linear_spec.proofs.{OneSpelling.far, OneSpelling.given_from, OneSpelling.given_has, OneSpelling.positivity_product, Pivots.echelon_positive, Polyhedra.con_gen}
-use Rattle.lra_linear_spec.proofs.{Polyhedra.generators_are_generators, Products.entry_past, Products.product_comm, Products.row_same, Ring.mul_nonnegative, Ring.ring, Ring.v, Ring.⊖, Ring.◌⊕◌}
-use Rattle.lra_linear_spec.proofs.{Ring.◌⊗◌, SetOperations.has_vertex, SetOperations.product_set, SetOperations.valid_on_rows, Signs.add_nonnegative, Signs.cases_sign, Signs.times_positive}
-use Rattle.lra_duality.proofs.PolyhedronLemmas.{falsity_is_empty, given_width}
-use Rattle.lra_description_pair.proofs.OwnRows.{none_of}
+use Rattle.lra_poly_queries.specs.Crates.lra_linear_spec.Descriptions.{LinearRow, Con, equality, rows_as, inequality, system_of}
+use Rattle.lra_poly_queries.specs.Crates.lra_linear_spec.Polyhedra.{HasPoint, IsPolyhedron, Polyhedron, positivity}
+use Rattle.lra_poly_queries.specs.Crates.lra_linear_spec.Vectors.{blend, cleared, entry, product}
+use Rattle.lra_poly_queries.specs.Crates.lra_linear_spec.declared.GenKind.TheVariants.{Point, Ray, Line}
+use Rattle.lra_poly_queries.specs.Crates.{lra_linear_spec.Echelon.pivot, lra_linear_spec.Kinds.is_equality, lra_linear_spec.Kinds.is_line, lra_linear_spec.Points.IsPoint}
+use Rattle.lra_poly_queries.specs.Crates.{lra_linear_spec.Points.IsWithin, lra_linear_spec.declared.ConKind.ConKind, lra_linear_spec.declared.GenKind.GenKind}
+use Rattle.lra_poly_queries.proofs.Crates.lra_linear_spec.Descriptions.{FromGiven, con_none, gen_generated, system_from, system_has}
+use Rattle.lra_poly_queries.proofs.Crates.lra_linear_spec.Membership.{all_from, contains_cases, contains_head, contains_none, contains_tail}
+use Rattle.lra_poly_queries.proofs.Crates.lra_linear_spec.OneSpelling.{far, given_from, given_has, positivity_product}
+use Rattle.lra_poly_queries.proofs.Crates.lra_linear_spec.Polyhedra.{con_gen, generators_are_generators}
+use Rattle.lra_poly_queries.proofs.Crates.lra_linear_spec.Products.{entry_past, product_comm, row_same}
+use Rattle.lra_poly_queries.proofs.Crates.lra_linear_spec.Ring.{mul_nonnegative, ring, v, ⊖, ◌⊕◌, ◌⊗◌}
+use Rattle.lra_poly_queries.proofs.Crates.lra_linear_spec.SetOperations.{has_vertex, product_set, valid_on_rows, blend_product}
+use Rattle.lra_poly_queries.proofs.Crates.lra_linear_spec.Signs.{add_nonnegative, cases_sign, times_positive}
+use Rattle.lra_poly_queries.proofs.Crates.{lra_description_pair.OwnRows.none_of, lra_duality.PolyhedronLemmas.falsity_is_empty, lra_duality.PolyhedronLemmas.given_width}
+use Rattle.lra_poly_queries.proofs.Crates.{lra_linear_spec.LinearMaps.generated_nonneg, lra_linear_spec.Lines.entry_zeros, lra_linear_spec.Lines.zeros_length, lra_linear_spec.Pivots.echelon_positive}
 use Rattle.lra_systems.specs.LinearSystems.{FitKinds, FitsKind, LinearSystem, constraints, generators, rows_by_kind}
-use Rattle.lra_linear_spec.proofs.SetOperations.{blend_product}
 use Rattle.lra_poly_queries.specs.Shapes.{HasBound, IsBounded, IsUniverse}
 
 -- ---- an inequality that holds at all points

@@ -3,14 +3,14 @@ use Rattle.std.proofs.Common.{◌≡◌, ℕ, zero, suc, ◌<◌, ◌≤◌, ◌
 use Rattle.std.proofs.lemmas.List.Elements.{Contains-append_cases, Contains-append_left, Contains-append_right}
 use Rattle.std.proofs.{Common.Some, lemmas.List.append-nil, lemmas.List.append_assoc, lemmas.List.drop_all}
 use Rattle.std.specs.{List.Contains, Prelude.unwrap_or}
-use Rattle.lra_linear_spec.specs.Descriptions.{Con, LinearRow, Holds}
-use Rattle.lra_linear_spec.specs.{Kinds.is_equality, Points.SameSet, Polyhedra.Polyhedron, SetOperations.Meet, Strain.Loss, declared.ConKind.ConKind}
-use Rattle.lra_linear_spec.proofs.Membership.{contains_cases, contains_middle, contains_tail, split_none}
-use Rattle.lra_linear_spec.proofs.ListPlaces.{there_within}
+use Rattle.lra_poly_queries.specs.Crates.lra_linear_spec.Descriptions.{Con, LinearRow, Holds}
+use Rattle.lra_poly_queries.specs.Crates.{lra_linear_spec.Kinds.is_equality, lra_linear_spec.Points.SameSet, lra_linear_spec.Polyhedra.Polyhedron, lra_linear_spec.SetOperations.Meet}
+use Rattle.lra_poly_queries.specs.Crates.{lra_linear_spec.Strain.Loss, lra_linear_spec.declared.ConKind.ConKind}
+use Rattle.lra_poly_queries.proofs.Crates.lra_linear_spec.Membership.{contains_cases, contains_middle, contains_tail, split_none}
+use Rattle.lra_poly_queries.proofs.Crates.{lra_duality.SaturationLemmas.given_length, lra_linear_spec.ListPlaces.there_within}
 use Rattle.lra_poly.specs.Outcomes.{IfExact, IfFlagged, first_of}
 use Rattle.lra_poly.specs.{declared.outcome.Outcome.Outcome, declared.outcome.Outcome.TheVariants.Exact, declared.outcome.Outcome.TheVariants.Flagged}
 use Rattle.lra_poly.proofs.PolyLemmas.{if_exact, if_flagged}
-use Rattle.lra_duality.proofs.SaturationLemmas.{given_length}
 use Rattle.lra_systems.specs.LinearSystems.{LinearSystem, constraints, rows_by_kind}
 use Rattle.lra_systems.proofs.LinearRows.{constraints_pushed}
 use Rattle.lra_poly_queries.specs.Simplified.{AreNeeded, IsRedundant, IsNeededOrStrains, IsSimplified, IsSublist, OwnTrialStrains, SimplifyStrains, TellsRedundant, TrialStrains}

@@ -1,8 +1,8 @@
 -- Some constraints of a list, in their order.
 use Rattle.std.proofs.Common.{List, [], ◌∷◌, ◌++◌, ap, get_or, inl, inr, refl, subst, sym}
 use Rattle.std.specs.List.{Contains}
-use Rattle.lra_linear_spec.specs.Descriptions.{LinearRow}
-use Rattle.lra_linear_spec.proofs.Membership.{contains_cases, contains_head, contains_none, contains_tail, split_none}
+use Rattle.lra_poly_queries.specs.Crates.lra_linear_spec.Descriptions.{LinearRow}
+use Rattle.lra_poly_queries.proofs.Crates.lra_linear_spec.Membership.{contains_cases, contains_head, contains_none, contains_tail, split_none}
 use Rattle.lra_poly_queries.specs.Simplified.{IsSublist}
 
 abbrev pub behind : {A : Type 0} → List A → List A

@@ -1,7 +1,8 @@
 -- An operation that takes in constraints which give its exact result.
 use Rattle.std.proofs.Common.{◌≡◌, ℕ, List, subst}
-use Rattle.lra_linear_spec.specs.OperationStrain.{ConstraintsStrain, FromRowsStrains}
-use Rattle.lra_linear_spec.specs.{Descriptions.Con, Descriptions.LinearRow, Points.PointSet, Points.SameSet, Polyhedra.Polyhedron, declared.ConKind.ConKind}
+use Rattle.lra_poly_queries.specs.Crates.lra_linear_spec.OperationStrain.{ConstraintsStrain, FromRowsStrains}
+use Rattle.lra_poly_queries.specs.Crates.lra_linear_spec.Points.{PointSet, SameSet}
+use Rattle.lra_poly_queries.specs.Crates.{lra_linear_spec.Descriptions.Con, lra_linear_spec.Descriptions.LinearRow, lra_linear_spec.Polyhedra.Polyhedron, lra_linear_spec.declared.ConKind.ConKind}
 use Rattle.lra_systems.specs.LinearSystems.{LinearSystem, constraints}
 use Rattle.lra_poly.specs.{Outcomes.Becomes, Outcomes.IsOfRows, declared.outcome.Outcome.Outcome}
 use Rattle.lra_poly.proofs.PolyLemmas.{becomes_same, constraints_strain}

@@ -3,8 +3,9 @@ use Rattle.std.proofs.Common.{◌≡◌, ℕ, zero, suc, Bool, List, [], ◌∷�
 use Rattle.std.proofs.Common.{negsuc, ◌+ℤ◌, ◌*ℤ◌, ◌<ℤ◌, ◌≤ℤ◌, unsigned_abs, arith}
 use Rattle.std.proofs.{lemmas.Int.ints, lemmas.List.take_all, lemmas.List.Elements.All-cons, lemmas.List.Elements.All-tail}
 use Rattle.std.specs.{Int.int_div_euclid, Int.int_rem_euclid, List.All}
-use Rattle.lra_linear_spec.specs.{Descriptions.equality, Descriptions.inequality, OperationStrain.unit_row, Polyhedra.falsity, Range.InRange, Vectors.negated, Vectors.zeros}
-use Rattle.lra_linear_spec.proofs.{Lines.zeros_length, Ring.ring, Ring.v, Ring.◌⊕◌, Ring.◌⊗◌}
+use Rattle.lra_poly_queries.specs.Crates.{lra_linear_spec.Descriptions.equality, lra_linear_spec.Descriptions.inequality, lra_linear_spec.OperationStrain.unit_row, lra_linear_spec.Polyhedra.falsity}
+use Rattle.lra_poly_queries.specs.Crates.{lra_linear_spec.Range.InRange, lra_linear_spec.Vectors.negated, lra_linear_spec.Vectors.zeros}
+use Rattle.lra_poly_queries.proofs.Crates.{lra_linear_spec.Lines.zeros_length, lra_linear_spec.Ring.ring, lra_linear_spec.Ring.v, lra_linear_spec.Ring.◌⊕◌, lra_linear_spec.Ring.◌⊗◌}
 use Rattle.lra_row.specs.Rows.{IsRowGcd}
 use Rattle.lra_row.proofs.{Ratio.euclid, Ratio.rem_bounds, RowLemmas.divided, RowLemmas.divided_in_range, RowLemmas.lowest_divided, RowLemmas.lowest_same}
 use Rattle.lra_row.proofs.RowLemmas.{divided_times}

@@ -2,11 +2,14 @@
 use Rattle.std.proofs.Common.{◌≡◌, ◌⊎◌, ℕ, suc, ◌<◌, List, [], ◌∷◌, ◌++◌, length, drop, ap, sym, ◌∙◌, subst, ◌+◌, ◌≤◌, get_or, take, ℤ, pos, neg_ℤ, ◌+ℤ◌, ◌*ℤ◌, ◌<ℤ◌, ◌≤ℤ◌, inl, inr, arith}
 use Rattle.std.proofs.{lemmas.Int.ints, lemmas.List.get_or_default, lemmas.List.length-append, lemmas.List.take_all}
 use Rattle.std.specs.Prelude.{◌↔◌}
-use Rattle.lra_linear_spec.specs.Descriptions.{Con, LinearRow, equality, inequality}
-use Rattle.lra_linear_spec.specs.{Kinds.is_equality, LowestTerms.IsPrimitive, Points.IsPoint, Points.IsWithin, Polyhedra.falsity, Vectors.entry, Vectors.product, declared.ConKind.ConKind}
-use Rattle.lra_linear_spec.proofs.{Descriptions.con_cons, Descriptions.con_head, Descriptions.con_none, Descriptions.con_tail, Lines.entry_zeros, OneSpelling.falsity_never, Products.dot_same}
-use Rattle.lra_linear_spec.proofs.{Products.dot_scale, Products.product_comm, Ring.mul_nonnegative, Ring.ring, Ring.v, Ring.⊖, Ring.◌⊕◌, Ring.◌⊗◌, Signs.cases_sign, Signs.no_product}
-use Rattle.lra_linear_spec.proofs.Signs.{add_nonnegative, difference}
+use Rattle.lra_poly_queries.specs.Crates.lra_linear_spec.Descriptions.{Con, LinearRow, equality, inequality}
+use Rattle.lra_poly_queries.specs.Crates.{lra_linear_spec.Kinds.is_equality, lra_linear_spec.LowestTerms.IsPrimitive, lra_linear_spec.Points.IsPoint, lra_linear_spec.Points.IsWithin}
+use Rattle.lra_poly_queries.specs.Crates.{lra_linear_spec.Polyhedra.falsity, lra_linear_spec.Vectors.entry, lra_linear_spec.Vectors.product, lra_linear_spec.declared.ConKind.ConKind}
+use Rattle.lra_poly_queries.proofs.Crates.lra_linear_spec.Descriptions.{con_cons, con_head, con_none, con_tail}
+use Rattle.lra_poly_queries.proofs.Crates.lra_linear_spec.Products.{dot_same, dot_scale, product_comm}
+use Rattle.lra_poly_queries.proofs.Crates.lra_linear_spec.Ring.{mul_nonnegative, ring, v, ⊖, ◌⊕◌, ◌⊗◌}
+use Rattle.lra_poly_queries.proofs.Crates.lra_linear_spec.Signs.{cases_sign, no_product, add_nonnegative, difference}
+use Rattle.lra_poly_queries.proofs.Crates.{lra_linear_spec.Lines.entry_zeros, lra_linear_spec.OneSpelling.falsity_never}
 use Rattle.lra_systems.specs.LinearSystems.{LinearSystem, constraints, rows_by_kind}
 use Rattle.lra_systems.proofs.LinearRows.{constraints_pushed, given_more}
 use Rattle.lra_poly_queries.specs.Tightened.{AreTightened, IsTightened}

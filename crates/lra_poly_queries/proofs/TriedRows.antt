@@ -1,9 +1,11 @@
 -- A constraint that is tried on the polyhedron of a context and of others.
 use Rattle.std.proofs.Common.{◌≡◌, ℕ, List, [], ◌∷◌, ◌++◌, sym, subst, inl, inr, None, Some}
-use Rattle.lra_linear_spec.specs.declared.Excess as E
-use Rattle.lra_linear_spec.specs.{Descriptions.Con, Descriptions.LinearRow, Descriptions.inequality, OperationStrain.FromRowsStrains, OperationStrain.ProductsPass, Points.IsPoint}
-use Rattle.lra_linear_spec.specs.{Polyhedra.IsPolyhedronOf, Polyhedra.Polyhedron, SetOperations.ValidOn, Strain.Loss, declared.Cause.TheVariants.Excess}
-use Rattle.lra_linear_spec.proofs.SetOperations.{meet_con}
+use Rattle.lra_poly_queries.specs.Crates.lra_linear_spec.declared.Excess as E
+use Rattle.lra_poly_queries.specs.Crates.lra_linear_spec.Descriptions.{Con, LinearRow, inequality}
+use Rattle.lra_poly_queries.specs.Crates.lra_linear_spec.OperationStrain.{FromRowsStrains, ProductsPass}
+use Rattle.lra_poly_queries.specs.Crates.lra_linear_spec.Polyhedra.{IsPolyhedronOf, Polyhedron}
+use Rattle.lra_poly_queries.specs.Crates.{lra_linear_spec.Points.IsPoint, lra_linear_spec.SetOperations.ValidOn, lra_linear_spec.Strain.Loss, lra_linear_spec.declared.Cause.TheVariants.Excess}
+use Rattle.lra_poly_queries.proofs.Crates.lra_linear_spec.SetOperations.{meet_con}
 use Rattle.lra_poly.specs.Outcomes.{IfExact, IfFlagged, IsOfRows, first_of}
 use Rattle.lra_poly.specs.{declared.outcome.Outcome.Outcome, declared.outcome.Outcome.TheVariants.Exact, declared.outcome.Outcome.TheVariants.Flagged}
 use Rattle.lra_poly.proofs.PolyLemmas.{if_exact, if_flagged}

@@ -1,7 +1,8 @@
 -- The least box around a polyhedron: of each coordinate the least and the greatest value.
 use Rattle.std.specs.Prelude.{◌≡◌, ℕ, suc, ℤ, List, length, IfSome, Option, None, Some, slice_get}
-use Rattle.lra_linear_spec.specs.{OperationStrain.unit_row, Polyhedra.Polyhedron, Range.InRange}
-use Rattle.lra_duality.specs.Maxima.{IsGreatestValue, IsUnbounded}
+use Rattle.lra_poly_queries.specs.Crates.lra_duality.Maxima.{IsGreatestValue, IsUnbounded}
+use Rattle.lra_poly_queries.specs.Crates.lra_linear_spec.Polyhedra.{Polyhedron}
+use Rattle.lra_poly_queries.specs.Crates.{lra_linear_spec.OperationStrain.unit_row, lra_linear_spec.Range.InRange}
 use Rattle.lra_poly_queries.specs.Minima.{IsLeastValue, IsUnboundedBelow}
 use Rattle.lra_poly_queries.specs.{declared.boxes.Extent.Extent, declared.boxes.Fraction.Fraction}
 

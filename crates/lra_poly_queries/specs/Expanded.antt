@@ -1,7 +1,9 @@
 -- A twin of a dimension: a further coordinate that may be whatever the one along it may be.
 use Rattle.std.specs.Prelude.{ℕ, suc, ◌+◌, List, [], ◌∷◌, ◌++◌, take}
-use Rattle.lra_linear_spec.specs.Descriptions.{Con, LinearRow}
-use Rattle.lra_linear_spec.specs.{OperationStrain.ConstraintsStrain, Points.PointSet, Polyhedra.Polyhedron, Strain.Loss}
+use Rattle.lra_poly_queries.specs.Crates.lra_linear_spec.Descriptions.{Con, LinearRow}
+use Rattle.lra_poly_queries.specs.Crates.lra_linear_spec.OperationStrain.{ConstraintsStrain}
+use Rattle.lra_poly_queries.specs.Crates.lra_linear_spec.Polyhedra.{Polyhedron}
+use Rattle.lra_poly_queries.specs.Crates.{lra_linear_spec.Points.PointSet, lra_linear_spec.Strain.Loss}
 use Rattle.lra_poly_queries.specs.{Joined.counted, Moved.chosen, Moved.moved, Related.replaced}
 
 -- the points that are in P without their last coordinate, and with it in place of the one along k

@@ -1,8 +1,9 @@
 -- Dimensions folded into others: the hull of the points along the ones and along the others.
 use Rattle.std.specs.Prelude.{◌⊎◌, ℕ, List, length}
-use Rattle.lra_linear_spec.specs.Polyhedra.{IsPolyhedronOf, Polyhedron}
-use Rattle.lra_linear_spec.specs.SetOperations.{Hull, Union}
-use Rattle.lra_linear_spec.specs.{Descriptions.Con, OperationStrain.HullStrains, Points.PointSet, Strain.Loss}
+use Rattle.lra_poly_queries.specs.Crates.lra_linear_spec.Polyhedra.{IsPolyhedronOf, Polyhedron}
+use Rattle.lra_poly_queries.specs.Crates.lra_linear_spec.SetOperations.{Hull, Union}
+use Rattle.lra_poly_queries.specs.Crates.{lra_linear_spec.Descriptions.Con, lra_linear_spec.OperationStrain.HullStrains}
+use Rattle.lra_poly_queries.specs.Crates.{lra_linear_spec.Points.PointSet, lra_linear_spec.Strain.Loss}
 use Rattle.lra_poly_queries.specs.Moved.{MapDimsStrains, Moved}
 
 abbrev pub Folded : Polyhedron → List ℕ → List ℕ → PointSet

@@ -1,7 +1,9 @@
 -- Polyhedra side by side: constraints moved to other dimensions, and taken together.
 use Rattle.std.specs.Prelude.{ℕ, zero, suc, ◌+◌, List, [], ◌∷◌, ◌++◌, take, drop, replicate}
-use Rattle.lra_linear_spec.specs.{Descriptions.Con, Descriptions.LinearRow, OperationStrain.ConstraintsStrain}
-use Rattle.lra_linear_spec.specs.{Points.PointSet, Polyhedra.Polyhedron, Strain.Loss, Vectors.entry}
+use Rattle.lra_poly_queries.specs.Crates.lra_linear_spec.Descriptions.{Con, LinearRow}
+use Rattle.lra_poly_queries.specs.Crates.lra_linear_spec.OperationStrain.{ConstraintsStrain}
+use Rattle.lra_poly_queries.specs.Crates.{lra_linear_spec.Points.PointSet, lra_linear_spec.Polyhedra.Polyhedron}
+use Rattle.lra_poly_queries.specs.Crates.{lra_linear_spec.Strain.Loss, lra_linear_spec.Vectors.entry}
 use Rattle.lra_poly_queries.specs.Moved.{moved}
 
 -- k dimensions in turn, from s on

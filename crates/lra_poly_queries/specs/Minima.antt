@@ -1,11 +1,15 @@
 -- The least value of a form on a polyhedron: with its sign turned, the greatest value of the form's opposite.
 use Rattle.std.specs.Prelude.{ℤ, pos, neg_ℤ, ◌*ℤ◌, ◌<ℤ◌, ◌≤ℤ◌, ⊤, List, [], ◌∷◌}
-use Rattle.lra_linear_spec.specs.declared.Excess as E
-use Rattle.lra_linear_spec.specs.{Descriptions.LinearRow, Descriptions.Con, LowestTerms.IsPrimitive}
-use Rattle.lra_linear_spec.specs.{OperationStrain.MaximiseStrains, Points.IsPoint, Points.IsEmptySet}
-use Rattle.lra_linear_spec.specs.{Polyhedra.Polyhedron, Range.InRange, Vectors.entry, Vectors.negated, Vectors.product}
-use Rattle.lra_duality.specs.{Maxima.HasValue, Maxima.IsMaximum, declared.maximum.Maximum.Maximum}
-use Rattle.lra_duality.specs.declared.maximum.Maximum.TheVariants as greatest
+use Rattle.lra_poly_queries.specs.Crates.lra_linear_spec.declared.Excess as E
+use Rattle.lra_poly_queries.specs.Crates.lra_duality.Maxima.{HasValue, IsMaximum}
+use Rattle.lra_poly_queries.specs.Crates.lra_linear_spec.Descriptions.{LinearRow, Con}
+use Rattle.lra_poly_queries.specs.Crates.lra_linear_spec.LowestTerms.{IsPrimitive}
+use Rattle.lra_poly_queries.specs.Crates.lra_linear_spec.OperationStrain.{MaximiseStrains}
+use Rattle.lra_poly_queries.specs.Crates.lra_linear_spec.Points.{IsPoint, IsEmptySet}
+use Rattle.lra_poly_queries.specs.Crates.lra_linear_spec.Polyhedra.{Polyhedron}
+use Rattle.lra_poly_queries.specs.Crates.lra_linear_spec.Vectors.{entry, negated, product}
+use Rattle.lra_poly_queries.specs.Crates.{lra_duality.declared.maximum.Maximum.Maximum, lra_linear_spec.Range.InRange}
+use Rattle.lra_poly_queries.specs.Crates.lra_duality.declared.maximum.Maximum.TheVariants as greatest
 use Rattle.lra_poly_queries.specs.declared.minimum.Minimum.{Minimum}
 use Rattle.lra_poly_queries.specs.declared.minimum.Minimum.TheVariants.{Empty, Wide, Unbounded, At}
 

@@ -1,8 +1,10 @@
 -- Dimensions moved: each new dimension is, in turn, one of the old ones.
 use Rattle.std.specs.Prelude.{ℕ, suc, ℤ, List, ◌∷◌, length, map}
-use Rattle.lra_linear_spec.specs.Descriptions.{Con, LinearRow}
-use Rattle.lra_linear_spec.specs.Points.{IsPoint, PointSet, SamePoint}
-use Rattle.lra_linear_spec.specs.{OperationStrain.GeneratorsStrain, Polyhedra.Polyhedron, Strain.Loss, Vectors.entry}
+use Rattle.lra_poly_queries.specs.Crates.lra_linear_spec.Descriptions.{Con, LinearRow}
+use Rattle.lra_poly_queries.specs.Crates.lra_linear_spec.OperationStrain.{GeneratorsStrain}
+use Rattle.lra_poly_queries.specs.Crates.lra_linear_spec.Points.{IsPoint, PointSet, SamePoint}
+use Rattle.lra_poly_queries.specs.Crates.lra_linear_spec.Polyhedra.{Polyhedron}
+use Rattle.lra_poly_queries.specs.Crates.{lra_linear_spec.Strain.Loss, lra_linear_spec.Vectors.entry}
 
 -- the row with its column 0, then the columns of these dimensions
 abbrev pub chosen : List ℕ → List ℤ → List ℤ

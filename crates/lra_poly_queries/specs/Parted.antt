@@ -1,8 +1,10 @@
 -- The polyhedra of lists of constraints, such as the parts of a value.
 use Rattle.std.specs.List.{Contains}
 use Rattle.std.specs.Prelude.{◌≡◌, ◌⊎◌, ℤ, pos, List, [], ◌∷◌}
-use Rattle.lra_linear_spec.specs.{Descriptions.Con, OperationStrain.FromRowsStrains, Points.IsWithin}
-use Rattle.lra_linear_spec.specs.{Polyhedra.IsPolyhedronOf, Polyhedra.Polyhedron, Strain.Loss, declared.ConKind.ConKind}
+use Rattle.lra_poly_queries.specs.Crates.lra_linear_spec.OperationStrain.{FromRowsStrains}
+use Rattle.lra_poly_queries.specs.Crates.lra_linear_spec.Polyhedra.{IsPolyhedronOf, Polyhedron}
+use Rattle.lra_poly_queries.specs.Crates.{lra_linear_spec.Descriptions.Con, lra_linear_spec.Points.IsWithin}
+use Rattle.lra_poly_queries.specs.Crates.{lra_linear_spec.Strain.Loss, lra_linear_spec.declared.ConKind.ConKind}
 use Rattle.lra_poly.specs.{Outcomes.IfExact, Outcomes.IfFlagged, declared.outcome.Outcome.Outcome}
 use Rattle.lra_systems.specs.LinearSystems.{LinearSystem, constraints}
 

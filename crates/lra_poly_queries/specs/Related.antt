@@ -1,8 +1,10 @@
 -- A coordinate whose new values stand to the old point as a constraint reports.
 use Rattle.std.specs.Prelude.{◌⊎◌, ℕ, ◌+◌, List, [], ◌∷◌, ◌++◌, slice_set}
-use Rattle.lra_linear_spec.specs.Descriptions.{Con, LinearRow, Holds}
-use Rattle.lra_linear_spec.specs.{OperationStrain.ConstraintsStrain, Points.PointSet, Polyhedra.IsPolyhedronOf}
-use Rattle.lra_linear_spec.specs.{Polyhedra.Polyhedron, SetOperations.Embed, SetOperations.Meet, Strain.Loss}
+use Rattle.lra_poly_queries.specs.Crates.lra_linear_spec.Descriptions.{Con, LinearRow, Holds}
+use Rattle.lra_poly_queries.specs.Crates.lra_linear_spec.OperationStrain.{ConstraintsStrain}
+use Rattle.lra_poly_queries.specs.Crates.lra_linear_spec.Polyhedra.{IsPolyhedronOf, Polyhedron}
+use Rattle.lra_poly_queries.specs.Crates.lra_linear_spec.SetOperations.{Embed, Meet}
+use Rattle.lra_poly_queries.specs.Crates.{lra_linear_spec.Points.PointSet, lra_linear_spec.Strain.Loss}
 use Rattle.lra_poly_queries.specs.{Joined.counted, Moved.MapDimsStrains, Moved.Moved, Moved.moved}
 
 -- the points of P with one further coordinate that meet the constraint

@@ -1,9 +1,11 @@
 -- How a constraint stands to a polyhedron: which signs its form takes at the points, given by the generators.
 use Rattle.std.specs.List.{All}
 use Rattle.std.specs.Prelude.{◌≡◌, ◌↔◌, ℤ, pos, ◌<ℤ◌, List, IsTrue}
-use Rattle.lra_linear_spec.specs.Descriptions.{LinearRow, Con, Holds, inequality, equality}
-use Rattle.lra_linear_spec.specs.{Points.IsEmptySet, Polyhedra.Polyhedron, SetOperations.Meet, SetOperations.ValidOn}
-use Rattle.lra_linear_spec.specs.{Vectors.entry, Vectors.negated, Vectors.product, Widening.holds_with}
+use Rattle.lra_poly_queries.specs.Crates.lra_linear_spec.Descriptions.{LinearRow, Con, Holds, inequality, equality}
+use Rattle.lra_poly_queries.specs.Crates.lra_linear_spec.SetOperations.{Meet, ValidOn}
+use Rattle.lra_poly_queries.specs.Crates.lra_linear_spec.Vectors.{entry, negated, product}
+use Rattle.lra_poly_queries.specs.Crates.lra_linear_spec.Widening.{holds_with}
+use Rattle.lra_poly_queries.specs.Crates.{lra_linear_spec.Points.IsEmptySet, lra_linear_spec.Polyhedra.Polyhedron}
 use Rattle.lra_poly_queries.specs.{declared.relation.Missed.Missed, declared.relation.Relation.Relation}
 
 -- no point at which the constraint holds

@@ -1,9 +1,10 @@
 -- What a polyhedron is as a whole: all points, or bounded; how many dimensions it has.
 use Rattle.std.specs.Prelude.{◌≡◌, ◌↔◌, ◌+◌, ℕ, suc, ℤ, pos, List, [], length}
-use Rattle.lra_linear_spec.specs.Echelon.{IsEchelon, Spanned}
-use Rattle.lra_linear_spec.specs.{Descriptions.Con, Descriptions.equality, Points.IsPoint, Points.SameSet}
-use Rattle.lra_linear_spec.specs.{Polyhedra.Polyhedron, SetOperations.ValidOn, Vectors.entry}
-use Rattle.lra_duality.specs.Maxima.{IsAtMost}
+use Rattle.lra_poly_queries.specs.Crates.lra_linear_spec.Descriptions.{Con, equality}
+use Rattle.lra_poly_queries.specs.Crates.lra_linear_spec.Echelon.{IsEchelon, Spanned}
+use Rattle.lra_poly_queries.specs.Crates.lra_linear_spec.Points.{IsPoint, SameSet}
+use Rattle.lra_poly_queries.specs.Crates.{lra_duality.Maxima.IsAtMost, lra_linear_spec.Polyhedra.Polyhedron}
+use Rattle.lra_poly_queries.specs.Crates.{lra_linear_spec.SetOperations.ValidOn, lra_linear_spec.Vectors.entry}
 
 -- each point is in it
 abbrev pub IsUniverse : Polyhedron → Type 0

@@ -1,10 +1,12 @@
 -- Constraints without those that a context and the others give.
 use Rattle.std.specs.Prelude.{◌≡◌, ◌⊎◌, ℕ, List, [], ◌∷◌, ◌++◌, Option, None, Some}
-use Rattle.lra_linear_spec.specs.declared.Excess as E
-use Rattle.lra_linear_spec.specs.Descriptions.{Con, LinearRow, inequality}
-use Rattle.lra_linear_spec.specs.OperationStrain.{FromRowsStrains, ProductsPass}
-use Rattle.lra_linear_spec.specs.{Points.SameSet, Polyhedra.IsPolyhedronOf, Polyhedra.Polyhedron, SetOperations.Meet}
-use Rattle.lra_linear_spec.specs.{SetOperations.ValidOn, Strain.Loss, declared.Cause.TheVariants.Excess}
+use Rattle.lra_poly_queries.specs.Crates.lra_linear_spec.declared.Excess as E
+use Rattle.lra_poly_queries.specs.Crates.lra_linear_spec.Descriptions.{Con, LinearRow, inequality}
+use Rattle.lra_poly_queries.specs.Crates.lra_linear_spec.OperationStrain.{FromRowsStrains, ProductsPass}
+use Rattle.lra_poly_queries.specs.Crates.lra_linear_spec.Polyhedra.{IsPolyhedronOf, Polyhedron}
+use Rattle.lra_poly_queries.specs.Crates.lra_linear_spec.SetOperations.{Meet, ValidOn}
+use Rattle.lra_poly_queries.specs.Crates.{lra_linear_spec.Points.SameSet, lra_linear_spec.Strain.Loss}
+use Rattle.lra_poly_queries.specs.Crates.{lra_linear_spec.declared.Cause.TheVariants.Excess}
 use Rattle.lra_poly.specs.{Outcomes.IfExact, Outcomes.IfFlagged, declared.outcome.Outcome.Outcome}
 
 -- the constraint holds at each point of the context at which the others hold

@@ -1,7 +1,8 @@
 -- Constraints rounded to whole points. A store of whole numbers s is the point with the divisor 1.
 use Rattle.std.specs.Prelude.{◌≡◌, ◌↔◌, ◌⊎◌, ℕ, ℤ, pos, List, ◌∷◌, [], length, drop}
-use Rattle.lra_linear_spec.specs.Descriptions.{LinearRow, Holds}
-use Rattle.lra_linear_spec.specs.{LowestTerms.IsPrimitive, Points.IsWithin, Vectors.entry}
+use Rattle.lra_poly_queries.specs.Crates.lra_linear_spec.Descriptions.{LinearRow, Holds}
+use Rattle.lra_poly_queries.specs.Crates.lra_linear_spec.LowestTerms.{IsPrimitive}
+use Rattle.lra_poly_queries.specs.Crates.{lra_linear_spec.Points.IsWithin, lra_linear_spec.Vectors.entry}
 
 -- the second row has the stores of the first, and no further points; only 1 divides each of its coefficients, or all
 -- are 0

@@ -1,16 +1,16 @@
 //! The least box around a polyhedron.
 
 ghost use Rattle.std.specs.Prelude.{◌≡◌, ◌↔◌, ◌<◌, length, IfOk, IfSome, IsNone};
-ghost use Rattle.lra_linear_forms.specs.Form.{form_row};
-ghost use Rattle.lra_linear_spec.specs.OperationStrain.{MaximiseStrains};
-ghost use Rattle.lra_linear_spec.specs.{Descriptions.Con, Points.IsEmptySet, Vectors.negated, declared.Excess.Excess};
+ghost use Rattle.lra_poly_queries.specs.Crates.lra_linear_spec.OperationStrain.{MaximiseStrains};
+ghost use Rattle.lra_poly_queries.specs.Crates.{lra_linear_forms.Form.form_row, lra_linear_spec.Descriptions.Con};
+ghost use Rattle.lra_poly_queries.specs.Crates.{lra_linear_spec.Points.IsEmptySet, lra_linear_spec.Vectors.negated};
+ghost use Rattle.lra_poly_queries.specs.Crates.{lra_linear_spec.declared.Excess.Excess};
 ghost use Rattle.lra_poly_queries.specs.Boxed.{FractionInRange, IsExtent, IsGreatestEnd, IsLeastBox, IsLeastEnd};
 ghost use Rattle.lra_poly_queries.specs.Boxed.{coordinate_form};
 
 use crate::minimum::{Minimum, minimise};
-use lra_duality::Maximum;
-use lra_linear_forms::LinExpr;
-use lra_poly::Poly;
+use lra_domain::LinExpr;
+use lra_poly::{Maximum, Poly};
 use std::alloc::{AllocError, Global};
 
 /// A fraction in lowest terms, its denominator above 0.

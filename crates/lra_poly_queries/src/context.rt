@@ -1,17 +1,17 @@
 //! Constraints without those that a context gives.
 
 ghost use Rattle.std.specs.Prelude.{◌≡◌, ◌∷◌, ◌++◌, ◌<◌, ◌≤◌, List, [], suc, drop, length, IfOk};
-ghost use Rattle.lra_linear_spec.specs.{Descriptions.LinearRow, Kinds.is_equality};
-ghost use Rattle.lra_linear_spec.specs.declared.Cause.TheVariants as of_cause;
+ghost use Rattle.lra_poly_queries.specs.Crates.lra_linear_spec.Descriptions.{LinearRow};
+ghost use Rattle.lra_poly_queries.specs.Crates.lra_linear_spec.Kinds.{is_equality};
+ghost use Rattle.lra_poly_queries.specs.Crates.lra_linear_spec.declared.Cause.TheVariants as of_cause;
 ghost use Rattle.lra_systems.specs.LinearSystems.{constraints};
 ghost use Rattle.lra_poly_queries.specs.Simplified.{IsSimplified, TellsRedundant};
 
 use crate::relation::relate;
-use lra_cone::Loss;
-use lra_linear_spec::{Cause, ConKind, Excess};
-use lra_poly::{Outcome, Poly};
-use lra_row::Row;
-use lra_systems::{ConSys, TOO_MANY_DIMENSIONS};
+use lra_mapped_systems::Cause;
+use lra_poly::{Loss, Outcome, Poly};
+use lra_row::{Excess, Row};
+use lra_systems::{ConKind, ConSys, TOO_MANY_DIMENSIONS};
 use std::alloc::{AllocError, Global};
 
 // No constraint. Memory runs out from 2^62 dimensions on.

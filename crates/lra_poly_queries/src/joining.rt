@@ -1,7 +1,7 @@
 //! Polyhedra side by side.
 
 ghost use Rattle.std.specs.Prelude.{◌≡◌, ◌<◌, ◌+◌, ◌++◌, length, replicate, IfOk};
-ghost use Rattle.lra_linear_spec.specs.{Descriptions.Con, Kinds.is_equality};
+ghost use Rattle.lra_poly_queries.specs.Crates.{lra_linear_spec.Descriptions.Con, lra_linear_spec.Kinds.is_equality};
 ghost use Rattle.lra_poly.specs.Outcomes.{Becomes};
 ghost use Rattle.lra_systems.specs.{Dimensions.too_many_dimensions, LinearSystems.constraints};
 ghost use Rattle.lra_poly_queries.specs.Joined.{ConcatenateStrains, Concatenated, counted};
@@ -9,10 +9,9 @@ ghost use Rattle.lra_poly_queries.specs.Related.{ExtendStrains, Extended, ImageR
 ghost use Rattle.lra_poly_queries.specs.{Expanded.ExpandStrains, Expanded.Expanded, Moved.moved};
 
 use crate::moving::{choose, map_dims};
-use lra_linear_spec::ConKind;
 use lra_poly::{Outcome, Poly};
 use lra_row::Row;
-use lra_systems::ConSys;
+use lra_systems::{ConKind, ConSys};
 use std::alloc::{AllocError, Global};
 
 // One dimension as often as is asked, then the first ones in turn.

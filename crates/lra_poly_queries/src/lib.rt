@@ -16,6 +16,7 @@ mod shape;
 pub use boxes::{Extent, Fraction, least_box};
 pub use context::simplify;
 pub use joining::{concatenate, expand, extend_with, image_relation};
+pub use lra_poly::Poly;
 pub use minimum::{Minimum, minimise};
 pub use moving::{fold_dims, map_dims};
 pub use parts::polyhedra_of;

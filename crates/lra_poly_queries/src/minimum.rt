@@ -1,12 +1,11 @@
 //! The least value of a form.
 
 ghost use Rattle.std.specs.Prelude.{◌≡◌, length};
-ghost use Rattle.lra_linear_forms.specs.Form.{form_row};
+ghost use Rattle.lra_poly_queries.specs.Crates.lra_linear_forms.Form.{form_row};
 ghost use Rattle.lra_poly_queries.specs.Minima.{IsMinimum, LeastInRange, TellsMinimum};
 
-use lra_duality::Maximum;
-use lra_linear_forms::LinExpr;
-use lra_poly::Poly;
+use lra_domain::LinExpr;
+use lra_poly::{Maximum, Poly};
 use lra_row::opposite;
 
 /// The least value of a form on a polyhedron, or why there is none. Places are those of generators, from 0.

@@ -1,7 +1,8 @@
 //! Dimensions moved, dropped and folded.
 
 ghost use Rattle.std.specs.Prelude.{◌≡◌, ◌<◌, suc, length, IfOk};
-ghost use Rattle.lra_linear_spec.specs.{Descriptions.Con, Range.InRange, Vectors.entry};
+ghost use Rattle.lra_poly_queries.specs.Crates.lra_linear_spec.Range.{InRange};
+ghost use Rattle.lra_poly_queries.specs.Crates.{lra_linear_spec.Descriptions.Con, lra_linear_spec.Vectors.entry};
 ghost use Rattle.lra_poly.specs.Outcomes.{Becomes};
 ghost use Rattle.lra_systems.specs.LinearSystems.{generators, FitKinds};
 ghost use Rattle.lra_poly_queries.specs.Folded.{FoldStrains, Folded};
@@ -13,7 +14,7 @@ use lra_systems::{GenSys, TOO_MANY_DIMENSIONS};
 use std::alloc::{AllocError, Global};
 
 // The row's number along a dimension, 0 past the last one.
-#[tactic(auto, using(lra_linear_spec::proofs::Products::entry_past))]
+#[tactic(auto, using(crate::proofs::Crates::entry_past))]
 fn coordinate(row: &Row, dim: usize) -> i128
     ensures entry { result ≡ entry row.now (suc dim) }
     ensures in_range { InRange result }

@@ -2,18 +2,17 @@
 
 ghost use Rattle.std.specs.Prelude.{◌≡◌, ◌↔◌, ◌⊎◌, ◌∷◌, ◌<◌, ◌<ℤ◌, [], suc, pos, length, IsTrue, IfErr, IfOk, Err};
 ghost use Rattle.std.specs.{List.All, Prelude.false, Prelude.true};
-ghost use Rattle.lra_linear_spec.specs.CheckedArithmetic.{checked_product};
-ghost use Rattle.lra_linear_spec.specs.Descriptions.{LinearRow, inequality};
-ghost use Rattle.lra_linear_spec.specs.{Kinds.is_equality, OperationStrain.ProductsPass, Vectors.entry};
-ghost use Rattle.lra_duality.specs.Maxima.{StaysInRange};
+ghost use Rattle.lra_poly_queries.specs.Crates.lra_duality.Maxima.{StaysInRange};
+ghost use Rattle.lra_poly_queries.specs.Crates.lra_linear_spec.CheckedArithmetic.{checked_product};
+ghost use Rattle.lra_poly_queries.specs.Crates.lra_linear_spec.Descriptions.{LinearRow, inequality};
+ghost use Rattle.lra_poly_queries.specs.Crates.lra_linear_spec.OperationStrain.{ProductsPass};
+ghost use Rattle.lra_poly_queries.specs.Crates.{lra_linear_spec.Kinds.is_equality, lra_linear_spec.Vectors.entry};
 ghost use Rattle.lra_systems.specs.LinearSystems.{generators};
 ghost use Rattle.lra_poly_queries.specs.Relations.{AreMissed, IsRelation, MissesAt};
 
-use lra_duality::accepts;
-use lra_linear_spec::{ConKind, Excess};
-use lra_poly::Poly;
-use lra_row::{Row, opposite};
-use lra_systems::GenSys;
+use lra_poly::{Poly, accepts};
+use lra_row::{Excess, Row, opposite};
+use lra_systems::{ConKind, GenSys};
 
 /// How a constraint stands to a polyhedron. Without a point all four are true.
 #[derive(Clone, Copy, Debug, PartialEq, Eq)]

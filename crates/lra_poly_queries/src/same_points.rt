@@ -1,7 +1,7 @@
 //! Whether two polyhedra have the same points.
 
 ghost use Rattle.std.specs.Prelude.{◌≡◌, ◌↔◌, IsTrue};
-ghost use Rattle.lra_linear_spec.specs.{Descriptions.Con, Points.SameSet};
+ghost use Rattle.lra_poly_queries.specs.Crates.{lra_linear_spec.Descriptions.Con, lra_linear_spec.Points.SameSet};
 
 use lra_poly::Poly;
 

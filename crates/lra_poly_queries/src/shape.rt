@@ -2,11 +2,12 @@
 
 ghost use Rattle.std.specs.List.{All, prefix_len};
 ghost use Rattle.std.specs.Prelude.{◌≡◌, ◌↔◌, IsNone, IsTrue, IfSome};
-ghost use Rattle.lra_linear_spec.specs.{Descriptions.Con, Kinds.is_equality, Points.IsEmptySet};
+ghost use Rattle.lra_poly_queries.specs.Crates.lra_linear_spec.Kinds.{is_equality};
+ghost use Rattle.lra_poly_queries.specs.Crates.{lra_linear_spec.Descriptions.Con, lra_linear_spec.Points.IsEmptySet};
 ghost use Rattle.lra_poly_queries.specs.Shapes.{AffineDimension, IsBounded, IsUniverse};
 
-use lra_linear_spec::{ConKind, GenKind};
 use lra_poly::Poly;
+use lra_systems::{ConKind, GenKind};
 
 /// Whether it has all points.
 pub fn is_universe(p: &Poly) -> bool

@@ -2,13 +2,12 @@
 use Rattle.std.proofs.Common.{Bool, Err, List, Ok, Result, [], ap, arith, cond, false, get_or, length, map, not, pos, refl, suc, sym, take, true, zero, ℕ, ℤ, ◌+◌, ◌<◌, ◌∙◌, ◌++◌, ◌∷◌, ◌≡◌, ◌≢◌}
 use Rattle.std.proofs.lemmas.Bool.{and_parts}
 use Rattle.std.specs.{Bool.beq, List.filter, List.list_all, List.list_any, Ordering.int_eq, Prelude.◌&&◌, Prelude.◌||◌, Prelude.slice_index_or}
-use Rattle.lra_bits.specs.TruthValues.{value_at}
-use Rattle.lra_linear_spec.specs.{CheckedArithmetic.checked_product, Descriptions.LinearRow, Polyhedra.Polyhedron, Vectors.product, Widening.holds_with, Widening.is_tight_as}
-use Rattle.lra_linear_spec.specs.declared.Excess as E
-use Rattle.lra_linear_spec.proofs.CheckedArithmetic.{checked_product_value}
+use Rattle.lra_poly_widening.specs.Crates.{lra_bits.TruthValues.value_at, lra_duality.Saturations.saturated, lra_linear_spec.CheckedArithmetic.checked_product, lra_linear_spec.Descriptions.LinearRow}
+use Rattle.lra_poly_widening.specs.Crates.{lra_linear_spec.Polyhedra.Polyhedron, lra_linear_spec.Vectors.product, lra_linear_spec.Widening.holds_with, lra_linear_spec.Widening.is_tight_as}
+use Rattle.lra_poly_widening.specs.Crates.lra_linear_spec.declared.Excess as E
+use Rattle.lra_poly_widening.proofs.Crates.lra_linear_spec.CheckedArithmetic.{checked_product_value}
 use Rattle.lra_systems.specs.LinearSystems.{rows_by_kind}
 use Rattle.lra_systems.proofs.FirstMembers.{front, member}
-use Rattle.lra_duality.specs.Saturations.{saturated}
 use Rattle.lra_poly_widening.specs.{Rank.fits, Rank.held_thresholds, Rank.holds_in_range, Rank.is_free, Saturated.is_zero, Saturated.same_values, Saturated.vanishes}
 use Rattle.lra_poly_widening.proofs.{Loops.front_step, TightLists.same_saturate}
 

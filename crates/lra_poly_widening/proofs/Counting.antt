@@ -1,13 +1,14 @@
 -- How many members pass a test, and the lists that the rank counts.
 use Rattle.std.proofs.Common.{Bool, List, [], ap, arith, cond, false, inl, inr, length, not, refl, subst, suc, sym, true, ℤ, ◌++◌, ◌≤◌, ◌∙◌, ◌∷◌, ◌≡◌}
+use Rattle.std.proofs.lemmas.Bool.{or_left, or_right, not-true}
 use Rattle.std.proofs.{lemmas.Bool.and_parts, lemmas.List.append-nil, lemmas.List.Elements.filter-append}
 use Rattle.std.specs.{List.Contains, List.filter, List.list_any, Prelude.◌&&◌, Prelude.◌||◌}
-use Rattle.std.proofs.lemmas.Bool.{or_left, or_right, not-true}
-use Rattle.lra_linear_spec.specs.Widening.{holds_with, is_tight_as, is_valid}
-use Rattle.lra_linear_spec.specs.{CheckedArithmetic.checked_product, Descriptions.LinearRow, Descriptions.rows_as, Polyhedra.HasPoint, Polyhedra.Polyhedron, RowOrder.Ascends, RowOrder.inequality_cmp}
-use Rattle.lra_linear_spec.proofs.Membership.{NoRepeat, contains_cases, contains_head, contains_none, contains_tail, filter_from, filter_has, list_all_at, list_all_from}
-use Rattle.lra_linear_spec.proofs.{OneSpelling.given_from, RowOrder.inequality_cmp_total, RowOrder.never_both}
-use Rattle.lra_cone.proofs.Cutting.{no_repeat_filter}
+use Rattle.lra_poly_widening.specs.Crates.lra_linear_spec.Widening.{holds_with, is_tight_as, is_valid}
+use Rattle.lra_poly_widening.specs.Crates.{lra_linear_spec.CheckedArithmetic.checked_product, lra_linear_spec.Descriptions.LinearRow, lra_linear_spec.Descriptions.rows_as}
+use Rattle.lra_poly_widening.specs.Crates.{lra_linear_spec.Polyhedra.HasPoint, lra_linear_spec.Polyhedra.Polyhedron, lra_linear_spec.RowOrder.Ascends, lra_linear_spec.RowOrder.inequality_cmp}
+use Rattle.lra_poly_widening.proofs.Crates.lra_linear_spec.Membership.{NoRepeat, contains_cases, contains_head, contains_none, contains_tail, filter_from, filter_has, list_all_at, list_all_from}
+use Rattle.lra_poly_widening.proofs.Crates.lra_linear_spec.RowOrder.{inequality_cmp_total, never_both}
+use Rattle.lra_poly_widening.proofs.Crates.{lra_cone.Cutting.no_repeat_filter, lra_linear_spec.OneSpelling.given_from}
 use Rattle.lra_poly_widening.specs.Rank.{fits, free, held_thresholds, holds_in_range, is_free, kept_thresholds}
 
 -- ---- members that pass two tests

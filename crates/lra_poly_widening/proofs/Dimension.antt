@@ -4,10 +4,12 @@ use Rattle.std.proofs.Common.{List, [], ap, arith, inl, inr, length, neg_ℤ, po
 use Rattle.std.proofs.lemmas.List.Elements.{Contains-append_cases, Contains-append_left, Contains-append_right}
 use Rattle.std.proofs.{lemmas.Bool.cases_lt, lemmas.Int.ints, lemmas.List.length-append}
 use Rattle.std.specs.List.{Contains}
-use Rattle.lra_linear_spec.specs.{Echelon.Before, Echelon.IsEchelon, Echelon.HasPivot, Echelon.Spanned, Vectors.entry}
-use Rattle.lra_linear_spec.proofs.Membership.{NoRepeat, contains_cases, contains_head, contains_none, contains_split, contains_tail}
-use Rattle.lra_linear_spec.proofs.Spans.{all_zero, drop_head, early, spanned_divided, spanned_head, spanned_linear, spanned_more, spanned_row, spanned_same, spanned_zero}
-use Rattle.lra_linear_spec.proofs.{AdjacentPairs.both_positive, Products.entry_past, Ring.ring, Ring.v, Ring.⊖, Ring.◌⊕◌, Ring.◌⊗◌, Signs.as_nat, Signs.not_both, Signs.positive_nat}
+use Rattle.lra_poly_widening.specs.Crates.lra_linear_spec.Echelon.{Before, IsEchelon, HasPivot, Spanned}
+use Rattle.lra_poly_widening.specs.Crates.lra_linear_spec.Vectors.{entry}
+use Rattle.lra_poly_widening.proofs.Crates.lra_linear_spec.Membership.{NoRepeat, contains_cases, contains_head, contains_none, contains_split, contains_tail}
+use Rattle.lra_poly_widening.proofs.Crates.lra_linear_spec.Spans.{all_zero, drop_head, early, spanned_divided, spanned_head, spanned_linear, spanned_more, spanned_row, spanned_same, spanned_zero}
+use Rattle.lra_poly_widening.proofs.Crates.{lra_linear_spec.AdjacentPairs.both_positive, lra_linear_spec.Products.entry_past, lra_linear_spec.Ring.ring, lra_linear_spec.Ring.v, lra_linear_spec.Ring.⊖}
+use Rattle.lra_poly_widening.proofs.Crates.{lra_linear_spec.Ring.◌⊕◌, lra_linear_spec.Ring.◌⊗◌, lra_linear_spec.Signs.as_nat, lra_linear_spec.Signs.not_both, lra_linear_spec.Signs.positive_nat}
 
 -- ---- pairs of members
 -- Each member of the one list is related to one of the other, no two of them to the same: so the one is no longer, and where it is as

@@ -3,17 +3,23 @@
 use Rattle.std.proofs.Common.{Bool, List, [], ap, arith, false, inl, inr, length, neg_ℤ, negsuc, pos, refl, subst, suc, sym, true, zero, ℕ, ℤ, ◌*ℤ◌, ◌++◌, ◌+ℤ◌, ◌<◌, ◌∙◌, ◌∷◌, ◌≡◌, ◌≤ℤ◌, ◌⊎◌}
 use Rattle.std.proofs.{lemmas.Int.ints, lemmas.List.Elements.Contains-append_left, lemmas.List.Elements.Contains-append_right}
 use Rattle.std.specs.{Bool.beq, Cmp.signed_Decides, List.Contains, List.list_all, Ordering.int_eq}
-use Rattle.lra_linear_spec.specs.{Cones.Generated, Cones.Solves, Cones.all_rows, Cones.both_ways, Descriptions.Con, Descriptions.LinearRow, Descriptions.lines_of, Descriptions.rays_of}
-use Rattle.lra_linear_spec.specs.{Descriptions.system_of, Echelon.Spanned, Points.IsPoint, Points.IsWithin, Polyhedra.HasPoint, Polyhedra.Polyhedron, SetOperations.ValidOn, Vectors.blend, Vectors.dot}
-use Rattle.lra_linear_spec.specs.{Vectors.entry, Vectors.negated, Vectors.product, Vectors.signed_sum, Widening.is_tight_as, Widening.is_valid, Widening.saturates}
-use Rattle.lra_linear_spec.proofs.Descriptions.{holds_at_least, in_all_rows, in_system, system_from, system_has}
-use Rattle.lra_linear_spec.proofs.Products.{blend_length, dot_negated, dot_plus, dot_same, dot_scale, dot_zero, entry_blend, entry_negated, negated_dot, negated_length, product_comm}
-use Rattle.lra_linear_spec.proofs.Signs.{between_opposites, no_product, opposite_of_zero, zero_at_least}
-use Rattle.lra_linear_spec.proofs.{CanonicalForms.lines_are_all, CanonicalForms.ray_extreme, CanonicalForms.spanned_in_cone, Combinations.generated_same, LinearMaps.generated_nonneg, Lines.in_lines}
-use Rattle.lra_linear_spec.proofs.{Lines.in_lines_negated, Lines.signed_from, Membership.contains_head, Membership.contains_tail, Membership.list_all_at, Membership.list_all_from}
-use Rattle.lra_linear_spec.proofs.{OneSpelling.cone_solved, Polyhedra.con_gen, Polyhedra.generators_lines, Polyhedra.generators_rays, Ring.ring, Ring.v, Ring.◌⊕◌, Ring.◌⊗◌, Saturation.Beside}
-use Rattle.lra_linear_spec.proofs.{Saturation.IsExtreme, Saturation.TightToo, Saturation.room, SetOperations.has_vertex, SetOperations.valid_on_rows, Spans.spanned_through, Widening.valid_decides}
-use Rattle.lra_cone.proofs.Taking.{same_test}
+use Rattle.lra_poly_widening.specs.Crates.lra_linear_spec.Cones.{Generated, Solves, all_rows, both_ways}
+use Rattle.lra_poly_widening.specs.Crates.lra_linear_spec.Descriptions.{Con, LinearRow, lines_of, rays_of, system_of}
+use Rattle.lra_poly_widening.specs.Crates.lra_linear_spec.Polyhedra.{HasPoint, Polyhedron}
+use Rattle.lra_poly_widening.specs.Crates.lra_linear_spec.Vectors.{blend, dot, entry, negated, product, signed_sum}
+use Rattle.lra_poly_widening.specs.Crates.lra_linear_spec.Widening.{is_tight_as, is_valid, saturates}
+use Rattle.lra_poly_widening.specs.Crates.{lra_linear_spec.Echelon.Spanned, lra_linear_spec.Points.IsPoint, lra_linear_spec.Points.IsWithin, lra_linear_spec.SetOperations.ValidOn}
+use Rattle.lra_poly_widening.proofs.Crates.lra_linear_spec.CanonicalForms.{lines_are_all, ray_extreme, spanned_in_cone}
+use Rattle.lra_poly_widening.proofs.Crates.lra_linear_spec.Descriptions.{holds_at_least, in_all_rows, in_system, system_from, system_has}
+use Rattle.lra_poly_widening.proofs.Crates.lra_linear_spec.Membership.{contains_head, contains_tail, list_all_at, list_all_from}
+use Rattle.lra_poly_widening.proofs.Crates.lra_linear_spec.Polyhedra.{con_gen, generators_lines, generators_rays}
+use Rattle.lra_poly_widening.proofs.Crates.lra_linear_spec.Products.{blend_length, dot_negated, dot_plus, dot_same, dot_scale, dot_zero, entry_blend, entry_negated, negated_dot, negated_length}
+use Rattle.lra_poly_widening.proofs.Crates.lra_linear_spec.Saturation.{Beside, IsExtreme, TightToo, room}
+use Rattle.lra_poly_widening.proofs.Crates.lra_linear_spec.Signs.{between_opposites, no_product, opposite_of_zero, zero_at_least}
+use Rattle.lra_poly_widening.proofs.Crates.{lra_cone.Taking.same_test, lra_linear_spec.Combinations.generated_same, lra_linear_spec.LinearMaps.generated_nonneg, lra_linear_spec.Lines.in_lines}
+use Rattle.lra_poly_widening.proofs.Crates.{lra_linear_spec.Lines.in_lines_negated, lra_linear_spec.Lines.signed_from, lra_linear_spec.OneSpelling.cone_solved, lra_linear_spec.Products.product_comm}
+use Rattle.lra_poly_widening.proofs.Crates.{lra_linear_spec.Ring.ring, lra_linear_spec.Ring.v, lra_linear_spec.Ring.◌⊕◌, lra_linear_spec.Ring.◌⊗◌, lra_linear_spec.SetOperations.has_vertex}
+use Rattle.lra_poly_widening.proofs.Crates.{lra_linear_spec.SetOperations.valid_on_rows, lra_linear_spec.Spans.spanned_through, lra_linear_spec.Widening.valid_decides}
 
 -- the rows of the constraints, and of the generators, those of both signs in both directions
 abbrev pub con : (p : Polyhedron) → HasPoint p → List (List ℤ)

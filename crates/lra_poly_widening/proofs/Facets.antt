@@ -3,18 +3,21 @@
 use Rattle.std.proofs.Common.{List, [], ap, arith, inl, inr, length, neg_ℤ, negsuc, pos, refl, subst, suc, sym, zero, ℕ, ℤ, ◌*ℤ◌, ◌++◌, ◌+ℤ◌, ◌<ℤ◌, ◌<◌, ◌∙◌, ◌∷◌, ◌≡◌, ◌≢◌, ◌≤ℤ◌, ◌⊎◌}
 use Rattle.std.proofs.{lemmas.Int.ints, lemmas.List.Elements.Contains-append_left}
 use Rattle.std.specs.List.{Contains}
-use Rattle.lra_linear_spec.specs.Polyhedra.{HasPoint, IsPolyhedronOf, Polyhedron, positivity}
-use Rattle.lra_linear_spec.specs.Vectors.{behind_zero, entry, product, sum_of, zeros}
-use Rattle.lra_linear_spec.specs.{Cones.Generated, Cones.Solves, Cones.both_ways, Descriptions.Con, Descriptions.LinearRow, Descriptions.system_of, LowestTerms.IsPrimitive, Points.IsPoint}
-use Rattle.lra_linear_spec.proofs.Combinations.{generated_divided, generated_plus, generated_same, generated_times, generated_zero}
-use Rattle.lra_linear_spec.proofs.OneSpelling.{columns_of, cone_solved, far, gone, gone_divisor, gone_product, positivity_product, rows_hold, some_member}
-use Rattle.lra_linear_spec.proofs.{CanonicalForms.on_lines, CanonicalForms.ray_extreme, Descriptions.con_solves, Descriptions.solves_con, Descriptions.system_from, Descriptions.system_has}
-use Rattle.lra_linear_spec.proofs.{LinearMaps.generated_right, LinearMaps.generated_through, LinearMaps.sum_generated, Lines.entry_zeros, Lines.zeros_length, LowestTerms.primitive_at}
-use Rattle.lra_linear_spec.proofs.{LowestTerms.same_multiple, Membership.contains_cases, Membership.contains_head, Membership.contains_none, Membership.contains_tail, Products.blend_length}
-use Rattle.lra_linear_spec.proofs.{Products.negated_dot, Products.negated_length, Products.product_comm, Products.row_same, Ring.mul_nonnegative, Ring.ring, Ring.v, Ring.⊖, Ring.◌⊕◌, Ring.◌⊗◌}
-use Rattle.lra_linear_spec.proofs.{Saturation.Beside, Saturation.IsExtreme, Signs.add_nonnegative, Signs.cancel_same, Signs.not_both, Signs.times_positive, Spans.all_zero}
-use Rattle.lra_linear_spec.proofs.Products.{dot_first}
-use Rattle.lra_canonical.proofs.Solutions.{description_exists}
+use Rattle.lra_poly_widening.specs.Crates.lra_linear_spec.Polyhedra.{HasPoint, IsPolyhedronOf, Polyhedron, positivity}
+use Rattle.lra_poly_widening.specs.Crates.lra_linear_spec.Vectors.{behind_zero, entry, product, sum_of, zeros}
+use Rattle.lra_poly_widening.specs.Crates.{lra_linear_spec.Cones.Generated, lra_linear_spec.Cones.Solves, lra_linear_spec.Cones.both_ways, lra_linear_spec.Descriptions.Con}
+use Rattle.lra_poly_widening.specs.Crates.{lra_linear_spec.Descriptions.LinearRow, lra_linear_spec.Descriptions.system_of, lra_linear_spec.LowestTerms.IsPrimitive, lra_linear_spec.Points.IsPoint}
+use Rattle.lra_poly_widening.proofs.Crates.lra_linear_spec.CanonicalForms.{on_lines, ray_extreme}
+use Rattle.lra_poly_widening.proofs.Crates.lra_linear_spec.Combinations.{generated_divided, generated_plus, generated_same, generated_times, generated_zero}
+use Rattle.lra_poly_widening.proofs.Crates.lra_linear_spec.Descriptions.{con_solves, solves_con, system_from, system_has}
+use Rattle.lra_poly_widening.proofs.Crates.lra_linear_spec.LinearMaps.{generated_right, generated_through, sum_generated}
+use Rattle.lra_poly_widening.proofs.Crates.lra_linear_spec.Membership.{contains_cases, contains_head, contains_none, contains_tail}
+use Rattle.lra_poly_widening.proofs.Crates.lra_linear_spec.OneSpelling.{columns_of, cone_solved, far, gone, gone_divisor, gone_product, positivity_product, rows_hold, some_member}
+use Rattle.lra_poly_widening.proofs.Crates.lra_linear_spec.Products.{blend_length, negated_dot, negated_length, product_comm, row_same, dot_first}
+use Rattle.lra_poly_widening.proofs.Crates.lra_linear_spec.Ring.{mul_nonnegative, ring, v, ⊖, ◌⊕◌, ◌⊗◌}
+use Rattle.lra_poly_widening.proofs.Crates.lra_linear_spec.Signs.{add_nonnegative, cancel_same, not_both, times_positive}
+use Rattle.lra_poly_widening.proofs.Crates.{lra_canonical.Solutions.description_exists, lra_linear_spec.Lines.entry_zeros, lra_linear_spec.Lines.zeros_length, lra_linear_spec.LowestTerms.primitive_at}
+use Rattle.lra_poly_widening.proofs.Crates.{lra_linear_spec.LowestTerms.same_multiple, lra_linear_spec.Saturation.Beside, lra_linear_spec.Saturation.IsExtreme, lra_linear_spec.Spans.all_zero}
 use Rattle.lra_poly_widening.proofs.{Dimension.pivot_row, Faces.IsAbove, Faces.above_generated, Faces.beside_back, Faces.con, Faces.equality_flat, Faces.facet_not_flat, Faces.gen, Faces.line_flat}
 
 -- ---- a dual description of each list of rows of one width

@@ -12,3 +12,5 @@ pub mod WideningLemmas
 pub mod TightestLemmas
 mod AlikeLemmas
 pub mod StayingLemmas
+-- The crates below
+pub mod Crates

@@ -2,7 +2,7 @@
 use Rattle.std.proofs.Common.{Bool, List, [], add-one, ap, arith, cond, false, get_or, length, refl, sym, take, true, ℕ, ℤ, ◌+◌, ◌++◌, ◌<◌, ◌∙◌, ◌∷◌, ◌≡◌, ◌≤◌}
 use Rattle.std.proofs.{lemmas.List.append_assoc, lemmas.List.length-append, lemmas.List.take_all, lemmas.List.Elements.filter-append}
 use Rattle.std.specs.List.{filter}
-use Rattle.lra_linear_spec.specs.Descriptions.{LinearRow}
+use Rattle.lra_poly_widening.specs.Crates.lra_linear_spec.Descriptions.{LinearRow}
 use Rattle.lra_systems.specs.LinearSystems.{LinearSystem, rows_by_kind}
 use Rattle.lra_systems.proofs.FirstMembers.{front, given_more, member}
 

@@ -2,15 +2,15 @@
 use Rattle.std.proofs.Common.{Bool, Err, IsErr, List, Ok, Result, [], ap, arith, get_or, length, subst, suc, sym, zero, ℕ, ℤ, ◌++◌, ◌<◌, ◌∙◌, ◌∷◌, ◌≡◌}
 use Rattle.std.proofs.lemmas.List.Elements.{Contains-append_left, Contains-append_right}
 use Rattle.std.specs.List.{All, Contains}
-use Rattle.lra_linear_spec.specs.{CheckedArithmetic.checked_product, Descriptions.LinearRow, Kinds.is_equality, Kinds.is_line, Polyhedra.Polyhedron, Strain.Loss, declared.ConKind.ConKind}
-use Rattle.lra_linear_spec.specs.{declared.GenKind.GenKind, declared.GenKind.TheVariants.Point}
-use Rattle.lra_linear_spec.specs.declared.Cause.TheVariants as cause
-use Rattle.lra_linear_spec.specs.declared.Excess as E
-use Rattle.lra_linear_spec.proofs.Membership.{contains_head, contains_tail}
-use Rattle.lra_duality.specs.{Inclusions.IsInclusion, Inclusions.Satisfies, Inclusions.SatisfiesAll, Inclusions.Passes, declared.inclusion.Inclusion.TheVariants.Wide}
+use Rattle.lra_poly_widening.specs.Crates.lra_duality.Inclusions.{IsInclusion, Satisfies, SatisfiesAll, Passes}
+use Rattle.lra_poly_widening.specs.Crates.{lra_duality.declared.inclusion.Inclusion.TheVariants.Wide, lra_linear_spec.CheckedArithmetic.checked_product, lra_linear_spec.Descriptions.LinearRow}
+use Rattle.lra_poly_widening.specs.Crates.{lra_linear_spec.Kinds.is_equality, lra_linear_spec.Kinds.is_line, lra_linear_spec.Polyhedra.Polyhedron, lra_linear_spec.Strain.Loss}
+use Rattle.lra_poly_widening.specs.Crates.{lra_linear_spec.declared.ConKind.ConKind, lra_linear_spec.declared.GenKind.GenKind, lra_linear_spec.declared.GenKind.TheVariants.Point}
+use Rattle.lra_poly_widening.specs.Crates.lra_linear_spec.declared.Cause.TheVariants as cause
+use Rattle.lra_poly_widening.specs.Crates.lra_linear_spec.declared.Excess as E
+use Rattle.lra_poly_widening.proofs.Crates.{lra_duality.InclusionLemmas.has_member, lra_linear_spec.Membership.contains_head, lra_linear_spec.Membership.contains_tail}
 use Rattle.lra_systems.specs.{FirstPlaces.FirstAt, LinearSystems.LinearSystem, LinearSystems.constraints, LinearSystems.generators, LinearSystems.rows_by_kind}
 use Rattle.lra_systems.proofs.FirstMembers.{member}
-use Rattle.lra_duality.proofs.InclusionLemmas.{has_member}
 use Rattle.lra_poly_widening.specs.{Validity.IsValidity, Widenings.PassesOnBoth}
 use Rattle.lra_poly_widening.specs.declared.validity.Validity.TheVariants as told
 

@@ -4,13 +4,17 @@ use Rattle.std.proofs.Common.{Bool, List, [], ap, arith, false, inl, inr, length
 use Rattle.std.proofs.lemmas.List.Elements.{Contains-append_cases, Contains-append_left, Contains-append_right}
 use Rattle.std.proofs.{lemmas.Bool.cases_lt, lemmas.Bool.or_cases, lemmas.Int.ints}
 use Rattle.std.specs.List.{Contains, filter, list_all, list_any}
-use Rattle.lra_linear_spec.specs.Descriptions.{Con, LinearRow, Holds, HoldsWith, rows_as, system_of}
-use Rattle.lra_linear_spec.specs.{Cones.Generated, Cones.both_ways, Echelon.Spanned, Points.IsPoint, Points.IsWithin, Polyhedra.HasPoint, Polyhedra.IsPolyhedron, Polyhedra.IsWithoutPoint}
-use Rattle.lra_linear_spec.specs.{Polyhedra.Polyhedron, Polyhedra.falsity, Vectors.dot, Vectors.entry, Vectors.negated, Vectors.product, Widening.is_tight, Widening.is_tight_as, Widening.saturates}
-use Rattle.lra_linear_spec.proofs.OneSpelling.{cone_solved, falsity_never, given_from, rows_hold, same_points_same_lists, some_member}
-use Rattle.lra_linear_spec.proofs.{CanonicalForms.ray_extreme, CanonicalForms.spanned_in_cone, Descriptions.holds_at_least, Lines.in_lines, Lines.in_lines_negated, Membership.contains_head}
-use Rattle.lra_linear_spec.proofs.{Membership.contains_none, Membership.filter_from, Membership.filter_has, Products.negated_dot, Products.product_comm, Ring.mul_nonnegative, Saturation.Beside}
-use Rattle.lra_linear_spec.proofs.{SetOperations.has_vertex, Signs.between_opposites, Signs.divide_nonnegative, Spans.spanned_row, Widening.valid_decides}
+use Rattle.lra_poly_widening.specs.Crates.lra_linear_spec.Descriptions.{Con, LinearRow, Holds, HoldsWith, rows_as, system_of}
+use Rattle.lra_poly_widening.specs.Crates.lra_linear_spec.Polyhedra.{HasPoint, IsPolyhedron, IsWithoutPoint, Polyhedron, falsity}
+use Rattle.lra_poly_widening.specs.Crates.lra_linear_spec.Vectors.{dot, entry, negated, product}
+use Rattle.lra_poly_widening.specs.Crates.{lra_linear_spec.Cones.Generated, lra_linear_spec.Cones.both_ways, lra_linear_spec.Echelon.Spanned, lra_linear_spec.Points.IsPoint}
+use Rattle.lra_poly_widening.specs.Crates.{lra_linear_spec.Points.IsWithin, lra_linear_spec.Widening.is_tight, lra_linear_spec.Widening.is_tight_as, lra_linear_spec.Widening.saturates}
+use Rattle.lra_poly_widening.proofs.Crates.lra_linear_spec.Membership.{contains_head, contains_none, filter_from, filter_has}
+use Rattle.lra_poly_widening.proofs.Crates.lra_linear_spec.OneSpelling.{cone_solved, falsity_never, given_from, rows_hold, same_points_same_lists, some_member}
+use Rattle.lra_poly_widening.proofs.Crates.{lra_linear_spec.CanonicalForms.ray_extreme, lra_linear_spec.CanonicalForms.spanned_in_cone, lra_linear_spec.Descriptions.holds_at_least}
+use Rattle.lra_poly_widening.proofs.Crates.{lra_linear_spec.Lines.in_lines, lra_linear_spec.Lines.in_lines_negated, lra_linear_spec.Products.negated_dot, lra_linear_spec.Products.product_comm}
+use Rattle.lra_poly_widening.proofs.Crates.{lra_linear_spec.Ring.mul_nonnegative, lra_linear_spec.Saturation.Beside, lra_linear_spec.SetOperations.has_vertex, lra_linear_spec.Signs.between_opposites}
+use Rattle.lra_poly_widening.proofs.Crates.{lra_linear_spec.Signs.divide_nonnegative, lra_linear_spec.Spans.spanned_row, lra_linear_spec.Widening.valid_decides}
 use Rattle.lra_poly_widening.specs.{Rank.Falls, Rank.equalities_from, Rank.free, Rank.held_thresholds, Rank.holds_in_range, Rank.kept_thresholds, Widenings.KeepsRows}
 use Rattle.lra_poly_widening.proofs.Counting.{IsFree, any_from, any_said, equalities_many, free_apart, free_has, free_said, holds_valid, kept_all, kept_at, kept_fewer, kept_held}
 use Rattle.lra_poly_widening.proofs.Faces.{IsFlat, beside_back, beside_product, beside_zero, con, equality_flat, facet_not_flat, flat_said, flat_spanned, gen, line_flat, lines_dot, same_face}

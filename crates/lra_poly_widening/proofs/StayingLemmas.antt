@@ -1,6 +1,7 @@
 -- What a widening keeps where it is flagged.
 use Rattle.std.proofs.Common.{◌≡◌, ◌++◌, ℕ, List, [], inr, subst}
-use Rattle.lra_linear_spec.specs.{Descriptions.LinearRow, OperationStrain.tight_on, OperationStrain.with_positivity, Polyhedra.Polyhedron, declared.ConKind.ConKind}
+use Rattle.lra_poly_widening.specs.Crates.lra_linear_spec.OperationStrain.{tight_on, with_positivity}
+use Rattle.lra_poly_widening.specs.Crates.{lra_linear_spec.Descriptions.LinearRow, lra_linear_spec.Polyhedra.Polyhedron, lra_linear_spec.declared.ConKind.ConKind}
 use Rattle.lra_systems.specs.LinearSystems.{LinearSystem, constraints}
 use Rattle.lra_poly.specs.{Restricted.IsTried, declared.outcome.Outcome.Outcome, declared.outcome.Outcome.TheVariants.Exact, declared.outcome.Outcome.TheVariants.Flagged}
 use Rattle.lra_poly_widening.specs.{Rank.kept_thresholds, StayingRows.IsOfStaying, StayingRows.StaysOrIsGivenUp}

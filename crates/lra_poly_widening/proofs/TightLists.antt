@@ -2,11 +2,10 @@
 use Rattle.std.proofs.Common.{Bool, List, [], ap, arith, length, map, pos, refl, subst, suc, sym, take, zero, ℕ, ℤ, ◌∙◌, ◌∷◌, ◌≡◌, ◌≤◌}
 use Rattle.std.proofs.lemmas.List.{length-map, take_all}
 use Rattle.std.specs.{Bool.beq, List.All, List.list_all, List.list_any, Ordering.int_eq, Prelude.◌&&◌, Prelude.◌||◌}
-use Rattle.lra_bits.specs.TruthValues.{are_true}
-use Rattle.lra_linear_spec.specs.{Descriptions.LinearRow, Polyhedra.Polyhedron, Vectors.product, Widening.is_tight, Widening.is_tight_as, Widening.saturates}
+use Rattle.lra_poly_widening.specs.Crates.{lra_bits.TruthValues.are_true, lra_duality.Saturations.saturated, lra_linear_spec.Descriptions.LinearRow, lra_linear_spec.Polyhedra.Polyhedron}
+use Rattle.lra_poly_widening.specs.Crates.{lra_linear_spec.Vectors.product, lra_linear_spec.Widening.is_tight, lra_linear_spec.Widening.is_tight_as, lra_linear_spec.Widening.saturates}
 use Rattle.lra_systems.specs.LinearSystems.{LinearSystem, rows_by_kind}
-use Rattle.lra_duality.specs.Saturations.{saturated}
-use Rattle.lra_duality.proofs.SaturationLemmas.{rows_saturate}
+use Rattle.lra_poly_widening.proofs.Crates.lra_duality.SaturationLemmas.{rows_saturate}
 use Rattle.lra_poly_widening.specs.Saturated.{same_values}
 
 -- ---- all, and the same

@@ -1,17 +1,19 @@
 -- Where the tightest of some rows hold, all of them do; so the widening that is limited by these is that which is limited by all.
 use Rattle.std.proofs.Common.{◌≡◌, ◌≢◌, ◌∙◌, ◌<◌, ◌≤◌, ℕ, zero, suc, ℤ, pos, ◌+ℤ◌, ◌*ℤ◌, Bool, true, false, not, cond, List, [], ◌∷◌, length, inl, inr, refl, sym, ap, subst, arith}
+use Rattle.std.proofs.lemmas.Bool.{and_from, not_from_false, not-true}
 use Rattle.std.proofs.{lemmas.Bool.and_parts, lemmas.Int.ints}
 use Rattle.std.specs.Prelude.{◌&&◌, ◌||◌, ◌≤ℤ◌, ◌<ℤ◌, int_lt, negsuc}
 use Rattle.std.specs.{Cmp.Lexicographic.pointwise, Cmp.Rules.signed_items, List.Contains, List.filter, List.list_any, Ordering.int_eq}
-use Rattle.std.proofs.lemmas.Bool.{and_from, not_from_false, not-true}
-use Rattle.lra_linear_spec.specs.{Descriptions.Con, Descriptions.LinearRow, Descriptions.Holds, Descriptions.HoldsWith, Kinds.is_equality, OperationStrain.LimitedStrains, OperationStrain.valid_on}
-use Rattle.lra_linear_spec.specs.{Points.IsPoint, Points.IsWithin, Points.SameSet, Polyhedra.HasPoint, Polyhedra.IsPolyhedron, Polyhedra.Polyhedron, Vectors.dot, Vectors.entry, Vectors.product}
-use Rattle.lra_linear_spec.specs.{Widening.LimitedWidening, Widening.is_valid, declared.ConKind.ConKind, declared.ConKind.TheVariants.Ge, declared.ConKind.TheVariants.Eq}
+use Rattle.lra_poly_widening.specs.Crates.lra_linear_spec.Descriptions.{Con, LinearRow, Holds, HoldsWith}
+use Rattle.lra_poly_widening.specs.Crates.lra_linear_spec.Points.{IsPoint, IsWithin, SameSet}
+use Rattle.lra_poly_widening.specs.Crates.lra_linear_spec.Polyhedra.{HasPoint, IsPolyhedron, Polyhedron}
+use Rattle.lra_poly_widening.specs.Crates.{lra_linear_spec.Kinds.is_equality, lra_linear_spec.OperationStrain.LimitedStrains, lra_linear_spec.OperationStrain.valid_on, lra_linear_spec.Vectors.dot}
+use Rattle.lra_poly_widening.specs.Crates.{lra_linear_spec.Vectors.entry, lra_linear_spec.Vectors.product, lra_linear_spec.Widening.LimitedWidening, lra_linear_spec.Widening.is_valid}
+use Rattle.lra_poly_widening.specs.Crates.{lra_linear_spec.declared.ConKind.ConKind, lra_linear_spec.declared.ConKind.TheVariants.Ge, lra_linear_spec.declared.ConKind.TheVariants.Eq}
 use Rattle.lra_systems.specs.LinearSystems.{LinearSystem, constraints, rows_by_kind}
-use Rattle.lra_linear_spec.proofs.Membership.{contains_cases, contains_none, filter_from, filter_has}
-use Rattle.lra_linear_spec.proofs.{Ring.mul_nonnegative, Ring.ring, Ring.v, Ring.◌⊕◌, Ring.◌⊗◌, Widening.valid_decides}
-use Rattle.lra_linear_spec.proofs.Signs.{add_nonnegative}
-use Rattle.lra_linear_spec.proofs.Descriptions.{holds_at_least}
+use Rattle.lra_poly_widening.proofs.Crates.lra_linear_spec.Membership.{contains_cases, contains_none, filter_from, filter_has}
+use Rattle.lra_poly_widening.proofs.Crates.lra_linear_spec.Ring.{mul_nonnegative, ring, v, ◌⊕◌, ◌⊗◌}
+use Rattle.lra_poly_widening.proofs.Crates.{lra_linear_spec.Descriptions.holds_at_least, lra_linear_spec.Signs.add_nonnegative, lra_linear_spec.Widening.valid_decides}
 use Rattle.lra_poly.specs.Outcomes.{Becomes, IfExact, IfFlagged}
 use Rattle.lra_poly.specs.{declared.outcome.Outcome.Outcome, declared.outcome.Outcome.TheVariants.Exact, declared.outcome.Outcome.TheVariants.Flagged}
 use Rattle.lra_poly.proofs.PolyLemmas.{becomes_same}

@@ -1,7 +1,7 @@
 -- Lists of truth values that are the same.
 use Rattle.std.proofs.Common.{Bool, List, [], arith, false, length, refl, suc, sym, true, zero, ℕ, ◌<◌, ◌≤◌, ◌∷◌, ◌≡◌}
 use Rattle.std.specs.{Bool.beq, List.list_any, Prelude.◌&&◌, Prelude.◌↔◌, Prelude.IsTrue, Prelude.slice_index_or}
-use Rattle.lra_bits.specs.TruthValues.{IsSubset, value_at}
+use Rattle.lra_poly_widening.specs.Crates.lra_bits.TruthValues.{IsSubset, value_at}
 use Rattle.lra_poly_widening.specs.Saturated.{same_values}
 
 -- ---- the same

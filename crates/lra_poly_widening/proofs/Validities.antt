@@ -1,12 +1,12 @@
 -- What the tests of a row with each generator report.
 use Rattle.std.proofs.Common.{Bool, Err, List, Ok, Result, [], ap, arith, cond, false, get_or, inl, inr, length, refl, subst, suc, sym, true, zero, ℕ, ℤ, ◌++◌, ◌<◌, ◌∙◌, ◌∷◌, ◌≡◌, ◌⊎◌, IsOk}
+use Rattle.std.proofs.lemmas.Bool.{and_right, and_from}
 use Rattle.std.proofs.lemmas.List.Elements.{All-append, All-contains, Contains-append_cases, Contains-append_left, Contains-append_right}
 use Rattle.std.specs.{List.All, List.Contains, List.list_all, Prelude.◌&&◌}
-use Rattle.std.proofs.lemmas.Bool.{and_right, and_from}
-use Rattle.lra_linear_spec.specs.{CheckedArithmetic.checked_product, Descriptions.LinearRow, OperationStrain.valid_on, Polyhedra.Polyhedron, Widening.holds_with, Widening.is_valid}
-use Rattle.lra_linear_spec.specs.declared.Excess as E
-use Rattle.lra_linear_spec.proofs.Membership.{contains_head, contains_tail, list_all_at, list_all_from}
-use Rattle.lra_duality.specs.Inclusions.{Satisfies}
+use Rattle.lra_poly_widening.specs.Crates.{lra_duality.Inclusions.Satisfies, lra_linear_spec.CheckedArithmetic.checked_product, lra_linear_spec.Descriptions.LinearRow}
+use Rattle.lra_poly_widening.specs.Crates.{lra_linear_spec.OperationStrain.valid_on, lra_linear_spec.Polyhedra.Polyhedron, lra_linear_spec.Widening.holds_with, lra_linear_spec.Widening.is_valid}
+use Rattle.lra_poly_widening.specs.Crates.lra_linear_spec.declared.Excess as E
+use Rattle.lra_poly_widening.proofs.Crates.lra_linear_spec.Membership.{contains_head, contains_tail, list_all_at, list_all_from}
 use Rattle.lra_poly_widening.specs.declared.validity.Validity.TheVariants.{Fails, Holds, Wide}
 use Rattle.lra_poly_widening.specs.{Rank.fits, Rank.holds_in_range, Rank.kept_thresholds, Validity.IsValidity, declared.validity.Validity.Validity}
 use Rattle.lra_poly_widening.proofs.Loops.{filter_step}

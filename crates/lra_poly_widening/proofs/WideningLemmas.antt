@@ -3,19 +3,21 @@ use Rattle.std.proofs.Common.{Bool, List, [], ap, arith, false, inl, inr, length
 use Rattle.std.proofs.lemmas.List.{append-nil}
 use Rattle.std.proofs.lemmas.List.Elements.{All-contains, Contains-append_cases, Contains-append_left, Contains-append_right}
 use Rattle.std.specs.{List.All, List.Contains, List.filter, Prelude.◌↔◌, Prelude.◌⊎◌, Prelude.IsTrue}
-use Rattle.lra_linear_spec.specs.OperationStrain.{ConstraintsStrain, FromRowsStrains, LimitedStrains, StandardStrains, WideningPasses, tight_on, valid_on}
-use Rattle.lra_linear_spec.specs.Polyhedra.{HasPoint, IsPolyhedron, IsPolyhedronOf, Polyhedron, falsity}
-use Rattle.lra_linear_spec.specs.{Cones.both_ways, Descriptions.Con, Descriptions.LinearRow, Descriptions.rows_as, Descriptions.inequality, Kinds.is_equality, Points.IsEmptySet, Points.IsPoint}
-use Rattle.lra_linear_spec.specs.{Points.IsWithin, Points.SameSet, Strain.Loss, Widening.LimitedWidening, Widening.StandardWidening, Widening.StandardFrom, Widening.is_tight, declared.ConKind.ConKind}
-use Rattle.lra_linear_spec.proofs.Membership.{contains_cases, contains_none, filter_from}
-use Rattle.lra_linear_spec.proofs.{Descriptions.con_none, Lines.in_lines, OneSpelling.given_from, Widening.limited_con, Widening.standard_con, Widening.valid_decides}
-use Rattle.lra_duality.specs.Inclusions.{IsInclusion, Satisfies, SatisfiesAll, Passes, Violates, ViolatesFirst}
-use Rattle.lra_duality.specs.declared.inclusion.Inclusion.TheVariants.{Wide, Yes}
+use Rattle.lra_poly_widening.specs.Crates.lra_duality.Inclusions.{IsInclusion, Satisfies, SatisfiesAll, Passes, Violates, ViolatesFirst}
+use Rattle.lra_poly_widening.specs.Crates.lra_linear_spec.Descriptions.{Con, LinearRow, rows_as, inequality}
+use Rattle.lra_poly_widening.specs.Crates.lra_linear_spec.OperationStrain.{ConstraintsStrain, FromRowsStrains, LimitedStrains, StandardStrains, WideningPasses, tight_on, valid_on}
+use Rattle.lra_poly_widening.specs.Crates.lra_linear_spec.Points.{IsEmptySet, IsPoint, IsWithin, SameSet}
+use Rattle.lra_poly_widening.specs.Crates.lra_linear_spec.Polyhedra.{HasPoint, IsPolyhedron, IsPolyhedronOf, Polyhedron, falsity}
+use Rattle.lra_poly_widening.specs.Crates.lra_linear_spec.Widening.{LimitedWidening, StandardWidening, StandardFrom, is_tight}
+use Rattle.lra_poly_widening.specs.Crates.{lra_description_pair.KeptRows.IsOfSome, lra_duality.declared.inclusion.Inclusion.TheVariants.Wide, lra_duality.declared.inclusion.Inclusion.TheVariants.Yes}
+use Rattle.lra_poly_widening.specs.Crates.{lra_linear_spec.Cones.both_ways, lra_linear_spec.Kinds.is_equality, lra_linear_spec.Strain.Loss, lra_linear_spec.declared.ConKind.ConKind}
+use Rattle.lra_poly_widening.proofs.Crates.lra_duality.PolyhedronLemmas.{none_where_empty, some_generator, with_point}
+use Rattle.lra_poly_widening.proofs.Crates.lra_linear_spec.Membership.{contains_cases, contains_none, filter_from}
+use Rattle.lra_poly_widening.proofs.Crates.lra_linear_spec.Widening.{limited_con, standard_con, valid_decides}
+use Rattle.lra_poly_widening.proofs.Crates.{lra_duality.InclusionLemmas.has_member, lra_linear_spec.Descriptions.con_none, lra_linear_spec.Lines.in_lines, lra_linear_spec.OneSpelling.given_from}
 use Rattle.lra_poly.specs.Outcomes.{Becomes, IfExact, IfFlagged, IsOfRows}
 use Rattle.lra_poly.specs.{declared.outcome.Outcome.Outcome, declared.outcome.Outcome.TheVariants.Exact, declared.outcome.Outcome.TheVariants.Flagged}
 use Rattle.lra_systems.specs.{FirstPlaces.FirstAt, LinearSystems.LinearSystem, LinearSystems.constraints, LinearSystems.rows_by_kind}
-use Rattle.lra_description_pair.specs.KeptRows.{IsOfSome}
-use Rattle.lra_duality.proofs.{InclusionLemmas.has_member, PolyhedronLemmas.none_where_empty, PolyhedronLemmas.some_generator, PolyhedronLemmas.with_point}
 use Rattle.lra_poly.proofs.PolyLemmas.{becomes_same, constraints_strain, exactly, if_exact, if_flagged, same_polyhedron}
 use Rattle.lra_poly_widening.specs.Rank.{Falls, equalities_from, holds_in_range, kept_thresholds}
 use Rattle.lra_poly_widening.specs.Widenings.{HaveColumns, IsOutside, IsLimitedWidening, PassesOnBoth}

@@ -7,3 +7,5 @@ pub mod Widenings
 pub mod Tightest
 -- What stays after a flag.
 pub mod StayingRows
+-- The crates below
+pub mod Crates

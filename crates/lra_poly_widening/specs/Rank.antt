@@ -2,8 +2,9 @@
 -- grows, or a threshold is lost, or an inequality goes that none of these rows stands for.
 use Rattle.std.specs.Prelude.{◌≡◌, ◌⊎◌, ◌<◌, ◌&&◌, ℕ, suc, Bool, true, false, not, List, [], ◌∷◌, length, Result, Ok}
 use Rattle.std.specs.{List.filter, List.list_all, List.list_any, Prelude.Err}
-use Rattle.lra_linear_spec.specs.Widening.{holds_with, is_tight_as}
-use Rattle.lra_linear_spec.specs.{CheckedArithmetic.checked_product, Descriptions.LinearRow, Polyhedra.Polyhedron}
+use Rattle.lra_poly_widening.specs.Crates.lra_linear_spec.CheckedArithmetic.{checked_product}
+use Rattle.lra_poly_widening.specs.Crates.lra_linear_spec.Widening.{holds_with, is_tight_as}
+use Rattle.lra_poly_widening.specs.Crates.{lra_linear_spec.Descriptions.LinearRow, lra_linear_spec.Polyhedra.Polyhedron}
 
 abbrev pub fits : {A E : Type 0} → Result A E → Bool
 fits (Ok x) = true

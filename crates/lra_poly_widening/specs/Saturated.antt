@@ -1,7 +1,7 @@
 -- Lists of truth values: which generators rows saturate.
 use Rattle.std.specs.Prelude.{Bool, true, false, ◌&&◌, ℤ, pos, List, [], ◌∷◌, Result, Ok, Err}
 use Rattle.std.specs.{Bool.beq, Ordering.int_eq}
-use Rattle.lra_linear_spec.specs.CheckedArithmetic.{checked_product}
+use Rattle.lra_poly_widening.specs.Crates.lra_linear_spec.CheckedArithmetic.{checked_product}
 
 -- of lists of one length: whether they have the same values
 abbrev pub same_values : List Bool → List Bool → Bool

@@ -1,7 +1,7 @@
 -- What a widening keeps where it is flagged.
 use Rattle.std.specs.Prelude.{◌⊎◌, List, [], ◌++◌}
-use Rattle.lra_linear_spec.specs.OperationStrain.{tight_on, with_positivity}
-use Rattle.lra_linear_spec.specs.{Descriptions.LinearRow, Polyhedra.Polyhedron}
+use Rattle.lra_poly_widening.specs.Crates.lra_linear_spec.OperationStrain.{tight_on, with_positivity}
+use Rattle.lra_poly_widening.specs.Crates.{lra_linear_spec.Descriptions.LinearRow, lra_linear_spec.Polyhedra.Polyhedron}
 use Rattle.lra_poly.specs.{Outcomes.IfFlagged, Restricted.IsTried, declared.outcome.Outcome.Outcome}
 use Rattle.lra_poly_widening.specs.{Rank.kept_thresholds, Widenings.IsGivenUp}
 

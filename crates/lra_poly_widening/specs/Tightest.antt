@@ -2,9 +2,10 @@
 -- limited by all of them (`TightestTell`), from a shorter list.
 use Rattle.std.specs.Prelude.{◌⊎◌, ◌&&◌, ℕ, ℤ, Bool, false, not, List, [], ◌∷◌, int_lt}
 use Rattle.std.specs.{Cmp.Lexicographic.pointwise, List.filter, List.list_any, Ordering.int_eq}
-use Rattle.lra_linear_spec.specs.Descriptions.{LinearRow, Con}
-use Rattle.lra_linear_spec.specs.OperationStrain.{LimitedStrains, WideningPasses}
-use Rattle.lra_linear_spec.specs.{Points.IsWithin, Polyhedra.Polyhedron, Strain.Loss, Widening.LimitedWidening}
+use Rattle.lra_poly_widening.specs.Crates.lra_linear_spec.Descriptions.{LinearRow, Con}
+use Rattle.lra_poly_widening.specs.Crates.lra_linear_spec.OperationStrain.{LimitedStrains, WideningPasses}
+use Rattle.lra_poly_widening.specs.Crates.{lra_linear_spec.Points.IsWithin, lra_linear_spec.Polyhedra.Polyhedron}
+use Rattle.lra_poly_widening.specs.Crates.{lra_linear_spec.Strain.Loss, lra_linear_spec.Widening.LimitedWidening}
 use Rattle.lra_poly_widening.specs.Rank.{kept_thresholds}
 
 -- the rows have equal coefficients, and the constant of the first is lower

@@ -1,8 +1,9 @@
 -- Whether a row holds with each generator, tried in order: the first with which it doesn't, or with which its product
 -- passes the range, decides.
 use Rattle.std.specs.{List.All, List.Contains, Prelude.◌≡◌, Prelude.List, Prelude.Err}
-use Rattle.lra_linear_spec.specs.{CheckedArithmetic.checked_product, Descriptions.LinearRow}
-use Rattle.lra_duality.specs.Inclusions.{Satisfies, Violates}
+use Rattle.lra_poly_widening.specs.Crates.lra_duality.Inclusions.{Satisfies, Violates}
+use Rattle.lra_poly_widening.specs.Crates.lra_linear_spec.CheckedArithmetic.{checked_product}
+use Rattle.lra_poly_widening.specs.Crates.lra_linear_spec.Descriptions.{LinearRow}
 use Rattle.lra_poly_widening.specs.declared.validity.Validity.{Validity}
 use Rattle.lra_poly_widening.specs.declared.validity.Validity.TheVariants.{Holds, Fails, Wide}
 

@@ -1,14 +1,15 @@
 -- What is reported about a widening.
 use Rattle.std.specs.List.{Contains}
 use Rattle.std.specs.Prelude.{◌≡◌, ◌⊎◌, ℕ, suc, true, List, [], ◌++◌, length}
-use Rattle.lra_linear_spec.specs.declared.Excess as E
-use Rattle.lra_linear_spec.specs.OperationStrain.{LimitedStrains, ProductsPass}
-use Rattle.lra_linear_spec.specs.Polyhedra.{HasPoint, IsPolyhedronOf, Polyhedron}
-use Rattle.lra_linear_spec.specs.{Descriptions.LinearRow, Descriptions.Con, Points.IsWithin, Widening.is_tight}
-use Rattle.lra_linear_spec.specs.{Widening.LimitedWidening, declared.Cause.TheVariants.Excess}
-use Rattle.lra_linear_spec.specs.Strain as strain
-use Rattle.lra_duality.specs.Inclusions.{IsInclusion}
-use Rattle.lra_duality.specs.declared.inclusion.Inclusion.TheVariants.{Yes, No, Wide}
+use Rattle.lra_poly_widening.specs.Crates.lra_linear_spec.declared.Excess as E
+use Rattle.lra_poly_widening.specs.Crates.lra_duality.declared.inclusion.Inclusion.TheVariants.{Yes, No, Wide}
+use Rattle.lra_poly_widening.specs.Crates.lra_linear_spec.Descriptions.{LinearRow, Con}
+use Rattle.lra_poly_widening.specs.Crates.lra_linear_spec.OperationStrain.{LimitedStrains, ProductsPass}
+use Rattle.lra_poly_widening.specs.Crates.lra_linear_spec.Polyhedra.{HasPoint, IsPolyhedronOf, Polyhedron}
+use Rattle.lra_poly_widening.specs.Crates.lra_linear_spec.Widening.{is_tight, LimitedWidening}
+use Rattle.lra_poly_widening.specs.Crates.{lra_duality.Inclusions.IsInclusion, lra_linear_spec.Points.IsWithin}
+use Rattle.lra_poly_widening.specs.Crates.{lra_linear_spec.declared.Cause.TheVariants.Excess}
+use Rattle.lra_poly_widening.specs.Crates.lra_linear_spec.Strain as strain
 use Rattle.lra_poly.specs.{Outcomes.Becomes, Outcomes.IfExact, declared.outcome.Outcome.Outcome}
 use Rattle.lra_poly_widening.specs.declared.error.WidenError.TheVariants.{NotIncluded, Memory}
 use Rattle.lra_poly_widening.specs.{Rank.holds_in_range, declared.error.WidenError.WidenError}

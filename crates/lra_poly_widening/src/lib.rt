@@ -12,6 +12,7 @@ mod widening;
 
 pub use error::WidenError;
 pub use lists::held_on_both;
+pub use lra_poly::{Inclusion, Maximum, Outcome, Poly};
 pub use ranking::rank;
 pub use tightest::limited_by_tightest;
 pub use widening::{limited, standard};

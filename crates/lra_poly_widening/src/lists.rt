@@ -1,25 +1,22 @@
 //! The constraints that widenings take in.
 
 ghost use Rattle.std.specs.Prelude.{◌≡◌, ◌++◌, ◌∷◌, [], suc, cond, length, map, Bool, List, IfOk, OnOk};
-ghost use Rattle.lra_linear_spec.specs.{Descriptions.Con, Descriptions.LinearRow, Kinds.is_equality};
-ghost use Rattle.lra_linear_spec.specs.{OperationStrain.tight_on, OperationStrain.valid_on, Polyhedra.IsPolyhedronOf};
-ghost use Rattle.lra_linear_spec.specs.declared.Cause.TheVariants as of_cause;
+ghost use Rattle.lra_poly_widening.specs.Crates.lra_linear_spec.Descriptions.{Con, LinearRow};
+ghost use Rattle.lra_poly_widening.specs.Crates.lra_linear_spec.Kinds.{is_equality};
+ghost use Rattle.lra_poly_widening.specs.Crates.lra_linear_spec.OperationStrain.{tight_on, valid_on};
+ghost use Rattle.lra_poly_widening.specs.Crates.lra_linear_spec.Polyhedra.{IsPolyhedronOf};
+ghost use Rattle.lra_poly_widening.specs.Crates.lra_linear_spec.declared.Cause.TheVariants as of_cause;
 ghost use Rattle.lra_systems.specs.LinearSystems.{constraints};
-ghost use Rattle.lra_duality.specs.Inclusions.{IsInclusion};
-ghost use Rattle.lra_duality.specs.{Saturations.saturated, declared.inclusion.Inclusion.TheVariants.Wide};
+ghost use Rattle.lra_poly_widening.specs.Crates.{lra_duality.Inclusions.IsInclusion, lra_duality.Saturations.saturated};
+ghost use Rattle.lra_poly_widening.specs.Crates.{lra_duality.declared.inclusion.Inclusion.TheVariants.Wide};
+ghost use Rattle.lra_poly_widening.specs.Crates.{lra_linear_spec.Widening.is_tight};
 ghost use Rattle.lra_poly.specs.Outcomes.{IfExact, IfFlagged};
-ghost use Rattle.lra_linear_spec.specs.Widening.{is_tight};
 ghost use Rattle.lra_poly_widening.specs.{Rank.kept_thresholds, Widenings.PassesOnBoth};
 
 use crate::saturation::{all_saturated, is_full_or_among};
 use crate::validity::{holds_on_both, validity_on_both};
-use lra_bits::BitRow;
-use lra_cone::Loss;
-use lra_duality::mark_saturated;
-use lra_linear_spec::{Cause, ConKind, Excess};
-use lra_poly::{Outcome, Poly};
-use lra_row::Row;
-use lra_systems::{ConSys, TOO_MANY_DIMENSIONS};
+use lra_poly::{BitRow, Loss, Outcome, Poly, mark_saturated};
+use lra_systems::{Cause, ConKind, ConSys, Excess, Row, TOO_MANY_DIMENSIONS};
 use std::alloc::{AllocError, Global};
 
 /// No constraint in n dimensions.

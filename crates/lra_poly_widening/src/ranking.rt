@@ -2,18 +2,16 @@
 
 ghost use Rattle.std.specs.List.{filter, list_any};
 ghost use Rattle.std.specs.Prelude.{◌≡◌, ◌&&◌, cond, length, map, not, suc};
-ghost use Rattle.lra_linear_spec.specs.{Descriptions.LinearRow, Kinds.is_equality};
+ghost use Rattle.lra_poly_widening.specs.Crates.lra_duality.Saturations.{saturated, saturation_of};
+ghost use Rattle.lra_poly_widening.specs.Crates.lra_linear_spec.Descriptions.{LinearRow};
+ghost use Rattle.lra_poly_widening.specs.Crates.lra_linear_spec.Kinds.{is_equality};
 ghost use Rattle.lra_systems.specs.LinearSystems.{constraints, generators};
-ghost use Rattle.lra_duality.specs.Saturations.{saturated, saturation_of};
 ghost use Rattle.lra_poly_widening.specs.Rank.{equalities_from, free, held_thresholds, holds_in_range, rank_of};
 ghost use Rattle.lra_poly_widening.specs.Saturated.{same_values, vanishes};
 
 use crate::validity::holds_in_range;
-use lra_bits::{BitRow, SatMatrix};
-use lra_linear_spec::ConKind;
-use lra_poly::Poly;
-use lra_row::Row;
-use lra_systems::{ConSys, GenSys};
+use lra_poly::{BitRow, Poly, SatMatrix};
+use lra_systems::{ConKind, ConSys, GenSys, Row};
 
 // 1 for true, 0 for false.
 fn one_if(wanted: bool) -> usize

@@ -2,13 +2,11 @@
 
 ghost use Rattle.std.specs.List.{All, list_any};
 ghost use Rattle.std.specs.Prelude.{◌≡◌, ◌||◌, IfOk, length, map};
-ghost use Rattle.lra_bits.specs.TruthValues.{are_true};
+ghost use Rattle.lra_poly_widening.specs.Crates.{lra_bits.TruthValues.are_true, lra_duality.Saturations.saturated};
 ghost use Rattle.lra_systems.specs.LinearSystems.{constraints, generators};
-ghost use Rattle.lra_duality.specs.Saturations.{saturated};
 ghost use Rattle.lra_poly_widening.specs.Saturated.{same_values};
 
-use lra_bits::BitRow;
-use lra_duality::mark_saturated;
+use lra_poly::{BitRow, mark_saturated};
 use lra_systems::{ConSys, GenSys};
 use std::alloc::{AllocError, Global};
 

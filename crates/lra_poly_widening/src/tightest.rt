@@ -1,7 +1,9 @@
 //! The widening that is limited by the tightest of given constraints.
 
 ghost use Rattle.std.specs.{List.list_any, Prelude.◌≡◌, Prelude.◌≢◌, Prelude.ℕ, Prelude.IfErr, Prelude.IfOk};
-ghost use Rattle.lra_linear_spec.specs.{Descriptions.Con, Kinds.is_equality, Points.IsWithin, Widening.LimitedWidening};
+ghost use Rattle.lra_poly_widening.specs.Crates.lra_linear_spec.Kinds.{is_equality};
+ghost use Rattle.lra_poly_widening.specs.Crates.lra_linear_spec.Widening.{LimitedWidening};
+ghost use Rattle.lra_poly_widening.specs.Crates.{lra_linear_spec.Descriptions.Con, lra_linear_spec.Points.IsWithin};
 ghost use Rattle.lra_systems.specs.LinearSystems.{constraints};
 ghost use Rattle.lra_poly.specs.Outcomes.{Becomes};
 ghost use Rattle.lra_poly_widening.specs.Tightest.{is_loose, is_lower, tightest, TightestStrains};
@@ -10,10 +12,8 @@ ghost use Rattle.lra_poly_widening.specs.{Rank.Falls, Widenings.IsOutside, Widen
 use crate::error::WidenError;
 use crate::lists::{given_loss, held_on_both, no_rows, push_if};
 use crate::widening::widen_limited_by;
-use lra_linear_spec::ConKind;
 use lra_poly::{Outcome, Poly};
-use lra_row::Row;
-use lra_systems::ConSys;
+use lra_systems::{ConKind, ConSys, Row};
 use std::alloc::{AllocError, Global};
 
 // Whether the rows have equal coefficients, and the constant of the first is lower.

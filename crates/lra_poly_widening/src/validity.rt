@@ -2,15 +2,12 @@
 
 ghost use Rattle.std.specs.Option.{MatchOption};
 ghost use Rattle.std.specs.Prelude.{◌≡◌, ◌&&◌, ◌++◌, ◌⊎◌, suc, length};
-ghost use Rattle.lra_linear_spec.specs.Kinds.{is_equality};
+ghost use Rattle.lra_poly_widening.specs.Crates.lra_linear_spec.Kinds.{is_equality};
 ghost use Rattle.lra_systems.specs.LinearSystems.{generators};
 ghost use Rattle.lra_poly_widening.specs.{Rank.holds_in_range, Validity.IsValidity};
 
-use lra_duality::accepts;
-use lra_linear_spec::{ConKind, Excess};
-use lra_poly::Poly;
-use lra_row::Row;
-use lra_systems::GenSys;
+use lra_poly::{Poly, accepts};
+use lra_systems::{ConKind, Excess, GenSys, Row};
 
 /// Whether a row holds with each of the generators.
 #[derive(Clone, Copy, Debug, PartialEq, Eq)]

@@ -1,9 +1,11 @@
 //! The standard and the limited widening (after Halbwachs 1979).
 
 ghost use Rattle.std.specs.Prelude.{◌≡◌, ◌≢◌, ℕ, List, [], IfOk, IfErr};
-ghost use Rattle.lra_linear_spec.specs.OperationStrain.{LimitedStrains, StandardStrains};
-ghost use Rattle.lra_linear_spec.specs.{Descriptions.Con, Descriptions.LinearRow, Points.IsEmptySet, Points.IsWithin};
-ghost use Rattle.lra_linear_spec.specs.{Polyhedra.IsPolyhedron, Widening.LimitedWidening, Widening.StandardWidening};
+ghost use Rattle.lra_poly_widening.specs.Crates.lra_linear_spec.Descriptions.{Con, LinearRow};
+ghost use Rattle.lra_poly_widening.specs.Crates.lra_linear_spec.OperationStrain.{LimitedStrains, StandardStrains};
+ghost use Rattle.lra_poly_widening.specs.Crates.lra_linear_spec.Points.{IsEmptySet, IsWithin};
+ghost use Rattle.lra_poly_widening.specs.Crates.lra_linear_spec.Polyhedra.{IsPolyhedron};
+ghost use Rattle.lra_poly_widening.specs.Crates.lra_linear_spec.Widening.{LimitedWidening, StandardWidening};
 ghost use Rattle.lra_systems.specs.LinearSystems.{constraints};
 ghost use Rattle.lra_poly.specs.Outcomes.{Becomes};
 ghost use Rattle.lra_poly_widening.specs.Widenings.{HaveColumns, IsOutside, IsRefusal, IsLimitedWidening};
@@ -12,8 +14,7 @@ ghost use Rattle.lra_poly_widening.specs.{Rank.Falls, StayingRows.IsOfStaying, S
 
 use crate::error::WidenError;
 use crate::lists::{add_held, given_loss, inclusion_loss, no_rows, tight_rows, universe};
-use lra_duality::Inclusion;
-use lra_poly::{Outcome, Poly};
+use lra_poly::{Inclusion, Outcome, Poly};
 use lra_systems::ConSys;
 use std::alloc::{AllocError, Global};
 

@@ -1,10 +1,8 @@
 -- Lemmas on the heads of sets.
 use Rattle.std.proofs.Common.{◌≡◌, ◌≢◌, ◌⊎◌, ℕ, ℤ, List, [], ◌∷◌, ◌++◌, length, Option, Some, None, refl, ap, sym, subst, ◌∙◌, inl, inr, arith}
-use Rattle.lra_systems.specs.LinearSystems.{LinearSystem}
-use Rattle.lra_linear_spec.specs.declared.ConKind.{ConKind}
-use Rattle.lra_domain.specs.Abstraction.{Abstraction, Grew, Values}
-use Rattle.lra_domain.specs.declared.Grown.TheVariants.{Stable, Grew as grew_by}
+use Rattle.lra_powerset.specs.Crates.{lra_linear_spec.declared.ConKind.ConKind, lra_systems.LinearSystems.LinearSystem}
 use Rattle.lra_domain.specs.declared.Mode.TheVariants.{Join, Widen, Limited, Tightest}
+use Rattle.lra_domain.specs.{Abstraction.Abstraction, Abstraction.Grew, Abstraction.Values, declared.Grown.TheVariants.Stable, declared.Grown.TheVariants.Grew as grew_by}
 use Rattle.lra_domain.specs.{Laws.Laws, Laws.BaseLaws, Rank.RankBelow, declared.Exactness.Exactness, declared.Exactness.TheVariants.Exact, declared.Exactness.TheVariants.Flagged, declared.Grown.Grown}
 use Rattle.lra_domain.specs.{declared.Included.Included, declared.Included.TheVariants.Yes, declared.Included.TheVariants.No, declared.Included.TheVariants.Wide, declared.Mode.Mode}
 use Rattle.lra_powerset.specs.Content.{SetContent, HeadForm, many, one, whole, SetHead, nonempty_parts, with_nonempty, PartFits}

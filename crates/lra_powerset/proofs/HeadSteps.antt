@@ -1,7 +1,6 @@
 -- Lemmas on the steps of the code of heads.
 use Rattle.std.proofs.Common.{◌≡◌, ◌≤◌, ◌<◌, ◌^◌, ℕ, List, length, sym, ap, subst, ◌∙◌, arith}
-use Rattle.lra_systems.specs.LinearSystems.{LinearSystem}
-use Rattle.lra_linear_spec.specs.declared.ConKind.{ConKind}
+use Rattle.lra_powerset.specs.Crates.{lra_linear_spec.declared.ConKind.ConKind, lra_systems.LinearSystems.LinearSystem}
 use Rattle.lra_domain.specs.{Abstraction.Abstraction, Laws.BaseLaws, Rank.RankFits, declared.Exactness.Exactness, declared.Included.Included}
 use Rattle.lra_powerset.specs.Values.{AreUndecided, PartsIncluded}
 use Rattle.lra_powerset.specs.{Content.HeadForm, Content.one, Content.whole, Forms.HeadFormFits, Forms.HeadFits, Growth.StartsAnew, Heads.FormStarts, Outcomes.AnswersWhether}

@@ -2,8 +2,7 @@
 use Rattle.std.proofs.Common.{◌≡◌, ◌⊎◌, ℕ, ◌≤◌, ◌^◌, ℤ, List, [], ◌∷◌, ◌++◌, length, refl, ap, sym, subst, ◌∙◌, inl, inr, arith}
 use Rattle.std.proofs.lemmas.List.Elements.{All-append}
 use Rattle.std.specs.{List.All, Prelude.flat_map}
-use Rattle.lra_systems.specs.LinearSystems.{LinearSystem}
-use Rattle.lra_linear_spec.specs.declared.ConKind.{ConKind}
+use Rattle.lra_powerset.specs.Crates.{lra_linear_spec.declared.ConKind.ConKind, lra_systems.LinearSystems.LinearSystem}
 use Rattle.lra_domain.specs.Abstraction.{Abstraction, TransfersTo, Joins, worse}
 use Rattle.lra_domain.specs.{Actions.Action, Actions.dims_after, Actions.Within, Laws.Laws, Laws.PartsAreExact, Laws.BaseLaws, Parts.CapsWithin, Parts.SomePartHolds, declared.Exactness.Exactness}
 use Rattle.lra_powerset.specs.Laws.{parts_within, inside_covers, whole_is_filled}

@@ -1,7 +1,6 @@
 -- Lemmas on the values of heads, their ranks and how many parts they have.
 use Rattle.std.proofs.Common.{◌≡◌, ℕ, zero, suc, ◌≤◌, ◌<◌, ◌^◌, List, [], ◌∷◌, length, refl, ap, sym, subst, ◌∙◌, inl, arith}
-use Rattle.lra_systems.specs.LinearSystems.{LinearSystem}
-use Rattle.lra_linear_spec.specs.declared.ConKind.{ConKind}
+use Rattle.lra_powerset.specs.Crates.{lra_linear_spec.declared.ConKind.ConKind, lra_systems.LinearSystems.LinearSystem}
 use Rattle.lra_domain.specs.Abstraction.{Abstraction, Starts, Values}
 use Rattle.lra_domain.specs.{Laws.Laws, Laws.BaseLaws, Rank.RankFits, declared.Exactness.Exactness, declared.Exactness.TheVariants.Exact}
 use Rattle.lra_powerset.specs.Heads.{HeadFormGamma, FormStarts, FormValued, FormCapped, HeadCapped, counted, form_rank}

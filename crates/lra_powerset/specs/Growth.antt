@@ -1,7 +1,6 @@
 -- What the steps of a head's growth leave, for the contracts of the code.
 use Rattle.std.specs.Prelude.{◌≡◌, ◌≢◌, ℕ, ℤ, Bool, true, false, List, [], ◌∷◌, ◌++◌, Option, Some, None, ◌⊎◌}
-use Rattle.lra_systems.specs.LinearSystems.{LinearSystem}
-use Rattle.lra_linear_spec.specs.declared.ConKind.{ConKind}
+use Rattle.lra_powerset.specs.Crates.{lra_linear_spec.declared.ConKind.ConKind, lra_systems.LinearSystems.LinearSystem}
 use Rattle.lra_domain.specs.Abstraction.{Abstraction, Grew, GrowthStrains, Values}
 use Rattle.lra_domain.specs.declared.Grown.TheVariants.{Stable, Grew as grew_by}
 use Rattle.lra_domain.specs.declared.Included.TheVariants.{No, Wide}

@@ -3,13 +3,12 @@ use Rattle.std.proofs.Common.{◌≡◌, ◌≢◌, ℕ, ◌≤◌, ℤ, Option,
 use Rattle.std.proofs.Common.{subst, ◌∙◌, inl, inr, arith, length-append}
 use Rattle.std.proofs.lemmas.Int.{ints, clamps}
 use Rattle.std.specs.Prelude.{flat_map}
-use Rattle.lra_systems.specs.LinearSystems.{LinearSystem}
-use Rattle.lra_linear_spec.specs.declared.ConKind.{ConKind}
+use Rattle.lra_powerset.specs.Crates.lra_linear_forms.Form.{Form as Linear, form_value}
+use Rattle.lra_powerset.specs.Crates.{lra_linear_spec.declared.ConKind.ConKind, lra_systems.LinearSystems.LinearSystem}
 use Rattle.lra_domain.specs.Actions.{Action, Leads, Within, dims_after}
 use Rattle.lra_domain.specs.Bounds.{IsLowerBound, IsBetween, IsUpperBound, greater, lesser_low}
 use Rattle.lra_domain.specs.declared.Mode.TheVariants.{Join, Widen, Limited, Tightest}
 use Rattle.lra_domain.specs.{Abstraction.Abstraction, Laws.Laws, Laws.BaseLaws, declared.Mode.Mode}
-use Rattle.lra_linear_forms.specs.Form.{Form as Linear, form_value}
 use Rattle.lra_powerset.specs.Content.{SetContent, HeadForm, many, one, whole, SetHead, PartFits, nonempty_parts}
 use Rattle.lra_powerset.specs.Heads.{HeadFormGamma, SetHeadGamma, FormStarts, FormStays, FormValued, FormGivenUp}
 use Rattle.lra_powerset.specs.Heads.{FormCovered, HeadCovered}

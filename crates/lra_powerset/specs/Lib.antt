@@ -13,3 +13,5 @@ pub mod Changes
 pub mod Growth
 pub mod Laws
 pub mod Single
+-- The crates below
+pub mod Crates

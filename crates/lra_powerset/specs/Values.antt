@@ -2,7 +2,7 @@
 use Rattle.std.specs.Prelude.{◌≡◌, ◌≤◌, ℕ, ℤ, Option, None, List, [], ◌∷◌, ◌++◌, length, ◌⊎◌}
 use Rattle.lra_domain.specs.Bounds.{greater, lesser_low}
 use Rattle.lra_domain.specs.{Abstraction.Abstraction, Actions.Action, Actions.dims_after}
-use Rattle.lra_linear_forms.specs.Form.{Form}
+use Rattle.lra_powerset.specs.Crates.lra_linear_forms.Form.{Form}
 use Rattle.lra_powerset.specs.{Content.PartFits, Content.SetContent, Content.nonempty_parts, Joins.CollapsesTo}
 use Rattle.lra_powerset.specs.{Joins.CollapseStrains, Lists.EachPart, Lists.SomePart, Lists.PartByPart}
 

@@ -5,8 +5,7 @@ ghost use Rattle.lra_domain.specs.{Abstraction.TransfersTo, Actions.dims_after};
 ghost use Rattle.lra_powerset.specs.Outcomes.{AreChanged, HaveDims, IsAppended};
 ghost use Rattle.lra_powerset.specs.{Changes.ChangeFits, Changes.borrowed_action, Content.nonempty_parts};
 
-use lra_domain::{BaseDomain, Domain, Exactness, worse};
-use lra_linear_forms::{LinExpr, Test};
+use lra_domain::{BaseDomain, Domain, Exactness, LinExpr, Test, worse};
 use std::alloc::{AllocError, Global};
 
 /// A least change of a value, as the calls of `Domain`.

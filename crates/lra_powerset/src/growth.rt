@@ -10,8 +10,7 @@ ghost use Rattle.lra_powerset.specs.{Growth.StaysWithAll, Heads.FormStarts, List
 use crate::changes::push_filled;
 use crate::joins::{collapse, merge};
 use crate::set::append_copies;
-use lra_domain::{BaseDomain, Domain, Exactness, Grown, Mode};
-use lra_systems::ConSys;
+use lra_domain::{BaseDomain, ConSys, Domain, Exactness, Grown, Mode};
 use std::alloc::{AllocError, Global};
 
 /// What comes after the head of a set.

@@ -9,8 +9,7 @@ ghost use Rattle.lra_powerset.specs.{Abstraction.set_abstraction, Forms.HeadFits
 use crate::growth::{Held, become_one, grow_one, start_anew, start_with, value_one};
 use crate::reduction::all_lie_in;
 use crate::set::{PowerSet, copy_alone, copy_parts};
-use lra_domain::{BaseDomain, Domain, Exactness, Grown, Included, Mode, Rank};
-use lra_systems::ConSys;
+use lra_domain::{BaseDomain, ConSys, Domain, Exactness, Grown, Included, Mode, Rank};
 use std::alloc::{AllocError, Global};
 use std::marker::Model;
 

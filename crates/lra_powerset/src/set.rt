@@ -13,9 +13,10 @@ use crate::heads::PowerSetHead;
 use crate::joins::collapse;
 use crate::reduction::{all_lie_in, reduce};
 use lra_domain::bounds::{join_highs, join_lows};
-use lra_domain::{BaseDomain, Domain, ExactParts, Exactness, Grown, Included, Mode, Rank, worse};
-use lra_linear_forms::{LinExpr, Test};
-use lra_systems::ConSys;
+use lra_domain::{
+    BaseDomain, ConSys, Domain, ExactParts, Exactness, Grown, Included, LinExpr, Mode, Rank, Test,
+    worse,
+};
 use std::alloc::{AllocError, Global};
 use std::marker::Model;
 

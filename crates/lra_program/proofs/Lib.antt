@@ -13,3 +13,5 @@ pub mod TypeLaws
 pub mod StepLaws
 pub mod AccessLaws
 pub mod NextOperationLaws
+-- The crates below
+pub mod Crates

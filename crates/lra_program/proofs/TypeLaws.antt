@@ -1,7 +1,7 @@
 -- A value, if there is one, has its expression's type; and what stops by a number computes something.
 use Rattle.std.proofs.Common.{◌≡◌, ℤ, pos, List, [], ◌∷◌, Option, Some, None, Bool, true, false, refl, ap, subst, inl, inr}
-use Rattle.std.specs.Prelude.{◌-ℤ◌, slice_get, if◌then◌else◌, int_div, int_rem, ◌&&◌, ◌||◌, ◌⊎◌}
 use Rattle.std.proofs.lemmas.Bool.{or_left, or_right}
+use Rattle.std.specs.Prelude.{◌-ℤ◌, slice_get, if◌then◌else◌, int_div, int_rem, ◌&&◌, ◌||◌, ◌⊎◌}
 use Rattle.lra_base.specs.{NumberTypes.fits, NumberTypes.wider, Operators.Operator, Operators.plus, Operators.minus, Operators.times, Operators.over, Operators.modulo}
 use Rattle.lra_base.specs.{declared.number_types.NumberType.NumberType, declared.number_types.NumberType.TheVariants.Int, declared.number_types.NumberType.TheVariants.Long}
 use Rattle.lra_base.proofs.TypeLimits.{int_is_long}

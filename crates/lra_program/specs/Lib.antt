@@ -15,3 +15,5 @@ pub mod Accesses
 pub mod Sites
 pub mod Assertions
 pub mod WellFormed
+-- The crates below
+pub mod Crates

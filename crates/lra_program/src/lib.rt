@@ -8,6 +8,9 @@ mod program;
 mod receivers;
 
 pub use arrays::Array;
+pub use lra_base::{
+    CaseLabel, Comparison, GREATEST_LIVE, NumberType, Operator, Place, SourceError,
+};
 pub use program::{
     Argument, BlockItem, BlockItems, Call, CaseItem, Cond, Declarator, Element, Expr, Function,
     GlobalVariable, Operation, Program, Rvalue, Slot, Stmt, Variable, pair_arguments,

@@ -3,9 +3,9 @@ use Rattle.std.proofs.Common.{◌≡◌, ℕ, List, [], ◌∷◌, ◌++◌, map
 use Rattle.std.proofs.lemmas.List.Elements.{Contains-append_cases, Contains-append_left, Contains-append_right}
 use Rattle.std.proofs.{lemmas.Bool.cases_Bool, lemmas.Bool.both_ways, lemmas.Slice.Eq.bytes_eq-Decides}
 use Rattle.std.specs.List.{Contains, AllByRecursion}
-use Rattle.lra_base.specs.declared.refusals.Place.{Place}
-use Rattle.lra_syntax.specs.Reach.{calls_of, IsCalling, ReachesByCalls, there, by_call, calls_in, IsRecursive, IsFirstRecursive, NotRecursive}
-use Rattle.lra_syntax.specs.{Functions.functions_of, Trees.FunctionTree, Trees.FileTree, declared.trees.Identifier.Identifier}
+use Rattle.lra_recursion.specs.Crates.lra_syntax.Reach.{calls_of, IsCalling, ReachesByCalls, there, by_call, calls_in, IsRecursive, IsFirstRecursive, NotRecursive}
+use Rattle.lra_recursion.specs.Crates.lra_syntax.Trees.{FunctionTree, FileTree}
+use Rattle.lra_recursion.specs.Crates.{lra_base.declared.refusals.Place.Place, lra_syntax.Functions.functions_of, lra_syntax.declared.trees.Identifier.Identifier}
 use Rattle.lra_recursion.proofs.Elements.{in_cons, in_further, nothing_in, has_one, all_at}
 
 -- what holds or doesn't

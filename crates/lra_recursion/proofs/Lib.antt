@@ -12,3 +12,5 @@ mod Adding
 mod Reaching
 -- Each source has a first recursive call, or none.
 pub mod Deciding
+-- The crates below
+pub mod Crates

@@ -3,8 +3,8 @@ use Rattle.std.proofs.Common.{◌≡◌, ◌<◌, ℕ, suc, Bool, true, false, c
 use Rattle.std.proofs.lemmas.Option.{none-some, same_Some, slice_get_within}
 use Rattle.std.proofs.{Common.arith, lemmas.Bool.both_ways, lemmas.Bool.eqb-true, lemmas.Bool.eq-eqb, lemmas.Slice.Eq.bytes_eq-Decides}
 use Rattle.std.specs.{List.Contains, Prelude.option_map, Prelude.option_to_list, Prelude.nat_eq}
-use Rattle.lra_syntax.specs.{Functions.is_named, Functions.function_named, Trees.FunctionTree, declared.trees.Identifier.Identifier}
-use Rattle.lra_resolution_spec.specs.Resolve.{function_place}
+use Rattle.lra_recursion.specs.Crates.lra_syntax.Functions.{is_named, function_named}
+use Rattle.lra_recursion.specs.Crates.{lra_resolution_spec.Resolve.function_place, lra_syntax.Trees.FunctionTree, lra_syntax.declared.trees.Identifier.Identifier}
 use Rattle.lra_recursion.specs.{Calls.call_of, Calls.calls_among, Calls.first_places, Calls.callees_of, declared.calls.Call.Call}
 use Rattle.lra_recursion.proofs.Elements.{nothing_in, in_cons, in_further}
 

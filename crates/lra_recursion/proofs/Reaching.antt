@@ -2,13 +2,13 @@
 use Rattle.std.proofs.Common.{◌≡◌, ℕ, ◌<◌, List, [], ◌∷◌, ◌++◌, length, map, Option, Some, None, slice_get, get_or, refl, sym, ap, ◌∙◌, subst, arith}
 use Rattle.std.proofs.{lemmas.List.length-map, lemmas.Option.slice_get-get_or, lemmas.Option.get_or_from_slice_get, lemmas.Option.slice_get_within}
 use Rattle.std.specs.{List.Contains, List.AllByRecursion, Prelude.option_to_list, Prelude.Vec, Prelude.Result, Prelude.Ok, Prelude.Err, Prelude.IfOk, Prelude.MatchOption, declared.alloc.Global.Global}
-use Rattle.lra_base.specs.declared.refusals.Place.{Place}
-use Rattle.lra_syntax.specs.Reach.{IsCalling, ReachesByCalls, there, by_call, calls_in, IsRecursive, IsFirstRecursive, NotRecursive}
-use Rattle.lra_syntax.specs.{Functions.functions_of, Labels.Labelled, Labels.labels_of, Trees.FileTree, Views.tree_view, declared.trees.ExternalDeclaration.ExternalDeclaration}
-use Rattle.lra_syntax.specs.{declared.trees.Identifier.Identifier, declared.trees.TranslationUnit.TranslationUnit}
-use Rattle.lra_program.specs.{ProgramViews.function_view, ProgramViews.program_view, declared.program.Function.Function, declared.program.Program.Program}
+use Rattle.lra_recursion.specs.Crates.lra_resolution_spec.Resolve.{function_place, resolved_functions}
+use Rattle.lra_recursion.specs.Crates.lra_syntax.Reach.{IsCalling, ReachesByCalls, there, by_call, calls_in, IsRecursive, IsFirstRecursive, NotRecursive}
+use Rattle.lra_recursion.specs.Crates.{lra_base.declared.refusals.Place.Place, lra_program.ProgramViews.function_view, lra_program.ProgramViews.program_view}
+use Rattle.lra_recursion.specs.Crates.{lra_program.declared.program.Function.Function, lra_program.declared.program.Program.Program, lra_syntax.Functions.functions_of, lra_syntax.Labels.Labelled}
+use Rattle.lra_recursion.specs.Crates.{lra_syntax.Labels.labels_of, lra_syntax.Trees.FileTree, lra_syntax.Views.tree_view, lra_syntax.declared.trees.ExternalDeclaration.ExternalDeclaration}
+use Rattle.lra_recursion.specs.Crates.{lra_syntax.declared.trees.Identifier.Identifier, lra_syntax.declared.trees.TranslationUnit.TranslationUnit}
 use Rattle.lra_scopes.specs.Calls.{functions_at}
-use Rattle.lra_resolution_spec.specs.Resolve.{function_place, resolved_functions}
 use Rattle.lra_recursion.specs.Calls.{call_of, calls_among, first_places, calls_behind, callees_of}
 use Rattle.lra_recursion.specs.{Recursion.IsRecursiveCall, Recursion.IsFirstRecursiveCall, Search.IsReachableFrom, Search.begins, Search.goes_on, declared.calls.Call.Call}
 use Rattle.lra_recursion.proofs.Placing.{IsKnown, known, one_name, known_within, call_is, unknown_name, call_there, from_among, in_among, from_row, in_row}

@@ -2,12 +2,13 @@
 use Rattle.std.proofs.Common.{◌≡◌, ◌+◌, ◌-◌, ◌<◌, ◌≤◌, ℕ, zero, suc, List, [], ◌∷◌, ◌++◌, length, map, take, drop, Option, Some, None, slice_get, refl, sym, ap, ◌∙◌, arith, append_assoc, append-nil}
 use Rattle.std.proofs.{Common.length-append, Math.Seq.take-append_seam, Math.Seq.drop-append_seam, lemmas.Option.none-some, lemmas.Option.same_Some}
 use Rattle.std.specs.Prelude.{option_to_list, flat_map}
-use Rattle.lra_syntax.specs.{Functions.functions_in, Functions.functions_of, Labels.Labelled, Labels.function_labels, Labels.labels_of, Labels.label_at, Reach.called_names, Reach.calls_of}
-use Rattle.lra_syntax.specs.{Reach.calls_in, Trees.FunctionTree, Trees.ExternalTree, Trees.prototype, Trees.globals, Trees.function, Trees.FileTree, declared.trees.Identifier.Identifier}
-use Rattle.lra_program.specs.{ProgramViews.function_view, declared.program.Function.Function}
-use Rattle.lra_program.specs.Program as program
-use Rattle.lra_resolution_spec.specs.{Resolve.resolved_functions, Resolve.resolve_parts, Resolve.items_count, Resolve.function_place, Scope.SymbolEntry}
-use Rattle.lra_resolution_spec.proofs.LabelCounts.{count_items}
+use Rattle.lra_recursion.specs.Crates.lra_resolution_spec.Resolve.{resolved_functions, resolve_parts, items_count, function_place}
+use Rattle.lra_recursion.specs.Crates.lra_syntax.Trees.{FunctionTree, ExternalTree, prototype, globals, function, FileTree}
+use Rattle.lra_recursion.specs.Crates.{lra_program.ProgramViews.function_view, lra_program.declared.program.Function.Function, lra_resolution_spec.Scope.SymbolEntry, lra_syntax.Functions.functions_in}
+use Rattle.lra_recursion.specs.Crates.{lra_syntax.Functions.functions_of, lra_syntax.Labels.Labelled, lra_syntax.Labels.function_labels, lra_syntax.Labels.labels_of, lra_syntax.Labels.label_at}
+use Rattle.lra_recursion.specs.Crates.{lra_syntax.Reach.called_names, lra_syntax.Reach.calls_of, lra_syntax.Reach.calls_in, lra_syntax.declared.trees.Identifier.Identifier}
+use Rattle.lra_recursion.specs.Crates.lra_program.Program as program
+use Rattle.lra_recursion.proofs.Crates.lra_resolution_spec.LabelCounts.{count_items}
 use Rattle.lra_recursion.specs.{Calls.call_of, Calls.calls_by, Calls.calls_among, Calls.first_places, Calls.called_at, Calls.labels_between, Calls.calls_behind, declared.calls.Call.Call}
 use Rattle.lra_recursion.proofs.Placing.{known_places}
 

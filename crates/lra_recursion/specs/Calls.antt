@@ -2,10 +2,10 @@
 -- and so does what is called by that name.
 use Rattle.std.specs.Prelude.{ℕ, List, [], ◌∷◌, ◌++◌, ◌-◌, take, drop, Option, Some, None, option_map, option_to_list}
 use Rattle.std.specs.Prelude.{if◌then◌else◌, nat_eq}
-use Rattle.lra_syntax.specs.{Functions.function_named, Labels.Labelled, Reach.called_names, Trees.FunctionTree}
-use Rattle.lra_syntax.specs.{declared.trees.Identifier.Identifier}
-use Rattle.lra_program.specs.Program.{Function}
-use Rattle.lra_resolution_spec.specs.Resolve.{function_place}
+use Rattle.lra_recursion.specs.Crates.lra_syntax.Functions.{function_named}
+use Rattle.lra_recursion.specs.Crates.{lra_program.Program.Function, lra_resolution_spec.Resolve.function_place}
+use Rattle.lra_recursion.specs.Crates.{lra_syntax.Labels.Labelled, lra_syntax.Reach.called_names}
+use Rattle.lra_recursion.specs.Crates.{lra_syntax.Trees.FunctionTree, lra_syntax.declared.trees.Identifier.Identifier}
 use Rattle.lra_recursion.specs.declared.calls.Call.{Call}
 
 -- the call of this name, if there is a function of the name

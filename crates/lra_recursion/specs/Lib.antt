@@ -2,3 +2,5 @@
 pub mod Calls
 pub mod Search
 pub mod Recursion
+-- The crates below
+pub mod Crates

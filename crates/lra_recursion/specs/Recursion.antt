@@ -1,6 +1,6 @@
 -- Calls whose callee reaches their caller, in the places of functions.
 use Rattle.std.specs.{List.AllByRecursion, Prelude.◌≡◌, Prelude.ℕ, Prelude.List, Prelude.◌∷◌, Prelude.◌++◌}
-use Rattle.lra_base.specs.declared.refusals.Place.{Place}
+use Rattle.lra_recursion.specs.Crates.lra_base.declared.refusals.Place.{Place}
 use Rattle.lra_recursion.specs.{Search.IsReachableFrom, declared.calls.Call.Call}
 
 -- the callee reaches the caller

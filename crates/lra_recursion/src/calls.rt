@@ -1,17 +1,13 @@
 //! The calls of a source in text order, from the table of its labels.
 
 ghost use Rattle.std.specs.Prelude.{◌≡◌, ◌++◌, ◌∷◌, List, map, option_to_list, IfOk};
-ghost use Rattle.lra_syntax.specs.Views.{external_view};
-ghost use Rattle.lra_syntax.specs.{Functions.functions_in, Labels.label_at, Reach.called_names, Trees.ExternalTree};
-ghost use Rattle.lra_program.specs.ProgramViews.{function_view};
+ghost use Rattle.lra_recursion.specs.Crates.{lra_program.ProgramViews.function_view, lra_syntax.Functions.functions_in};
+ghost use Rattle.lra_recursion.specs.Crates.{lra_syntax.Labels.label_at, lra_syntax.Reach.called_names};
+ghost use Rattle.lra_recursion.specs.Crates.{lra_syntax.Trees.ExternalTree, lra_syntax.Views.external_view};
 ghost use Rattle.lra_scopes.specs.Calls.{functions_at};
 ghost use Rattle.lra_recursion.specs.Calls.{first_places, called_at, calls_by, labels_between, calls_behind};
 
-use lra_base::Place;
-use lra_program::Function;
-use lra_resolution_spec::Labels;
-use lra_scopes::Functions;
-use lra_syntax::ExternalDeclaration;
+use lra_scopes::{ExternalDeclaration, Function, Functions, Labels, Place};
 use std::alloc::{AllocError, Global};
 
 /// A call: the place of the first function that has the name of the one that holds it, that of the called function,

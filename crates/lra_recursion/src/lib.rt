@@ -6,4 +6,5 @@ mod recursion;
 mod rows;
 mod search;
 
+pub use lra_scopes::{Labels, Program, TranslationUnit};
 pub use recursion::first_recursive;

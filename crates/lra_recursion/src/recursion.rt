@@ -2,19 +2,16 @@
 
 ghost use Rattle.std.specs.List.{AllByRecursion};
 ghost use Rattle.std.specs.Prelude.{◌≡◌, ◌↔◌, map, IsTrue, IfOk, MatchOption};
-ghost use Rattle.lra_syntax.specs.{Labels.labels_of, Reach.IsFirstRecursive, Reach.NotRecursive, Views.tree_view};
-ghost use Rattle.lra_program.specs.ProgramViews.{program_view};
-ghost use Rattle.lra_resolution_spec.specs.Resolve.{resolved_functions};
+ghost use Rattle.lra_recursion.specs.Crates.lra_program.ProgramViews.{program_view};
+ghost use Rattle.lra_recursion.specs.Crates.lra_resolution_spec.Resolve.{resolved_functions};
+ghost use Rattle.lra_recursion.specs.Crates.lra_syntax.Reach.{IsFirstRecursive, NotRecursive};
+ghost use Rattle.lra_recursion.specs.Crates.{lra_syntax.Labels.labels_of, lra_syntax.Views.tree_view};
 ghost use Rattle.lra_recursion.specs.Recursion.{IsRecursiveCall, IsFirstRecursiveCall};
 
 use crate::calls::{Call, find_calls};
 use crate::rows::find_rows;
 use crate::search::reached;
-use lra_base::Place;
-use lra_program::Program;
-use lra_resolution_spec::Labels;
-use lra_scopes::Functions;
-use lra_syntax::TranslationUnit;
+use lra_scopes::{Functions, Labels, Place, Program, TranslationUnit};
 use std::alloc::{AllocError, Global};
 
 /// Whether the callee reaches the caller.

@@ -2,10 +2,10 @@
 use Rattle.std.proofs.Common.{◌≡◌, ℕ, zero, suc, ◌<◌, ℤ, pos, negsuc, nat_abs, ◌<ℤ◌, false, List, [], ◌∷◌, refl, ap, arith, inl, inr}
 use Rattle.std.proofs.lemmas.Int.{ints}
 use Rattle.std.specs.List.{AllByRecursion}
-use Rattle.lra_linear_spec.specs.{Echelon.HasPivot, LowestTerms.IsPrimitive, Range.InRange, Vectors.entry}
-use Rattle.lra_linear_spec.specs.declared.ConKind.TheVariants as con
-use Rattle.lra_linear_spec.specs.declared.GenKind.TheVariants as gen
-use Rattle.lra_systems.specs.LinearSystems.{FitsKind}
+use Rattle.lra_report.specs.Crates.lra_linear_spec.LowestTerms.{IsPrimitive}
+use Rattle.lra_report.specs.Crates.{lra_linear_spec.Echelon.HasPivot, lra_linear_spec.Range.InRange, lra_linear_spec.Vectors.entry, lra_systems.LinearSystems.FitsKind}
+use Rattle.lra_report.specs.Crates.lra_linear_spec.declared.ConKind.TheVariants as con
+use Rattle.lra_report.specs.Crates.lra_linear_spec.declared.GenKind.TheVariants as gen
 use Rattle.lra_row_text.specs.{Shown.report_row, Shown.report_generator, Texts.is_negated}
 use Rattle.lra_report.specs.Spelled.{IsSpelledRow, IsSpelledGenerator}
 

@@ -3,13 +3,15 @@
 use Rattle.std.proofs.Common.{◌≡◌, ℕ, ◌+◌, ◌≤◌, true, List, [], ◌∷◌, ◌++◌, length, map, refl, ap, sym, ◌∙◌, subst, arith, length-append, append_assoc, append-nil, Option, Some, None}
 use Rattle.std.specs.List.{AllByRecursion, flat_map}
 use Rattle.lra_base.specs.declared.refusals.Place.{Place}
-use Rattle.lra_syntax.specs.Grammar.{IsDeclarator, IsDeclaration, IsInit, opened_by, level_of, IsStmt, AreCases, AreLabelled, AreStated, AreItems, IsParameter, AreParameters, IsFunction, IsGlobal}
-use Rattle.lra_syntax.specs.Labels.{Labelled, name_in, names_of, with_names, declarator_labels, init_labels, live_in_for, step_labels, stmt_labels, cases_labels, items_labels, function_labels}
-use Rattle.lra_syntax.specs.Texts.{Piece, Pieces, Texts, name, further, separated}
-use Rattle.lra_syntax.specs.Trees.{AssignTree, DeclaratorTree, DeclarationTree, InitTree, no_init, declared, assigned, StmtTree, block, nothing, assign, call, ScalarOrArrayTree, scalar, array}
-use Rattle.lra_syntax.specs.Trees.{if_only, if_else, while, for, break, continue, return, assert, assume, switch, CasesTree, no_cases, labelled, stated, ItemsTree, no_items, declaration, statement}
-use Rattle.lra_syntax.specs.Trees.{FunctionTree, GlobalsTree, ExternalTree, prototype, globals, function}
-use Rattle.lra_syntax.specs.{Functions.functions_in, Grammar.AreGlobals, Grammar.AreExternalDeclarations, Lexeme.is_name_word, declared.trees.Identifier.Identifier, declared.trees.Parameter.Parameter}
+use Rattle.lra_report.specs.Crates.lra_syntax.Grammar.{IsDeclarator, IsDeclaration, IsInit, opened_by, level_of, IsStmt, AreCases, AreLabelled, AreStated, AreItems, IsParameter, AreParameters}
+use Rattle.lra_report.specs.Crates.lra_syntax.Grammar.{IsFunction, IsGlobal, AreGlobals, AreExternalDeclarations}
+use Rattle.lra_report.specs.Crates.lra_syntax.Labels.{Labelled, name_in, names_of, with_names, declarator_labels, init_labels, live_in_for, step_labels, stmt_labels, cases_labels, items_labels}
+use Rattle.lra_report.specs.Crates.lra_syntax.Labels.{function_labels}
+use Rattle.lra_report.specs.Crates.lra_syntax.Texts.{Piece, Pieces, Texts, name, further, separated}
+use Rattle.lra_report.specs.Crates.lra_syntax.Trees.{AssignTree, DeclaratorTree, DeclarationTree, InitTree, no_init, declared, assigned, StmtTree, block, nothing, assign, call, ScalarOrArrayTree}
+use Rattle.lra_report.specs.Crates.lra_syntax.Trees.{scalar, array, if_only, if_else, while, for, break, continue, return, assert, assume, switch, CasesTree, no_cases, labelled, stated, ItemsTree}
+use Rattle.lra_report.specs.Crates.lra_syntax.Trees.{no_items, declaration, statement, FunctionTree, GlobalsTree, ExternalTree, prototype, globals, function}
+use Rattle.lra_report.specs.Crates.{lra_syntax.Functions.functions_in, lra_syntax.Lexeme.is_name_word, lra_syntax.declared.trees.Identifier.Identifier, lra_syntax.declared.trees.Parameter.Parameter}
 use Rattle.lra_resolution_spec.specs.LiveNames.{live_name, globals_named}
 use Rattle.lra_report.proofs.{Every.every_append, Every.every_front, Every.every_back, TokenWords.HasWord}
 

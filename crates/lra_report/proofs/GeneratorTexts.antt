@@ -4,9 +4,10 @@ use Rattle.std.proofs.Common.{refl, ap, sym, ◌∙◌, subst, arith, append_ass
 use Rattle.std.proofs.Math.Nat.{one-dvd, pos_of_dvd_of_pos, mul-div_cancel', div-le_self}
 use Rattle.std.proofs.{lemmas.Bool.both_ways, lemmas.Bool.eqb-true, lemmas.Bool.eqb-false, lemmas.Bool.Decides.nat_tests, lemmas.List.append_cancel_left, lemmas.Nat.Gcd.dvd_of_mod-eq-zero}
 use Rattle.std.specs.{Char.is_ascii_digit, Fmt.decimal, Fmt.signed_decimal, Int.◌∣◌, List.AllByRecursion, Prelude.⊤}
-use Rattle.lra_linear_spec.specs.declared.GenKind.TheVariants.{Point, Ray, Line}
-use Rattle.lra_linear_spec.specs.{LowestTerms.IsPrimitive, Range.InRange, Vectors.entry, declared.GenKind.GenKind}
-use Rattle.lra_linear_spec.proofs.{LowestTerms.same_multiple, LowestTerms.signed_quotient_is, Products.row_same, Ring.v as atom, Ring.◌⊗◌, Ring.ring, Signs.cancel_same}
+use Rattle.lra_report.specs.Crates.lra_linear_spec.declared.GenKind.TheVariants.{Point, Ray, Line}
+use Rattle.lra_report.specs.Crates.{lra_linear_spec.LowestTerms.IsPrimitive, lra_linear_spec.Range.InRange, lra_linear_spec.Vectors.entry, lra_linear_spec.declared.GenKind.GenKind}
+use Rattle.lra_report.proofs.Crates.lra_linear_spec.LowestTerms.{same_multiple, signed_quotient_is}
+use Rattle.lra_report.proofs.Crates.{lra_linear_spec.Products.row_same, lra_linear_spec.Ring.v as atom, lra_linear_spec.Ring.◌⊗◌, lra_linear_spec.Ring.ring, lra_linear_spec.Signs.cancel_same}
 use Rattle.lra_row_text.specs.Part.{ReportGenerator}
 use Rattle.lra_row_text.specs.Texts.{greatest_divisor, fraction_text, coordinate_text, value_text, values_text, generator_kind_text, generator_text}
 use Rattle.lra_report.specs.Spelled.{IsSpelledGenerator}

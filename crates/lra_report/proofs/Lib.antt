@@ -27,3 +27,5 @@ pub mod TokenWords
 -- What the report of a source lists.
 mod ListingExamples
 mod OtherReportExamples
+-- The crates below
+pub mod Crates

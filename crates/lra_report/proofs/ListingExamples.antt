@@ -3,13 +3,12 @@ use Rattle.std.proofs.Common.{◌≡◌, ℕ, [], ◌∷◌, refl}
 use Rattle.std.specs.{Fmt.digits, Prelude.codes, Prelude.nat_eq, Prelude.nat_lt, Prelude.cond}
 use Rattle.lra_report.specs.Listing.{listed_point, computing_from, Subject, subjects, accesses_from, AreListed, AreJudged}
 use Rattle.lra_report.specs.{Report.PointReport, declared.verdict_kinds.VerdictKind.TheVariants.Access}
-use Rattle.lra_syntax.specs.Labels.{labels_of}
-use Rattle.lra_program.specs.{Program.Element, Program.input, Sites.Site, Sites.sites_of}
+use Rattle.lra_report.specs.Crates.{lra_program.Program.Element, lra_program.Program.input, lra_program.Sites.Site, lra_program.Sites.sites_of, lra_syntax.Labels.labels_of}
 use Rattle.lra_resolution_spec.specs.{LiveNames.globals_named, Resolve.resolve}
 use Rattle.lra_operations.specs.Inlined.{InlineItems, main_inline_state, as_declaration, as_fresh, as_statement, as_assign, as_value, as_assert, as_none}
 use Rattle.lra_operations.specs.{Agree.IsInlinedTree, Tree.Node, Tree.seq, Tree.point}
 use Rattle.lra_base.specs.declared.number_types.NumberType.TheVariants.{Long}
-use Rattle.lra_syntax.proofs.TreeSamples.{at, literal_text, one_variable, called_twice, call_in_step}
+use Rattle.lra_report.proofs.Crates.lra_syntax.TreeSamples.{at, literal_text, one_variable, called_twice, call_in_step}
 use Rattle.lra_report.proofs.ReportTextExamples as report
 use Rattle.lra_resolution_spec.proofs.SiteExamples.{site}
 

@@ -2,10 +2,10 @@
 use Rattle.std.proofs.Common.{◌≡◌, ℕ, zero, suc, ◌*◌, ◌≤◌, true, List, [], ◌∷◌, ◌++◌, length, ap, sym, subst, arith, length-append, slice_get}
 use Rattle.std.proofs.lemmas.List.{length-map}
 use Rattle.std.specs.List.{AllByRecursion}
-use Rattle.lra_syntax.specs.Labels.{Labelled, labels_of, label_at}
-use Rattle.lra_syntax.specs.{Faults.Language, Grammar.Spells, Lexeme.is_name_word, Texts.Piece, Texts.Pieces, Texts.plain, Trees.FileTree, declared.tokens.Token.Token}
+use Rattle.lra_report.specs.Crates.{lra_program.Sites.Site, lra_program.Sites.greatest_calls, lra_program.Sites.sites_of, lra_syntax.Faults.Language, lra_syntax.Grammar.Spells}
+use Rattle.lra_report.specs.Crates.{lra_syntax.Labels.Labelled, lra_syntax.Labels.labels_of, lra_syntax.Labels.label_at, lra_syntax.Lexeme.is_name_word, lra_syntax.Texts.Piece}
+use Rattle.lra_report.specs.Crates.{lra_syntax.Texts.Pieces, lra_syntax.Texts.plain, lra_syntax.Trees.FileTree, lra_syntax.declared.tokens.Token.Token}
 use Rattle.lra_resolution_spec.specs.{LiveNames.live_at, LiveNames.live_in_call_at, LiveNames.names_outside, LiveNames.live_names, LiveNames.globals_named, Refuse.Accepts, Resolve.resolve}
-use Rattle.lra_program.specs.Sites.{Site, greatest_calls, sites_of}
 use Rattle.lra_base.specs.Places.{greatest_length}
 use Rattle.lra_report.specs.Spelled.{AreWords, HasWords}
 use Rattle.lra_report.proofs.DeclaredNames.{IsNamed, AreFew, AreFewAt, HasRoom, labels_few, globals_few}

@@ -3,7 +3,7 @@ use Rattle.std.proofs.Common.{◌≡◌, ◌≢◌, ℕ, zero, suc, ◌+◌, ◌
 use Rattle.std.proofs.Common.{append_assoc, append-nil}
 use Rattle.std.proofs.{lemmas.Bool.and_parts, lemmas.Bool.Decides.nat_tests, lemmas.List.Sums.sum_by-cons, lemmas.List.Sums.count_by-le-length, lemmas.Slice.Eq.bytes_eq-Decides}
 use Rattle.std.specs.{Char.is_ascii_digit, Fmt.decimal, List.AllByRecursion, List.list_all}
-use Rattle.lra_syntax.specs.Lexeme.{is_letter, is_word_byte, is_name_word}
+use Rattle.lra_report.specs.Crates.lra_syntax.Lexeme.{is_letter, is_word_byte, is_name_word}
 use Rattle.lra_resolution_spec.specs.ShownNames.{shown_name, shown_names}
 use Rattle.lra_report.specs.Spelled.{AreWords}
 use Rattle.lra_report.proofs.Fronts.{is_visible, AllVisible, IsShownName, AreShownNames, Passes, Ends, front_same, rest_same}

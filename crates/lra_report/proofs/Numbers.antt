@@ -2,7 +2,7 @@
 use Rattle.std.proofs.Common.{◌≡◌, ℕ, zero, suc, ◌<◌, ◌+◌, ◌/◌, ◌%◌, ◌^◌, ◌==◌, ℤ, pos, negsuc, nat_abs, Bool, true, false, List, [], ◌∷◌, ◌++◌, if◌then◌else◌, ap, sym, ◌∙◌, lt-ltb, arith}
 use Rattle.std.proofs.{lemmas.Bool.le-leb, lemmas.Bool.and_from, lemmas.Fmt.decimal_is_IsNumeral_wide, lemmas.Nat.mod_below}
 use Rattle.std.specs.{Char.is_ascii_digit, Fmt.decimal, Fmt.digits, Fmt.digit_glyph, Fmt.digits_onto, Fmt.signed_decimal, Str.Parse.digits_value}
-use Rattle.lra_linear_spec.specs.Range.{InRange}
+use Rattle.lra_report.specs.Crates.lra_linear_spec.Range.{InRange}
 use Rattle.lra_report.proofs.Fronts.{Passes, Ends, front_same, front_first, rest_same}
 
 -- as many digits as a number may have here

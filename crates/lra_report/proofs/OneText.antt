@@ -2,17 +2,16 @@
 use Rattle.std.proofs.Common.{◌≡◌, ℕ, suc, ◌<◌, ◌^◌, nat_eq, Bool, false, List, [], ◌∷◌, ◌++◌, length, codes, refl, ap, sym, ◌∙◌, subst, arith, append_assoc, Option, Some, None}
 use Rattle.std.proofs.{lemmas.Bool.eqb-false, lemmas.List.append_cancel_left}
 use Rattle.std.specs.{Fmt.decimal, List.AllByRecursion, List.flat_map, Prelude.get_or}
-use Rattle.lra_syntax.specs.Labels.{Labelled, labels_of, label_at, label_place}
+use Rattle.lra_report.specs.Crates.lra_program.Sites.{Site, sites_of}
+use Rattle.lra_report.specs.Crates.lra_syntax.Labels.{Labelled, labels_of, label_at, label_place}
 use Rattle.lra_resolution_spec.specs.{LiveNames.live_names, LiveNames.globals_named, Resolve.resolve, ShownNames.shown_names}
-use Rattle.lra_program.specs.Sites.{Site, sites_of}
 use Rattle.lra_report.specs.Listing.{calls_on, listed_point, Subject, subjects, listed_verdict, AreListed, AreJudged}
 use Rattle.lra_report.specs.ReportText.{place_text, path_text, heading_text, options_text, flag_text, state_text, point_text, verdict_text, counts_line, report_text}
 use Rattle.lra_report.specs.Spelled.{IsReadablePart, IsReadablePoint, IsSmallFlag, AreWords, OneText}
 use Rattle.lra_report.specs.{Report.PointReport, Report.Verdict, Report.Report, VerdictKinds.row_of, VerdictKinds.outcome_text}
 use Rattle.lra_row_text.specs.Texts.{text_line}
-use Rattle.lra_report.proofs.Fronts.{first_same, rest_same, both_same}
+use Rattle.lra_report.proofs.{Fronts.first_same, Fronts.rest_same, Fronts.both_same, GeneratorTexts.value_pieces}
 use Rattle.lra_report.proofs.{NameTexts.are_shown, Numbers.IsShort, Numbers.decimal_same, Outcomes.outcome_same, StateTexts.letter, StateTexts.line_pieces, StateTexts.state_same}
-use Rattle.lra_report.proofs.GeneratorTexts.{value_pieces}
 use Rattle.lra_options.specs.declared.options.Options.{Options}
 
 -- points -------------------------------------------------------------------------

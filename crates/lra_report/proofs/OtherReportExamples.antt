@@ -4,7 +4,7 @@ use Rattle.std.specs.Prelude.{codes}
 use Rattle.lra_options.specs.{declared.options.Domain.TheVariants.Poly, declared.options.Domain.TheVariants.Box, declared.options.Options.Options}
 use Rattle.lra_row_text.specs.Part.{Part}
 use Rattle.lra_report.specs.{Listing.AreParts, Listing.IsReportOf, Parts.ShowsPart}
-use Rattle.lra_syntax.specs.Grammar.{Spells}
+use Rattle.lra_report.specs.Crates.lra_syntax.Grammar.{Spells}
 use Rattle.lra_report.proofs.PartExamples.{box_with_generator}
 use Rattle.lra_report.proofs.ReportTextExamples.{defaults, both, a_point, empty_main, one_variable}
 

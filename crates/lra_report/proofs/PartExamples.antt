@@ -4,8 +4,8 @@ use Rattle.std.proofs.lemmas.Int.{ints}
 use Rattle.std.specs.{Int.Signed.le_z_yes, Prelude.get_or, Prelude.map}
 use Rattle.lra_options.specs.declared.options.Domain.TheVariants.{Poly, Box}
 use Rattle.lra_row_text.specs.{Part.ReportGenerator, Rows.ReportRow}
-use Rattle.lra_linear_spec.specs.Vectors.{product}
-use Rattle.lra_linear_spec.proofs.Products.{product_none}
+use Rattle.lra_report.specs.Crates.lra_linear_spec.Vectors.{product}
+use Rattle.lra_report.proofs.Crates.lra_linear_spec.Products.{product_none}
 use Rattle.lra_report.specs.Parts.{RationalPoint, LiesInPart, IsGenerated, HasSamePoints, ShowsPart}
 use Rattle.lra_report.proofs.ReportTextExamples.{both, rows_alone, a_point, a_ray, is_positive}
 

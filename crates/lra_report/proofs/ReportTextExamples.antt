@@ -7,8 +7,8 @@ use Rattle.lra_report.specs.ReportText.{state_text, flag_text, report_text, path
 use Rattle.lra_report.specs.declared.verdict_kinds.VerdictKind.TheVariants.{Assertion, Fit, Access}
 use Rattle.lra_report.specs.{BackText.back_text, Report.Place, Report.PointReport, Report.Verdict, Report.Report}
 use Rattle.lra_row_text.specs.{Part.ReportGenerator, Part.Part, Rows.ReportRow, Texts.text_line, Texts.row_text, Texts.generator_text}
-use Rattle.lra_linear_spec.specs.declared.ConKind.TheVariants.{Ge, Eq}
-use Rattle.lra_linear_spec.specs.declared.GenKind.TheVariants.{Point, Ray, Line}
+use Rattle.lra_report.specs.Crates.lra_linear_spec.declared.ConKind.TheVariants.{Ge, Eq}
+use Rattle.lra_report.specs.Crates.lra_linear_spec.declared.GenKind.TheVariants.{Point, Ray, Line}
 
 abbrev at : ℕ → ℕ → Place
 at l c = record { line = l; column = c }

@@ -1,7 +1,7 @@
 -- Rows whose numbers are in the range are shown so.
 use Rattle.std.proofs.{Common.ℤ, Common.List, Common.[], Common.◌∷◌, Common.arith, lemmas.List.Elements.All-head, lemmas.List.Elements.All-tail}
 use Rattle.std.specs.List.{All, AllByRecursion}
-use Rattle.lra_linear_spec.specs.{Range.InRange, declared.ConKind.ConKind}
+use Rattle.lra_report.specs.Crates.{lra_linear_spec.Range.InRange, lra_linear_spec.declared.ConKind.ConKind}
 use Rattle.lra_row_text.specs.{Lists.shown_rows, Shown.report_row}
 use Rattle.lra_report.specs.Rows.{IsRowInRange}
 

@@ -2,7 +2,8 @@
 use Rattle.std.specs.{Char.is_ascii_digit, Fmt.decimal, Fmt.signed_decimal, List.AllByRecursion, Prelude.⊤}
 use Rattle.std.proofs.Common.{◌≡◌, ◌≢◌, ℕ, zero, suc, ◌<◌, ℤ, pos, negsuc, nat_eq, nat_lt, not, Bool, true, false, List, [], ◌∷◌, ◌++◌, length, map, codes, if◌then◌else◌, refl, ap, sym, ◌∙◌, arith}
 use Rattle.std.proofs.{Common.append_assoc, Common.zero-add, lemmas.Bool.both_ways, lemmas.Bool.eqb-true, lemmas.Bool.Decides.nat_tests, lemmas.Int.ints}
-use Rattle.lra_linear_spec.specs.{Range.InRange, declared.ConKind.ConKind, declared.ConKind.TheVariants.Ge, declared.ConKind.TheVariants.Eq}
+use Rattle.lra_report.specs.Crates.lra_linear_spec.declared.ConKind.{ConKind}
+use Rattle.lra_report.specs.Crates.{lra_linear_spec.Range.InRange, lra_linear_spec.declared.ConKind.TheVariants.Ge, lra_linear_spec.declared.ConKind.TheVariants.Eq}
 use Rattle.lra_row_text.specs.{Rows.ReportRow, Texts.product_text, Texts.terms_text, Texts.form_text, Texts.relation_text, Texts.row_text, Texts.is_negated, Texts.negated_if}
 use Rattle.lra_report.specs.Spelled.{IsDirected, IsSpelledRow}
 use Rattle.lra_report.proofs.Fronts.{is_visible, IsShownName, AreShownNames, Passes, Ends, front_same, front_first, first_same, rest_same, both_same, visible_passes}

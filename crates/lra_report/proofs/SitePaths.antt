@@ -1,10 +1,10 @@
 -- No point of a program has a path of more calls than the greatest number.
 use Rattle.std.proofs.Common.{ℕ, zero, suc, ◌+◌, ◌≤◌, List, [], ◌∷◌, ◌++◌, length, arith, Option, Some, None, slice_get}
 use Rattle.std.specs.{List.AllByRecursion, Prelude.⊤}
-use Rattle.lra_program.specs.Program.{Call, Rvalue, value, result, Stmt, absent, nothing, block, assign, call, if, loop, for, break, continue, return, assert, assume, BlockItems, no_more, declaration}
-use Rattle.lra_program.specs.Program.{array, write, switch, Cases, no_cases, labelled, stated, statement, Function, Program}
-use Rattle.lra_program.specs.Sites.{Site, Event, comes, one_call_more, greatest_calls, plain_site, live_after_items, rvalue_events, given_events, stmt_events, cases_events, items_events}
-use Rattle.lra_program.specs.Sites.{function_events, call_events, events_of, event_sites, sites_of}
+use Rattle.lra_report.specs.Crates.lra_program.Program.{Call, Rvalue, value, result, Stmt, absent, nothing, block, assign, call, if, loop, for, break, continue, return, assert, assume, BlockItems}
+use Rattle.lra_report.specs.Crates.lra_program.Program.{no_more, declaration, array, write, switch, Cases, no_cases, labelled, stated, statement, Function, Program}
+use Rattle.lra_report.specs.Crates.lra_program.Sites.{Site, Event, comes, one_call_more, greatest_calls, plain_site, live_after_items, rvalue_events, given_events, stmt_events, cases_events}
+use Rattle.lra_report.specs.Crates.lra_program.Sites.{items_events, function_events, call_events, events_of, event_sites, sites_of}
 use Rattle.lra_report.proofs.Every.{every_append}
 
 abbrev IsShallow : Event → Type 0

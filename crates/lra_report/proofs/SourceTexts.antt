@@ -1,6 +1,6 @@
 -- Reports of one accepted source are given by their texts.
 use Rattle.std.proofs.Common.{sym, ◌∙◌, subst}
-use Rattle.lra_syntax.specs.{Faults.Language, Grammar.Spells, Texts.Pieces, Trees.FileTree}
+use Rattle.lra_report.specs.Crates.{lra_syntax.Faults.Language, lra_syntax.Grammar.Spells, lra_syntax.Texts.Pieces, lra_syntax.Trees.FileTree}
 use Rattle.lra_report.specs.{Listing.Lists, Report.Report, Spelled.OneAcceptedText, Spelled.OneSourceText}
 use Rattle.lra_report.proofs.{LiveWords.accepted_words, OneText.one_report}
 

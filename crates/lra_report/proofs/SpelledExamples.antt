@@ -1,7 +1,7 @@
 -- What one text would say of two rows, points or variables, where a premise is left out.
 use Rattle.std.proofs.Common.{◌≡◌, ℕ, ℤ, pos, negsuc, List, [], ◌∷◌, codes, refl}
 use Rattle.std.specs.Fmt.{digits}
-use Rattle.lra_linear_spec.specs.{declared.ConKind.TheVariants.Eq, declared.GenKind.TheVariants.Point}
+use Rattle.lra_report.specs.Crates.{lra_linear_spec.declared.ConKind.TheVariants.Eq, lra_linear_spec.declared.GenKind.TheVariants.Point}
 use Rattle.lra_row_text.specs.{Part.ReportGenerator, Rows.ReportRow, Texts.row_text, Texts.generator_text}
 use Rattle.lra_resolution_spec.specs.ShownNames.{shown_names}
 

@@ -2,11 +2,11 @@
 use Rattle.std.proofs.Common.{◌≡◌, ℕ, ◌+◌, ◌≤◌, ◌<◌, true, List, [], ◌∷◌, ◌++◌, length, refl, ap, sym, subst, arith, length-append}
 use Rattle.std.proofs.lemmas.Bool.{leb-true}
 use Rattle.std.specs.{List.AllByRecursion, Prelude.nat_le, Prelude.⊤}
-use Rattle.lra_syntax.specs.Lexeme.{is_name_word, mark_text, Lexeme, word, number_word, mark_word, unclosed, SpellsToken, name, literal_text, mark_of, reserved, comment}
-use Rattle.lra_syntax.specs.Tokens.{Fragment, gap, token, bytes_of, tokens_of, IsReading, end_token, Lex}
-use Rattle.lra_syntax.specs.{declared.tokens.Kind.Kind, declared.tokens.Mark.Mark, declared.tokens.Token.Token}
-use Rattle.lra_syntax.specs.declared.tokens.Mark.TheVariants as mark
-use Rattle.lra_syntax.specs.declared.tokens.Kind.TheVariants as kind
+use Rattle.lra_report.specs.Crates.lra_syntax.Lexeme.{is_name_word, mark_text, Lexeme, word, number_word, mark_word, unclosed, SpellsToken, name, literal_text, mark_of, reserved, comment}
+use Rattle.lra_report.specs.Crates.lra_syntax.Tokens.{Fragment, gap, token, bytes_of, tokens_of, IsReading, end_token, Lex}
+use Rattle.lra_report.specs.Crates.{lra_syntax.declared.tokens.Kind.Kind, lra_syntax.declared.tokens.Mark.Mark, lra_syntax.declared.tokens.Token.Token}
+use Rattle.lra_report.specs.Crates.lra_syntax.declared.tokens.Mark.TheVariants as mark
+use Rattle.lra_report.specs.Crates.lra_syntax.declared.tokens.Kind.TheVariants as kind
 use Rattle.lra_report.proofs.Every.{every_append}
 
 -- where it is a name, a word

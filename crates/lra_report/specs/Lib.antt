@@ -11,3 +11,5 @@ pub mod View
 pub mod Spelled
 -- Which points and verdicts the report of a source lists.
 pub mod Listing
+-- The crates below
+pub mod Crates

@@ -5,8 +5,11 @@
 use Rattle.std.specs.List.{AllByRecursion, list_any, flat_map}
 use Rattle.std.specs.Prelude.{◌≡◌, ℕ, suc, Bool, true, false, List, [], ◌∷◌, ◌++◌, length, map, Option, Some, None, ⊤}
 use Rattle.std.specs.Prelude.{◌<◌, ◌≤◌, cond, nat_eq, nat_lt}
-use Rattle.lra_syntax.specs.Labels.{Labelled, labels_of, label_at, label_place}
-use Rattle.lra_syntax.specs.{Faults.Language, Trees.FileTree, declared.trees.Identifier.Identifier}
+use Rattle.lra_report.specs.Crates.lra_program.Assertions.{assertions_from}
+use Rattle.lra_report.specs.Crates.lra_syntax.Labels.{Labelled, labels_of, label_at, label_place}
+use Rattle.lra_report.specs.Crates.{lra_program.Accesses.op_accesses, lra_program.Program.Element}
+use Rattle.lra_report.specs.Crates.{lra_program.Sites.Site, lra_program.Sites.sites_of, lra_syntax.Faults.Language}
+use Rattle.lra_report.specs.Crates.{lra_syntax.Trees.FileTree, lra_syntax.declared.trees.Identifier.Identifier}
 use Rattle.lra_options.specs.declared.options.Options.{Options}
 use Rattle.lra_base.specs.declared.refusals.Place.{Place}
 use Rattle.lra_report.specs.Report.{Invariant, PointReport, Verdict, Report, IsSound}
@@ -16,8 +19,6 @@ use Rattle.lra_report.specs.{Parts.ShowsPart, declared.verdict_kinds.VerdictKind
 use Rattle.lra_row_text.specs.{Part.ReportGenerator, Part.Part, Rows.ReportRow}
 use Rattle.lra_resolution_spec.specs.LiveNames.{globals_named, live_names}
 use Rattle.lra_resolution_spec.specs.{Refuse.Accepts, Resolve.resolve, ShownNames.shown_names}
-use Rattle.lra_program.specs.Assertions.{assertions_from}
-use Rattle.lra_program.specs.{Accesses.op_accesses, Program.Element, Sites.Site, Sites.sites_of}
 use Rattle.lra_operations.specs.CheckedOperations.{OpAtPoint, computing_ops, accessing_ops}
 use Rattle.lra_operations.specs.{Agree.IsInlinedTree, Tree.Node}
 

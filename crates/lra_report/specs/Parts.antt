@@ -5,8 +5,9 @@ use Rattle.std.specs.Prelude.{◌≡◌, ◌↔◌, ℕ, ◌<◌, ℤ, pos, ◌+
 use Rattle.std.specs.{List.AllByRecursion, Prelude.true, Prelude.false}
 use Rattle.lra_options.specs.{Domains.shows_generators, declared.options.Domain.Domain}
 use Rattle.lra_row_text.specs.{Part.ReportGenerator, Part.Part, Rows.ReportRow}
-use Rattle.lra_linear_spec.specs.declared.GenKind.TheVariants.{Point, Ray, Line}
-use Rattle.lra_linear_spec.specs.{Descriptions.HoldsWith, Kinds.is_equality, Vectors.product, declared.GenKind.GenKind}
+use Rattle.lra_report.specs.Crates.lra_linear_spec.declared.GenKind.TheVariants.{Point, Ray, Line}
+use Rattle.lra_report.specs.Crates.{lra_linear_spec.Descriptions.HoldsWith, lra_linear_spec.Kinds.is_equality}
+use Rattle.lra_report.specs.Crates.{lra_linear_spec.Vectors.product, lra_linear_spec.declared.GenKind.GenKind}
 
 -- a point whose coordinates are the numerators over the divisor; a store is such a point with the divisor 1
 pub record RationalPoint : Type 0 where

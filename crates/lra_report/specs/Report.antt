@@ -4,7 +4,7 @@ use Rattle.std.specs.List.{AllByRecursion}
 use Rattle.std.specs.Prelude.{◌⊎◌, ℕ, ℤ, List, [], ◌∷◌, length, Bool, Option, IsTrue}
 pub use Rattle.lra_base.specs.declared.refusals.Place.{Place}
 use Rattle.lra_options.specs.declared.options.Options.{Options}
-use Rattle.lra_program.specs.{Program.Program, Run.Point, Run.At}
+use Rattle.lra_report.specs.Crates.{lra_program.Program.Program, lra_program.Run.Point, lra_program.Run.At}
 use Rattle.lra_row_text.specs.{Part.Part, Rows.RowHolds}
 use Rattle.lra_report.specs.{Parts.HasSamePoints, VerdictKinds.Breaks, declared.verdict_kinds.VerdictKind.VerdictKind}
 

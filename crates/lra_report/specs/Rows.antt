@@ -1,7 +1,7 @@
 -- Lists of constraints and of generators, as a report shows them.
 use Rattle.std.specs.{List.AllByRecursion, Prelude.List, Prelude.[], Prelude.Option, Prelude.Some, Prelude.None}
-use Rattle.lra_linear_spec.specs.{Range.InRange, declared.GenKind.GenKind}
-use Rattle.lra_systems.specs.LinearSystems.{LinearSystem, FitKinds}
+use Rattle.lra_report.specs.Crates.lra_systems.LinearSystems.{LinearSystem, FitKinds}
+use Rattle.lra_report.specs.Crates.{lra_linear_spec.Range.InRange, lra_linear_spec.declared.GenKind.GenKind}
 use Rattle.lra_row_text.specs.{Lists.shown_generators, Part.ReportGenerator, Part.Part, Rows.ReportRow}
 
 -- none if there is no list

@@ -2,13 +2,14 @@
 -- distinguished.
 use Rattle.std.specs.List.{AllByRecursion}
 use Rattle.std.specs.Prelude.{◌≡◌, ℕ, ℤ, pos, List, ◌∷◌, length, true, false, ⊤, ◌<◌, ◌^◌, Option, Some, None}
-use Rattle.lra_linear_spec.specs.LowestTerms.{IsPrimitive}
-use Rattle.lra_linear_spec.specs.declared.ConKind.TheVariants.{Ge, Eq}
-use Rattle.lra_linear_spec.specs.declared.GenKind.TheVariants.{Point, Ray, Line}
-use Rattle.lra_linear_spec.specs.{Range.InRange, declared.ConKind.ConKind, declared.GenKind.GenKind}
-use Rattle.lra_syntax.specs.{Faults.Language, Grammar.Spells, Labels.labels_of, Lexeme.is_name_word, Trees.FileTree}
+use Rattle.lra_report.specs.Crates.lra_linear_spec.declared.ConKind.TheVariants.{Ge, Eq}
+use Rattle.lra_report.specs.Crates.lra_linear_spec.declared.GenKind.TheVariants.{Point, Ray, Line}
+use Rattle.lra_report.specs.Crates.{lra_linear_spec.LowestTerms.IsPrimitive, lra_linear_spec.Range.InRange}
+use Rattle.lra_report.specs.Crates.{lra_linear_spec.declared.ConKind.ConKind, lra_linear_spec.declared.GenKind.GenKind}
+use Rattle.lra_report.specs.Crates.{lra_program.Sites.sites_of, lra_syntax.Faults.Language, lra_syntax.Grammar.Spells}
+use Rattle.lra_report.specs.Crates.{lra_syntax.Labels.labels_of, lra_syntax.Lexeme.is_name_word}
+use Rattle.lra_report.specs.Crates.{lra_syntax.Trees.FileTree}
 use Rattle.lra_resolution_spec.specs.{LiveNames.live_names, LiveNames.globals_named, Refuse.Accepts, Resolve.resolve}
-use Rattle.lra_program.specs.Sites.{sites_of}
 use Rattle.lra_options.specs.declared.options.Options.{Options}
 use Rattle.lra_row_text.specs.{Part.ReportGenerator, Part.Part, Rows.ReportRow, Texts.is_negated}
 use Rattle.lra_report.specs.{Listing.Lists, Listing.HasWidth, Listing.IsReportOf, Parts.DividesAs, Report.PointReport}

@@ -3,7 +3,8 @@
 use Rattle.std.specs.Prelude.{◌≡◌, refl, ℕ, nat_eq, List, [], ◌∷◌, get_or, Bool, true, false, ◌||◌, codes}
 use Rattle.std.specs.{List.list_any, Prelude.if◌then◌else◌, Str.bytes_eq}
 use Rattle.lra_options.specs.declared.options.Options.{Options}
-use Rattle.lra_program.specs.{Accesses.AccessesOutOfBounds, Overflow.Overflows, Program.Program, Run.Point, Run.Fails}
+use Rattle.lra_report.specs.Crates.{lra_program.Accesses.AccessesOutOfBounds, lra_program.Overflow.Overflows}
+use Rattle.lra_report.specs.Crates.{lra_program.Program.Program, lra_program.Run.Point, lra_program.Run.Fails}
 use Rattle.lra_report.specs.declared.verdict_kinds.VerdictKind.{VerdictKind}
 use Rattle.lra_report.specs.declared.verdict_kinds.VerdictKind.TheVariants.{Assertion, Fit, Access}
 

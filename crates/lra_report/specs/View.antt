@@ -1,6 +1,6 @@
 -- The report that the program's data stand for.
 use Rattle.std.specs.Prelude.{map, string_bytes}
-use Rattle.lra_program.specs.Run as run
+use Rattle.lra_report.specs.Crates.lra_program.Run as run
 use Rattle.lra_report.specs.Report as report
 use Rattle.lra_report.specs.ReportText as written
 use Rattle.lra_report.specs.BackText as back

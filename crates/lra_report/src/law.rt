@@ -1,6 +1,6 @@
 //! One text, one report.
 
-ghost use Rattle.lra_syntax.specs.Grammar.{Spells};
+ghost use Rattle.lra_report.specs.Crates.lra_syntax.Grammar.{Spells};
 ghost use Rattle.lra_report.specs.{Spelled.OneText, Spelled.OneAcceptedText, Spelled.OneSourceText, View.report_of};
 
 use crate::report::Report;

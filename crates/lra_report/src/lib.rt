@@ -17,6 +17,12 @@ mod writing;
 
 pub use back::{BackReport, back_text};
 pub use law::one_text;
+pub use lra_base::Place;
+pub use lra_operations::Site;
+pub use lra_options::{Options, best_options, default_options};
+pub use lra_resolution_spec::{Labels, TranslationUnit};
+pub use lra_row::Row;
+pub use lra_row_text::ConSys;
 pub use names::names_at;
 pub use part::Part;
 pub use path::{CallPlace, path_text};

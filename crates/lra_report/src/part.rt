@@ -1,11 +1,11 @@
 //! Parts of a state.
 
 ghost use Rattle.std.specs.Prelude.{◌≡◌, [], MatchOption, length};
-ghost use Rattle.lra_systems.specs.LinearSystems.{FitKinds};
+ghost use Rattle.lra_report.specs.Crates.lra_systems.LinearSystems.{FitKinds};
 ghost use Rattle.lra_row_text.specs.Lists.{shown_rows, shown_generators};
 ghost use Rattle.lra_report.specs.Rows.{optional_generators, FitOptionally, IsPartInRange};
 
-use lra_systems::{ConSys, GenSys};
+use lra_row_text::{ConSys, GenSys};
 use std::marker::Model;
 
 /// A conjunction of rows, and over polyhedra its generators: a point's divisor is above 0, a ray and a line have 0

@@ -2,13 +2,11 @@
 use Rattle.std.proofs.Common.{◌≡◌, ℕ, zero, suc, ◌++◌, List, [], ◌∷◌, length, map, Option, Some, None, Bool, true, false, refl, ap, ◌∙◌}
 use Rattle.std.proofs.lemmas.List.{length-replicate, length-set}
 use Rattle.std.specs.{List.AllByRecursion, Prelude.ℤ, Prelude.pos, Prelude.negsuc, Prelude.neg_ℤ, Prelude.replicate, Prelude.slice_set, Prelude.if◌then◌else◌}
-use Rattle.lra_systems.specs.LinearSystems.{LinearSystem}
-use Rattle.lra_linear_spec.specs.declared.ConKind.{ConKind}
+use Rattle.lra_report_build.specs.Crates.lra_box.Parts.{bound_row, is_single, low_rows, high_rows, box_equalities, box_inequalities, box_rows, box_system, box_parts}
+use Rattle.lra_report_build.specs.Crates.{lra_box.Abstraction.box_abstraction, lra_box.Bounds.InBounds, lra_box.Tables.has_bounds, lra_box.declared.interval.Interval.Interval}
+use Rattle.lra_report_build.specs.Crates.{lra_linear_spec.declared.ConKind.ConKind, lra_options.declared.options.Domain.TheVariants.Box, lra_systems.LinearSystems.LinearSystem}
 use Rattle.lra_report.proofs.Every.{every_append}
-use Rattle.lra_box.specs.Parts.{bound_row, is_single, low_rows, high_rows, box_equalities, box_inequalities, box_rows, box_system, box_parts}
-use Rattle.lra_box.specs.{Abstraction.box_abstraction, Bounds.InBounds, Tables.has_bounds, declared.interval.Interval.Interval}
-use Rattle.lra_box.proofs.PartLemmas.{parts_mean}
-use Rattle.lra_options.specs.declared.options.Domain.TheVariants.{Box}
+use Rattle.lra_report_build.proofs.Crates.lra_box.PartLemmas.{parts_mean}
 use Rattle.lra_report.specs.{Listing.HasWidth, Parts.ShowsPart, Report.InvariantHolds}
 use Rattle.lra_row_text.specs.Texts.{is_negated}
 use Rattle.lra_report_build.specs.Shown.{shown_part, AreDirected, ShowsRows}

@@ -1,9 +1,9 @@
 -- What a formed polyhedron shows is canonical.
 use Rattle.std.proofs.Common.{◌≡◌, List, [], ◌∷◌, refl, sym, subst}
-use Rattle.lra_options.specs.declared.options.Domain.TheVariants.{Poly}
+use Rattle.lra_report_build.specs.Crates.lra_linear_spec.Representable.{IsRepresentable}
+use Rattle.lra_report_build.specs.Crates.{lra_linear_spec.Descriptions.LinearRow, lra_linear_spec.Polyhedra.Polyhedron, lra_options.declared.options.Domain.TheVariants.Poly}
 use Rattle.lra_report.specs.Report.{Invariant}
 use Rattle.lra_row_text.specs.Part.{Part}
-use Rattle.lra_linear_spec.specs.{Descriptions.LinearRow, Polyhedra.Polyhedron, Representable.IsRepresentable}
 use Rattle.lra_report_build.specs.{Canonical.IsCanonicalPart, Canonical.IsCanonicalState, Polyhedra.part_if_any, Polyhedra.shown_polyhedron}
 
 of_part : (p : Polyhedron) (gs : List LinearRow) (part : Part) → IsCanonicalPart p.dims part → IsCanonicalState Poly p.dims (part_if_any gs part)

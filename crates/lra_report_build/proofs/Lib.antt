@@ -12,3 +12,5 @@ pub mod PolyhedronParts
 mod CanonicalLemmas
 pub mod StateSteps
 pub mod SetShown
+-- The crates below
+pub mod Crates

@@ -2,10 +2,9 @@
 use Rattle.std.proofs.Common.{◌≡◌, ℕ, zero, suc, ◌+◌, ◌*◌, ◌/◌, ◌-◌, ◌<◌, ◌⊎◌, ◌++◌, ℤ, pos, List, [], ◌∷◌, length, map, Option, Some, None, Bool, true, false, inl, inr, refl, ap, ◌∙◌, arith}
 use Rattle.std.proofs.lemmas.List.{length-replicate, length-set}
 use Rattle.std.specs.{List.AllByRecursion, Prelude.replicate, Prelude.slice_set, Prelude.if◌then◌else◌}
-use Rattle.lra_options.specs.declared.options.Domain.TheVariants.{Oct}
-use Rattle.lra_systems.specs.LinearSystems.{LinearSystem}
-use Rattle.lra_linear_spec.specs.{declared.ConKind.ConKind, declared.ConKind.TheVariants.Ge, declared.ConKind.TheVariants.Eq}
-use Rattle.lra_dbm.specs.{Cells.Cells, Cells.entries, Tight.Entries, Tight.with_sign}
+use Rattle.lra_report_build.specs.Crates.lra_dbm.Tight.{Entries, with_sign}
+use Rattle.lra_report_build.specs.Crates.{lra_dbm.Cells.Cells, lra_dbm.Cells.entries, lra_linear_spec.declared.ConKind.ConKind, lra_linear_spec.declared.ConKind.TheVariants.Ge}
+use Rattle.lra_report_build.specs.Crates.{lra_linear_spec.declared.ConKind.TheVariants.Eq, lra_options.declared.options.Domain.TheVariants.Oct, lra_systems.LinearSystems.LinearSystem}
 use Rattle.lra_octagon.specs.Parts.{sign_of, pair_row, printed, is_equality_pair, row_if_any, kind_row, RowsAt, rising, falling, rows_with, octagon_equalities, octagon_inequalities, octagon_system}
 use Rattle.lra_octagon.specs.{Abstraction.octagon_abstraction, Content.OctagonContent, Content.OctagonGamma, Laws.sized_stores, Parts.octagon_parts}
 use Rattle.lra_octagon.proofs.MeanLemmas.{stores_hold}

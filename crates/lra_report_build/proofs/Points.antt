@@ -4,10 +4,9 @@ use Rattle.std.proofs.{lemmas.List.map_more, lemmas.List.length-map, lemmas.List
 use Rattle.std.specs.List.{AllByRecursion}
 use Rattle.lra_row_text.specs.Part.{Part}
 use Rattle.lra_report.specs.{Listing.listed_point, Listing.HasWidth, Listing.AreListed, Report.Invariant, Report.PointReport, View.point_report_of}
-use Rattle.lra_program.specs.Sites.{Site}
+use Rattle.lra_report_build.specs.Crates.{lra_operations.TreeViews.site_view, lra_program.Sites.Site}
 use Rattle.lra_syntax.specs.Labels.{Labelled}
-use Rattle.lra_operations.specs.declared.tree.Site as code_site
-use Rattle.lra_operations.specs.TreeViews.{site_view}
+use Rattle.lra_report_build.specs.Crates.lra_operations.declared.tree.Site as code_site
 use Rattle.lra_report.specs.declared.report.PointReport as code_point
 use Rattle.lra_report_build.specs.AnalysisResults.{state_of, AreInvariants}
 

@@ -1,12 +1,12 @@
 -- A polyhedron has a part exactly where its state has one, so it is shown as it is.
 use Rattle.std.proofs.Common.{◌≡◌, ◌∙◌, ℕ, true, false, Bool, cond, List, [], ◌∷◌, length, inl, inr, refl, sym, ap, subst, Vec, Global}
 use Rattle.std.specs.{List.Contains, List.list_any, Prelude.Result, Prelude.Ok, Prelude.Err, Prelude.IfOk}
-use Rattle.lra_options.specs.declared.options.Domain.TheVariants.{Poly}
-use Rattle.lra_linear_spec.specs.Polyhedra.{Polyhedron, IsPolyhedron, HasPoint, falsity}
-use Rattle.lra_linear_spec.specs.{Descriptions.LinearRow, Descriptions.Con, Points.IsEmptySet, declared.ConKind.ConKind, declared.GenKind.GenKind}
+use Rattle.lra_report_build.specs.Crates.lra_linear_spec.Polyhedra.{Polyhedron, IsPolyhedron, HasPoint, falsity}
+use Rattle.lra_report_build.specs.Crates.lra_systems.LinearSystems.{LinearSystem, constraints, generators}
+use Rattle.lra_report_build.specs.Crates.{lra_linear_spec.Descriptions.LinearRow, lra_linear_spec.Descriptions.Con, lra_linear_spec.Points.IsEmptySet, lra_linear_spec.declared.ConKind.ConKind}
+use Rattle.lra_report_build.specs.Crates.{lra_linear_spec.declared.GenKind.GenKind, lra_options.declared.options.Domain.TheVariants.Poly}
 use Rattle.lra_report_build.specs.{Canonical.IsCanonicalState, Polyhedra.shown_polyhedron, Polyhedra.ShowsPolyhedron, Polyhedra.polyhedron_of, Shown.IsShown}
-use Rattle.lra_linear_spec.proofs.{Membership.contains_head, OneSpelling.falsity_never}
-use Rattle.lra_systems.specs.LinearSystems.{LinearSystem, constraints, generators}
+use Rattle.lra_report_build.proofs.Crates.{lra_linear_spec.Membership.contains_head, lra_linear_spec.OneSpelling.falsity_never}
 use Rattle.lra_poly_domain.specs.{Abstraction.polyhedron_abstraction, Content.is_absurd, Content.listed, Content.polyhedron_parts, Covering.empty_parts, Covering.parts_empty}
 use Rattle.lra_row_text.specs.Part.{Part}
 use Rattle.lra_report.specs.Report.{Invariant}

@@ -4,13 +4,18 @@ use Rattle.std.proofs.Common.{◌≡◌, ◌≢◌, ◌∙◌, ◌<◌, ◌⊎�
 use Rattle.std.proofs.lemmas.List.Elements.{All-head, All-tail, Contains-append_left, Contains-append_right}
 use Rattle.std.proofs.{lemmas.Int.ints, lemmas.List.map-append}
 use Rattle.std.specs.List.{All, AllByRecursion, Contains}
-use Rattle.lra_linear_spec.specs.declared.GenKind.TheVariants.{Point, Ray, Line}
-use Rattle.lra_linear_spec.specs.{Cones.all_rows, Cones.both_ways, Descriptions.LinearRow, Descriptions.rows_as, Descriptions.HoldsWith, Descriptions.Con, Echelon.HasPivot, Echelon.IsEchelon}
-use Rattle.lra_linear_spec.specs.{Kinds.constraint_kind, Kinds.is_equality, Kinds.is_line, Points.IsPoint, Polyhedra.Polyhedron, Polyhedra.IsPolyhedron, Polyhedra.HasPoint, Polyhedra.falsity}
-use Rattle.lra_linear_spec.specs.{Range.InRange, Vectors.entry, Vectors.product, declared.ConKind.ConKind, declared.ConKind.TheVariants.Ge, declared.ConKind.TheVariants.Eq, declared.GenKind.GenKind}
-use Rattle.lra_linear_spec.proofs.{Combinations.generated_row, Membership.contains_none, Membership.contains_head, Membership.contains_tail, Membership.contains_cases, OneSpelling.falsity_never}
-use Rattle.lra_linear_spec.proofs.{OneSpelling.given_has, OneSpelling.some_member, Polyhedra.con_gen, Polyhedra.cone_gen, Polyhedra.generators_are_generators}
-use Rattle.lra_systems.specs.LinearSystems.{LinearSystem, rows_by_kind, constraints, generators, FitsKind, FitKinds}
+use Rattle.lra_report_build.specs.Crates.lra_linear_spec.Descriptions.{LinearRow, rows_as, HoldsWith, Con}
+use Rattle.lra_report_build.specs.Crates.lra_linear_spec.Polyhedra.{Polyhedron, IsPolyhedron, HasPoint, falsity}
+use Rattle.lra_report_build.specs.Crates.lra_linear_spec.declared.GenKind.TheVariants.{Point, Ray, Line}
+use Rattle.lra_report_build.specs.Crates.lra_systems.LinearSystems.{LinearSystem, rows_by_kind, constraints, generators, FitsKind, FitKinds}
+use Rattle.lra_report_build.specs.Crates.{lra_linear_spec.Cones.all_rows, lra_linear_spec.Cones.both_ways, lra_linear_spec.Echelon.HasPivot, lra_linear_spec.Echelon.IsEchelon}
+use Rattle.lra_report_build.specs.Crates.{lra_linear_spec.Kinds.constraint_kind, lra_linear_spec.Kinds.is_equality, lra_linear_spec.Kinds.is_line, lra_linear_spec.Points.IsPoint}
+use Rattle.lra_report_build.specs.Crates.{lra_linear_spec.Range.InRange, lra_linear_spec.Vectors.entry, lra_linear_spec.Vectors.product, lra_linear_spec.declared.ConKind.ConKind}
+use Rattle.lra_report_build.specs.Crates.{lra_linear_spec.declared.ConKind.TheVariants.Ge, lra_linear_spec.declared.ConKind.TheVariants.Eq, lra_linear_spec.declared.GenKind.GenKind}
+use Rattle.lra_report_build.proofs.Crates.lra_linear_spec.Combinations.{generated_row}
+use Rattle.lra_report_build.proofs.Crates.lra_linear_spec.Membership.{contains_none, contains_head, contains_tail, contains_cases}
+use Rattle.lra_report_build.proofs.Crates.lra_linear_spec.OneSpelling.{falsity_never, given_has, some_member}
+use Rattle.lra_report_build.proofs.Crates.lra_linear_spec.Polyhedra.{con_gen, cone_gen, generators_are_generators}
 use Rattle.lra_poly_domain.proofs.PartLemmas.{kind_back}
 use Rattle.lra_row_text.specs.ShownDescriptions.{generator_kind, shown_constraint, shown_generator}
 use Rattle.lra_row_text.specs.{Lists.shown_rows, Lists.shown_generators, Part.ReportGenerator, Part.Part, Rows.ReportRow, Rows.RowHolds, Shown.report_row, Shown.report_generator}

@@ -3,15 +3,12 @@ use Rattle.std.proofs.Common.{◌≡◌, ◌∙◌, sym, ap, subst, ◌<◌, ℕ
 use Rattle.std.proofs.{lemmas.List.get_or-map, lemmas.List.length-map, lemmas.List.Elements.All-nil}
 use Rattle.std.specs.Prelude.{All}
 use Rattle.lra_syntax.specs.{Labels.Labelled, Labels.labels_of, Trees.FileTree}
-use Rattle.lra_resolution_spec.specs.{LiveNames.globals_named, Resolve.resolve}
-use Rattle.lra_base.specs.declared.refusals.Place.{Place}
-use Rattle.lra_program.specs.Sites.{Site, sites_of}
-use Rattle.lra_operations.specs.declared.tree.Site as code_site
-use Rattle.lra_operations.specs.{Agree.IsInlinedTree, Tree.Node, TreeViews.site_view}
+use Rattle.lra_report_build.specs.Crates.lra_program.Sites.{Site, sites_of}
+use Rattle.lra_report_build.specs.Crates.{lra_base.AccessVerdicts.reported_view, lra_base.declared.refusals.Place.Place, lra_operations.Agree.IsInlinedTree, lra_operations.Tree.Node}
+use Rattle.lra_report_build.specs.Crates.{lra_operations.TreeViews.site_view, lra_program.Assertions.IsAssertion, lra_resolution_spec.LiveNames.globals_named, lra_resolution_spec.Resolve.resolve}
+use Rattle.lra_report_build.specs.Crates.lra_operations.declared.tree.Site as code_site
 use Rattle.lra_report.specs.{Listing.AreJudged, Listing.AreListed, Listing.Lists, Listing.subjects, Report.Report, Report.Verdict}
-use Rattle.lra_program.specs.Assertions.{IsAssertion}
 use Rattle.lra_report_build.specs.AnalysisResults.{IsComputing, IsAccessing, AreVerdicts, AreFitting, AreAccessVerdicts}
-use Rattle.lra_base.specs.AccessVerdicts.{reported_view}
 use Rattle.lra_report_build.proofs.Verdicts.{are_there}
 
 -- `found` is what is listed of what was found, by labels and sites

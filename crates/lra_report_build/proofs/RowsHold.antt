@@ -2,13 +2,13 @@
 use Rattle.std.proofs.Common.{◌≡◌, ℕ, suc, ◌++◌, List, [], ◌∷◌, length, map, inl, inr, refl, sym, subst, arith}
 use Rattle.std.proofs.lemmas.Int.{ints}
 use Rattle.std.specs.{List.AllByRecursion, Prelude.ℤ, Prelude.pos, Prelude.◌+ℤ◌, Prelude.replicate}
-use Rattle.lra_linear_spec.specs.Descriptions.{LinearRow, Con, HoldsWith}
-use Rattle.lra_linear_spec.specs.{Kinds.is_equality, Vectors.product, declared.ConKind.ConKind, declared.ConKind.TheVariants.Ge, declared.ConKind.TheVariants.Eq}
-use Rattle.lra_linear_spec.proofs.Membership.{contains_none, contains_head, contains_tail, contains_cases}
-use Rattle.lra_systems.specs.LinearSystems.{LinearSystem, rows_by_kind}
+use Rattle.lra_report_build.specs.Crates.lra_systems.LinearSystems.{LinearSystem, rows_by_kind}
+use Rattle.lra_report_build.specs.Crates.{lra_domain.Abstraction.Abstraction, lra_domain.Laws.PartsAreExact, lra_domain.Parts.SomePartHolds, lra_linear_spec.Descriptions.LinearRow}
+use Rattle.lra_report_build.specs.Crates.{lra_linear_spec.Descriptions.Con, lra_linear_spec.Descriptions.HoldsWith, lra_linear_spec.Kinds.is_equality, lra_linear_spec.Vectors.product}
+use Rattle.lra_report_build.specs.Crates.{lra_linear_spec.declared.ConKind.ConKind, lra_linear_spec.declared.ConKind.TheVariants.Ge, lra_linear_spec.declared.ConKind.TheVariants.Eq}
+use Rattle.lra_report_build.proofs.Crates.lra_linear_spec.Membership.{contains_none, contains_head, contains_tail, contains_cases}
 use Rattle.lra_row_text.specs.{Lists.shown_rows, Part.Part, Rows.RowHolds, Rows.ReportRow, Shown.report_row}
 use Rattle.lra_report.specs.{Report.InvariantHolds, Spelled.IsDirected}
-use Rattle.lra_domain.specs.{Abstraction.Abstraction, Laws.PartsAreExact, Parts.SomePartHolds}
 use Rattle.lra_report_build.specs.Shown.{shown_part, MeansValue}
 
 -- rows ---------------------------------------------------------------------------------------------------------------

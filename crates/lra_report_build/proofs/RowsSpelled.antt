@@ -1,10 +1,8 @@
 -- What is shown by rows with numbers of the range is shown as it is, and given by its text.
 use Rattle.std.proofs.{Common.◌≡◌, Common.◌∙◌, Common.List, Common.[], Common.◌∷◌, Common.length, Common.map, Common.ap, Common.sym, Common.subst, Common.Vec, Common.Global, lemmas.List.length-map}
 use Rattle.std.specs.{List.AllByRecursion, Prelude.Result, Prelude.Ok, Prelude.Err, Prelude.IfOk}
-use Rattle.lra_options.specs.declared.options.Domain.{Domain}
-use Rattle.lra_systems.specs.LinearSystems.{LinearSystem}
-use Rattle.lra_linear_spec.specs.declared.ConKind.{ConKind}
-use Rattle.lra_domain.specs.Abstraction.{Abstraction}
+use Rattle.lra_report_build.specs.Crates.lra_systems.LinearSystems.{LinearSystem}
+use Rattle.lra_report_build.specs.Crates.{lra_domain.Abstraction.Abstraction, lra_linear_spec.declared.ConKind.ConKind, lra_options.declared.options.Domain.Domain}
 use Rattle.lra_row_text.specs.{Lists.shown_rows, Part.Part, Rows.ReportRow}
 use Rattle.lra_report.specs.Spelled.{IsDirected, IsSpelledRow, IsSpelledPart}
 use Rattle.lra_report.specs.{Listing.HasWidth, Parts.ShowsPart, Report.Invariant, Report.InvariantHolds, Rows.IsRowInRange, Rows.IsPartInRange}

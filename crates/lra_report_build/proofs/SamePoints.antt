@@ -2,9 +2,10 @@
 use Rattle.std.proofs.Common.{◌≡◌, ◌∙◌, ℕ, zero, suc, ℤ, pos, negsuc, ◌+ℤ◌, ◌*ℤ◌, ◌≤ℤ◌, Bool, true, false, cond, List, [], ◌∷◌, map, inl, inr, refl, sym, ap, subst, arith}
 use Rattle.std.proofs.lemmas.Int.{ints}
 use Rattle.std.specs.Prelude.{get_or}
-use Rattle.lra_linear_spec.specs.Descriptions.{LinearRow, IsGenerator, AreGenerators, lines_of, rays_of, HoldsWith, Holds, Con, Gen}
-use Rattle.lra_linear_spec.specs.{Kinds.constraint_kind, Vectors.entry, Vectors.product, Vectors.sum_of, Vectors.signed_sum, declared.GenKind.GenKind, declared.GenKind.TheVariants.Line}
-use Rattle.lra_linear_spec.proofs.Membership.{contains_none, contains_head, contains_tail, contains_cases}
+use Rattle.lra_report_build.specs.Crates.lra_linear_spec.Descriptions.{LinearRow, IsGenerator, AreGenerators, lines_of, rays_of, HoldsWith, Holds, Con, Gen}
+use Rattle.lra_report_build.specs.Crates.lra_linear_spec.Vectors.{entry, product, sum_of, signed_sum}
+use Rattle.lra_report_build.specs.Crates.{lra_linear_spec.Kinds.constraint_kind, lra_linear_spec.declared.GenKind.GenKind, lra_linear_spec.declared.GenKind.TheVariants.Line}
+use Rattle.lra_report_build.proofs.Crates.lra_linear_spec.Membership.{contains_none, contains_head, contains_tail, contains_cases}
 use Rattle.lra_row_text.specs.{Part.ReportGenerator, Shown.report_row, Shown.report_generator, ShownDescriptions.generator_kind, ShownDescriptions.shown_constraint, ShownDescriptions.shown_generator}
 use Rattle.lra_report.specs.Parts.{RationalPoint, RowHoldsAt, LiesInPart, IsFactor, AreFactors, IsGenerated}
 

@@ -2,10 +2,9 @@
 use Rattle.std.proofs.Common.{◌≡◌, ◌∙◌, ◌⊎◌, ℕ, ◌+◌, ℤ, List, [], ◌∷◌, ◌++◌, length, inl, inr, refl, sym, ap, ap₂, subst, Vec, Global}
 use Rattle.std.proofs.lemmas.List.{length-append}
 use Rattle.std.specs.{List.AllByRecursion, Prelude.flat_map, Prelude.Result, Prelude.Ok, Prelude.Err, Prelude.IfOk}
-use Rattle.lra_linear_spec.proofs.Membership.{contains_head, contains_tail}
-use Rattle.lra_domain.specs.Abstraction.{Abstraction}
+use Rattle.lra_report_build.proofs.Crates.lra_linear_spec.Membership.{contains_head, contains_tail}
+use Rattle.lra_report_build.specs.Crates.{lra_domain.Abstraction.Abstraction, lra_options.declared.options.Domain.Domain}
 use Rattle.lra_powerset.specs.{Abstraction.set_abstraction, Content.SetContent, Content.PartFits, Lists.EachPart, Lists.SomePart}
-use Rattle.lra_options.specs.declared.options.Domain.{Domain}
 use Rattle.lra_report.specs.{Listing.HasWidth, Parts.ShowsPart, Report.Invariant, Report.InvariantHolds}
 use Rattle.lra_report.proofs.Every.{every_append}
 use Rattle.lra_row_text.specs.Part.{Part}

@@ -1,8 +1,7 @@
 -- A state so far, and one part more.
 use Rattle.std.proofs.{Common.◌≡◌, Common.List, Common.[], Common.◌∷◌, Common.◌++◌, Common.map, Common.ap, Common.sym, Common.◌∙◌, Common.subst, lemmas.List.map-append}
 use Rattle.std.specs.List.{AllByRecursion}
-use Rattle.lra_systems.specs.LinearSystems.{LinearSystem}
-use Rattle.lra_linear_spec.specs.declared.ConKind.{ConKind}
+use Rattle.lra_report_build.specs.Crates.{lra_linear_spec.declared.ConKind.ConKind, lra_systems.LinearSystems.LinearSystem}
 use Rattle.lra_row_text.specs.{Lists.shown_rows, Part.Part, Rows.ReportRow}
 use Rattle.lra_report.specs.Rows.{IsPartInRange}
 use Rattle.lra_report.proofs.Every.{every_append}

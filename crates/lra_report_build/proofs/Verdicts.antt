@@ -4,19 +4,17 @@ use Rattle.std.proofs.lemmas.List.{drop_all, drop_more, flat_map_more, get_or-ma
 use Rattle.std.proofs.lemmas.Option.{slice_get_read, slice_get_within, get_or_from_slice_get, same_Some, none-some}
 use Rattle.std.proofs.{Common.get_or, Common.◌≤◌, Common.Vec, Common.Global, lemmas.Bool.lt-ltb, lemmas.List.Elements.Contains-get_or}
 use Rattle.std.specs.{List.Contains, List.flat_map, Prelude.◌↔◌, Prelude.slice_get, Prelude.All, Prelude.IsTrue, Prelude.cond, Prelude.nat_lt}
-use Rattle.lra_linear_spec.proofs.Membership.{contains_none, contains_head, contains_tail, contains_cases}
+use Rattle.lra_report_build.proofs.Crates.lra_linear_spec.Membership.{contains_none, contains_head, contains_tail, contains_cases}
 use Rattle.lra_report.proofs.Fronts.{first_same, rest_same}
 use Rattle.lra_report.specs.Listing.{Subject, subject, subjects_of, computes_at, computing_from, fits_asked, accesses_at, accesses_any_at, access_subjects, accesses_from, listed_verdict, AreJudged}
 use Rattle.lra_report.specs.declared.verdict_kinds.VerdictKind.TheVariants.{Assertion, Fit, Access}
 use Rattle.lra_report.specs.{Report.Verdict, declared.verdict_kinds.VerdictKind.VerdictKind}
-use Rattle.lra_base.specs.declared.refusals.Place.{Place}
-use Rattle.lra_program.specs.{Assertions.assertions_from, Program.Element, Sites.Site}
+use Rattle.lra_report_build.specs.Crates.{lra_base.AccessVerdicts.reported_view, lra_base.declared.refusals.Place.Place, lra_operations.Tree.Node, lra_operations.TreeViews.site_view}
+use Rattle.lra_report_build.specs.Crates.{lra_program.Assertions.assertions_from, lra_program.Program.Element, lra_program.Sites.Site}
 use Rattle.lra_syntax.specs.Labels.{Labelled}
-use Rattle.lra_operations.specs.declared.tree.Site as code_site
-use Rattle.lra_operations.specs.{Tree.Node, TreeViews.site_view}
+use Rattle.lra_report_build.specs.Crates.lra_operations.declared.tree.Site as code_site
 use Rattle.lra_report_build.specs.AnalysisResults.{IsComputing, IsAccessing, AreVerdictsOn, AreVerdicts, AreFitting, AreAccessVerdicts, ReportedVerdict, reported_all, reported_of, reported_verdict}
 use Rattle.lra_report_build.specs.AnalysisResults.{reported_from, reported_accesses, site_at, verdict_at, access_verdicts, access_verdicts_at}
-use Rattle.lra_base.specs.AccessVerdicts.{reported_view}
 
 abbrev Verdicts : Type 0 → Type 0
 Verdicts A = List (ℕ × A)

@@ -8,10 +8,10 @@ use Rattle.lra_report.specs.Listing.{HasWidth, computes_at, accesses_at, accesse
 use Rattle.lra_report.specs.Report.{Invariant, PointReport, Verdict}
 use Rattle.lra_report.specs.declared.verdict_kinds.VerdictKind.{VerdictKind}
 use Rattle.lra_report.specs.declared.verdict_kinds.VerdictKind.TheVariants.{Assertion, Fit, Access}
-use Rattle.lra_base.specs.declared.refusals.Place.{Place}
-use Rattle.lra_program.specs.{Assertions.IsAssertion, Program.Element, Sites.Site}
+use Rattle.lra_report_build.specs.Crates.lra_program.Assertions.{IsAssertion}
+use Rattle.lra_report_build.specs.Crates.{lra_base.declared.refusals.Place.Place, lra_operations.Tree.Node}
+use Rattle.lra_report_build.specs.Crates.{lra_program.Program.Element, lra_program.Sites.Site}
 use Rattle.lra_syntax.specs.Labels.{Labelled}
-use Rattle.lra_operations.specs.Tree.{Node}
 
 -- as many states as points, each part with a number for each variable that lives there
 pub record AreInvariants (sites : List Site) (states : List Invariant) : Type 0 where

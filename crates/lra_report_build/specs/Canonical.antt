@@ -1,10 +1,11 @@
 -- What it means that a state over polyhedra is shown by canonical lists.
 use Rattle.std.specs.{List.AllByRecursion, Prelude.◌≡◌, Prelude.ℕ, Prelude.List, Prelude.map, Prelude.⊤}
-use Rattle.lra_options.specs.declared.options.Domain.{Domain}
-use Rattle.lra_options.specs.declared.options.Domain.TheVariants.{Poly, Box, Oct}
+use Rattle.lra_report_build.specs.Crates.lra_linear_spec.Polyhedra.{Polyhedron}
+use Rattle.lra_report_build.specs.Crates.lra_linear_spec.Representable.{IsRepresentable}
+use Rattle.lra_report_build.specs.Crates.lra_options.declared.options.Domain.{Domain}
+use Rattle.lra_report_build.specs.Crates.lra_options.declared.options.Domain.TheVariants.{Poly, Box, Oct}
 use Rattle.lra_report.specs.Report.{Invariant}
 use Rattle.lra_row_text.specs.{Part.Part, ShownDescriptions.shown_constraint, ShownDescriptions.shown_generator}
-use Rattle.lra_linear_spec.specs.{Polyhedra.Polyhedron, Representable.IsRepresentable}
 
 -- the part shows the two lists of a polyhedron, which are canonical, within the limit and of numbers of the range
 pub record IsCanonicalPart (n : ℕ) (part : Part) : Type 0 where

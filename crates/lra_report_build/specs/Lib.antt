@@ -5,3 +5,5 @@ pub mod Shown
 pub mod Polyhedra
 pub mod Sets
 pub mod Canonical
+-- The crates below
+pub mod Crates

@@ -1,10 +1,12 @@
 -- How a polyhedron is shown: by its constraints and by its generators, which describe the same points.
 use Rattle.std.specs.List.{AllByRecursion}
 use Rattle.std.specs.Prelude.{◌≡◌, ℤ, pos, List, [], ◌∷◌, length, map}
-use Rattle.lra_linear_spec.specs.Descriptions.{LinearRow, Con}
-use Rattle.lra_linear_spec.specs.{Polyhedra.Polyhedron, declared.ConKind.ConKind, declared.GenKind.GenKind}
-use Rattle.lra_systems.specs.LinearSystems.{LinearSystem, constraints, generators}
-use Rattle.lra_options.specs.declared.options.Domain.TheVariants.{Poly}
+use Rattle.lra_report_build.specs.Crates.lra_linear_spec.Descriptions.{LinearRow, Con}
+use Rattle.lra_report_build.specs.Crates.lra_linear_spec.Polyhedra.{Polyhedron}
+use Rattle.lra_report_build.specs.Crates.lra_linear_spec.declared.ConKind.{ConKind}
+use Rattle.lra_report_build.specs.Crates.lra_linear_spec.declared.GenKind.{GenKind}
+use Rattle.lra_report_build.specs.Crates.lra_options.declared.options.Domain.TheVariants.{Poly}
+use Rattle.lra_report_build.specs.Crates.lra_systems.LinearSystems.{LinearSystem, constraints, generators}
 use Rattle.lra_row_text.specs.{Part.Part, ShownDescriptions.shown_constraint, ShownDescriptions.shown_generator}
 use Rattle.lra_report.specs.{Listing.HasWidth, Parts.ShowsPart, Report.Invariant, Report.InvariantHolds}
 

@@ -1,11 +1,10 @@
 -- What a domain shows of its values, as the states of a report.
 use Rattle.std.specs.List.{AllByRecursion, Contains}
 use Rattle.std.specs.Prelude.{◌≡◌, ◌↔◌, ℤ, List, [], length, map}
-use Rattle.lra_systems.specs.LinearSystems.{LinearSystem}
-use Rattle.lra_linear_spec.specs.declared.ConKind.{ConKind}
+use Rattle.lra_report_build.specs.Crates.lra_systems.LinearSystems.{LinearSystem}
+use Rattle.lra_report_build.specs.Crates.{lra_domain.Abstraction.Abstraction, lra_linear_spec.declared.ConKind.ConKind}
+use Rattle.lra_report_build.specs.Crates.{lra_options.declared.options.Domain.Domain}
 use Rattle.lra_row_text.specs.{Lists.shown_rows, Part.Part, Rows.ReportRow}
-use Rattle.lra_domain.specs.Abstraction.{Abstraction}
-use Rattle.lra_options.specs.declared.options.Domain.{Domain}
 use Rattle.lra_report.specs.Report.{Invariant, InvariantHolds}
 use Rattle.lra_report.specs.{Listing.HasWidth, Parts.ShowsPart, Spelled.IsDirected}
 

@@ -1,5 +1,5 @@
 -- What is judged, as reports list it.
-use Rattle.lra_operations.specs.TreeViews.{site_view}
+use Rattle.lra_report_build.specs.Crates.lra_operations.TreeViews.{site_view}
 use Rattle.lra_report.specs.Listing as report
 use Rattle.lra_report_build.specs.declared.listing.Subject.{Subject}
 

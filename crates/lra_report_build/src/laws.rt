@@ -1,7 +1,7 @@
 //! Laws: each of these does nothing, and its contract is the theorem.
 
-ghost use Rattle.lra_options.specs.declared.options.Domain.TheVariants.{Box, Oct};
-ghost use Rattle.lra_box.specs.Abstraction.{box_abstraction};
+ghost use Rattle.lra_report_build.specs.Crates.lra_box.Abstraction.{box_abstraction};
+ghost use Rattle.lra_report_build.specs.Crates.lra_options.declared.options.Domain.TheVariants.{Box, Oct};
 ghost use Rattle.lra_octagon.specs.Abstraction.{octagon_abstraction};
 ghost use Rattle.lra_report_build.specs.Shown.{ShowsRows};
 

@@ -15,5 +15,10 @@ pub use laws::{boxes_are_shown, octagons_are_shown};
 pub use listing::{
     Findings, Outline, list, list_points, list_verdicts, names_of_globals, number_of,
 };
+pub use lra_octagon::{Boxes, Octagon};
+pub use lra_poly_domain::Row;
+pub use lra_powerset::PowerSet;
+pub use lra_report::Report;
+pub use lra_row_text::Names;
 pub use show::Show;
 pub use states::states_of;

@@ -2,12 +2,15 @@
 
 ghost use Rattle.std.specs.Prelude.{◌≡◌, ◌++◌, ◌∷◌, ◌<◌, ◌^◌, ℕ, suc, length, map, flat_map, Some, option_map, IfOk};
 ghost use Rattle.std.specs.Prelude.{string_bytes, List, All};
-ghost use Rattle.lra_operations.specs.{Agree.IsInlinedTree, Tree.Node, TreeViews.site_view};
+ghost use Rattle.lra_report_build.specs.Crates.lra_operations.Agree.{IsInlinedTree};
+ghost use Rattle.lra_report_build.specs.Crates.{lra_operations.Tree.Node, lra_operations.TreeViews.site_view};
 ghost use Rattle.lra_syntax.specs.Views.{tree_view, external_view, global_view};
 ghost use Rattle.lra_syntax.specs.{Labels.label_at, Labels.labels_of, Trees.ExternalTree};
-ghost use Rattle.lra_resolution_spec.specs.LiveNames.{live_name, globals_named, names_outside, live_names};
-ghost use Rattle.lra_resolution_spec.specs.{Resolve.resolve, ShownNames.shown_names};
-ghost use Rattle.lra_program.specs.Sites.{sites_of};
+ghost use Rattle.lra_report_build.specs.Crates.lra_base.AccessVerdicts.{reported_view};
+ghost use Rattle.lra_report_build.specs.Crates.lra_resolution_spec.LiveNames.{live_name, globals_named, names_outside};
+ghost use Rattle.lra_report_build.specs.Crates.lra_resolution_spec.LiveNames.{live_names};
+ghost use Rattle.lra_report_build.specs.Crates.lra_resolution_spec.ShownNames.{shown_names};
+ghost use Rattle.lra_report_build.specs.Crates.{lra_program.Sites.sites_of, lra_resolution_spec.Resolve.resolve};
 ghost use Rattle.lra_report.specs.Listing.{call_at, called_at, calls_on, listed_point, listed_verdict, AreListed};
 ghost use Rattle.lra_report.specs.Listing.{Lists};
 ghost use Rattle.lra_report.specs.ReportText.{path_text};
@@ -16,19 +19,16 @@ ghost use Rattle.lra_report.specs.declared.verdict_kinds.VerdictKind.TheVariants
 ghost use Rattle.lra_report_build.specs.AnalysisResults.{AreFitting, AreInvariants, AreVerdicts, state_of};
 ghost use Rattle.lra_report_build.specs.AnalysisResults.{reported_all, reported_of, access_verdicts};
 ghost use Rattle.lra_report_build.specs.AnalysisResults.{access_verdicts_at, verdict_at, AreAccessVerdicts};
-ghost use Rattle.lra_base.specs.AccessVerdicts.{reported_view};
 ghost use Rattle.lra_report_build.specs.Views.{subject_view};
 
-use lra_base::Place;
-use lra_operations::Site;
-use lra_options::Options;
 use lra_report::{
-    CallPlace, Part, Point, PointReport, Report, Verdict, VerdictKind, names_at, path_text,
+    CallPlace, Labels, Options, Part, Point, PointReport, Report, Site, Verdict, VerdictKind,
+    names_at, path_text,
 };
-use lra_resolution_spec::Labels;
 use lra_row_text::Names;
 use lra_syntax::{
-    ExternalDeclaration, Global as Variable, Identifier, ScalarOrArray, TranslationUnit, Word,
+    ExternalDeclaration, Global as Variable, Identifier, Place, ScalarOrArray, TranslationUnit,
+    Word,
 };
 use std::alloc::{AllocError, Global};
 

@@ -1,17 +1,18 @@
 //! Polyhedra, shown by their constraints and their generators.
 
 ghost use Rattle.std.specs.{List.AllByRecursion, Prelude.◌≡◌, Prelude.IfOk};
-ghost use Rattle.lra_options.specs.declared.options.Domain.TheVariants as options;
-ghost use Rattle.lra_linear_spec.specs.{Polyhedra.IsPolyhedron, Representable.IsRepresentable};
-ghost use Rattle.lra_systems.specs.LinearSystems.{FitKinds};
+ghost use Rattle.lra_report_build.specs.Crates.lra_options.declared.options.Domain.TheVariants as options;
+ghost use Rattle.lra_report_build.specs.Crates.lra_linear_spec.Polyhedra.{IsPolyhedron};
+ghost use Rattle.lra_report_build.specs.Crates.lra_linear_spec.Representable.{IsRepresentable};
+ghost use Rattle.lra_report_build.specs.Crates.lra_systems.LinearSystems.{FitKinds};
 ghost use Rattle.lra_report.specs.Spelled.{IsSpelledPart};
 ghost use Rattle.lra_report_build.specs.Canonical.{IsCanonicalState};
 ghost use Rattle.lra_report_build.specs.Polyhedra.{shown_polyhedron, ShowsPolyhedron, polyhedron_of};
 
 use crate::show::Show;
 use lra_poly_domain::Polyhedron;
-use lra_report::Part;
-use lra_systems::{ConSys, GenSys};
+use lra_report::{ConSys, Part};
+use lra_row_text::GenSys;
 use std::alloc::{AllocError, Global};
 
 /// The state of a polyhedron, given by its canonical lists: no part if there is no point, else one part that has

@@ -1,16 +1,15 @@
 //! Domains whose values are shown by their rows alone.
 
 ghost use Rattle.std.specs.{List.AllByRecursion, Prelude.◌≡◌, Prelude.IfOk};
-ghost use Rattle.lra_options.specs.declared.options.Domain.TheVariants as options;
-ghost use Rattle.lra_box.specs.Abstraction.{box_abstraction};
+ghost use Rattle.lra_report_build.specs.Crates.lra_options.declared.options.Domain.TheVariants as options;
+ghost use Rattle.lra_report_build.specs.Crates.lra_box.Abstraction.{box_abstraction};
 ghost use Rattle.lra_octagon.specs.Abstraction.{octagon_abstraction};
 ghost use Rattle.lra_report.specs.Rows.{IsPartInRange};
 ghost use Rattle.lra_report_build.specs.Shown.{shown_state, MeansValue};
 
 use crate::show::Show;
-use lra_box::Boxes;
-use lra_domain::ExactParts;
-use lra_octagon::Octagon;
+use lra_octagon::{Boxes, Octagon};
+use lra_poly_domain::ExactParts;
 use lra_report::Part;
 use std::alloc::{AllocError, Global};
 

@@ -5,7 +5,7 @@ ghost use Rattle.lra_report.specs.Spelled.{IsSpelledPart};
 ghost use Rattle.lra_report_build.specs.{Canonical.AreCanonicallyShown, Shown.AreShown};
 
 use crate::show::Show;
-use lra_domain::BaseDomain;
+use lra_poly_domain::BaseDomain;
 use lra_powerset::PowerSet;
 use lra_report::Part;
 use std::alloc::{AllocError, Global};

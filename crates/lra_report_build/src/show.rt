@@ -1,11 +1,11 @@
 //! What a domain must guarantee to a report.
 
 ghost use Rattle.std.specs.{List.AllByRecursion, Prelude.◌≡◌, Prelude.IfOk};
-ghost use Rattle.lra_options.specs.declared.options.Domain as options;
+ghost use Rattle.lra_report_build.specs.Crates.lra_options.declared.options.Domain as options;
 ghost use Rattle.lra_report.specs.{Report.Invariant, Spelled.IsSpelledPart};
 ghost use Rattle.lra_report_build.specs.{Canonical.IsCanonicalState, Shown.IsShown};
 
-use lra_domain::Domain;
+use lra_poly_domain::Domain;
 use lra_report::Part;
 use std::alloc::{AllocError, Global};
 

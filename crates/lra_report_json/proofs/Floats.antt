@@ -1,7 +1,7 @@
 -- A report's JSON has no float.
 use Rattle.std.proofs.Common.{◌≡◌, ℕ, List, [], ◌∷◌, map, fold, Bool, true, false, codes, if◌then◌else◌, nat_cmp, Ordering, Less, Equal, Greater, refl, Option, Some, None, ap, ◌∙◌}
-use Rattle.std.specs.{Cmp.Lexicographic.slice_cmp, List.list_any, Ordering.match_ordering}
 use Rattle.std.proofs.lemmas.Bool.{or_parts}
+use Rattle.std.specs.{Cmp.Lexicographic.slice_cmp, List.list_any, Ordering.match_ordering}
 use Rattle.serde_json.specs.Data.{Data, Members, boolean, string, object, member, no_members, put}
 use Rattle.serde_json.specs.{View.items_of, Written.has_float, Written.items_have_float, Written.members_have_float, Written.compact_text}
 use Rattle.lra_options.specs.OptionRows.{number_row, number_value, number_options, is_number_reported, flag_row, flag_value, flag_options, is_reported}

@@ -1,7 +1,7 @@
 -- Verdicts are given by those that stand under each key.
 use Rattle.std.proofs.Common.{◌≡◌, ◌∙◌, ◌||◌, refl, ap, sym, subst, ℕ, Bool, true, false, List, [], ◌∷◌, map, filter}
 use Rattle.std.specs.{List.list_any, Prelude.cond, Str.bytes_eq}
-use Rattle.lra_syntax.specs.Labels.{Labelled}
+use Rattle.lra_report_json.specs.Crates.lra_syntax.Labels.{Labelled}
 use Rattle.lra_report.specs.{Listing.Subject, Listing.AreJudged, Report.Verdict, VerdictKinds.row_of, declared.verdict_kinds.VerdictKind.VerdictKind}
 use Rattle.lra_report.proofs.Fronts.{first_same, rest_same, both_same}
 use Rattle.lra_report_json.specs.ReportJson.{is_under, under}

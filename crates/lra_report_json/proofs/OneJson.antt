@@ -6,9 +6,9 @@ use Rattle.json.specs.Print.{quoted}
 use Rattle.serde_json.specs.{Data.Members, Data.string, Data.object, Data.member, Data.no_members, Data.put, View.items_of, Written.compact_text, Written.items_text, Written.members_text}
 use Rattle.lra_options.specs.declared.options.Domain.TheVariants.{Poly, Box, Oct}
 use Rattle.lra_options.specs.{declared.options.Domain.Domain, declared.options.Options.Options}
-use Rattle.lra_syntax.specs.{Faults.Language, Grammar.Spells, Labels.Labelled, Labels.labels_of, Texts.Pieces, Trees.FileTree}
-use Rattle.lra_resolution_spec.specs.{LiveNames.live_names, LiveNames.globals_named, Resolve.resolve, ShownNames.shown_names}
-use Rattle.lra_program.specs.Sites.{Site, sites_of}
+use Rattle.lra_report_json.specs.Crates.{lra_program.Sites.Site, lra_program.Sites.sites_of, lra_resolution_spec.LiveNames.live_names, lra_resolution_spec.LiveNames.globals_named}
+use Rattle.lra_report_json.specs.Crates.{lra_resolution_spec.Resolve.resolve, lra_resolution_spec.ShownNames.shown_names, lra_syntax.Faults.Language, lra_syntax.Grammar.Spells}
+use Rattle.lra_report_json.specs.Crates.{lra_syntax.Labels.Labelled, lra_syntax.Labels.labels_of, lra_syntax.Texts.Pieces, lra_syntax.Trees.FileTree}
 use Rattle.lra_row_text.specs.{Part.ReportGenerator, Part.Part, Rows.ReportRow, Texts.row_text, Texts.generator_text}
 use Rattle.lra_report.specs.Listing.{listed_point, Subject, subjects, listed_verdict, Lists, AreListed, AreJudged, AreParts, IsFlag}
 use Rattle.lra_report.specs.Spelled.{IsSpelledRow, IsSpelledGenerator, IsReadablePart, IsReadablePoint, IsSmallFlag, AreWords}

@@ -1,3 +1,5 @@
 -- In the order in which they are to be read.
 pub mod ReportJson
 pub mod OneJson
+-- The crates below
+pub mod Crates

@@ -1,7 +1,7 @@
 -- One JSON text, one report.
 use Rattle.std.specs.Prelude.{◌≡◌, ℕ, List}
 use Rattle.lra_options.specs.declared.options.Options.{Options}
-use Rattle.lra_syntax.specs.Faults.{Language}
+use Rattle.lra_report_json.specs.Crates.lra_syntax.Faults.{Language}
 use Rattle.lra_report.specs.{Listing.IsReportOf, Report.Report, Spelled.IsReadable, Spelled.HasOneTree}
 use Rattle.lra_report_json.specs.ReportJson.{report_json}
 

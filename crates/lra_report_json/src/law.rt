@@ -1,6 +1,6 @@
 //! One JSON text, one report.
 
-ghost use Rattle.lra_syntax.specs.Grammar.{Spells};
+ghost use Rattle.lra_report_json.specs.Crates.lra_syntax.Grammar.{Spells};
 ghost use Rattle.lra_report_json.specs.OneJson.{OneSourceJson};
 ghost use Rattle.lra_report.specs.View.{report_of};
 

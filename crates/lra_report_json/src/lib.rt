@@ -10,4 +10,5 @@ mod object;
 mod parts;
 mod whole;
 
+pub use lra_report::Row;
 pub use whole::{json_text, to_value};

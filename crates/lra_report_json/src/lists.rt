@@ -2,13 +2,12 @@
 
 ghost use Rattle.std.specs.Prelude.{◌≡◌, IfOk, length, map};
 ghost use Rattle.serde_json.specs.{Data.string, View.view};
-ghost use Rattle.lra_systems.specs.LinearSystems.{FitKinds};
+ghost use Rattle.lra_report_json.specs.Crates.lra_systems.LinearSystems.{FitKinds};
 ghost use Rattle.lra_row_text.specs.Texts as written;
 ghost use Rattle.lra_row_text.specs.Lists.{shown_rows, shown_generators};
 
-use lra_row::Row;
-use lra_row_text::{Names, generator_text, row_text};
-use lra_systems::{ConKind, GenKind};
+use lra_report::Row;
+use lra_row_text::{ConKind, GenKind, Names, generator_text, row_text};
 use serde_json::Value;
 use std::alloc::{AllocError, Global};
 

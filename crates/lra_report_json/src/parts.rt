@@ -9,9 +9,8 @@ ghost use Rattle.lra_report.specs.View.{point_report_of, verdict_of};
 
 use crate::lists::{generator_values, row_values};
 use crate::object::Object;
-use lra_base::Place;
 use lra_options::Domain;
-use lra_report::{Part, PointReport, Verdict};
+use lra_report::{Part, Place, PointReport, Verdict};
 use lra_row_text::Names;
 use serde_json::Value;
 use std::alloc::{AllocError, Global};

@@ -2,8 +2,9 @@
 -- beside it.
 use Rattle.std.proofs.Common.{◌≡◌, ℕ, pos, List, [], ◌∷◌, None, refl, map}
 use Rattle.std.specs.Prelude.{codes}
-use Rattle.lra_base.specs.declared.refusals.Cause.TheVariants.{UnknownName, DuplicateName, BadLength, NotArray}
-use Rattle.lra_base.specs.{declared.number_types.NumberType.TheVariants.Int, declared.number_types.NumberType.TheVariants.Long, declared.refusals.Cause.Cause, declared.refusals.Refusal.Refusal}
+use Rattle.lra_resolution_spec.specs.Crates.lra_base.declared.number_types.NumberType.TheVariants.{Int, Long}
+use Rattle.lra_resolution_spec.specs.Crates.lra_base.declared.refusals.Cause.TheVariants.{UnknownName, DuplicateName, BadLength, NotArray}
+use Rattle.lra_resolution_spec.specs.Crates.{lra_base.declared.refusals.Cause.Cause, lra_base.declared.refusals.Refusal.Refusal}
 use Rattle.lra_syntax.specs.Trees.{element, expression, set, set_element, scalar, array, DeclaratorTree, DeclarationTree, block, assign, ItemsTree, no_items, declaration, statement, globals, function}
 use Rattle.lra_syntax.specs.{Labels.labels_of, Trees.FileTree, declared.trees.Identifier.Identifier}
 use Rattle.lra_program.specs.declared.arrays.Array.{Array}

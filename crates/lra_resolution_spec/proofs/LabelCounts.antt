@@ -1,6 +1,6 @@
 -- How many labels the parts of a source have: the names that live don't change it.
 use Rattle.std.proofs.Common.{◌≡◌, ℕ, suc, List, [], ◌∷◌, ◌++◌, length, refl, sym, ap, ◌∙◌, length-append, arith, Option, Some, None}
-use Rattle.lra_base.specs.declared.refusals.Place.{Place}
+use Rattle.lra_resolution_spec.specs.Crates.lra_base.declared.refusals.Place.{Place}
 use Rattle.lra_syntax.specs.Labels.{Labelled, names_of, with_names, declarator_labels, init_labels, step_labels, stmt_labels, cases_labels, items_labels, live_in_for}
 use Rattle.lra_syntax.specs.Trees.{AssignTree, DeclaratorTree, InitTree, no_init, declared, assigned, StmtTree, block, nothing, assign, call, if_only, if_else, while, for, break, continue, return}
 use Rattle.lra_syntax.specs.Trees.{assert, assume, switch, CasesTree, no_cases, labelled, stated, ItemsTree, no_items, declaration, statement}

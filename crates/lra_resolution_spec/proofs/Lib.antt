@@ -13,3 +13,5 @@ mod WellFormedSourceExamples
 pub mod SiteExamples
 mod RefuseExamples
 mod ThreadExamples
+-- The crates below
+pub mod Crates

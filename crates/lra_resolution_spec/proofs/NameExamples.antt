@@ -4,11 +4,11 @@ use Rattle.lra_syntax.specs.Trees.{value, compare, conjunction, test, and, or, e
 use Rattle.lra_syntax.specs.{Functions.functions_of, Labels.labels_of, Reach.calls_of, Reach.ReachesByCalls, Reach.there, Reach.by_call, Reach.IsRecursive, Reach.IsFirstRecursive, Reach.NotRecursive}
 use Rattle.lra_syntax.specs.{Trees.declaration, Trees.statement, Trees.globals, Trees.function, Trees.FileTree, Trees.FunctionTree, Trees.GlobalTree, declared.trees.Identifier.Identifier}
 use Rattle.std.specs.Prelude.{codes, map, Contains}
-use Rattle.lra_base.specs.declared.number_types.NumberType.{NumberType}
-use Rattle.lra_base.specs.declared.refusals.Cause.TheVariants.{BadLiteral, NoMain, UnknownName, DuplicateName, BadCall, Misplaced, Recursive}
-use Rattle.lra_base.specs.{declared.number_types.NumberType.TheVariants.Int, declared.number_types.NumberType.TheVariants.Long, declared.refusals.Cause.Cause, declared.refusals.Refusal.Refusal}
+use Rattle.lra_resolution_spec.specs.Crates.lra_base.declared.number_types.NumberType.TheVariants.{Int, Long}
+use Rattle.lra_resolution_spec.specs.Crates.lra_base.declared.refusals.Cause.TheVariants.{BadLiteral, NoMain, UnknownName, DuplicateName, BadCall, Misplaced, Recursive}
+use Rattle.lra_resolution_spec.specs.Crates.{lra_base.declared.number_types.NumberType.NumberType, lra_base.declared.refusals.Cause.Cause, lra_base.declared.refusals.Refusal.Refusal}
 use Rattle.lra_program.specs.Program as program
-use Rattle.lra_base.specs.Operators as operators
+use Rattle.lra_resolution_spec.specs.Crates.lra_base.Operators as operators
 use Rattle.lra_resolution_spec.specs.Scope as scope
 use Rattle.lra_resolution_spec.specs.{NameFaults.name_faults, Refuse.RefusesTree, Refuse.recursive, Resolve.resolve, Resolve.resolve_cond}
 use Rattle.lra_program.proofs.RunExamples as run

@@ -2,11 +2,11 @@
 use Rattle.std.proofs.Common.{◌≡◌, ℕ, zero, suc, ◌+◌, List, [], ◌∷◌, ◌++◌, Option, Some, None, refl, arith, take, replicate, ap, ◌∙◌, subst, true, length, sym, get_or}
 use Rattle.std.proofs.lemmas.List.{take-replicate, length-replicate, length-append}
 use Rattle.std.specs.Prelude.{codes, get_or, ◌≤◌}
-use Rattle.lra_base.specs.declared.refusals.Cause.TheVariants.{TooLong, BadByte, BadLiteral, Syntax, NoMain, TooManyVariables, TooManyPoints}
-use Rattle.lra_base.specs.{Places.place_after, Places.place_from, Places.greatest_length, declared.number_types.NumberType.TheVariants.Long, declared.refusals.Refusal.Refusal}
-use Rattle.lra_syntax.specs.Lexeme.{IsOpen, unclosed, comment}
-use Rattle.lra_syntax.specs.Tokens.{is_blank, blank, line_comment, block_comment, skipped_line, NoGap, token}
+use Rattle.lra_resolution_spec.specs.Crates.lra_base.Places.{place_after, place_from, greatest_length}
+use Rattle.lra_resolution_spec.specs.Crates.lra_base.declared.refusals.Cause.TheVariants.{TooLong, BadByte, BadLiteral, Syntax, NoMain, TooManyVariables, TooManyPoints}
+use Rattle.lra_resolution_spec.specs.Crates.{lra_base.declared.number_types.NumberType.TheVariants.Long, lra_base.declared.refusals.Refusal.Refusal}
 use Rattle.lra_syntax.specs.Trees.{scalar, DeclaratorTree, nothing, call, ItemsTree, no_items, declaration, statement, ExternalTree, function, FileTree, for, declared, expression}
+use Rattle.lra_syntax.specs.{Lexeme.IsOpen, Lexeme.unclosed, Lexeme.comment, Tokens.is_blank, Tokens.blank, Tokens.line_comment, Tokens.block_comment, Tokens.skipped_line, Tokens.NoGap, Tokens.token}
 use Rattle.lra_syntax.specs.{Grammar.Spells, Labels.labels_of, declared.tokens.Kind.Kind, declared.tokens.Kind.TheVariants.Unclosed, declared.tokens.Kind.TheVariants.End, declared.tokens.Token.Token}
 use Rattle.lra_syntax.specs.declared.tokens.Mark.TheVariants as mark
 use Rattle.lra_resolution_spec.specs.{Refuse.limit_fault, Refuse.Refuse, Refuse.too_long, Refuse.bad_token, Refuse.bad_text, Refuse.bad_tree, Refuse.bad_name, Resolve.resolve}

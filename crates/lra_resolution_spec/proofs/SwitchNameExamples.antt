@@ -2,9 +2,9 @@
 -- beside it.
 use Rattle.std.proofs.Common.{◌≡◌, ℕ, pos, negsuc, [], ◌∷◌, None, refl, map}
 use Rattle.std.specs.Prelude.{codes}
-use Rattle.lra_base.specs.declared.case_labels.CaseLabel.TheVariants.{Case, Default}
-use Rattle.lra_base.specs.declared.refusals.Cause.TheVariants.{UnknownName, Misplaced, DuplicateCase}
-use Rattle.lra_base.specs.{declared.case_labels.CaseLabel.CaseLabel, declared.refusals.Cause.Cause, declared.refusals.Refusal.Refusal}
+use Rattle.lra_resolution_spec.specs.Crates.lra_base.declared.case_labels.CaseLabel.TheVariants.{Case, Default}
+use Rattle.lra_resolution_spec.specs.Crates.lra_base.declared.refusals.Cause.TheVariants.{UnknownName, Misplaced, DuplicateCase}
+use Rattle.lra_resolution_spec.specs.Crates.{lra_base.declared.case_labels.CaseLabel.CaseLabel, lra_base.declared.refusals.Cause.Cause, lra_base.declared.refusals.Refusal.Refusal}
 use Rattle.lra_syntax.specs.Labels.{labels_of}
 use Rattle.lra_syntax.specs.Trees.{StmtTree, switch, CasesTree, no_cases, labelled, stated, expression, set, nothing, assign, break, continue, while, value, no_items, declaration, statement, FileTree}
 use Rattle.lra_resolution_spec.specs.{NameFaults.name_faults, Resolve.resolve}

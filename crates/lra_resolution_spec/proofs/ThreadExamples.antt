@@ -1,8 +1,8 @@
 -- Threads of sources, and refusals of sources of several threads. Which slip an example would catch stands beside it.
 use Rattle.std.proofs.Common.{◌≡◌, ℕ, zero, suc, ◌<◌, List, [], ◌∷◌, length, None, refl, ap, subst, sym, ◌∙◌, arith}
 use Rattle.std.specs.Prelude.{codes, Contains, get_or}
-use Rattle.lra_base.specs.declared.refusals.Cause.TheVariants.{NoThreads, UnknownName, DuplicateName, Recursive}
-use Rattle.lra_base.specs.{declared.refusals.Cause.Cause, declared.refusals.Refusal.Refusal}
+use Rattle.lra_resolution_spec.specs.Crates.lra_base.declared.refusals.Cause.TheVariants.{NoThreads, UnknownName, DuplicateName, Recursive}
+use Rattle.lra_resolution_spec.specs.Crates.{lra_base.declared.refusals.Cause.Cause, lra_base.declared.refusals.Refusal.Refusal}
 use Rattle.lra_syntax.specs.Trees.{expression, set, nothing, assign, call, no_items, ItemsTree, statement, function, FileTree, FunctionTree, ExternalTree}
 use Rattle.lra_syntax.specs.{Functions.functions_of, Labels.labels_of, Reach.calls_of, Reach.ReachesByCalls, Reach.there, Reach.by_call, Reach.IsFirstRecursive, declared.trees.Identifier.Identifier}
 use Rattle.lra_program.specs.Sites.{event_sites}

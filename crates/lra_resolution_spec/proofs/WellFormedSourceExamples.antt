@@ -1,6 +1,6 @@
 -- The program of a source is well-formed.
 use Rattle.std.proofs.Common.{[], ◌∷◌, refl, arith}
-use Rattle.lra_base.specs.declared.number_types.NumberType.TheVariants.{Int}
+use Rattle.lra_resolution_spec.specs.Crates.lra_base.declared.number_types.NumberType.TheVariants.{Int}
 use Rattle.lra_program.specs.{Program.local, Program.literal, Program.read, WellFormed.IsGoodCall, WellFormed.IsWellFormed}
 use Rattle.lra_resolution_spec.specs.Resolve.{resolve}
 use Rattle.lra_program.proofs.RunExamples.{long_variable}

@@ -8,3 +8,5 @@ pub mod LabelTable
 pub mod Refuse
 pub mod Threads
 pub mod RefuseThreads
+-- The crates below
+pub mod Crates

@@ -3,12 +3,18 @@
 use Rattle.std.specs.List.{list_any, flat_map}
 use Rattle.std.specs.Prelude.{ℕ, Bool, true, false, not, if◌then◌else◌, ◌||◌, ◌&&◌, nat_eq, List, [], ◌∷◌, ◌++◌, length}
 use Rattle.std.specs.Prelude.{Option, Some, None, bytes_eq, map, is_none, is_some}
-use Rattle.lra_base.specs.CaseLabels.{is_same_case}
-use Rattle.lra_base.specs.declared.refusals.Cause.TheVariants.{BadLiteral, NoMain, UnknownName, DuplicateName, BadCall}
-use Rattle.lra_base.specs.declared.refusals.Cause.TheVariants.{Misplaced, DuplicateCase, BadLength, NotArray}
-use Rattle.lra_base.specs.{Limits.is_length, NumberTypes.fits, declared.case_labels.CaseLabel.CaseLabel}
-use Rattle.lra_base.specs.{declared.number_types.NumberType.NumberType, declared.refusals.Cause.Cause}
-use Rattle.lra_base.specs.{declared.refusals.Place.Place, declared.refusals.Refusal.Refusal}
+use Rattle.lra_resolution_spec.specs.Crates.lra_base.CaseLabels.{is_same_case}
+use Rattle.lra_resolution_spec.specs.Crates.lra_base.Limits.{is_length}
+use Rattle.lra_resolution_spec.specs.Crates.lra_base.declared.case_labels.CaseLabel.{CaseLabel}
+use Rattle.lra_resolution_spec.specs.Crates.lra_base.declared.number_types.NumberType.{NumberType}
+use Rattle.lra_resolution_spec.specs.Crates.lra_base.declared.refusals.Cause.TheVariants.{BadLiteral, NoMain}
+use Rattle.lra_resolution_spec.specs.Crates.lra_base.declared.refusals.Cause.TheVariants.{UnknownName, DuplicateName}
+use Rattle.lra_resolution_spec.specs.Crates.lra_base.declared.refusals.Cause.TheVariants.{BadCall, Misplaced}
+use Rattle.lra_resolution_spec.specs.Crates.lra_base.declared.refusals.Cause.TheVariants.{DuplicateCase, BadLength}
+use Rattle.lra_resolution_spec.specs.Crates.lra_base.declared.refusals.Cause.TheVariants.{NotArray}
+use Rattle.lra_resolution_spec.specs.Crates.lra_base.declared.refusals.Place.{Place}
+use Rattle.lra_resolution_spec.specs.Crates.lra_base.declared.refusals.Refusal.{Refusal}
+use Rattle.lra_resolution_spec.specs.Crates.{lra_base.NumberTypes.fits, lra_base.declared.refusals.Cause.Cause}
 use Rattle.lra_syntax.specs.Functions.{functions_of, function_named, is_main}
 use Rattle.lra_syntax.specs.Trees.{UnaryTree, negated, positive, literal, variable, input, group, element, TermTree}
 use Rattle.lra_syntax.specs.Trees.{unary, times, over, modulo, ExprTree, term, plus, minus, NegationTree}

@@ -3,14 +3,18 @@
 -- names; calls written out. In each phase but the last the fault first in text order is answered.
 use Rattle.std.specs.Prelude.{◌≡◌, ℕ, suc, ◌≤◌, ◌<◌, nat_lt, if◌then◌else◌, List, [], ◌∷◌, length, take, Option, Some}
 use Rattle.std.specs.Prelude.{None}
-use Rattle.lra_base.specs.declared.refusals.Cause.TheVariants.{TooLong, Recursive, TooManyVariables, TooManyPoints}
-use Rattle.lra_base.specs.{Places.place_after, Places.greatest_length, declared.refusals.Cause.Cause}
-use Rattle.lra_base.specs.{declared.refusals.Place.Place, declared.refusals.Refusal.Refusal}
+use Rattle.lra_resolution_spec.specs.Crates.lra_base.Places.{place_after, greatest_length}
+use Rattle.lra_resolution_spec.specs.Crates.lra_base.declared.refusals.Cause.{Cause}
+use Rattle.lra_resolution_spec.specs.Crates.lra_base.declared.refusals.Cause.TheVariants.{TooLong, Recursive}
+use Rattle.lra_resolution_spec.specs.Crates.lra_base.declared.refusals.Cause.TheVariants.{TooManyVariables}
+use Rattle.lra_resolution_spec.specs.Crates.lra_base.declared.refusals.Cause.TheVariants.{TooManyPoints}
+use Rattle.lra_resolution_spec.specs.Crates.lra_base.declared.refusals.Place.{Place}
+use Rattle.lra_resolution_spec.specs.Crates.lra_base.declared.refusals.Refusal.{Refusal}
 use Rattle.lra_syntax.specs.Labels.{Labelled, labels_of, label_at, label_place, called_place}
 use Rattle.lra_syntax.specs.Reach.{IsFirstRecursive, NotRecursive}
 use Rattle.lra_syntax.specs.{Faults.Language, Faults.IsTree, Faults.IsTextFault, Grammar.Spells, Tokens.Lex}
 use Rattle.lra_syntax.specs.{Tokens.IsTokenFault, Trees.FileTree, declared.tokens.Token.Token}
-pub use Rattle.lra_base.specs.Limits.{greatest_live}
+pub use Rattle.lra_resolution_spec.specs.Crates.lra_base.Limits.{greatest_live}
 use Rattle.lra_resolution_spec.specs.{NameFaults.name_faults, Resolve.resolve}
 use Rattle.lra_program.specs.{Sites.Event, Sites.comes, Sites.one_call_more, Sites.events_of, WellFormed.IsWellFormed}
 

@@ -1,9 +1,11 @@
 -- Which sources are refused as programs of several threads, for which cause and at which place: as every source, but
 -- that its two first threads are asked for in place of `main`, and that the points of all threads count together.
 use Rattle.std.specs.Prelude.{◌≡◌, ℕ, ◌≤◌, ◌<◌, List, [], ◌∷◌, length, take, Some, None}
-use Rattle.lra_base.specs.declared.refusals.Cause.TheVariants.{TooLong, Recursive}
-use Rattle.lra_base.specs.{Places.place_after, Places.greatest_length, declared.refusals.Cause.Cause}
-use Rattle.lra_base.specs.{declared.refusals.Place.Place, declared.refusals.Refusal.Refusal}
+use Rattle.lra_resolution_spec.specs.Crates.lra_base.Places.{place_after, greatest_length}
+use Rattle.lra_resolution_spec.specs.Crates.lra_base.declared.refusals.Cause.{Cause}
+use Rattle.lra_resolution_spec.specs.Crates.lra_base.declared.refusals.Cause.TheVariants.{TooLong, Recursive}
+use Rattle.lra_resolution_spec.specs.Crates.lra_base.declared.refusals.Place.{Place}
+use Rattle.lra_resolution_spec.specs.Crates.lra_base.declared.refusals.Refusal.{Refusal}
 use Rattle.lra_syntax.specs.Reach.{IsFirstRecursive, NotRecursive}
 use Rattle.lra_syntax.specs.{Faults.Language, Faults.IsTree, Faults.IsTextFault, Labels.labels_of, Tokens.Lex}
 use Rattle.lra_syntax.specs.{Tokens.IsTokenFault, Trees.FileTree, declared.tokens.Token.Token}

@@ -3,9 +3,9 @@
 -- its statement or declarator.
 -- All functions of the source can be called, `main` among them.
 use Rattle.std.specs.Prelude.{ℕ, suc, ◌+◌, ℤ, pos, List, [], ◌∷◌, ◌++◌, length, map, Option, Some, None, cond, flat_map}
-use Rattle.lra_base.specs.Operators.{Operator, plus, minus, times, over, modulo}
-use Rattle.lra_base.specs.declared.number_types.NumberType.{NumberType}
-use Rattle.lra_base.specs.declared.number_types.NumberType.TheVariants.{Int, Long}
+use Rattle.lra_resolution_spec.specs.Crates.lra_base.Operators.{Operator, plus, minus, times, over, modulo}
+use Rattle.lra_resolution_spec.specs.Crates.lra_base.declared.number_types.NumberType.{NumberType}
+use Rattle.lra_resolution_spec.specs.Crates.lra_base.declared.number_types.NumberType.TheVariants.{Int, Long}
 use Rattle.lra_syntax.specs.{Functions.functions_of, Functions.is_named, Functions.is_main, Labels.init_labels}
 use Rattle.lra_syntax.specs.{Labels.step_labels, Labels.stmt_labels, declared.trees.Identifier.Identifier}
 use Rattle.lra_syntax.specs.{declared.trees.Parameter.Parameter, declared.trees.SignedLiteral.SignedLiteral}

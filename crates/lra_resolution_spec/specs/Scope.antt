@@ -2,7 +2,7 @@
 use Rattle.std.specs.List.{list_any}
 use Rattle.std.specs.Prelude.{ℕ, suc, ◌+◌, Bool, true, false, if◌then◌else◌, List, [], ◌∷◌, ◌++◌, length, take, drop}
 use Rattle.std.specs.Prelude.{bytes_eq, Option, Some, None, map, option_map, slice_get}
-use Rattle.lra_base.specs.declared.number_types.NumberType.{NumberType}
+use Rattle.lra_resolution_spec.specs.Crates.lra_base.declared.number_types.NumberType.{NumberType}
 use Rattle.lra_syntax.specs.Trees.{DeclaratorTree, InitTree, no_init, declared, assigned, GlobalTree, GlobalsTree}
 use Rattle.lra_syntax.specs.declared.trees.ArrayLength.{ArrayLength}
 use Rattle.lra_syntax.specs.{declared.trees.Identifier.Identifier, declared.trees.Parameter.Parameter}

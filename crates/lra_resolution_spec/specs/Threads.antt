@@ -3,7 +3,8 @@
 -- missing, or have parameters.
 use Rattle.std.specs.Prelude.{ℕ, zero, suc, ◌+◌, Bool, false, not, if◌then◌else◌, ◌&&◌, nat_eq, List, [], ◌∷◌, ◌++◌}
 use Rattle.std.specs.Prelude.{length, map, Option, Some, None, slice_get, flat_map}
-use Rattle.lra_base.specs.{declared.refusals.Cause.TheVariants.NoThreads, declared.refusals.Refusal.Refusal}
+use Rattle.lra_resolution_spec.specs.Crates.lra_base.declared.refusals.Cause.TheVariants.{NoThreads}
+use Rattle.lra_resolution_spec.specs.Crates.lra_base.declared.refusals.Refusal.{Refusal}
 use Rattle.lra_syntax.specs.{Functions.functions_of, Functions.function_named, Trees.FunctionTree, Trees.FileTree}
 use Rattle.lra_program.specs.{Program.Program, ProgramViews.function_or, Sites.Event, Sites.events_of}
 use Rattle.lra_resolution_spec.specs.NameFaults.{fault_if, parts_faults}

@@ -7,7 +7,7 @@ ghost use Rattle.lra_syntax.specs.Labels.{Labelled, label_at, label_place};
 ghost use Rattle.lra_resolution_spec.specs.LabelTable.{list_at, lists_of, AreOrdered, label_in, with_live};
 ghost use Rattle.lra_resolution_spec.specs.LiveNames.{live_at, live_in_call_at};
 
-use lra_base::Place;
+use lra_program::Place;
 use lra_syntax::{Identifier, Word};
 use std::alloc::{AllocError, Global};
 use std::marker::Model;

@@ -8,3 +8,4 @@
 mod labels;
 
 pub use labels::{Label, Labels};
+pub use lra_syntax::TranslationUnit;

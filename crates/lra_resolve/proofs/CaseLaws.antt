@@ -12,8 +12,9 @@ use Rattle.lra_program.specs.Program as program
 use Rattle.lra_program.specs.ProgramViews as view
 use Rattle.lra_program.specs.{declared.program.CaseItem.CaseItem as ProgramCase, declared.program.CaseItem.the_lemmas, declared.program.Stmt.Stmt as ProgramStmt}
 use Rattle.lra_program.specs.declared.program.CaseItem as program_case
-use Rattle.lra_resolution_spec.specs.NameFaults.{Around, in_a_switch, fault_if, expr_faults, stmt_faults, cases_faults}
-use Rattle.lra_resolution_spec.specs.{Resolve.resolve_expr, Resolve.resolve_stmt, Resolve.resolve_cases, Resolve.stmt_count, Scope.Scope}
+use Rattle.lra_resolve.specs.Crates.lra_resolution_spec.NameFaults.{Around, in_a_switch, fault_if, expr_faults, stmt_faults, cases_faults}
+use Rattle.lra_resolve.specs.Crates.lra_resolution_spec.Resolve.{resolve_expr, resolve_stmt, resolve_cases, stmt_count}
+use Rattle.lra_resolve.specs.Crates.lra_resolution_spec.Scope.{Scope}
 use Rattle.lra_scopes.specs.Outcome.{IsFirstFault}
 use Rattle.lra_scopes.proofs.{FirstFaults.tells_front, FirstFaults.tells_behind, Loops.both_clean}
 use Rattle.lra_resolve_simple.specs.Cases.{has_seen, HasSeen, before_cases}

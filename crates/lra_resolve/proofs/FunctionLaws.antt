@@ -6,7 +6,8 @@ use Rattle.lra_base.specs.{declared.error.SourceError.SourceError, declared.numb
 use Rattle.lra_syntax.specs.{Functions.is_main, Trees.FunctionTree, Trees.GlobalTree}
 use Rattle.lra_program.specs.Program as program
 use Rattle.lra_program.specs.ProgramViews.{function_or}
-use Rattle.lra_resolution_spec.specs.{NameFaults.is_taken, NameFaults.first_value_faults, NameFaults.shape_faults, NameFaults.globals_faults, Resolve.main_of}
+use Rattle.lra_resolve.specs.Crates.lra_resolution_spec.NameFaults.{is_taken, first_value_faults, shape_faults, globals_faults}
+use Rattle.lra_resolve.specs.Crates.lra_resolution_spec.Resolve.{main_of}
 use Rattle.lra_resolve.specs.Mains.{main_place}
 use Rattle.lra_scopes.specs.Outcome.{IsFirstFault}
 use Rattle.lra_scopes.proofs.FirstFaults.{tells_front, tells_behind}

@@ -8,8 +8,9 @@ use Rattle.lra_syntax.specs.declared.trees.BlockItem as code_item
 use Rattle.lra_program.specs.{Program.BlockItems, declared.program.BlockItem.BlockItem as ProgramItem, declared.program.Stmt.Stmt as ProgramStmt}
 use Rattle.lra_program.specs.ProgramViews as view
 use Rattle.lra_program.specs.declared.program.BlockItem as program_item
-use Rattle.lra_resolution_spec.specs.Resolve.{resolve_declarators, resolve_stmt, resolve_items, stmt_count, items_count}
-use Rattle.lra_resolution_spec.specs.{NameFaults.Around, NameFaults.declarators_faults, NameFaults.items_faults, NameFaults.stmt_faults, Scope.Scope, Scope.with_declarators}
+use Rattle.lra_resolve.specs.Crates.lra_resolution_spec.NameFaults.{Around, declarators_faults, items_faults, stmt_faults}
+use Rattle.lra_resolve.specs.Crates.lra_resolution_spec.Resolve.{resolve_declarators, resolve_stmt, resolve_items, stmt_count, items_count}
+use Rattle.lra_resolve.specs.Crates.lra_resolution_spec.Scope.{Scope, with_declarators}
 use Rattle.lra_scopes.specs.{Outcome.IsFirstFault, Scopes.Extends}
 use Rattle.lra_scopes.proofs.FirstFaults.{tells_front}
 use Rattle.lra_resolve_simple.specs.{Labelling.LabelsSoFar, Labelling.Adds, Labelling.Declares, Labelling.Follows, Statements.followed}

@@ -7,3 +7,5 @@ pub mod FunctionLaws
 pub mod OneFunction
 -- Threads.
 pub mod ThreadLaws
+-- The crates below
+pub mod Crates

@@ -7,8 +7,9 @@ use Rattle.lra_syntax.specs.{Labels.Labelled, Labels.plain_label, Labels.stmt_la
 use Rattle.lra_program.specs.{ProgramViews.stmt_view, ProgramViews.items_view, declared.program.BlockItem.the_lemmas, declared.program.BlockItems.BlockItems, declared.program.Stmt.Stmt}
 use Rattle.lra_program.specs.declared.program.Stmt as program_stmt
 use Rattle.lra_program.specs.Program as program
-use Rattle.lra_resolution_spec.specs.Resolve.{resolve_stmt, resolve_items, stmt_count, items_count}
-use Rattle.lra_resolution_spec.specs.{NameFaults.Around, NameFaults.in_a_loop, NameFaults.cond_faults, NameFaults.stmt_faults, Scope.SymbolEntry, Scope.Scope, Scope.inner}
+use Rattle.lra_resolve.specs.Crates.lra_resolution_spec.NameFaults.{Around, in_a_loop, cond_faults, stmt_faults}
+use Rattle.lra_resolve.specs.Crates.lra_resolution_spec.Resolve.{resolve_stmt, resolve_items, stmt_count, items_count}
+use Rattle.lra_resolve.specs.Crates.lra_resolution_spec.Scope.{SymbolEntry, Scope, inner}
 use Rattle.lra_scopes.specs.{Outcome.IsFirstFault, Outcome.StopsAtFirstFault, Scopes.Extends, Scopes.left_to}
 use Rattle.lra_resolve_simple.specs.LoopHeads.{HeadTree, while_head, for_head, with_body, head_faults, body_scope, body_label, head_labels, body_live, loop_around}
 use Rattle.lra_resolve_simple.specs.{Labelling.LabelsSoFar, Labelling.Adds, Resolved.Resolves, Statements.choice_tree}

@@ -2,8 +2,9 @@
 use Rattle.std.proofs.Common.{◌≡◌, ℕ, ◌+◌, Bool, List, [], ◌++◌, map, refl, sym, is_some}
 use Rattle.lra_syntax.specs.{Trees.FunctionTree, declared.trees.Parameter.Parameter}
 use Rattle.lra_program.specs.Program as program
-use Rattle.lra_resolution_spec.specs.NameFaults.{Around, function_faults, items_faults, parameters_faults}
-use Rattle.lra_resolution_spec.specs.{Resolve.items_count, Resolve.resolve_function, Resolve.resolve_items, Scope.SymbolEntry, Scope.Scope, Scope.function_scope}
+use Rattle.lra_resolve.specs.Crates.lra_resolution_spec.NameFaults.{Around, function_faults, items_faults, parameters_faults}
+use Rattle.lra_resolve.specs.Crates.lra_resolution_spec.Resolve.{items_count, resolve_function, resolve_items}
+use Rattle.lra_resolve.specs.Crates.lra_resolution_spec.Scope.{SymbolEntry, Scope, function_scope}
 use Rattle.lra_program.specs.WellFormed.{no_jumps}
 
 abbrev around_body : List FunctionTree → Bool → Around

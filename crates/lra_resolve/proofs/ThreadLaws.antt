@@ -3,8 +3,8 @@ use Rattle.std.proofs.Common.{◌≡◌, ℕ, zero, suc, ◌+◌, ◌-◌, ◌<�
 use Rattle.std.specs.Prelude.{if◌then◌else◌, ◌&&◌}
 use Rattle.lra_base.specs.declared.refusals.Cause.TheVariants.{NoThreads}
 use Rattle.lra_syntax.specs.{Functions.functions_of, Functions.function_named, Trees.FunctionTree, Trees.FileTree}
-use Rattle.lra_resolution_spec.specs.Threads.{greatest_threads, thread_name, has_no_parameters, has_thread, thread_places_from, thread_faults}
-use Rattle.lra_resolution_spec.specs.{NameFaults.parts_faults, Resolve.function_place}
+use Rattle.lra_resolve.specs.Crates.lra_resolution_spec.Threads.{greatest_threads, thread_name, has_no_parameters, has_thread, thread_places_from, thread_faults}
+use Rattle.lra_resolve.specs.Crates.{lra_resolution_spec.NameFaults.parts_faults, lra_resolution_spec.Resolve.function_place}
 use Rattle.lra_scopes.specs.Outcome.{first_fault}
 
 -- one thread more, and the last one

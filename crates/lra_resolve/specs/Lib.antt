@@ -1,1 +1,3 @@
 pub mod Mains
+-- The crates below
+pub mod Crates

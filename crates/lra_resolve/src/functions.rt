@@ -7,13 +7,15 @@ ghost use Rattle.lra_syntax.specs.Trees.{GlobalTree, ExternalTree, function as p
 ghost use Rattle.lra_syntax.specs.Views.{global_view, globals_view, function_view as tree_function_view, external_view};
 ghost use Rattle.lra_syntax.specs.{Labels.function_labels, Labels.labels_of, Views.tree_view};
 ghost use Rattle.lra_program.specs.ProgramViews.{function_view, program_view};
-ghost use Rattle.lra_resolution_spec.specs.NameFaults.{parameters_faults, function_faults, first_value_faults};
-ghost use Rattle.lra_resolution_spec.specs.NameFaults.{shape_faults, globals_faults, global_names, parts_faults};
-ghost use Rattle.lra_resolution_spec.specs.NameFaults.{name_faults};
-ghost use Rattle.lra_resolution_spec.specs.Resolve.{resolve_function, value_or_zero, variables_by, arrays_by};
-ghost use Rattle.lra_resolution_spec.specs.Resolve.{globals_in, arrays_in, resolve_parts, resolved_functions};
-ghost use Rattle.lra_resolution_spec.specs.Resolve.{items_count, resolve};
-ghost use Rattle.lra_resolution_spec.specs.Scope.{function_scope, binding_of, global_entry, global_entries};
+ghost use Rattle.lra_resolve.specs.Crates.lra_resolution_spec.NameFaults.{parameters_faults, function_faults};
+ghost use Rattle.lra_resolve.specs.Crates.lra_resolution_spec.NameFaults.{first_value_faults, shape_faults};
+ghost use Rattle.lra_resolve.specs.Crates.lra_resolution_spec.NameFaults.{globals_faults, global_names, parts_faults};
+ghost use Rattle.lra_resolve.specs.Crates.lra_resolution_spec.NameFaults.{name_faults};
+ghost use Rattle.lra_resolve.specs.Crates.lra_resolution_spec.Resolve.{resolve_function, value_or_zero, variables_by};
+ghost use Rattle.lra_resolve.specs.Crates.lra_resolution_spec.Resolve.{arrays_by, globals_in, arrays_in, resolve_parts};
+ghost use Rattle.lra_resolve.specs.Crates.lra_resolution_spec.Resolve.{resolved_functions, items_count, resolve};
+ghost use Rattle.lra_resolve.specs.Crates.lra_resolution_spec.Scope.{function_scope, binding_of, global_entry};
+ghost use Rattle.lra_resolve.specs.Crates.lra_resolution_spec.Scope.{global_entries};
 ghost use Rattle.lra_scopes.specs.Outcome.{IsFirstFault, StopsAtFirstFault};
 ghost use Rattle.lra_scopes.specs.{Bindings.binding_view, Calls.functions_at};
 ghost use Rattle.lra_resolve_simple.specs.Labelling.{labels_of_functions};
@@ -22,8 +24,7 @@ ghost use Rattle.lra_resolve.specs.Mains.{main_place};
 use crate::statements::resolve_items;
 use lra_base::{Cause, NumberType, SourceError};
 use lra_program::{Array, GlobalVariable, Program};
-use lra_resolution_spec::Labels;
-use lra_resolve_simple::{Around, Labelling};
+use lra_resolve_simple::{Around, Labelling, Labels};
 use lra_scopes::{Binding, Functions, Names, Scope, build_array, refuse};
 use lra_syntax::{
     ExternalDeclaration, Function, Globals, Parameter, ScalarOrArray, SignedLiteral,

@@ -6,4 +6,5 @@ mod statements;
 mod threads;
 
 pub use functions::{Resolution, resolve};
+pub use lra_resolve_simple::Labelling;
 pub use threads::{ThreadsResolution, resolve_threads};

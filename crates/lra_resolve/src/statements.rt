@@ -4,7 +4,8 @@ ghost use Rattle.std.specs.Prelude.{◌≡◌, ◌+◌, option_copied, IfOk, OnO
 ghost use Rattle.lra_syntax.specs.Trees.{block as tree_block, switch as tree_switch};
 ghost use Rattle.lra_syntax.specs.Views.{stmt_view, block_view, expr_view, cases_view};
 ghost use Rattle.lra_program.specs.ProgramViews.{items_view};
-ghost use Rattle.lra_resolution_spec.specs.{NameFaults.items_faults, Resolve.resolve_items, Resolve.items_count};
+ghost use Rattle.lra_resolve.specs.Crates.lra_resolution_spec.NameFaults.{items_faults};
+ghost use Rattle.lra_resolve.specs.Crates.lra_resolution_spec.Resolve.{resolve_items, items_count};
 ghost use Rattle.lra_scopes.specs.{Calls.functions_at, Outcome.StopsAtFirstFault, Scopes.Extends};
 ghost use Rattle.lra_resolve_simple.specs.LoopHeads.{choice_of, loop_tree};
 ghost use Rattle.lra_resolve_simple.specs.{Labelling.Fills, Resolved.Resolves, Statements.around_of};

@@ -3,8 +3,10 @@
 ghost use Rattle.std.specs.Prelude.{◌≡◌, false, true, IfOk, MatchOption};
 ghost use Rattle.lra_syntax.specs.{Functions.function_named, Labels.labels_of, Views.tree_view};
 ghost use Rattle.lra_program.specs.ProgramViews.{program_view};
-ghost use Rattle.lra_resolution_spec.specs.Threads.{greatest_threads, has_no_parameters, thread_faults, thread_places};
-ghost use Rattle.lra_resolution_spec.specs.{Resolve.function_place, Threads.thread_places_from, Threads.thread_program};
+ghost use Rattle.lra_resolve.specs.Crates.lra_resolution_spec.Resolve.{function_place};
+ghost use Rattle.lra_resolve.specs.Crates.lra_resolution_spec.Threads.{greatest_threads, has_no_parameters};
+ghost use Rattle.lra_resolve.specs.Crates.lra_resolution_spec.Threads.{thread_faults, thread_places};
+ghost use Rattle.lra_resolve.specs.Crates.lra_resolution_spec.Threads.{thread_places_from, thread_program};
 ghost use Rattle.lra_scopes.specs.{Calls.functions_at, Outcome.StopsAtFirstFault};
 
 use crate::functions::{Resolution, resolve_tree};

@@ -4,7 +4,8 @@ use Rattle.lra_base.specs.declared.number_types.NumberType.{NumberType}
 use Rattle.lra_program.specs.{ProgramViews.item_view, declared.program.BlockItem.BlockItem}
 use Rattle.lra_syntax.specs.Trees.{FunctionTree, DeclaratorTree}
 use Rattle.lra_program.specs.Program as program
-use Rattle.lra_resolution_spec.specs.{NameFaults.declarators_faults, Resolve.resolve_declared, Resolve.resolve_declarators, Scope.Scope, Scope.with_local, Scope.declarator_entry}
+use Rattle.lra_resolve_simple.specs.Crates.lra_resolution_spec.Scope.{Scope, with_local, declarator_entry}
+use Rattle.lra_resolve_simple.specs.Crates.{lra_resolution_spec.NameFaults.declarators_faults, lra_resolution_spec.Resolve.resolve_declared, lra_resolution_spec.Resolve.resolve_declarators}
 use Rattle.lra_resolve_simple.specs.Statements.{declarator_faults, followed}
 use Rattle.lra_scopes.proofs.FirstFaults.{tells_front, tells_behind}
 

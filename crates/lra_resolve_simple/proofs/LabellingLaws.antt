@@ -8,7 +8,7 @@ use Rattle.lra_syntax.specs.Trees.{AssignTree, DeclaratorTree, InitTree, no_init
 use Rattle.lra_syntax.specs.Views.{item_view, declaration_view, stmt_view}
 use Rattle.lra_syntax.specs.{declared.trees.BlockItem.BlockItem, declared.trees.BlockItem.the_lemmas, declared.trees.Declaration.Declaration, declared.trees.Stmt.Stmt}
 use Rattle.lra_syntax.specs.declared.trees.BlockItem as code_item
-use Rattle.lra_resolution_spec.specs.LabelTable.{with_live}
+use Rattle.lra_resolve_simple.specs.Crates.lra_resolution_spec.LabelTable.{with_live}
 use Rattle.lra_resolve_simple.specs.Labelling.{LabelsSoFar, Adds, Declares, ExtendsNames, Follows, Fills, for_front}
 
 -- further labels -------------------------------------------------------------------------------------------------------

@@ -3,3 +3,5 @@ pub mod DeclarationLaws
 pub mod StatementLaws
 pub mod LabellingLaws
 pub mod SimpleLaws
+-- The crates below
+pub mod Crates

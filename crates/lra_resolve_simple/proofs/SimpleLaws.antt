@@ -2,13 +2,13 @@
 use Rattle.std.proofs.Common.{◌≡◌, suc, refl, sym, subst, arith, Option, Box, Global, Result, Ok, Err}
 use Rattle.std.specs.Result.{IfOk, OnOk}
 use Rattle.lra_base.specs.{declared.error.SourceError.SourceError, declared.refusals.Place.Place}
-use Rattle.lra_syntax.specs.Labels.{stmt_labels}
-use Rattle.lra_syntax.specs.declared.trees.Stmt.{Stmt, Stmt-F, out-Stmt, roll-Stmt, roll-out-Stmt}
+use Rattle.lra_syntax.specs.{Labels.stmt_labels, declared.trees.Stmt.Stmt, declared.trees.Stmt.Stmt-F, declared.trees.Stmt.out-Stmt, declared.trees.Stmt.roll-Stmt, declared.trees.Stmt.roll-out-Stmt}
 use Rattle.lra_syntax.specs.{Trees.StmtTree, Views.stmt_view, declared.trees.Assign.Assign, declared.trees.Block.Block, declared.trees.BlockItem.BlockItem, declared.trees.Call.Call}
 use Rattle.lra_syntax.specs.{declared.trees.CaseItem.CaseItem, declared.trees.Cases.Cases, declared.trees.Cond.Cond, declared.trees.Expr.Expr, declared.trees.Init.Init, declared.trees.Rvalue.Rvalue}
 use Rattle.lra_syntax.specs.declared.trees.Stmt as code
 use Rattle.lra_program.specs.{ProgramViews.stmt_view as program_stmt_view, declared.program.Stmt.Stmt as ProgramStmt}
-use Rattle.lra_resolution_spec.specs.{NameFaults.Around, NameFaults.stmt_faults, Resolve.resolve_stmt, Resolve.stmt_count, Scope.Scope}
+use Rattle.lra_resolve_simple.specs.Crates.lra_resolution_spec.Resolve.{resolve_stmt, stmt_count}
+use Rattle.lra_resolve_simple.specs.Crates.{lra_resolution_spec.NameFaults.Around, lra_resolution_spec.NameFaults.stmt_faults, lra_resolution_spec.Scope.Scope}
 use Rattle.lra_scopes.specs.Outcome.{StopsAtFirstFault}
 use Rattle.lra_resolve_simple.specs.{Labelling.LabelsSoFar, Labelling.Adds, Resolved.Resolves, Statements.IsSimple}
 use Rattle.lra_resolve_simple.proofs.StatementLaws.{block_is, nothing_is, assign_is, call_is, break_is, continue_is, return_is, assert_is, assume_is, if_is, if_else_is, while_is, for_is, switch_is}

@@ -18,9 +18,9 @@ use Rattle.lra_syntax.specs.declared.trees.Init.TheVariants as code_init
 use Rattle.lra_syntax.specs.declared.trees.Stmt as code_stmt
 use Rattle.lra_program.specs.Program as program
 use Rattle.lra_program.specs.ProgramViews as view
-use Rattle.lra_resolution_spec.specs.Resolve.{resolve_stmt, resolve_items, stmt_count, items_count, init_count, step_count}
-use Rattle.lra_resolution_spec.specs.Scope.{SymbolEntry, Scope, with_local, declarator_entry, with_declarators, inner, for_scope}
-use Rattle.lra_resolution_spec.proofs.LabelCounts.{count_stmt, count_declarators, count_items, count_step}
+use Rattle.lra_resolve_simple.specs.Crates.lra_resolution_spec.Resolve.{resolve_stmt, resolve_items, stmt_count, items_count, init_count, step_count}
+use Rattle.lra_resolve_simple.specs.Crates.lra_resolution_spec.Scope.{SymbolEntry, Scope, with_local, declarator_entry, with_declarators, inner, for_scope}
+use Rattle.lra_resolve_simple.proofs.Crates.lra_resolution_spec.LabelCounts.{count_stmt, count_declarators, count_items, count_step}
 use Rattle.lra_scopes.specs.Scopes.{with_more, Extends, left_to}
 use Rattle.lra_resolve_simple.specs.Statements.{followed, choice}
 use Rattle.lra_scopes.proofs.FirstFaults.{tells_front, tells_behind}

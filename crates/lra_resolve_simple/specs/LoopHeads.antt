@@ -5,9 +5,11 @@ use Rattle.lra_base.specs.{declared.refusals.Place.Place, declared.refusals.Refu
 use Rattle.lra_syntax.specs.Trees.{CondTree, AssignTree, InitTree, StmtTree, while, for, FunctionTree}
 use Rattle.lra_syntax.specs.Views.{stmt_view, cond_view, init_view, assign_view}
 use Rattle.lra_syntax.specs.{Labels.Labelled, Labels.plain_label, Labels.live_in_for, declared.trees.Stmt.Stmt}
-use Rattle.lra_resolution_spec.specs.NameFaults.{cond_faults, init_faults, test_of_for_faults, step_faults}
-use Rattle.lra_resolution_spec.specs.Resolve.{resolve_cond, resolve_init, resolve_for_test, resolve_step, init_count}
-use Rattle.lra_resolution_spec.specs.{Resolve.step_count, Scope.Scope, Scope.for_scope}
+use Rattle.lra_resolve_simple.specs.Crates.lra_resolution_spec.NameFaults.{cond_faults, init_faults, test_of_for_faults}
+use Rattle.lra_resolve_simple.specs.Crates.lra_resolution_spec.NameFaults.{step_faults}
+use Rattle.lra_resolve_simple.specs.Crates.lra_resolution_spec.Resolve.{resolve_cond, resolve_init, resolve_for_test}
+use Rattle.lra_resolve_simple.specs.Crates.lra_resolution_spec.Resolve.{resolve_step, init_count, step_count}
+use Rattle.lra_resolve_simple.specs.Crates.lra_resolution_spec.Scope.{Scope, for_scope}
 use Rattle.lra_program.specs.Program as program
 use Rattle.lra_program.specs.ProgramViews as view
 use Rattle.lra_resolve_simple.specs.Statements.{choice_tree, loop_of, for_of}

@@ -3,8 +3,9 @@ use Rattle.std.specs.Prelude.{◌≡◌, ◌+◌, Result, IfOk, OnOk}
 use Rattle.lra_base.specs.declared.error.SourceError.{SourceError}
 use Rattle.lra_syntax.specs.{Labels.stmt_labels, Trees.StmtTree}
 use Rattle.lra_program.specs.{ProgramViews.stmt_view, declared.program.Stmt.Stmt}
-use Rattle.lra_resolution_spec.specs.Resolve.{resolve_stmt, stmt_count}
-use Rattle.lra_resolution_spec.specs.{NameFaults.Around, NameFaults.stmt_faults, Scope.Scope}
+use Rattle.lra_resolve_simple.specs.Crates.lra_resolution_spec.NameFaults.{Around, stmt_faults}
+use Rattle.lra_resolve_simple.specs.Crates.lra_resolution_spec.Resolve.{resolve_stmt, stmt_count}
+use Rattle.lra_resolve_simple.specs.Crates.lra_resolution_spec.Scope.{Scope}
 use Rattle.lra_scopes.specs.Outcome.{StopsAtFirstFault}
 use Rattle.lra_resolve_simple.specs.Labelling.{LabelsSoFar, Adds}
 

@@ -8,8 +8,9 @@ use Rattle.lra_syntax.specs.Trees.{for, switch}
 use Rattle.lra_syntax.specs.{declared.trees.ArrayLength.ArrayLength, declared.trees.Identifier.Identifier}
 use Rattle.lra_resolve_simple.specs.declared.around.Around.{Around}
 use Rattle.lra_scopes.specs.Calls.{functions_at}
-use Rattle.lra_resolution_spec.specs.Scope.{Scope, scalar, array, is_declared, with_local, array_of, declarator_entry}
-use Rattle.lra_resolution_spec.specs.NameFaults as faults
+use Rattle.lra_resolve_simple.specs.Crates.lra_resolution_spec.Scope.{Scope, scalar, array, is_declared, with_local}
+use Rattle.lra_resolve_simple.specs.Crates.lra_resolution_spec.Scope.{array_of, declarator_entry}
+use Rattle.lra_resolve_simple.specs.Crates.lra_resolution_spec.NameFaults as faults
 use Rattle.lra_program.specs.Program as program
 
 -- among the functions of these parts, in a function with a result or not, in loops and `switch`es or not

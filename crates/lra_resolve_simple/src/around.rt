@@ -1,7 +1,7 @@
 //! Where a statement stands.
 
 ghost use Rattle.std.specs.Prelude.{◌≡◌};
-ghost use Rattle.lra_resolution_spec.specs.NameFaults.{in_a_loop, in_a_switch};
+ghost use Rattle.lra_resolve_simple.specs.Crates.lra_resolution_spec.NameFaults.{in_a_loop, in_a_switch};
 ghost use Rattle.lra_resolve_simple.specs.Statements.{around_of};
 
 use lra_scopes::Functions;

@@ -4,7 +4,7 @@ ghost use Rattle.std.specs.Prelude.{◌≡◌, ◌++◌, ◌∷◌, [], ◌||◌
 ghost use Rattle.lra_base.specs.declared.refusals.Cause.TheVariants.{DuplicateCase};
 ghost use Rattle.lra_base.specs.{CaseLabels.is_same_case, declared.case_labels.CaseLabel.CaseLabel};
 ghost use Rattle.lra_program.specs.declared.program.CaseItem as program_case;
-ghost use Rattle.lra_resolution_spec.specs.NameFaults.{fault_if};
+ghost use Rattle.lra_resolve_simple.specs.Crates.lra_resolution_spec.NameFaults.{fault_if};
 ghost use Rattle.lra_scopes.specs.Outcome.{StopsAtFirstFault};
 ghost use Rattle.lra_resolve_simple.specs.Cases.{has_seen};
 

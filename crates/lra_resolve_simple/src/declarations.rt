@@ -5,9 +5,12 @@ ghost use Rattle.lra_program.specs.Program.{BlockItems, declaration as declarati
 ghost use Rattle.lra_program.specs.ProgramViews.{item_view};
 ghost use Rattle.lra_syntax.specs.Trees.{DeclaratorTree, scalar as scalar_shape, array as array_shape};
 ghost use Rattle.lra_syntax.specs.Views.{rvalue_view, declarator_view};
-ghost use Rattle.lra_resolution_spec.specs.NameFaults.{given_faults, length_faults, declarators_faults};
-ghost use Rattle.lra_resolution_spec.specs.Resolve.{resolve_given, resolve_declared, resolve_declarators};
-ghost use Rattle.lra_resolution_spec.specs.Scope.{with_local, array_of, declarator_entry, with_declarators};
+ghost use Rattle.lra_resolve_simple.specs.Crates.lra_resolution_spec.NameFaults.{given_faults, length_faults};
+ghost use Rattle.lra_resolve_simple.specs.Crates.lra_resolution_spec.NameFaults.{declarators_faults};
+ghost use Rattle.lra_resolve_simple.specs.Crates.lra_resolution_spec.Resolve.{resolve_given, resolve_declared};
+ghost use Rattle.lra_resolve_simple.specs.Crates.lra_resolution_spec.Resolve.{resolve_declarators};
+ghost use Rattle.lra_resolve_simple.specs.Crates.lra_resolution_spec.Scope.{with_local, array_of, declarator_entry};
+ghost use Rattle.lra_resolve_simple.specs.Crates.lra_resolution_spec.Scope.{with_declarators};
 ghost use Rattle.lra_scopes.specs.{Calls.functions_at, Outcome.IsFirstFault, Outcome.StopsAtFirstFault};
 ghost use Rattle.lra_resolve_simple.specs.Labelling.{Declares};
 ghost use Rattle.lra_resolve_simple.specs.Statements.{with_scalar, with_array, declarator_faults, followed};

@@ -5,10 +5,12 @@ ghost use Rattle.lra_program.specs.Program.{Stmt, no_more, assert as assert_stmt
 ghost use Rattle.lra_program.specs.ProgramViews.{stmt_view, items_view, item_view, cond_view};
 ghost use Rattle.lra_syntax.specs.Labels.{plain_label, init_labels, step_labels, live_in_for};
 ghost use Rattle.lra_syntax.specs.Views.{init_view, assign_view, cond_view as tree_cond_view};
-ghost use Rattle.lra_resolution_spec.specs.NameFaults.{cond_faults, init_faults, test_of_for_faults, step_faults};
-ghost use Rattle.lra_resolution_spec.specs.Resolve.{resolve_cond, resolve_init, resolve_for_test, resolve_step};
-ghost use Rattle.lra_resolution_spec.specs.Resolve.{init_count, step_count};
-ghost use Rattle.lra_resolution_spec.specs.Scope.{for_scope};
+ghost use Rattle.lra_resolve_simple.specs.Crates.lra_resolution_spec.NameFaults.{cond_faults, init_faults};
+ghost use Rattle.lra_resolve_simple.specs.Crates.lra_resolution_spec.NameFaults.{test_of_for_faults, step_faults};
+ghost use Rattle.lra_resolve_simple.specs.Crates.lra_resolution_spec.Resolve.{resolve_cond, resolve_init};
+ghost use Rattle.lra_resolve_simple.specs.Crates.lra_resolution_spec.Resolve.{resolve_for_test, resolve_step};
+ghost use Rattle.lra_resolve_simple.specs.Crates.lra_resolution_spec.Resolve.{init_count, step_count};
+ghost use Rattle.lra_resolve_simple.specs.Crates.lra_resolution_spec.Scope.{for_scope};
 ghost use Rattle.lra_scopes.specs.{Calls.functions_at, Outcome.StopsAtFirstFault};
 ghost use Rattle.lra_resolve_simple.specs.Labelling.{Adds, for_front};
 ghost use Rattle.lra_resolve_simple.specs.LoopHeads.{for_head, head_faults, body_scope, body_label, head_labels};

@@ -2,11 +2,11 @@
 
 ghost use Rattle.std.specs.Prelude.{◌≡◌, ◌∷◌, ◌++◌, ◌-◌, [], List, length, take, suc, IfOk, OnOk, IfErr};
 ghost use Rattle.lra_syntax.specs.Labels.{Labelled, label_with};
-ghost use Rattle.lra_resolution_spec.specs.LabelTable.{with_live};
+ghost use Rattle.lra_resolve_simple.specs.Crates.lra_resolution_spec.LabelTable.{with_live};
 ghost use Rattle.lra_resolve_simple.specs.Labelling.{Adds};
 
 use lra_base::{Place, SourceError};
-use lra_resolution_spec::Labels;
+use lra_scopes::Labels;
 use lra_syntax::{Identifier, Word};
 use std::alloc::Global;
 use std::marker::Model;
@@ -32,7 +32,7 @@ impl Drop for Labelling {
 
 impl Model for Labelling {
     ghost use Rattle.std.specs.Prelude.{◌≡◌, ◌<◌, suc, length};
-    ghost use Rattle.lra_resolution_spec.specs.LabelTable.{list_at};
+    ghost use Rattle.lra_resolve_simple.specs.Crates.lra_resolution_spec.LabelTable.{list_at};
     ghost use Rattle.lra_resolve_simple.specs.Labelling.{LabelsSoFar};
 
     ghost Value = { LabelsSoFar };

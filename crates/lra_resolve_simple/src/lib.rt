@@ -18,4 +18,5 @@ pub use declarations::add_declaration;
 pub use heads::{Asked, Head, LoopHead, Rounds, block_of, resolve_head, resolve_loop_head};
 pub use kinds::resolve_simple;
 pub use labelling::Labelling;
+pub use lra_scopes::Labels;
 pub use switches::{SwitchHead, resolve_switch_head};

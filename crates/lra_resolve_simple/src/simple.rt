@@ -4,8 +4,10 @@ ghost use Rattle.std.specs.Prelude.{◌≡◌, ◌∷◌, [], suc, not, false, S
 ghost use Rattle.lra_program.specs.{Program.nothing, Program.call as call_stmt, ProgramViews.stmt_view};
 ghost use Rattle.lra_syntax.specs.Labels.{plain_label, label_with, assign_label, called_of};
 ghost use Rattle.lra_syntax.specs.Views.{rvalue_view, call_view, assign_view};
-ghost use Rattle.lra_resolution_spec.specs.NameFaults.{fault_if, call_faults, assign_faults, return_faults};
-ghost use Rattle.lra_resolution_spec.specs.Resolve.{resolve_call, resolve_assign, resolve_given};
+ghost use Rattle.lra_resolve_simple.specs.Crates.lra_resolution_spec.NameFaults.{fault_if, call_faults, assign_faults};
+ghost use Rattle.lra_resolve_simple.specs.Crates.lra_resolution_spec.NameFaults.{return_faults};
+ghost use Rattle.lra_resolve_simple.specs.Crates.lra_resolution_spec.Resolve.{resolve_call, resolve_assign};
+ghost use Rattle.lra_resolve_simple.specs.Crates.lra_resolution_spec.Resolve.{resolve_given};
 ghost use Rattle.lra_base.specs.declared.refusals.Cause.TheVariants.{Misplaced};
 ghost use Rattle.lra_scopes.specs.{Calls.functions_at, Outcome.StopsAtFirstFault};
 ghost use Rattle.lra_resolve_simple.specs.Labelling.{Adds};

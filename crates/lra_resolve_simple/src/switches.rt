@@ -3,7 +3,8 @@
 ghost use Rattle.std.specs.Prelude.{◌≡◌, ◌∷◌, [], suc, map, IfOk, OnOk};
 ghost use Rattle.lra_program.specs.ProgramViews.{stmt_view, expr_view, case_view, cases_of};
 ghost use Rattle.lra_syntax.specs.{Labels.plain_label, Views.expr_view as tree_expr_view};
-ghost use Rattle.lra_resolution_spec.specs.{NameFaults.expr_faults, Resolve.resolve_expr};
+ghost use Rattle.lra_resolve_simple.specs.Crates.lra_resolution_spec.NameFaults.{expr_faults};
+ghost use Rattle.lra_resolve_simple.specs.Crates.lra_resolution_spec.Resolve.{resolve_expr};
 ghost use Rattle.lra_scopes.specs.Outcome.{StopsAtFirstFault};
 ghost use Rattle.lra_resolve_simple.specs.{Labelling.Adds, Statements.switch_of};
 

@@ -11,3 +11,5 @@ pub mod RowLemmas
 pub mod Combination
 pub mod Pivots
 pub mod RowExamples
+-- The crates below
+pub mod Crates

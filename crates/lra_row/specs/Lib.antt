@@ -5,3 +5,5 @@ pub mod Operations
 pub mod Rows
 pub mod RowTies
 pub mod Words
+-- The crates below
+pub mod Crates

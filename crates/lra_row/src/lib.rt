@@ -11,6 +11,6 @@ mod number;
 mod row;
 
 pub use error::RowError;
-pub use lra_linear_spec::{Excess, Operation};
+pub use lra_linear_spec::{Cause, ConKind, Excess, GenKind, Operation};
 pub use number::{add, floor_div, gcd, mul, opposite, ratio_cmp};
 pub use row::{Row, push_copies};

@@ -4,3 +4,5 @@ pub mod Terms
 pub mod RowTexts
 pub mod Values
 pub mod Numbered
+-- The crates below
+pub mod Crates

@@ -2,7 +2,7 @@
 use Rattle.std.proofs.Common.{◌≡◌, ◌<◌, ◌≤◌, ◌+◌, ℕ, suc, ℤ, List, ◌∷◌, ◌++◌, length, drop, get_or, add-one, ap, sym, ◌∙◌, subst, append_assoc, append-nil}
 use Rattle.std.proofs.{Math.Seq.drop-cons, lemmas.List.drop_all}
 use Rattle.std.specs.List.{flat_map}
-use Rattle.lra_linear_spec.specs.declared.GenKind.{GenKind}
+use Rattle.lra_row_text.specs.Crates.lra_linear_spec.declared.GenKind.{GenKind}
 use Rattle.lra_systems.specs.LinearSystems.{FitsKind, FitKinds}
 use Rattle.lra_row_text.specs.Lists.{shown_by}
 

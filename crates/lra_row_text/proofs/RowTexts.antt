@@ -2,7 +2,7 @@
 use Rattle.std.proofs.Common.{◌≡◌, ℕ, ℤ, pos, Bool, not, List, [], ◌∷◌, ◌++◌, map, drop, length, refl, ap, sym, ◌∙◌, arith}
 use Rattle.std.proofs.lemmas.List.{append_assoc}
 use Rattle.std.specs.Fmt.{signed_decimal}
-use Rattle.lra_linear_spec.specs.{Vectors.entry, declared.ConKind.ConKind}
+use Rattle.lra_row_text.specs.Crates.{lra_linear_spec.Vectors.entry, lra_linear_spec.declared.ConKind.ConKind}
 use Rattle.lra_row_text.specs.{Shown.report_row, Texts.form_text, Texts.is_negated, Texts.relation_text, Texts.row_text, Texts.negated_if}
 
 pub no_entry : (row : List ℤ) → length row ≡ 0 → entry row 0 ≡ pos 0

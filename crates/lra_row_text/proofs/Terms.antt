@@ -3,8 +3,8 @@ use Rattle.std.proofs.Common.{codes, int_cmp, inl, inr, ◌⊎◌, ◌-◌, min,
 use Rattle.std.proofs.Common.{add-one, refl, ap, sym, ◌∙◌, append_assoc, append-nil}
 use Rattle.std.proofs.{Math.Seq.drop-cons, lemmas.Bool.cases_lt, lemmas.Int.ints, lemmas.List.drop_all}
 use Rattle.std.specs.{Cmp.int_cmp_is, declared.cmp.Ordering.TheVariants.Less, declared.cmp.Ordering.TheVariants.Equal, declared.cmp.Ordering.TheVariants.Greater}
-use Rattle.lra_linear_spec.specs.Vectors.{entry}
-use Rattle.lra_row.proofs.RowLemmas.{entry_at}
+use Rattle.lra_row_text.specs.Crates.lra_linear_spec.Vectors.{entry}
+use Rattle.lra_row_text.proofs.Crates.lra_row.RowLemmas.{entry_at}
 use Rattle.lra_row_text.specs.{Shown.rest_text, Shown.is_first_after, Texts.is_negated, Texts.negated_if, Texts.terms_text, Texts.product_text}
 
 pub drop_entry : (cs : List ℤ) (j : ℕ) → j < length cs → drop j cs ≡ entry cs j ∷ drop (j + 1) cs

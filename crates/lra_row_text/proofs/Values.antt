@@ -1,7 +1,7 @@
 -- The values of a generator's variables, one at a time.
 use Rattle.std.proofs.Common.{codes, min, ◌≡◌, ◌<◌, ◌≤◌, ◌+◌, ◌-◌, ℕ, ℤ, List, [], ◌∷◌, ◌++◌, length, drop, map, get_or, refl, ap, sym, ◌∙◌, append_assoc, append-nil, ◌⊎◌, inl, inr}
 use Rattle.std.proofs.lemmas.List.{drop_all}
-use Rattle.lra_linear_spec.specs.Vectors.{entry}
+use Rattle.lra_row_text.specs.Crates.lra_linear_spec.Vectors.{entry}
 use Rattle.lra_row_text.specs.Texts.{values_text}
 use Rattle.lra_row_text.proofs.{Lists.drop_front, Terms.drop_entry, Terms.min_cases}
 

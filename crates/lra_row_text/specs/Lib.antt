@@ -7,3 +7,5 @@ pub mod Shown
 pub mod Lists
 pub mod ShownDescriptions
 pub mod Whole
+-- The crates below
+pub mod Crates

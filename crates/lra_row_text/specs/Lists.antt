@@ -1,6 +1,7 @@
 -- Lists of constraints and of generators, as they are shown.
 use Rattle.std.specs.Prelude.{ℤ, List, [], ◌∷◌}
-use Rattle.lra_linear_spec.specs.{declared.ConKind.ConKind, declared.GenKind.GenKind}
+use Rattle.lra_row_text.specs.Crates.lra_linear_spec.declared.ConKind.{ConKind}
+use Rattle.lra_row_text.specs.Crates.lra_linear_spec.declared.GenKind.{GenKind}
 use Rattle.lra_row_text.specs.{Part.ReportGenerator, Rows.ReportRow, Shown.report_row, Shown.report_generator}
 
 -- each row with its kind

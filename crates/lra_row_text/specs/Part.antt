@@ -1,6 +1,6 @@
 -- Rows and generators, as they are shown.
 use Rattle.std.specs.Prelude.{ℕ, ℤ, List}
-use Rattle.lra_linear_spec.specs.declared.GenKind.{GenKind}
+use Rattle.lra_row_text.specs.Crates.lra_linear_spec.declared.GenKind.{GenKind}
 use Rattle.lra_row_text.specs.Rows.{ReportRow}
 
 -- a point divides its numbers by `divisor`; a ray and a line have the divisor 0

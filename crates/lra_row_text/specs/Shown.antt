@@ -1,6 +1,7 @@
 -- Rows of constraints and of generators, as they are shown.
 use Rattle.std.specs.Prelude.{ℕ, zero, suc, ℤ, pos, negsuc, nat_abs, Bool, true, false, List, [], ◌∷◌}
-use Rattle.lra_linear_spec.specs.{declared.ConKind.ConKind, declared.GenKind.GenKind}
+use Rattle.lra_row_text.specs.Crates.lra_linear_spec.declared.ConKind.{ConKind}
+use Rattle.lra_row_text.specs.Crates.lra_linear_spec.declared.GenKind.{GenKind}
 use Rattle.lra_row_text.specs.{Part.ReportGenerator, Rows.ReportRow, Texts.form_text, Texts.terms_text}
 
 -- the constant stands in column 0

@@ -1,8 +1,8 @@
 -- The constraints and the generators of a description, as they are shown.
 use Rattle.std.specs.Prelude.{zero, suc, ℤ, pos, negsuc, Bool, true, false}
-use Rattle.lra_linear_spec.specs.Kinds.{constraint_kind}
-use Rattle.lra_linear_spec.specs.{Descriptions.LinearRow, Vectors.entry, declared.GenKind.GenKind}
-use Rattle.lra_linear_spec.specs.declared.GenKind.TheVariants as gen
+use Rattle.lra_row_text.specs.Crates.{lra_linear_spec.Descriptions.LinearRow, lra_linear_spec.Kinds.constraint_kind}
+use Rattle.lra_row_text.specs.Crates.{lra_linear_spec.Vectors.entry, lra_linear_spec.declared.GenKind.GenKind}
+use Rattle.lra_row_text.specs.Crates.lra_linear_spec.declared.GenKind.TheVariants as gen
 use Rattle.lra_row_text.specs.{Part.ReportGenerator, Rows.ReportRow, Shown.report_row, Shown.report_generator}
 
 -- a line, or what its column 0 reports: a point's is above 0

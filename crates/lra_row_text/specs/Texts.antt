@@ -2,9 +2,10 @@
 use Rattle.std.specs.Prelude.{ℕ, zero, suc, ◌/◌, ◌%◌, ℤ, pos, negsuc, ◌-ℤ◌, nat_abs, List, [], ◌∷◌, ◌++◌, map, Bool}
 use Rattle.std.specs.Prelude.{true, false, not, codes, if◌then◌else◌, nat_eq, int_div}
 use Rattle.std.specs.{Fmt.decimal, Fmt.signed_decimal, List.flat_map}
-use Rattle.lra_linear_spec.specs.declared.ConKind.TheVariants.{Ge, Eq}
-use Rattle.lra_linear_spec.specs.declared.GenKind.TheVariants.{Point, Ray, Line}
-use Rattle.lra_linear_spec.specs.{declared.ConKind.ConKind, declared.GenKind.GenKind}
+use Rattle.lra_row_text.specs.Crates.lra_linear_spec.declared.ConKind.{ConKind}
+use Rattle.lra_row_text.specs.Crates.lra_linear_spec.declared.ConKind.TheVariants.{Ge, Eq}
+use Rattle.lra_row_text.specs.Crates.lra_linear_spec.declared.GenKind.{GenKind}
+use Rattle.lra_row_text.specs.Crates.lra_linear_spec.declared.GenKind.TheVariants.{Point, Ray, Line}
 use Rattle.lra_row_text.specs.{Part.ReportGenerator, Part.Part, Rows.ReportRow}
 
 abbrev pub text_line : List ℕ → List ℕ

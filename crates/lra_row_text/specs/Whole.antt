@@ -2,7 +2,7 @@
 -- front; and numbered names.
 use Rattle.std.specs.Prelude.{ℕ, zero, suc, List, [], ◌∷◌, ◌++◌, codes}
 use Rattle.std.specs.{Fmt.decimal, List.flat_map}
-use Rattle.lra_linear_spec.specs.declared.ConKind.{ConKind}
+use Rattle.lra_row_text.specs.Crates.lra_linear_spec.declared.ConKind.{ConKind}
 use Rattle.lra_systems.specs.LinearSystems.{LinearSystem}
 use Rattle.lra_row_text.specs.Texts.{text_line, row_text, generator_text}
 use Rattle.lra_row_text.specs.{Lists.shown_rows, Part.ReportGenerator, Rows.ReportRow}

@@ -2,14 +2,13 @@
 
 ghost use Rattle.std.specs.Prelude.{◌≡◌, ◌++◌, ◌∷◌, [], ℤ, pos, ◌<ℤ◌, ◌<◌, nat_abs, int_div, map, drop, OnOk, IfOk};
 ghost use Rattle.std.specs.Prelude.{string_bytes, length, codes};
-ghost use Rattle.lra_linear_spec.specs.{Range.InRange, Vectors.entry};
+ghost use Rattle.lra_row_text.specs.Crates.{lra_linear_spec.Range.InRange, lra_linear_spec.Vectors.entry};
 ghost use Rattle.lra_systems.specs.LinearSystems.{FitsKind};
 ghost use Rattle.lra_row_text.specs.Texts as texts;
 ghost use Rattle.lra_row_text.specs.Shown.{report_generator};
 
 use crate::names::Names;
-use lra_row::{Row, gcd};
-use lra_systems::GenKind;
+use lra_systems::{GenKind, Row, gcd};
 use std::alloc::{AllocError, Global};
 
 /// Appends a fraction, without the divisor where that is 1.

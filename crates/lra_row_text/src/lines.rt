@@ -9,8 +9,7 @@ ghost use Rattle.lra_row_text.specs.{Shown.report_row, Shown.report_generator, T
 use crate::generator::generator_text;
 use crate::names::Names;
 use crate::row::row_text;
-use lra_row::Row;
-use lra_systems::{ConKind, ConSys, GenKind};
+use lra_systems::{ConKind, ConSys, GenKind, Row};
 use std::alloc::{AllocError, Global};
 use std::fmt::Write;
 

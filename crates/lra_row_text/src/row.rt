@@ -2,13 +2,12 @@
 
 ghost use Rattle.std.specs.Prelude.{◌≡◌, ◌≢◌, ◌++◌, ◌<◌, ◌∷◌, [], ℤ, pos, suc, map, drop, OnOk, IfOk, string_bytes};
 ghost use Rattle.std.specs.Prelude.{length, not, unsigned_abs};
-ghost use Rattle.lra_linear_spec.specs.{Range.InRange, Vectors.entry};
+ghost use Rattle.lra_row_text.specs.Crates.{lra_linear_spec.Range.InRange, lra_linear_spec.Vectors.entry};
 ghost use Rattle.lra_row_text.specs.Texts as texts;
 ghost use Rattle.lra_row_text.specs.Shown.{report_row, rest_text, is_first_after};
 
 use crate::names::Names;
-use lra_row::Row;
-use lra_systems::ConKind;
+use lra_systems::{ConKind, Row};
 use std::alloc::{AllocError, Global};
 use std::cmp::Ordering;
 

@@ -11,8 +11,7 @@ ghost use Rattle.lra_row_text.specs.Whole.{lines_of_rows, plain_generator, plain
 use crate::generator::generator_text;
 use crate::names::Names;
 use crate::row::row_text;
-use lra_row::Row;
-use lra_systems::{ConKind, ConSys, GenKind, GenSys};
+use lra_systems::{ConKind, ConSys, GenKind, GenSys, Row};
 use std::alloc::{AllocError, Global};
 use std::fmt::Write;
 

@@ -2,7 +2,7 @@
 use Rattle.std.proofs.Common.{◌≡◌, ◌+◌, ◌*◌, ℕ, zero, suc, List, [], ◌∷◌, ◌++◌, ap, sym, refl, ◌∙◌, append_assoc, arith}
 use Rattle.std.proofs.lemmas.List.{flat_map_more}
 use Rattle.std.specs.{Fn.iterate, List.flat_map, List.range_with_len, Prelude.Result, Prelude.Ok, Prelude.Err, Prelude.OnOk, Prelude.codes}
-use Rattle.lra_row_text.specs.Texts.{text_line}
+use Rattle.lra_sample.specs.Crates.lra_row_text.Texts.{text_line}
 use Rattle.lra_sample.specs.Sample.{statements_text, block_from, line_as, block_line, block_lines}
 use Rattle.lra_sample.specs.{Draws.next_state, Draws.state_after, declared.block.Block.Block, declared.block.Kind.Kind, declared.block.Kind.TheVariants.Choice}
 

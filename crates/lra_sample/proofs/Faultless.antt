@@ -1,12 +1,13 @@
 -- Such sources have no fault of names, and no call.
 use Rattle.std.proofs.Common.{◌≡◌, ℕ, List, [], ◌∷◌, ◌++◌, refl, sym, ap, ◌∙◌, map, length, arith}
 use Rattle.std.proofs.lemmas.List.{length-append}
-use Rattle.lra_base.specs.declared.refusals.Place.{Place}
-use Rattle.lra_syntax.specs.{Functions.functions_of, Labels.items_labels, Reach.called_names, Reach.calls_in, Reach.NotRecursive, Trees.ItemsTree, declared.trees.Identifier.Identifier}
-use Rattle.lra_resolution_spec.specs.{NameFaults.Around, NameFaults.items_faults, NameFaults.name_faults, Scope.function_scope}
+use Rattle.lra_sample.specs.Crates.lra_resolution_spec.NameFaults.{Around, items_faults, name_faults}
+use Rattle.lra_sample.specs.Crates.lra_syntax.Reach.{called_names, calls_in, NotRecursive}
+use Rattle.lra_sample.specs.Crates.{lra_base.declared.refusals.Place.Place, lra_resolution_spec.Scope.function_scope, lra_syntax.Functions.functions_of, lra_syntax.Labels.items_labels}
+use Rattle.lra_sample.specs.Crates.{lra_syntax.Trees.ItemsTree, lra_syntax.declared.trees.Identifier.Identifier}
 use Rattle.lra_sample.specs.declared.block.Kind.{Kind}
 use Rattle.lra_sample.specs.declared.block.Kind.TheVariants.{Sum, Choice, Count, Input}
-use Rattle.lra_syntax.proofs.Lexemes.{behind, item_place}
+use Rattle.lra_sample.proofs.Crates.lra_syntax.Lexemes.{behind, item_place}
 use Rattle.lra_sample.proofs.{Lines.Line, Lines.items_of, Lines.tree_as, Numerals.four, Whole.head_items, Whole.lines_tree, Whole.last_tree, Whole.body_tree, Whole.main_tree, Whole.file_tree}
 
 -- names --------------------------------------------------------------------------------------------------------------

@@ -2,7 +2,7 @@
 use Rattle.std.proofs.Common.{◌≡◌, ◌≤◌, ◌+◌, ◌*◌, ◌%◌, ℕ, zero, suc, List, ◌++◌, length, arith, subst, sym}
 use Rattle.std.proofs.{lemmas.Fmt.length-decimal-le, lemmas.List.length-append, lemmas.List.length_push}
 use Rattle.std.specs.{Fmt.decimal, List.flat_map, List.range_with_len, Prelude.codes}
-use Rattle.lra_row_text.specs.Texts.{text_line}
+use Rattle.lra_sample.specs.Crates.lra_row_text.Texts.{text_line}
 use Rattle.lra_sample.specs.declared.block.Kind.TheVariants.{Sum, Choice, Count, Input}
 use Rattle.lra_sample.specs.{Draws.draw, Draws.state_after, Sample.statements_text, Sample.block_from, Sample.block_line, Sample.block_lines, Sample.sample_source, declared.block.Kind.Kind}
 

@@ -12,3 +12,5 @@ pub mod Whole
 pub mod Faultless
 pub mod Within
 pub mod Samples
+-- The crates below
+pub mod Crates

@@ -1,12 +1,11 @@
 -- The tokens of a line of a sample source are the longest at their places, and its bytes are those of the source.
 use Rattle.std.proofs.Common.{◌≡◌, ℕ, false, List, [], ◌∷◌, ◌++◌, refl, append_assoc}
-use Rattle.lra_base.specs.declared.number_types.NumberType.TheVariants.{Int}
-use Rattle.lra_syntax.specs.{Lexeme.is_word_byte, declared.tokens.Kind.TheVariants.Number}
-use Rattle.lra_syntax.specs.declared.tokens.Mark.TheVariants as mark
-use Rattle.lra_row_text.specs.Texts.{text_line}
+use Rattle.lra_sample.specs.Crates.lra_syntax.Lexeme.{is_word_byte}
+use Rattle.lra_sample.specs.Crates.{lra_base.declared.number_types.NumberType.TheVariants.Int, lra_row_text.Texts.text_line, lra_syntax.declared.tokens.Kind.TheVariants.Number}
+use Rattle.lra_sample.specs.Crates.lra_syntax.declared.tokens.Mark.TheVariants as mark
 use Rattle.lra_sample.specs.declared.block.Kind.TheVariants.{Sum, Choice, Count, Input}
 use Rattle.lra_sample.specs.{Sample.statements_text, declared.block.Kind.Kind}
-use Rattle.lra_syntax.proofs.Lexemes.{ExternalDeclaration, written, IsRead, AreRead, ◌⨾◌, as_read, is_mark}
+use Rattle.lra_sample.proofs.Crates.lra_syntax.Lexemes.{ExternalDeclaration, written, IsRead, AreRead, ◌⨾◌, as_read, is_mark}
 use Rattle.lra_sample.proofs.{Lines.Line, Lines.items_as, Numerals.word_ends, Numerals.zero_good, Numerals.one_good, Numerals.is_name}
 
 is_constant : (l : Line) (c : ℕ) {cs : List ℕ} → is_word_byte c ≡ false →

@@ -1,12 +1,13 @@
 -- The lines of a sample source: their tokens and their trees.
 use Rattle.std.proofs.Common.{ℕ, ◌+◌, List, [], ◌∷◌, ◌++◌, refl, drop, get_or}
-use Rattle.lra_base.specs.{Operators.below, Operators.at_least, Operators.at_most, declared.number_types.NumberType.TheVariants.Int, declared.refusals.Place.Place}
-use Rattle.lra_syntax.specs.Trees.{literal, input, unary, ExprTree, plus, compare, conjunction, test, and, expression, set, StmtTree, assign, if_else, while, assume, ItemsTree, statement}
-use Rattle.lra_syntax.specs.declared.tokens.Kind.TheVariants.{Name, Number, Mark as MarkOf}
-use Rattle.lra_syntax.specs.{Grammar.AreItems, Lexeme.mark_text, Texts.Pieces, Texts.Texts, Texts.◌⋅◌, declared.tokens.Mark.Mark, declared.trees.Identifier.Identifier}
-use Rattle.lra_syntax.specs.declared.tokens.Mark.TheVariants as mark
-use Rattle.lra_syntax.proofs.Lexemes.{ExternalDeclaration, skip, lexeme, pieces, item_place, IsGood}
-use Rattle.lra_syntax.proofs.TreeSamples.{alone, literal_text, use_of, tested}
+use Rattle.lra_sample.specs.Crates.lra_syntax.Trees.{literal, input, unary, ExprTree, plus, compare, conjunction, test, and, expression, set, StmtTree, assign, if_else, while, assume, ItemsTree}
+use Rattle.lra_sample.specs.Crates.lra_syntax.declared.tokens.Kind.TheVariants.{Name, Number, Mark as MarkOf}
+use Rattle.lra_sample.specs.Crates.{lra_base.Operators.below, lra_base.Operators.at_least, lra_base.Operators.at_most, lra_base.declared.number_types.NumberType.TheVariants.Int}
+use Rattle.lra_sample.specs.Crates.{lra_base.declared.refusals.Place.Place, lra_syntax.Grammar.AreItems, lra_syntax.Lexeme.mark_text, lra_syntax.Texts.Pieces, lra_syntax.Texts.Texts}
+use Rattle.lra_sample.specs.Crates.{lra_syntax.Texts.◌⋅◌, lra_syntax.Trees.statement, lra_syntax.declared.tokens.Mark.Mark, lra_syntax.declared.trees.Identifier.Identifier}
+use Rattle.lra_sample.specs.Crates.lra_syntax.declared.tokens.Mark.TheVariants as mark
+use Rattle.lra_sample.proofs.Crates.lra_syntax.Lexemes.{ExternalDeclaration, skip, lexeme, pieces, item_place, IsGood}
+use Rattle.lra_sample.proofs.Crates.lra_syntax.TreeSamples.{alone, literal_text, use_of, tested}
 use Rattle.lra_sample.specs.declared.block.Kind.{Kind}
 use Rattle.lra_sample.specs.declared.block.Kind.TheVariants.{Sum, Choice, Count, Input}
 use Rattle.lra_sample.proofs.Numerals.{IsFirstDigit, IsVariable}

@@ -1,14 +1,14 @@
 -- The numerals and the names of variables that sample sources have.
 use Rattle.std.proofs.Common.{◌≡◌, ℕ, zero, suc, ◌+◌, ◌*◌, ◌/◌, ◌%◌, ◌<◌, ◌≤◌, true, false, List, [], ◌∷◌, ◌++◌, refl, ap, ◌∙◌, arith, inl, inr}
+use Rattle.std.proofs.lemmas.Bool.{and_right}
 use Rattle.std.proofs.{lemmas.Bool.cases_lt, lemmas.Bool.or_right, lemmas.Bool.Decides.nat_tests, lemmas.Fmt.decimal_digit, lemmas.Fmt.decimal_step}
 use Rattle.std.specs.{Fmt.decimal, List.list_all, Prelude.codes, Prelude.nat_le, Prelude.Some}
-use Rattle.std.proofs.lemmas.Bool.{and_right}
-use Rattle.lra_base.specs.declared.number_types.NumberType.TheVariants.{Int, Long}
-use Rattle.lra_syntax.specs.Lexeme.{is_between, is_digit, is_word_byte, is_letter, digit_value, number_after, decimal_base, octal, greatest_literal, greatest_int_literal, literal_type, number_word}
-use Rattle.lra_syntax.specs.{Faults.greatest_level, Lexeme.word, Lexeme.name, Lexeme.literal_text, declared.tokens.Kind.TheVariants.Name, declared.tokens.Kind.TheVariants.Number}
-use Rattle.lra_syntax.proofs.{Lexemes.IsGood, Lexemes.IsRead, Lexemes.as_read, LongestByTest.is_lexeme, LongestByTest.begins_gap}
-use Rattle.lra_resolution_spec.specs.Scope.{SymbolEntry, Scope, found_of, scalar}
-use Rattle.lra_program.specs.Program.{Slot, local}
+use Rattle.lra_sample.specs.Crates.lra_resolution_spec.Scope.{SymbolEntry, Scope, found_of, scalar}
+use Rattle.lra_sample.specs.Crates.lra_syntax.Lexeme.{is_between, is_digit, is_word_byte, is_letter, digit_value, number_after, decimal_base, octal, greatest_literal, greatest_int_literal}
+use Rattle.lra_sample.specs.Crates.lra_syntax.Lexeme.{literal_type, number_word, word, name, literal_text}
+use Rattle.lra_sample.specs.Crates.{lra_base.declared.number_types.NumberType.TheVariants.Int, lra_base.declared.number_types.NumberType.TheVariants.Long, lra_program.Program.Slot}
+use Rattle.lra_sample.specs.Crates.{lra_program.Program.local, lra_syntax.Faults.greatest_level, lra_syntax.declared.tokens.Kind.TheVariants.Name, lra_syntax.declared.tokens.Kind.TheVariants.Number}
+use Rattle.lra_sample.proofs.Crates.{lra_syntax.Lexemes.IsGood, lra_syntax.Lexemes.IsRead, lra_syntax.Lexemes.as_read, lra_syntax.LongestByTest.is_lexeme, lra_syntax.LongestByTest.begins_gap}
 
 -- words --------------------------------------------------------------------------------------------------------------
 

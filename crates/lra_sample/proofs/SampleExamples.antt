@@ -1,7 +1,7 @@
 -- Sample sources that stand written out. Which slip an example would catch stands beside it.
 use Rattle.std.proofs.Common.{◌≡◌, List, [], ◌∷◌, length, refl}
 use Rattle.std.specs.{Fmt.digits, List.flat_map, Prelude.ℕ, Prelude.codes}
-use Rattle.lra_row_text.specs.Texts.{text_line}
+use Rattle.lra_sample.specs.Crates.lra_row_text.Texts.{text_line}
 use Rattle.lra_sample.specs.{Draws.draw, Sample.block_lines, Sample.sample_source}
 
 abbrev lines : List (List ℕ) → List ℕ

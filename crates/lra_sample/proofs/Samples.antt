@@ -2,15 +2,12 @@
 use Rattle.std.proofs.Common.{◌≡◌, ℕ, ◌+◌, ◌*◌, ◌%◌, ◌<◌, ◌≤◌, List, [], ◌∷◌, ◌++◌, length, map, refl, sym, ap, ◌∙◌, arith, append_assoc}
 use Rattle.std.proofs.{lemmas.Fmt.decimal_digit, lemmas.List.FromFn.length-map-range_with_len}
 use Rattle.std.specs.{Fmt.decimal, List.flat_map, List.range_with_len, Prelude.codes}
-use Rattle.lra_syntax.specs.Grammar.{Spells}
-use Rattle.lra_base.specs.Places.{greatest_length}
-use Rattle.lra_resolution_spec.specs.Refuse.{Accepts}
-use Rattle.lra_row_text.specs.Texts.{text_line}
+use Rattle.lra_sample.specs.Crates.{lra_base.Places.greatest_length, lra_resolution_spec.Refuse.Accepts, lra_row_text.Texts.text_line, lra_syntax.Grammar.Spells}
 use Rattle.lra_sample.specs.Sample.{statements_text, kind_of, block_from, block_line, block_lines, sample_source}
 use Rattle.lra_sample.specs.{Accepted.SamplesAreAccepted, Draws.state_after, Draws.draw, declared.block.Kind.Kind}
 use Rattle.lra_sample.proofs.Whole.{head_items, four_declared, last_items, close_items, whole_items, lines_text, whole_written, file_tree, whole_tokens, whole_lexed, parsed}
 use Rattle.lra_sample.proofs.{Faultless.names, Faultless.not_recursive, Lengths.short_source, LineTokens.text_as, Lines.Line, Lines.items_of, Numerals.numeral, Numerals.variable, Within.within}
-use Rattle.lra_syntax.proofs.Lexemes.{written}
+use Rattle.lra_sample.proofs.Crates.lra_syntax.Lexemes.{written}
 
 below_four : (n : ℕ) → n % 4 < 4
 below_four n = omega arith

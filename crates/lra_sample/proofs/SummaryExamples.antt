@@ -1,9 +1,8 @@
 -- What is reported about reports. Which slip an example would catch stands beside it.
 use Rattle.std.proofs.Common.{◌≡◌, ℕ, List, [], ◌∷◌, Option, Some, None, true, false, refl}
 use Rattle.std.specs.{Fmt.digits, List.flat_map, Prelude.codes}
-use Rattle.lra_options.specs.declared.options.Options.{Options}
+use Rattle.lra_sample.specs.Crates.{lra_options.declared.options.Options.Options, lra_row_text.Texts.text_line}
 use Rattle.lra_report.specs.{Report.PointReport, Report.Verdict, Report.Report, declared.verdict_kinds.VerdictKind.TheVariants.Assertion}
-use Rattle.lra_row_text.specs.Texts.{text_line}
 use Rattle.lra_sample.specs.Summary.{summary_text}
 
 abbrev lines : List (List ℕ) → List ℕ

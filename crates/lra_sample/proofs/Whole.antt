@@ -2,13 +2,15 @@
 use Rattle.std.proofs.Common.{◌≡◌, ℕ, List, [], ◌∷◌, ◌++◌, Some, refl, sym, ap, ◌∙◌, subst, append_assoc, arith, inl, inr}
 use Rattle.std.proofs.lemmas.List.{append-nil}
 use Rattle.std.specs.Prelude.{codes}
-use Rattle.lra_base.specs.{Operators.at_most, Places.place_after, declared.number_types.NumberType.TheVariants.Int, declared.number_types.NumberType.TheVariants.Long, declared.refusals.Place.Place}
-use Rattle.lra_syntax.specs.Grammar.{AreItems, IsFunction, Spells}
-use Rattle.lra_syntax.specs.Trees.{compare, expression, scalar, ItemsTree, no_items, declaration, statement, assert, FunctionTree, function, FileTree}
-use Rattle.lra_syntax.specs.{Faults.IsTree, Lexeme.word, Lexeme.name, Texts.Pieces, Tokens.tokens_of, Tokens.end_token, Tokens.Lex, declared.tokens.Kind.TheVariants.Name, declared.tokens.Token.Token}
-use Rattle.lra_syntax.specs.declared.tokens.Mark.TheVariants as mark
-use Rattle.lra_syntax.proofs.Lexemes.{ExternalDeclaration, skip, lexeme, written, behind, reading, pieces, item_place, IsGood, AreRead, ◌⨾◌, as_read, is_mark, written_append, pieces_append, lexed}
-use Rattle.lra_syntax.proofs.{Lexemes.plain_pieces, Lexemes.low_pieces, TreeSamples.literal_text, TreeSamples.use_of, TreeSamples.tested}
+use Rattle.lra_sample.specs.Crates.lra_base.declared.number_types.NumberType.TheVariants.{Int, Long}
+use Rattle.lra_sample.specs.Crates.lra_syntax.Trees.{compare, expression, scalar, ItemsTree, no_items, declaration, statement, assert, FunctionTree, function, FileTree}
+use Rattle.lra_sample.specs.Crates.{lra_base.Operators.at_most, lra_base.Places.place_after, lra_base.declared.refusals.Place.Place, lra_syntax.Faults.IsTree, lra_syntax.Grammar.AreItems}
+use Rattle.lra_sample.specs.Crates.{lra_syntax.Grammar.IsFunction, lra_syntax.Grammar.Spells, lra_syntax.Lexeme.word, lra_syntax.Lexeme.name, lra_syntax.Texts.Pieces, lra_syntax.Tokens.tokens_of}
+use Rattle.lra_sample.specs.Crates.{lra_syntax.Tokens.end_token, lra_syntax.Tokens.Lex, lra_syntax.declared.tokens.Kind.TheVariants.Name, lra_syntax.declared.tokens.Token.Token}
+use Rattle.lra_sample.specs.Crates.lra_syntax.declared.tokens.Mark.TheVariants as mark
+use Rattle.lra_sample.proofs.Crates.lra_syntax.Lexemes.{ExternalDeclaration, skip, lexeme, written, behind, reading, pieces, item_place, IsGood, AreRead, ◌⨾◌, as_read, is_mark, written_append}
+use Rattle.lra_sample.proofs.Crates.lra_syntax.Lexemes.{pieces_append, lexed, plain_pieces, low_pieces}
+use Rattle.lra_sample.proofs.Crates.lra_syntax.TreeSamples.{literal_text, use_of, tested}
 use Rattle.lra_sample.proofs.Lines.{Line, opening, sign, named, small, var, items_of, tree_of, both, spells_as}
 use Rattle.lra_sample.proofs.{LineTokens.line_read, Numerals.zero_good, Numerals.IsVariable, Numerals.variable, Numerals.is_name}
 

@@ -2,14 +2,13 @@
 use Rattle.std.proofs.Common.{◌≡◌, ℕ, suc, ◌+◌, ◌*◌, ◌≤◌, false, List, [], ◌∷◌, ◌++◌, None, length, refl, subst, arith}
 use Rattle.std.proofs.{lemmas.Bool.Decides.nat_tests, lemmas.List.length-append}
 use Rattle.std.specs.Prelude.{⊤, nat_lt}
-use Rattle.lra_base.specs.declared.refusals.Place.{Place}
-use Rattle.lra_syntax.specs.{Functions.functions_of, Labels.Labelled, Labels.labels_of, Trees.FunctionTree, Trees.ItemsTree}
-use Rattle.lra_program.specs.Program.{Call}
-use Rattle.lra_program.specs.Sites.{Event, comes, one_call_more, plain_site, live_after_items, items_events, greatest_calls, call_events, events_of}
-use Rattle.lra_resolution_spec.specs.{Refuse.greatest_live, Refuse.greatest_points, Refuse.limit_fault, Resolve.resolve_items, Resolve.resolve, Scope.Scope}
+use Rattle.lra_sample.specs.Crates.lra_program.Sites.{Event, comes, one_call_more, plain_site, live_after_items, items_events, greatest_calls, call_events, events_of}
+use Rattle.lra_sample.specs.Crates.{lra_base.declared.refusals.Place.Place, lra_program.Program.Call, lra_resolution_spec.Refuse.greatest_live, lra_resolution_spec.Refuse.greatest_points}
+use Rattle.lra_sample.specs.Crates.{lra_resolution_spec.Refuse.limit_fault, lra_resolution_spec.Resolve.resolve_items, lra_resolution_spec.Resolve.resolve, lra_resolution_spec.Scope.Scope}
+use Rattle.lra_sample.specs.Crates.{lra_syntax.Functions.functions_of, lra_syntax.Labels.Labelled, lra_syntax.Labels.labels_of, lra_syntax.Trees.FunctionTree, lra_syntax.Trees.ItemsTree}
 use Rattle.lra_sample.specs.declared.block.Kind.{Kind}
 use Rattle.lra_sample.specs.declared.block.Kind.TheVariants.{Sum, Choice, Count, Input}
-use Rattle.lra_syntax.proofs.Lexemes.{behind, item_place}
+use Rattle.lra_sample.proofs.Crates.lra_syntax.Lexemes.{behind, item_place}
 use Rattle.lra_sample.proofs.{Lines.Line, Lines.items_of, Lines.tree_as, Numerals.four, Whole.four_declared, Whole.head_items, Whole.lines_tree, Whole.last_tree, Whole.file_tree}
 
 -- at each point few variables live, and no call is one too many

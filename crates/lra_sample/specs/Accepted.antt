@@ -1,7 +1,7 @@
 -- Which sample sources are accepted.
 use Rattle.std.specs.Prelude.{ℕ, ◌≤◌}
-use Rattle.lra_syntax.specs.{Grammar.Spells, Trees.FileTree}
-use Rattle.lra_resolution_spec.specs.Refuse.{Accepts}
+use Rattle.lra_sample.specs.Crates.lra_syntax.Trees.{FileTree}
+use Rattle.lra_sample.specs.Crates.{lra_resolution_spec.Refuse.Accepts, lra_syntax.Grammar.Spells}
 use Rattle.lra_sample.specs.Sample.{sample_source}
 
 -- with at most 400 blocks a source of any seed has a tree, and nothing refuses it

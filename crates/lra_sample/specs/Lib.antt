@@ -4,3 +4,5 @@ pub mod Draws
 pub mod Sample
 pub mod Summary
 pub mod Accepted
+-- The crates below
+pub mod Crates

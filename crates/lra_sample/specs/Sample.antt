@@ -1,7 +1,7 @@
 -- The sample source of a seed and a size: four variables, as many blocks as the size says, and one assertion.
 use Rattle.std.specs.Prelude.{ℕ, ◌*◌, ◌%◌, List, ◌++◌, codes, if◌then◌else◌, nat_eq}
 use Rattle.std.specs.{Fmt.decimal, List.flat_map, List.range_with_len}
-use Rattle.lra_row_text.specs.Texts.{text_line}
+use Rattle.lra_sample.specs.Crates.lra_row_text.Texts.{text_line}
 use Rattle.lra_sample.specs.declared.block.Kind.TheVariants.{Sum, Choice, Count, Input}
 use Rattle.lra_sample.specs.{Draws.state_after, Draws.draw, declared.block.Block.Block, declared.block.Kind.Kind}
 

@@ -1,7 +1,7 @@
 -- What is reported about the report of a sample source: five lines.
 use Rattle.std.specs.{Fmt.decimal, Prelude.ℕ, Prelude.List, Prelude.length, Prelude.◌++◌, Prelude.codes}
 use Rattle.lra_report.specs.{Report.Report, ReportText.flag_text, ReportText.counts_line}
-use Rattle.lra_row_text.specs.Texts.{text_line}
+use Rattle.lra_sample.specs.Crates.lra_row_text.Texts.{text_line}
 use Rattle.lra_sample.specs.Sample.{sample_source}
 
 -- the first three: of a seed, a size, the source's bytes, the report's points

@@ -13,3 +13,5 @@ pub mod NameLaws
 pub mod VariableLaws
 -- Functions by their names.
 pub mod SignatureLaws
+-- The crates below
+pub mod Crates

@@ -7,3 +7,5 @@ pub mod Scopes
 pub mod Chains
 pub mod Calls
 pub mod Signatures
+-- The crates below
+pub mod Crates

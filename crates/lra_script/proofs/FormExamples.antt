@@ -1,8 +1,8 @@
 -- What lines say whose words are known. Which slip an example would catch stands beside it.
 use Rattle.std.proofs.Common.{◌≡◌, ℕ, pos, negsuc, List, [], ◌∷◌, ◌++◌, refl, Option, Some, None, true, false}
 use Rattle.std.specs.Prelude.{codes}
-use Rattle.lra_linear_spec.specs.Descriptions.{inequality, equality, generator, line}
-use Rattle.lra_linear_spec.specs.declared.GenKind.TheVariants as gen
+use Rattle.lra_script.specs.Crates.lra_linear_spec.Descriptions.{inequality, equality, generator, line}
+use Rattle.lra_script.specs.Crates.lra_linear_spec.declared.GenKind.TheVariants as gen
 use Rattle.lra_script.specs.LineForms.{Line, Dims, Make, Ask, Con, Gen, Combine, Widen, Limited, Map, Forget, Show, Holds, Include, Maximise, row_of_generator, line_of}
 use Rattle.lra_script.specs.ScriptText.{lines, words, is_skipped, is_name, number_of}
 use Rattle.lra_script.specs.declared.recipes.Combination.TheVariants.{Meet, Hull, Elapse}

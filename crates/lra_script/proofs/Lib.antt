@@ -8,3 +8,5 @@ pub mod Names
 pub mod Parts
 -- Worked examples: what lines say.
 mod FormExamples
+-- The crates below
+pub mod Crates

@@ -1,12 +1,12 @@
 -- Words of ASCII letters and digits, and the numbers that they write.
 use Rattle.std.proofs.Common.{◌≡◌, ◌≢◌, ◌<◌, ℕ, ℤ, Bool, true, false, cond, ◌&&◌, not, nat_eq, List, [], ◌∷◌, length, refl, ap, sym, ◌∙◌, subst, arith, FitsSigned, Option, Some, None, Result, Ok, Err}
+use Rattle.std.proofs.lemmas.Bool.{and_parts}
 use Rattle.std.proofs.{Common.rules, lemmas.Bool.Decides.nat_tests, lemmas.List.Elements.All-cons, lemmas.List.Sums.AllPass-from_list_all, lemmas.Str.IsUtf8-from_ascii}
 use Rattle.std.proofs.{lemmas.Str.Ascii.IsAscii-from_all, lemmas.Str.Parse.IsDigitsTest, lemmas.Str.Parse.numerals_by_value, lemmas.Str.Parse.without_leading_plus_none}
 use Rattle.std.specs.Str.Parse.{IsNumeral, AllDigits, ParsesSigned, signed_digits_value, without_leading_sign}
 use Rattle.std.specs.{Char.is_ascii_digit, Char.is_ascii_uppercase, Char.is_ascii_alphanumeric, Int.w128, List.All, List.list_all, Option.SomeIff, Str.IsUtf8}
-use Rattle.std.proofs.lemmas.Bool.{and_parts}
-use Rattle.lra_linear_spec.specs.Range.{InRange, in_range}
-use Rattle.lra_linear_spec.proofs.CheckedArithmetic.{in_range_yes}
+use Rattle.lra_script.specs.Crates.lra_linear_spec.Range.{InRange, in_range}
+use Rattle.lra_script.proofs.Crates.lra_linear_spec.CheckedArithmetic.{in_range_yes}
 use Rattle.lra_script.specs.ScriptText.{is_name, is_number, number_of}
 
 -- ---- ASCII

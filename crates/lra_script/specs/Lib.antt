@@ -2,3 +2,5 @@
 pub mod ScriptText
 pub mod LineForms
 pub mod Views
+-- The crates below
+pub mod Crates

@@ -3,9 +3,9 @@ use Rattle.std.specs.Prelude.{ℕ, zero, suc, ◌^◌, ℤ, pos, negsuc, nat_le,
 use Rattle.std.specs.Prelude.{codes, bytes_eq, if◌then◌else◌, Option, Some, None, option_map, option_and_then}
 use Rattle.std.specs.{List.slice_split, Option.option_or}
 use Rattle.lra_base.specs.Limits.{greatest_live}
-use Rattle.lra_linear_spec.specs.Descriptions.{LinearRow, generator, line}
-use Rattle.lra_linear_spec.specs.declared.GenKind.{GenKind}
-use Rattle.lra_linear_spec.specs.declared.GenKind.TheVariants as gen
+use Rattle.lra_script.specs.Crates.lra_linear_spec.Descriptions.{LinearRow, generator, line}
+use Rattle.lra_script.specs.Crates.lra_linear_spec.declared.GenKind.{GenKind}
+use Rattle.lra_script.specs.Crates.lra_linear_spec.declared.GenKind.TheVariants as gen
 use Rattle.lra_script.specs.ScriptText.{is_name, number_of}
 use Rattle.lra_script.specs.declared.recipes.Combination.TheVariants.{Meet, Hull, Elapse}
 use Rattle.lra_script.specs.declared.recipes.Mapping.TheVariants.{Image, Preimage}

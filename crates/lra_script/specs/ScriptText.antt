@@ -3,7 +3,7 @@ use Rattle.std.specs.Prelude.{ℕ, ◌-◌, ℤ, Bool, true, false, ◌&&◌, �
 use Rattle.std.specs.Prelude.{map, filter, if◌then◌else◌, Option, Some, None}
 use Rattle.std.specs.{Char.is_ascii_digit, Char.is_ascii_uppercase, Char.is_ascii_alphanumeric, List.slice_split}
 use Rattle.std.specs.{List.ends_with, List.list_all, Str.Parse.starts_with_minus, Str.Parse.signed_digits_value}
-use Rattle.lra_linear_spec.specs.Range.{in_range}
+use Rattle.lra_script.specs.Crates.lra_linear_spec.Range.{in_range}
 
 -- lines ------------------------------------------------------------------------------------------------------------
 

@@ -1,8 +1,9 @@
 -- What the values of the code stand for.
 use Rattle.std.specs.Prelude.{◌≤◌, ℤ, pos, ◌<ℤ◌, List, [], ◌∷◌, map, ℕ, Option, option_map, Vec, string_bytes}
 use Rattle.std.specs.{Borrow.Bor, List.All, declared.alloc.Global.Global}
-use Rattle.lra_linear_spec.specs.{Descriptions.LinearRow, Kinds.is_equality, declared.GenKind.GenKind}
-use Rattle.lra_linear_spec.specs.declared.GenKind.TheVariants as gen
+use Rattle.lra_script.specs.Crates.lra_linear_spec.Kinds.{is_equality}
+use Rattle.lra_script.specs.Crates.{lra_linear_spec.Descriptions.LinearRow, lra_linear_spec.declared.GenKind.GenKind}
+use Rattle.lra_script.specs.Crates.lra_linear_spec.declared.GenKind.TheVariants as gen
 use Rattle.lra_script.specs.LineForms as form
 use Rattle.lra_script.specs.{declared.lines.Line.Line, declared.questions.Question.Question}
 use Rattle.lra_script.specs.{declared.recipes.Recipe.Recipe, declared.rows.Constraint.Constraint}

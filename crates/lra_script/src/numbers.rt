@@ -3,7 +3,7 @@
 ghost use Rattle.std.specs.Prelude.{FitsSigned, true, ◌≡◌, IfOk, IfSome, string_bytes, Some, None, if◌then◌else◌};
 ghost use Rattle.std.specs.{Char.is_ascii_digit, Char.is_ascii_alphanumeric, Int.w128, List.All, List.list_all};
 ghost use Rattle.std.specs.{Option.SomeIff, Prelude.option_map, Prelude.◌≤◌, Str.IsUtf8, Str.Parse.signed_digits_value};
-ghost use Rattle.lra_linear_spec.specs.Range.{InRange};
+ghost use Rattle.lra_script.specs.Crates.lra_linear_spec.Range.{InRange};
 ghost use Rattle.lra_script.specs.ScriptText as script;
 ghost use Rattle.lra_script.specs.LineForms as form;
 ghost use Rattle.lra_script.specs.{LineForms.all_of, Views.texts, Views.option_items};

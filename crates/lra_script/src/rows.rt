@@ -2,14 +2,13 @@
 
 ghost use Rattle.std.specs.Prelude.{◌≡◌, map, IfOk, IfSome, Some, None, true, bytes_eq, codes, option_map};
 ghost use Rattle.std.specs.{List.slice_split, List.All, Prelude.if◌then◌else◌};
-ghost use Rattle.lra_linear_spec.specs.Kinds.{is_equality};
+ghost use Rattle.lra_script.specs.Crates.lra_linear_spec.Kinds.{is_equality};
 ghost use Rattle.lra_script.specs.LineForms as form;
 ghost use Rattle.lra_script.specs.Views.{texts, constraint_of, constraints_of, generator_view, generators_of};
 ghost use Rattle.lra_script.specs.{LineForms.all_of, Views.HasDivisor, Views.IsDivided};
 
 use crate::numbers::numbers_of;
-use lra_row::Row;
-use lra_systems::{ConKind, GenKind};
+use lra_systems::{ConKind, GenKind, Row};
 use std::alloc::{AllocError, Global};
 
 /// A constraint as it is written, with any count of numbers.

@@ -1,8 +1,8 @@
 -- Sources and their tokens. Which slip an example would catch stands beside it.
 use Rattle.std.proofs.Common.{◌≡◌, ℕ, true, List, [], ◌∷◌, ◌++◌, refl, arith, inl, inr, subst, ap, get_or, bytes_eq, ◌∙◌, sym}
+use Rattle.std.proofs.lemmas.Bool.{or_cases}
 use Rattle.std.proofs.{lemmas.List.append-nil, lemmas.List.Folds.list_all-append, lemmas.Slice.Eq.bytes_eq-Decides}
 use Rattle.std.specs.{List.list_all, Prelude.codes, Prelude.bytes_eq, Prelude.true, Prelude.◌&&◌, Prelude.◌⊎◌, Prelude.◌≤◌}
-use Rattle.std.proofs.lemmas.Bool.{or_cases}
 use Rattle.lra_base.specs.declared.refusals.Cause.TheVariants.{BadByte, BadLiteral}
 use Rattle.lra_base.specs.{Places.place_after, declared.number_types.NumberType.TheVariants.Int, declared.number_types.NumberType.TheVariants.Long, declared.refusals.Place.Place}
 use Rattle.lra_syntax.specs.Lexeme.{octal, decimal_base, hexadecimal, IsLiteral, Base, IsBasePrefix, is_digit, is_digit_of, number_after, greatest_literal, is_between, is_among, suffixes, word}

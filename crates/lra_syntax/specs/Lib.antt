@@ -11,3 +11,5 @@ pub mod Functions
 pub mod Labels
 pub mod Reach
 pub mod Branches
+-- The crates below
+pub mod Crates

@@ -7,6 +7,7 @@
 mod tokens;
 mod trees;
 
+pub use lra_base::Place;
 pub use tokens::{Kind, Mark, Token, Word};
 pub use trees::{
     Arguments, ArrayLength, Assign, Block, BlockItem, Call, CaseItem, Cases, Cond, Conjunction,

@@ -5,3 +5,5 @@ pub mod MembershipExamples
 pub mod LinearRows
 pub mod SameLists
 pub mod Popped
+-- The crates below
+pub mod Crates

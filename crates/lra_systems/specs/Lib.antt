@@ -4,3 +4,5 @@ pub mod Dimensions
 pub mod LinearSystems
 pub mod FirstPlaces
 pub mod Membership
+-- The crates below
+pub mod Crates

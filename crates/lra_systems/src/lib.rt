@@ -7,7 +7,8 @@ mod sameness;
 mod system;
 mod units;
 
-pub use lra_linear_spec::{ConKind, GenKind};
+pub use lra_linear_spec::{Cause, ConKind, Excess, GenKind};
+pub use lra_row::{Row, RowError, gcd, opposite};
 pub use membership::MembershipAnswer;
 pub use sameness::are_same;
 pub use system::{ConSys, GenSys, TOO_MANY_DIMENSIONS};

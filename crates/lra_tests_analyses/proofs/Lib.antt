@@ -2,3 +2,5 @@
 mod SampleTree
 -- The tree whose steps are judged.
 mod StepsTree
+-- The crates below
+pub mod Crates

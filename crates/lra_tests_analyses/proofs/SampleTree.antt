@@ -6,9 +6,9 @@ use Rattle.lra_base.specs.declared.number_types.NumberType.{NumberType}
 use Rattle.lra_program.specs.{Program.Expr, Program.Cond, Receivers.variable_at, Sites.Site, Step.append, Step.store_value}
 use Rattle.lra_operations.specs.{Tree.Node, Tree.point, Tree.act, Tree.check, Tree.seq, Tree.choose, TreeViews.site_view}
 use Rattle.lra_operations.specs.declared.tree.Site as coded
-use Rattle.lra_fixpoint.specs.Numbers.{one_if, values_in, checks_in, asserts_of, IsNumbered}
+use Rattle.lra_tests_analyses.specs.Crates.lra_fixpoint.Numbers.{one_if, values_in, checks_in, asserts_of, IsNumbered}
 use Rattle.lra_tests_analyses.specs.Sample.{sample_asserts}
-use Rattle.lra_fixpoint.proofs.Counting.{one_other}
+use Rattle.lra_tests_analyses.proofs.Crates.lra_fixpoint.Counting.{one_other}
 
 abbrev pub sample_tree : NumberType → Expr → Cond → Cond → Cond → Node
 sample_tree t e c d f =

@@ -2,17 +2,13 @@
 use Rattle.std.proofs.Common.{◌≡◌, ◌∙◌, ℕ, zero, suc, ◌<◌, ◌≤◌, List, [], ◌∷◌, length, map, Some, None, refl, sym, ap, subst, arith, inl, inr}
 use Rattle.std.proofs.{lemmas.List.length-map, lemmas.Option.none-some, lemmas.Option.same_Some, lemmas.Option.slice_get-get_or}
 use Rattle.std.specs.Prelude.{slice_get, All, get_or}
-use Rattle.lra_linear_spec.proofs.Membership.{contains_none, contains_cases}
-use Rattle.lra_domain.specs.Abstraction.{Abstraction}
+use Rattle.lra_tests_analyses.proofs.Crates.{lra_fixpoint.Counting.one_other, lra_linear_spec.Membership.contains_none, lra_linear_spec.Membership.contains_cases}
+use Rattle.lra_tests_analyses.specs.Crates.lra_fixpoint.Numbers.{one_if, values_in, checks_in, asserts_of, IsNumbered}
+use Rattle.lra_tests_analyses.specs.Crates.{lra_analysis_spec.Live.live_after_op, lra_analysis_spec.LiveLimit.most_live, lra_domain.Abstraction.Abstraction, lra_fixpoint.Lives.PointsHave}
+use Rattle.lra_tests_analyses.specs.Crates.{lra_fixpoint.Lives.AreWide, lra_overflow_checks.Judged.AreBelow, lra_pass_results.Dimensions.TreeFits, lra_transfer.Changes.OpFitsDims}
 use Rattle.lra_operations.specs.declared.tree.Site as coded
 use Rattle.lra_operations.specs.{CheckedOperations.OpAtPoint, CheckedOperations.accessing_ops, CheckedOperations.computing_ops, TreeViews.site_view}
 use Rattle.lra_program.specs.{Sites.Site, Step.Op}
-use Rattle.lra_transfer.specs.Changes.{OpFitsDims}
-use Rattle.lra_analysis_spec.specs.{Live.live_after_op, LiveLimit.most_live}
-use Rattle.lra_pass_results.specs.Dimensions.{TreeFits}
-use Rattle.lra_fixpoint.specs.{Lives.PointsHave, Lives.AreWide, Numbers.one_if, Numbers.values_in, Numbers.checks_in, Numbers.asserts_of, Numbers.IsNumbered}
-use Rattle.lra_fixpoint.proofs.Counting.{one_other}
-use Rattle.lra_overflow_checks.specs.Judged.{AreBelow}
 use Rattle.lra_tests_analyses.specs.Steps.{accesses_tree, steps_tree, steps_sites, tree_of}
 
 one_at_most : (k : ℕ) → k < 4 → (s : Site) × (slice_get steps_sites k ≡ Some s) × (s.live ≤ 1)

@@ -1,2 +1,4 @@
 pub mod Sample
 pub mod Steps
+-- The crates below
+pub mod Crates

@@ -9,12 +9,10 @@ ghost use Rattle.lra_tests_analyses.specs.Steps.{a, a_at, accesses_tree, is_insi
 use crate::steps::{read_x, steps};
 use lra_base::{Comparison, NumberType, Place};
 use lra_bounds_checks::{BoundsVerdicts, judge_accesses};
-use lra_box::Boxes;
-use lra_domain::Domain;
-use lra_fixpoint::{Plan, analyse};
-use lra_octagon::Octagon;
+use lra_octagon::{Boxes, Domain, Octagon};
 use lra_operations::{InlinedProgram, Op};
 use lra_program::{Array, Cond, Element, Expr};
+use lra_threads_instrument::{Plan, analyse};
 use std::alloc::{AllocError, Global};
 
 /// A place in the first line.

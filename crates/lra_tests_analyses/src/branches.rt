@@ -5,17 +5,15 @@ ghost use Rattle.std.specs.Prelude.{◌≡◌, map, IfOk};
 ghost use Rattle.lra_operations.specs.Tree as graph;
 ghost use Rattle.lra_program.specs.ProgramViews.{cond_view};
 ghost use Rattle.lra_operations.specs.TreeViews.{op_view, node_view, site_view};
-ghost use Rattle.lra_pass_results.specs.Dimensions.{TreeFits};
-ghost use Rattle.lra_fixpoint.specs.Numbers.{IsNumbered};
+ghost use Rattle.lra_tests_analyses.specs.Crates.lra_fixpoint.Numbers.{IsNumbered};
+ghost use Rattle.lra_tests_analyses.specs.Crates.lra_pass_results.Dimensions.{TreeFits};
 ghost use Rattle.lra_tests_analyses.specs.Sample.{sample_asserts};
 
 use lra_base::{Comparison, NumberType};
-use lra_box::Boxes;
-use lra_domain::Domain;
-use lra_fixpoint::{Plan, Solution, analyse};
-use lra_octagon::Octagon;
+use lra_octagon::{Boxes, Domain, Octagon};
 use lra_operations::{InlinedProgram, Node, Op, Path, Site};
 use lra_program::{Cond, Expr, Receiver, Slot, Variable};
+use lra_threads_instrument::{Plan, Solution, analyse};
 use std::alloc::{AllocError, Global};
 
 /// `x >= bound`, of an `x` of this type.

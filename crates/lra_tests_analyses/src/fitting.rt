@@ -7,13 +7,11 @@ ghost use Rattle.lra_tests_analyses.specs.Steps.{steps_tree, steps_sites, steppe
 
 use crate::steps::{read_x, steps};
 use lra_base::{NumberType, Operator};
-use lra_box::Boxes;
-use lra_domain::Domain;
-use lra_fixpoint::{Plan, analyse};
-use lra_octagon::Octagon;
+use lra_bounds_checks::{OverflowVerdicts, judge};
+use lra_octagon::{Boxes, Domain, Octagon};
 use lra_operations::{InlinedProgram, Op};
-use lra_overflow_checks::{OverflowVerdicts, judge};
 use lra_program::{Expr, Operation, Receiver};
+use lra_threads_instrument::{Plan, analyse};
 use std::alloc::{AllocError, Global};
 
 /// `x = x + 1` or the like.

@@ -2,11 +2,10 @@
 
 ghost use Rattle.std.specs.List.{All};
 ghost use Rattle.std.specs.Prelude.{◌≡◌, ◌+◌, ◌∷◌, [], length, IfOk, OnOk};
-ghost use Rattle.lra_linear_spec.specs.Range.{InRange};
+ghost use Rattle.lra_tests_cones.specs.Crates.lra_linear_spec.Range.{InRange};
 ghost use Rattle.lra_canonical.specs.{Echelons.HaveOneWidth, Reduced.IsEchelonForm};
 
-use lra_bits::{BitRow, SatMatrix};
-use lra_canonical::{Order, canonical_order, drop_redundant, echelon, reduce};
+use lra_canonical::{BitRow, Order, SatMatrix, canonical_order, drop_redundant, echelon, reduce};
 use lra_row::{Excess, Operation, Row, RowError};
 use std::alloc::{AllocError, Global};
 

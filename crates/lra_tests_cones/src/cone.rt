@@ -1,10 +1,9 @@
 //! Worked cones.
 
-use lra_bits::BitRow;
+use lra_canonical::BitRow;
 use lra_cone::{ConKind, Cone, ConeError, Family, Member, Strained};
-use lra_descriptions::nothing;
-use lra_linear_spec::{Excess, Operation};
-use lra_row::Row;
+use lra_conversions::nothing;
+use lra_row::{Excess, Operation, Row};
 use std::alloc::{AllocError, AllocFailed, Global};
 use std::process::Abort;
 

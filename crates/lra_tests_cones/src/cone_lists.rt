@@ -1,11 +1,9 @@
 //! Lists of constraints and the generators of their points.
 
 use crate::cone::{Unfit, row_of};
-use lra_cone::{ConKind, Loss};
-use lra_conversions::generate;
-use lra_descriptions::nothing;
-use lra_linear_spec::{Cause, Excess, Operation};
-use lra_systems::{ConSys, GenKind, GenSys};
+use lra_cone::{Cause, ConKind, ConSys, Loss};
+use lra_conversions::{GenSys, generate, nothing};
+use lra_row::{Excess, GenKind, Operation};
 use std::alloc::{AllocError, Global};
 use std::process::Abort;
 

@@ -1,7 +1,7 @@
 //! Each step beside all pairs of rays, distinguished by the definition of adjacency.
 
 use crate::cone::{Unfit, powers, row_of};
-use lra_bits::{BitRow, SatMatrix};
+use lra_canonical::{BitRow, SatMatrix};
 use lra_cone::{ConKind, Cone, ConeError};
 use lra_row::{Row, RowError};
 use std::alloc::Global;

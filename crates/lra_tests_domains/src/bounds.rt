@@ -3,11 +3,9 @@
 ghost use Rattle.std.specs.Prelude.{◌≡◌};
 
 use crate::boxes::{keep_by, set_by};
-use lra_box::Boxes;
-use lra_domain::Domain;
+use lra_domain::{Domain, LinExpr};
 use lra_example_domain::ExampleDomain;
-use lra_linear_forms::LinExpr;
-use lra_octagon::Octagon;
+use lra_octagon::{Boxes, Octagon};
 use lra_poly_domain::Polyhedron;
 use lra_powerset::PowerSet;
 use std::alloc::{AllocError, Global};

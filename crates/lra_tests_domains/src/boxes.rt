@@ -1,11 +1,8 @@
 ghost use Rattle.std.specs.Prelude.{◌≡◌, ◌<◌, length, IfOk};
 
-use lra_box::Boxes;
-use lra_domain::{Domain, Exactness, Included, Mode};
-use lra_linear_forms::{LinExpr, Test};
-use lra_linear_spec::ConKind;
-use lra_row::Row;
-use lra_systems::ConSys;
+use lra_domain::{ConSys, Domain, Exactness, Included, LinExpr, Mode, Test};
+use lra_octagon::{Boxes, ConKind};
+use lra_poly_domain::Row;
 use std::alloc::{AllocError, Global};
 
 /// Assigns the form of this constant and these factors, through the bound.

@@ -4,8 +4,7 @@ ghost use Rattle.std.specs.Prelude.{◌≡◌, ◌<◌, IfOk};
 
 use crate::boxes::{compares_by, has_head_by, keep_by, resizes_by, set_by, shows_by};
 use lra_domain::Domain;
-use lra_linear_spec::ConKind;
-use lra_octagon::Octagon;
+use lra_octagon::{ConKind, Octagon};
 use std::alloc::{AllocError, Global};
 
 /// x + y <= 1 and x <= y, through the bound.

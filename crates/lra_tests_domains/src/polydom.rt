@@ -3,10 +3,9 @@
 ghost use Rattle.std.specs.Prelude.{◌≡◌, IfOk};
 
 use crate::boxes::{VALUE, answers_by, has_rows, head_by, keep_by, set_by, value_by};
-use lra_domain::{Domain, Exactness, Grown, Mode};
-use lra_poly_domain::{Polyhedron, PolyhedronHead};
-use lra_row::Row;
-use lra_systems::{ConKind, ConSys};
+use lra_domain::{ConSys, Domain, Exactness, Grown, Mode};
+use lra_octagon::ConKind;
+use lra_poly_domain::{Polyhedron, PolyhedronHead, Row};
 use std::alloc::{AllocError, Global};
 
 /// x = 3 and 3 <= y <= 10, from the point (3, 3) to the point (3, 10).

@@ -2,8 +2,8 @@
 ghost use Rattle.std.specs.Prelude.{◌≡◌, IfOk};
 
 use crate::boxes::keep_by;
-use lra_box::Boxes;
 use lra_domain::{Domain, Exactness};
+use lra_octagon::Boxes;
 use lra_powerset::PowerSet;
 use std::alloc::{AllocError, Global};
 

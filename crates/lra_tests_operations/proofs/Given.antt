@@ -4,15 +4,12 @@ use Rattle.std.proofs.lemmas.List.Elements.{Contains-append_left, Contains-appen
 use Rattle.std.proofs.lemmas.Option.{same_Some, none-some, slice_get_within, get_or_from_slice_get}
 use Rattle.std.proofs.{Common.Global, Common.arith, lemmas.List.map_more, lemmas.List.length-map, lemmas.List.length-take-le, lemmas.List.map-append}
 use Rattle.std.specs.{List.AllByRecursion, List.Contains, Prelude.slice_get, Prelude.IsTrue}
-use Rattle.lra_linear_spec.proofs.Membership.{contains_head, contains_none}
-use Rattle.lra_syntax.specs.Trees.{FileTree}
-use Rattle.lra_resolution_spec.specs.Resolve.{resolve}
-use Rattle.lra_program.specs.{Program.Program, Sites.Site, Sites.sites_of}
-use Rattle.lra_row_text.specs.Part.{Part}
+use Rattle.lra_tests_operations.proofs.Crates.lra_linear_spec.Membership.{contains_head, contains_none}
+use Rattle.lra_tests_operations.specs.Crates.lra_program.Sites.{Site, sites_of}
+use Rattle.lra_tests_operations.specs.Crates.{lra_program.Assertions.IsAssertion, lra_program.Program.Program, lra_resolution_spec.Resolve.resolve, lra_row_text.Part.Part, lra_syntax.Trees.FileTree}
 use Rattle.lra_report.specs.{Listing.HasWidth, Report.Invariant}
 use Rattle.lra_operations.specs.{Agree.IsInlinedTree, Tree.Node, TreeViews.site_view}
 use Rattle.lra_operations.specs.declared.tree.Site as code_site
-use Rattle.lra_program.specs.Assertions.{IsAssertion}
 use Rattle.lra_report_build.specs.AnalysisResults.{AreInvariants, AreVerdicts}
 
 -- a place of a list with one element more is a place of the list, or the last

@@ -1,3 +1,5 @@
 mod Reading
 mod Given
 pub mod Silent
+-- The crates below
+pub mod Crates

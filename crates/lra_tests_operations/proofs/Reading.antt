@@ -1,8 +1,7 @@
 -- The programs of sources that are read are well-formed.
 use Rattle.std.proofs.Common.{◌≡◌, ℕ, List, [], sym, subst}
-use Rattle.lra_syntax.specs.{Faults.IsTree, Grammar.Spells, Tokens.Lex, Trees.FileTree, declared.tokens.Token.Token}
-use Rattle.lra_resolution_spec.specs.{NameFaults.name_faults, Resolve.resolve}
-use Rattle.lra_program.specs.{Program.Program, WellFormed.IsWellFormed}
+use Rattle.lra_tests_operations.specs.Crates.{lra_program.Program.Program, lra_program.WellFormed.IsWellFormed, lra_resolution_spec.NameFaults.name_faults, lra_resolution_spec.Resolve.resolve}
+use Rattle.lra_tests_operations.specs.Crates.{lra_syntax.Faults.IsTree, lra_syntax.Grammar.Spells, lra_syntax.Tokens.Lex, lra_syntax.Trees.FileTree, lra_syntax.declared.tokens.Token.Token}
 use Rattle.lra_front_end.specs.Literals.{HasSmallLiterals}
 use Rattle.lra_front_end.proofs.{Spelled.spelled_are_small, Whole.well_formed}
 

@@ -2,17 +2,14 @@
 use Rattle.std.proofs.Common.{◌≡◌, ◌∙◌, ◌+◌, ◌<◌, ◌≤◌, ℕ, zero, suc, Bool, true, false, List, [], ◌∷◌, ◌++◌, length, map, take, get_or, refl, sym, ap, subst, cond, nat_eq, None}
 use Rattle.std.proofs.{lemmas.List.map_more, lemmas.List.take_all, lemmas.Option.none-some}
 use Rattle.std.specs.{List.AllByRecursion, List.filter, List.flat_map, Prelude.IsTrue, Prelude.nat_lt}
-use Rattle.lra_program.specs.{Accesses.op_accesses, Accesses.op_accesses_any, Program.Element, Program.Program, Sites.Site}
+use Rattle.lra_tests_operations.specs.Crates.lra_operations_list.TreeOperations.{op_at_point_view, done_in}
+use Rattle.lra_tests_operations.specs.Crates.{lra_operations_list.declared.tree_operations.OpRefAtPoint.OpRefAtPoint, lra_program.Accesses.op_accesses, lra_program.Accesses.op_accesses_any}
+use Rattle.lra_tests_operations.specs.Crates.{lra_program.Program.Element, lra_program.Program.Program, lra_program.Sites.Site, lra_resolution_spec.Resolve.resolve, lra_syntax.Trees.FileTree}
 use Rattle.lra_operations.specs.{Agree.IsInlinedTree, CheckedOperations.OpAtPoint, CheckedOperations.accessing_ops, Tree.Node}
-use Rattle.lra_operations_list.specs.{TreeOperations.op_at_point_view, TreeOperations.done_in, declared.tree_operations.OpRefAtPoint.OpRefAtPoint}
-use Rattle.lra_operations_list.proofs.Filtered.{asking_filtered}
+use Rattle.lra_tests_operations.proofs.Crates.{lra_analysis_spec.OneTree.one_tree, lra_linear_spec.Membership.contains_none, lra_operations_list.Filtered.asking_filtered}
 use Rattle.lra_bounds_checks.specs.{Listed.access_view, declared.listing.Access.Access}
 use Rattle.lra_report.specs.Listing.{accesses_at}
 use Rattle.lra_report_build.specs.AnalysisResults.{AreAccessVerdicts}
-use Rattle.lra_analysis_spec.proofs.OneTree.{one_tree}
-use Rattle.lra_linear_spec.proofs.Membership.{contains_none}
-use Rattle.lra_syntax.specs.Trees.{FileTree}
-use Rattle.lra_resolution_spec.specs.Resolve.{resolve}
 
 -- each of these accesses nothing
 abbrev pub AreSilent : List OpAtPoint → Type 0

@@ -1,12 +1,11 @@
 //! Paths of programs from point to point, as they are counted and written.
 
-ghost use Rattle.lra_path_disjuncts.specs.Tables.{IsTable};
+ghost use Rattle.lra_tests_operations.specs.Crates.lra_path_disjuncts.Tables.{IsTable};
 
 use crate::sources::{program_of, tree_of};
 use lra_base::SourceError;
 use lra_inline::build;
-use lra_path_segments::Goal;
-use lra_paths::{PathsFailure, Source, find_paths};
+use lra_paths::{Goal, PathsFailure, Source, find_paths};
 use std::alloc::{AllocError, Global};
 
 /// What paths are looked for: how many lead from the source of this number to the goal; the least source with too many;

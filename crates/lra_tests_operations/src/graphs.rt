@@ -3,8 +3,7 @@
 use crate::sources::{program_of, tree_of};
 use lra_base::{NumberType, SourceError};
 use lra_inline::{InlineError, Limit, build};
-use lra_operations::{Node, Op, Site};
-use lra_program::{Cell, Expr};
+use lra_operations::{Cell, Expr, Node, Op, Site};
 use std::alloc::{AllocError, Global};
 
 const SMALL: &str = "int main(void){long x; x=2; if(x) assert(x);}";

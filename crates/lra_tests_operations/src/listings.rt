@@ -2,9 +2,8 @@
 
 ghost use Rattle.std.specs.List.{AllByRecursion};
 ghost use Rattle.std.specs.Prelude.{◌≡◌, ℕ, [], true, length, map, IfOk};
-ghost use Rattle.lra_syntax.specs.{Labels.labels_of, Views.tree_view};
-ghost use Rattle.lra_resolution_spec.specs.Resolve.{resolve};
-ghost use Rattle.lra_program.specs.Sites.{sites_of};
+ghost use Rattle.lra_tests_operations.specs.Crates.{lra_program.Sites.sites_of, lra_resolution_spec.Resolve.resolve};
+ghost use Rattle.lra_tests_operations.specs.Crates.{lra_syntax.Labels.labels_of, lra_syntax.Views.tree_view};
 ghost use Rattle.lra_operations.specs.Agree.{IsInlinedTree};
 ghost use Rattle.lra_operations.specs.Tree as graph;
 ghost use Rattle.lra_operations.specs.TreeViews.{node_view, site_view};
@@ -13,17 +12,12 @@ ghost use Rattle.lra_report_build.specs.AnalysisResults.{AreInvariants, AreVerdi
 
 use crate::sources::{program_of, tree_of};
 use lra_base::SourceError;
-use lra_bounds_checks::accesses;
+use lra_bounds_checks::{ConKind, accesses, list_operations};
 use lra_inline::build;
 use lra_operations::{Node, Site};
-use lra_operations_list::list_operations;
 use lra_options::{DEFAULT_OPTIONS, Domain, Options};
-use lra_report::{Part, Report, text};
-use lra_report_build::{Findings, Outline, list};
-use lra_resolution_spec::Labels;
-use lra_row::Row;
-use lra_syntax::TranslationUnit;
-use lra_systems::{ConKind, ConSys};
+use lra_report::{ConSys, Labels, Part, Report, TranslationUnit, text};
+use lra_report_build::{Findings, Outline, Row, list};
 use std::alloc::{AllocError, Global};
 
 /// A call and an assertion after it.

@@ -1,16 +1,15 @@
 //! From the text of a source to its tree and its program.
 
 ghost use Rattle.std.specs.Prelude.{◌≡◌, IfOk};
-ghost use Rattle.lra_syntax.specs.{Labels.labels_of, Views.tree_view};
-ghost use Rattle.lra_resolution_spec.specs.Resolve.{resolve};
-ghost use Rattle.lra_program.specs.{ProgramViews.program_view, WellFormed.IsWellFormed};
+ghost use Rattle.lra_tests_operations.specs.Crates.lra_program.ProgramViews.{program_view};
+ghost use Rattle.lra_tests_operations.specs.Crates.lra_program.WellFormed.{IsWellFormed};
+ghost use Rattle.lra_tests_operations.specs.Crates.lra_syntax.Views.{tree_view};
+ghost use Rattle.lra_tests_operations.specs.Crates.{lra_resolution_spec.Resolve.resolve, lra_syntax.Labels.labels_of};
 ghost use Rattle.lra_front_end.specs.Literals.{HasSmallLiterals};
 
 use lra_base::{Cause, GREATEST_LENGTH, Place, Refusal, SourceError};
-use lra_lex::tokens;
-use lra_parse::parse;
-use lra_resolve::{Resolution, resolve};
-use lra_syntax::TranslationUnit;
+use lra_front_end::{Resolution, parse, resolve, tokens};
+use lra_report::TranslationUnit;
 use std::alloc::Global;
 
 /// The tree of a source.

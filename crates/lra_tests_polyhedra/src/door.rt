@@ -4,11 +4,9 @@ ghost use Rattle.std.specs.Prelude.{◌≡◌, IfOk};
 ghost use Rattle.lra_systems.specs.LinearSystems.{FitKinds};
 
 use lra_box::Boxes;
-use lra_domain::{Change, Domain, change_all};
-use lra_linear_forms::LinExpr;
-use lra_poly::Poly;
-use lra_poly_domain::Polyhedron;
-use lra_row::Row;
+use lra_domain::{Change, Domain, LinExpr, change_all};
+use lra_poly_domain::{Polyhedron, Row};
+use lra_poly_widening::Poly;
 use lra_systems::{ConKind, ConSys, GenKind, GenSys};
 use std::alloc::{AllocError, Global};
 

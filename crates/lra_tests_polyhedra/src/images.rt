@@ -3,9 +3,9 @@
 ghost use Rattle.std.specs.Prelude.{◌≡◌, length, IfOk};
 
 use crate::shapes::{Constraint, Unfit, set_of, shows};
-use lra_linear_forms::LinExpr;
-use lra_poly::Poly;
+use lra_domain::LinExpr;
 use lra_poly_images::{image, preimage};
+use lra_poly_widening::Poly;
 use lra_systems::ConKind;
 use std::alloc::{AllocError, Global};
 use std::process::Abort;

@@ -3,8 +3,8 @@
 ghost use Rattle.std.specs.Prelude.{◌≡◌, IfOk};
 
 use crate::shapes::{Unfit, row_of, set_of, shows};
-use lra_poly::Poly;
 use lra_poly_images::{embed, forget, remove_last, time_elapse};
+use lra_poly_widening::Poly;
 use lra_systems::{ConKind, ConSys};
 use std::alloc::Global;
 

@@ -3,9 +3,9 @@
 ghost use Rattle.std.specs.Prelude.{◌≡◌, IfOk};
 
 use crate::shapes::{Unfit, row_of, shows};
-use lra_duality::{Inclusion, Maximum};
-use lra_linear_forms::{LinExpr, Test};
-use lra_poly::Poly;
+use lra_domain::{LinExpr, Test};
+use lra_poly_domain::{Inclusion, Maximum};
+use lra_poly_widening::Poly;
 use lra_systems::{ConKind, ConSys};
 use std::alloc::Global;
 

@@ -1,9 +1,8 @@
 //! Worked widenings in one and two dimensions.
 
 use crate::shapes::{Constraint, Unfit, list_of, set_of, shows};
-use lra_poly::Poly;
-use lra_poly_widening::{WidenError, limited, rank, standard};
-use lra_row::Row;
+use lra_poly_domain::Row;
+use lra_poly_widening::{Poly, WidenError, limited, rank, standard};
 use lra_systems::{ConKind, ConSys};
 use std::alloc::{AllocError, Global};
 use std::process::Abort;

@@ -4,8 +4,8 @@ ghost use Rattle.std.specs.Prelude.{◌≡◌, IfOk};
 
 use crate::shapes::{Constraint, FAR, NOWHERE, RIGHT, Unfit, set_of};
 use lra_box::Boxes;
-use lra_domain::Domain;
-use lra_linear_forms::{LinExpr, Test};
+use lra_multipliers::LinExpr;
+use lra_poly_domain::{Domain, Test};
 use lra_poly_queries::{Extent, Fraction, least_box, polyhedra_of};
 use lra_powerset::PowerSet;
 use lra_systems::ConKind;

@@ -1,9 +1,8 @@
 //! The least values of forms.
 
 use crate::shapes::{Constraint, FAR, NONE, NOWHERE, RIGHT, Unfit, set_of};
-use lra_domain::Domain;
-use lra_linear_forms::LinExpr;
-use lra_poly_domain::Polyhedron;
+use lra_multipliers::LinExpr;
+use lra_poly_domain::{Domain, Polyhedron};
 use lra_poly_queries::{Minimum, minimise};
 use lra_systems::ConKind;
 use std::alloc::Global;

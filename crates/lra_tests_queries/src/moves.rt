@@ -1,9 +1,10 @@
 //! Dimensions moved and folded, polyhedra side by side, and constraints rounded to whole points.
 
 use crate::shapes::{Constraint, NOWHERE, RIGHT, RIGHT_OF_ONE, Unfit, list_of, set_of};
-use lra_poly::Poly;
-use lra_poly_queries::{concatenate, expand, fold_dims, image_relation, map_dims, relate, tighten};
-use lra_row::Row;
+use lra_poly_domain::Row;
+use lra_poly_queries::{
+    Poly, concatenate, expand, fold_dims, image_relation, map_dims, relate, tighten,
+};
 use lra_systems::{ConKind, GenKind, GenSys, are_same};
 use std::alloc::Global;
 

@@ -2,8 +2,8 @@
 
 ghost use Rattle.std.specs.Prelude.{◌≡◌, length, IfOk};
 
-use lra_poly::Poly;
-use lra_row::Row;
+use lra_poly_domain::Row;
+use lra_poly_queries::Poly;
 use lra_systems::{ConKind, ConSys};
 use std::alloc::{AllocError, Global};
 

@@ -1,8 +1,7 @@
 //! Verdicts on accesses of arrays, as lines and as JSON.
 
-use lra_base::Place;
 use lra_options::{DEFAULT_OPTIONS, Domain, Options};
-use lra_report::{Point, Report, Verdict, VerdictKind, text};
+use lra_report::{Place, Point, Report, Verdict, VerdictKind, text};
 use lra_report_json::json_text;
 use std::alloc::{AllocError, Global};
 

@@ -1,12 +1,9 @@
 //! Reports as JSON.
 
-use lra_base::Place;
 use lra_options::{DEFAULT_OPTIONS, Domain, Options};
-use lra_report::{Part, Point, PointReport, Report, Verdict, VerdictKind};
-use lra_report_json::{json_text, to_value};
-use lra_row::Row;
-use lra_row_text::Names;
-use lra_systems::{ConKind, ConSys, GenKind, GenSys};
+use lra_report::{ConSys, Part, Place, Point, PointReport, Report, Verdict, VerdictKind};
+use lra_report_json::{Row, json_text, to_value};
+use lra_row_text::{ConKind, GenKind, GenSys, Names};
 use std::alloc::{AllocError, Global};
 
 fn options(domain: Domain) -> Options {

@@ -1,8 +1,7 @@
 //! Sample sources, and what is reported about their reports.
 
-use lra_base::Place;
 use lra_options::DEFAULT_OPTIONS;
-use lra_report::{Point, PointReport, Report, Verdict, VerdictKind};
+use lra_report::{Place, Point, PointReport, Report, Verdict, VerdictKind};
 use lra_row_text::Names;
 use lra_sample::{program, summary};
 use std::alloc::{AllocError, Global};

@@ -1,7 +1,7 @@
 //! Calls in calls, which would double without end.
 
 use crate::pieces::{Ended, agrees};
-use lra_commands::Status;
+use lra_tests_runs::Status;
 use lra_tests_runs::memory::{BOXES, told};
 use std::alloc::{AllocError, Global};
 use std::fmt::Write;

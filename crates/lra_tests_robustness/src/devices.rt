@@ -1,6 +1,6 @@
 //! Devices that fail at each call in turn.
 
-use lra_commands::Status;
+use lra_tests_runs::Status;
 use lra_tests_runs::memory::{BOXES, PROVED, PROVED_REPORT, ended, written};
 use std::alloc::{AllocError, Global};
 

@@ -2,7 +2,7 @@
 
 use crate::hulls::count_lines;
 use crate::pieces::{Pieces, are_proved, joined};
-use lra_commands::Status;
+use lra_tests_runs::Status;
 use lra_tests_runs::memory::{BOXES, SOUND, ended};
 use std::alloc::{AllocError, Global};
 

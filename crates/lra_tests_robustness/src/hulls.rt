@@ -1,6 +1,6 @@
 //! Hulls of many facets and lists of many points.
 
-use lra_commands::Status;
+use lra_tests_runs::Status;
 use lra_tests_runs::memory::{SOUND, ended_within, written};
 use std::alloc::{AllocError, Global};
 use std::fmt::Write;

@@ -1,7 +1,7 @@
 //! The numbers of bytes, variables and points of a source, from both sides of their limits.
 
 use crate::pieces::{Pieces, agrees, are_proved, are_refused, tells, writes};
-use lra_commands::Status;
+use lra_tests_runs::Status;
 use lra_tests_runs::memory::{BOXES, PROVED, SOUND, ended, written};
 use std::alloc::{AllocError, Global};
 

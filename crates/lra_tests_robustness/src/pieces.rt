@@ -1,6 +1,6 @@
 //! Sources made of copies of a text.
 
-use lra_commands::Status;
+use lra_tests_runs::Status;
 use lra_tests_runs::memory::{BOXES, SOUND, told, written};
 use std::alloc::{AllocError, Global};
 use std::process::Abort;

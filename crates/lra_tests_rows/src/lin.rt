@@ -1,5 +1,5 @@
 use lra_linear_forms::{LinExpr, Test};
-use lra_linear_spec::ConKind;
+use lra_systems::ConKind;
 use std::alloc::{AllocError, Global};
 
 // The values of 3 + 2x - y at three points.

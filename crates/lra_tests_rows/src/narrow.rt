@@ -2,7 +2,7 @@
 //! checked; rows of 8 columns, the most that stay inline, and of 9; and the order of rows.
 
 ghost use Rattle.std.specs.{List.All, Prelude.◌≡◌, Prelude.length};
-ghost use Rattle.lra_linear_spec.specs.Range.{InRange};
+ghost use Rattle.lra_tests_rows.specs.Crates.lra_linear_spec.Range.{InRange};
 
 use crate::words::{make_rows, product_by_steps};
 use lra_row::{Row, RowError};

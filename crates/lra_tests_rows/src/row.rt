@@ -1,7 +1,7 @@
 //! Worked rows.
 
 ghost use Rattle.std.specs.{List.All, Prelude.◌≡◌, Prelude.◌<ℤ◌, Prelude.pos, Prelude.length};
-ghost use Rattle.lra_linear_spec.specs.{Range.InRange, Vectors.product};
+ghost use Rattle.lra_tests_rows.specs.Crates.{lra_linear_spec.Range.InRange, lra_linear_spec.Vectors.product};
 
 use lra_row::{Excess, Operation, Row, RowError, add, floor_div, gcd, mul, ratio_cmp};
 use std::alloc::{AllocError, Global};

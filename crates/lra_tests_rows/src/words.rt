@@ -1,7 +1,7 @@
 //! Rows with numbers round 2^63 and 2^126, against calculations in which each product and each sum is checked.
 
 ghost use Rattle.std.specs.{List.All, Prelude.◌≡◌, Prelude.length, Prelude.IfOk};
-ghost use Rattle.lra_linear_spec.specs.Range.{InRange};
+ghost use Rattle.lra_tests_rows.specs.Crates.lra_linear_spec.Range.{InRange};
 
 use lra_row::{Excess, Operation, Row, RowError, gcd};
 use std::alloc::{AllocError, Global};

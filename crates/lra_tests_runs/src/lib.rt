@@ -42,3 +42,5 @@ mod threads;
 mod thresholds;
 #[cfg(test)]
 mod types;
+
+pub use lra_commands::Status;

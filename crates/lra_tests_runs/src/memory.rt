@@ -1,7 +1,6 @@
 //! Runs over memory: a source and a sink move ten bytes a call, and some call of each may fail.
 
-use lra_commands::{Status, run};
-use lra_io::{MemSink, MemSource};
+use lra_commands::{MemSink, MemSource, Status, run};
 use std::alloc::{AllocError, Global};
 
 /// The words that ask for a report over boxes.

@@ -3,7 +3,7 @@
 use lra_base::{NumberType, Place, SourceError};
 use lra_program::{BlockItems, Program};
 use lra_recursion::first_recursive;
-use lra_resolve_simple::Labelling;
+use lra_resolve::Labelling;
 use lra_syntax::{
     Block, ExternalDeclaration, Function, Identifier, Parameters, TranslationUnit, Word,
 };

@@ -1,11 +1,10 @@
 -- What threads may do to each other by their intervals is what each is reported of the others, and brings no variable.
 use Rattle.std.proofs.Common.{◌≡◌, ◌∙◌, ◌<◌, ℕ, ℤ, List, length, refl}
-use Rattle.lra_domain.specs.Interference as others
-use Rattle.lra_program.specs.{Program.Function, Program.Program, Step.State}
-use Rattle.lra_operations.specs.TracesAgree.{KeepsWidth}
+use Rattle.lra_threads_analysis.specs.Crates.lra_domain.Interference as others
+use Rattle.lra_threads_analysis.specs.Crates.lra_interleavings.ThreadModular.{RepeatedWrites, none, more, OthersWrite, AreAllowed}
+use Rattle.lra_threads_analysis.specs.Crates.lra_program.Program.{Function, Program}
+use Rattle.lra_threads_analysis.specs.Crates.{lra_interference_sound.CoversUnder.MayBecome, lra_operations.TracesAgree.KeepsWidth, lra_program.Step.State}
 use Rattle.lra_threads_fixpoint.specs.{Interference.MayWrite, Interference.interference_on, Interference.threads_interference, Interference.as_long, Intervals.IntervalRow, Intervals.IntervalTable}
-use Rattle.lra_interference_sound.specs.CoversUnder.{MayBecome}
-use Rattle.lra_interleavings.specs.ThreadModular.{RepeatedWrites, none, more, OthersWrite, AreAllowed}
 use Rattle.lra_threads_analysis.specs.Written.{HasNumber, HasWritten}
 use Rattle.lra_threads_analysis.proofs.TellsAll.{told_has}
 

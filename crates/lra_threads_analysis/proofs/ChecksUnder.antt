@@ -2,17 +2,18 @@
 use Rattle.std.proofs.Common.{◌≡◌, ◌∙◌, ℕ, ℤ, List, [], ◌∷◌, ◌++◌, Option, Some, None, length, drop, refl, ap, ap₂, sym, subst}
 use Rattle.std.proofs.{Math.Seq.drop-length, Math.Seq.drop-append_seam, lemmas.List.append-nil, lemmas.Option.same_Some}
 use Rattle.std.specs.Prelude.{slice_get}
-use Rattle.lra_base.specs.declared.number_types.NumberType.{NumberType}
-use Rattle.lra_program.specs.NextOperation.{CallOpIs, RvalueOpIs, WriteOpIs, DeclaratorOpIs, StmtOpIs, NextOpIs}
-use Rattle.lra_program.specs.Program.{Element, Call, Rvalue, value, result, Stmt, absent, nothing, block, assign, write, call, if, loop, for, break, continue, return, assert, assume, switch, Program}
-use Rattle.lra_program.specs.Step.{State, Op, append, push, push_for, run_op, arguments_for, CallContext, Item, run, declare, declare_array, all, end_of, next_round, cases, end_switch, end_for}
-use Rattle.lra_program.specs.Step.{return_frame, leave_call, receiver_of, return_target}
-use Rattle.lra_program.specs.Value.{◌>>=◌, number, index_of, first_draw, Argument}
-use Rattle.lra_program.specs.{Receivers.variable_at, Run.Point, Sites.Site, Sites.sites_of, Traces.Trace, declared.receivers.Receiver.Receiver}
-use Rattle.lra_program.proofs.TypeLaws.{bind_some}
-use Rattle.lra_operations.specs.{Agree.IsInlinedTree, Agree.point_of, Agree.AreDistinct, CheckedOperations.HoldsWithFresh, TracesAgree.KeepsWidth, Tree.Node}
-use Rattle.lra_inline_sound.proofs.{NextOperations.Question, NextOperations.Asks, NextOperations.all_in, Reached.reached}
-use Rattle.lra_interleavings.specs.ThreadModular.{NextOpIsThere}
+use Rattle.lra_threads_analysis.specs.Crates.lra_operations.Agree.{IsInlinedTree, point_of, AreDistinct}
+use Rattle.lra_threads_analysis.specs.Crates.lra_program.NextOperation.{CallOpIs, RvalueOpIs, WriteOpIs, DeclaratorOpIs, StmtOpIs, NextOpIs}
+use Rattle.lra_threads_analysis.specs.Crates.lra_program.Program.{Element, Call, Rvalue, value, result, Stmt, absent, nothing, block, assign, write, call, if, loop, for, break, continue, return}
+use Rattle.lra_threads_analysis.specs.Crates.lra_program.Program.{assert, assume, switch, Program}
+use Rattle.lra_threads_analysis.specs.Crates.lra_program.Step.{State, Op, append, push, push_for, run_op, arguments_for, CallContext, Item, run, declare, declare_array, all, end_of, next_round, cases}
+use Rattle.lra_threads_analysis.specs.Crates.lra_program.Step.{end_switch, end_for, return_frame, leave_call, receiver_of, return_target}
+use Rattle.lra_threads_analysis.specs.Crates.lra_program.Value.{◌>>=◌, number, index_of, first_draw, Argument}
+use Rattle.lra_threads_analysis.specs.Crates.{lra_base.declared.number_types.NumberType.NumberType, lra_interleavings.ThreadModular.NextOpIsThere, lra_operations.CheckedOperations.HoldsWithFresh}
+use Rattle.lra_threads_analysis.specs.Crates.{lra_operations.TracesAgree.KeepsWidth, lra_operations.Tree.Node, lra_program.Receivers.variable_at, lra_program.Run.Point, lra_program.Sites.Site}
+use Rattle.lra_threads_analysis.specs.Crates.{lra_program.Sites.sites_of, lra_program.Traces.Trace, lra_program.declared.receivers.Receiver.Receiver}
+use Rattle.lra_threads_analysis.proofs.Crates.lra_inline_sound.NextOperations.{Question, Asks, all_in}
+use Rattle.lra_threads_analysis.proofs.Crates.{lra_inline_sound.Reached.reached, lra_program.TypeLaws.bind_some}
 
 -- others change the first of these states to the second, which is as long and has the same draws
 module _ (before after : State) (long : length after.store ≡ length before.store) (draws : after.draws ≡ before.draws) where

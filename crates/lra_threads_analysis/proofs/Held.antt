@@ -1,14 +1,12 @@
 -- The value at a point of a tree that is iterated over among others is formed, and has the stores of their runs.
 use Rattle.std.proofs.Common.{◌≡◌, ℕ, ℤ, List, length, Option, Some, None, Bool, subst}
 use Rattle.std.specs.Prelude.{slice_get}
-use Rattle.lra_domain.specs.{Abstraction.Abstraction, Interference.Interference, Laws.Laws}
-use Rattle.lra_program.specs.{Program.Program, Step.State, Traces.Trace, WellFormed.AreGoodGlobals}
-use Rattle.lra_operations.specs.{Traces.to_point, Tree.Node}
-use Rattle.lra_analysis_spec.specs.{Instrumented.instrumented, Operations.lossy_operations, Pass.noted, Pass.PassUnder, Plan.Plan, UnderInterference.absorbed}
-use Rattle.lra_analysis_spec.proofs.Covers.{Has}
-use Rattle.lra_interference_sound.specs.CoversUnder.{MayBecome, stop}
-use Rattle.lra_fixpoint.specs.{Solved.IsSolvedUnder, UnderInterference.RunsUnder}
-use Rattle.lra_fixpoint.proofs.CoveringUnder.{begun_covers_among}
+use Rattle.lra_threads_analysis.specs.Crates.{lra_analysis_spec.Instrumented.instrumented, lra_analysis_spec.Operations.lossy_operations, lra_analysis_spec.Pass.noted}
+use Rattle.lra_threads_analysis.specs.Crates.{lra_analysis_spec.Pass.PassUnder, lra_analysis_spec.Plan.Plan, lra_analysis_spec.UnderInterference.absorbed, lra_domain.Abstraction.Abstraction}
+use Rattle.lra_threads_analysis.specs.Crates.{lra_domain.Interference.Interference, lra_domain.Laws.Laws, lra_fixpoint.Solved.IsSolvedUnder, lra_fixpoint.UnderInterference.RunsUnder}
+use Rattle.lra_threads_analysis.specs.Crates.{lra_interference_sound.CoversUnder.MayBecome, lra_interference_sound.CoversUnder.stop, lra_operations.Traces.to_point, lra_operations.Tree.Node}
+use Rattle.lra_threads_analysis.specs.Crates.{lra_program.Program.Program, lra_program.Step.State, lra_program.Traces.Trace, lra_program.WellFormed.AreGoodGlobals}
+use Rattle.lra_threads_analysis.proofs.Crates.{lra_analysis_spec.Covers.Has, lra_fixpoint.CoveringUnder.begun_covers_among}
 
 module _ {V H : Type 0} (o : Interference V) (m : Abstraction V H) (laws : Laws m) (plan : Plan) (P : Program) (good : AreGoodGlobals P.globals) (g tree : Node)
     (opens : tree ≡ instrumented (length P.globals) g) where

@@ -2,22 +2,20 @@
 use Rattle.std.proofs.Common.{◌≡◌, ◌∙◌, ◌<◌, ℕ, ℤ, List, length, Some, Bool, true, refl, sym, ap, subst}
 use Rattle.std.proofs.lemmas.Option.{same_Some}
 use Rattle.std.specs.{List.Contains, Prelude.slice_get}
-use Rattle.lra_linear_spec.proofs.Membership.{map_from, map_has}
-use Rattle.lra_base.specs.declared.refusals.Place.{Place}
-use Rattle.lra_domain.specs.Interference.{Interference}
-use Rattle.lra_box.specs.{Abstraction.box_abstraction, Content.BoxContent, Laws.box_laws}
-use Rattle.lra_program.specs.{Accesses.OpOutOfBounds, Program.Function, Program.Program, Run.Point, Sites.Site, Sites.sites_of, Step.State, Traces.Trace, Traces.Arrives, Traces.ViolatesAssertion}
-use Rattle.lra_operations.specs.TracesAgree.{KeepsWidth, point_at, TreeRunsUpTo, TracesAgree}
-use Rattle.lra_operations.specs.{Agree.point_of, Traces.Stop, Traces.to_point, Traces.to_failure, Traces.stopped, TreeViews.node_view, declared.tree.InlinedProgram.InlinedProgram}
-use Rattle.lra_operations.proofs.TraceUses.{renamed, goes_named}
-use Rattle.lra_inline_sound.proofs.{Agreement.traces_agree, CheckedOperations.trees_agree_on_accesses, DistinctSites.distinct_sites, NextOperations.strays}
-use Rattle.lra_analysis_spec.specs.Analysis.{IsUnreachable}
+use Rattle.lra_threads_analysis.proofs.Crates.{lra_inline_sound.Agreement.traces_agree, lra_inline_sound.CheckedOperations.trees_agree_on_accesses, lra_inline_sound.DistinctSites.distinct_sites}
+use Rattle.lra_threads_analysis.proofs.Crates.{lra_inline_sound.NextOperations.strays, lra_interference_sound.ByTrees.woven_by_trees, lra_linear_spec.Membership.map_from}
+use Rattle.lra_threads_analysis.proofs.Crates.{lra_linear_spec.Membership.map_has, lra_operations.TraceUses.renamed, lra_operations.TraceUses.goes_named}
+use Rattle.lra_threads_analysis.specs.Crates.lra_interference_sound.WritesAgree.{TreeWrites, TreesWriteWithin}
+use Rattle.lra_threads_analysis.specs.Crates.lra_interleavings.Interleavings.{thread_program, AtThread, FailsThread, OutOfBoundsThread}
+use Rattle.lra_threads_analysis.specs.Crates.lra_operations.Traces.{Stop, to_point, to_failure, stopped}
+use Rattle.lra_threads_analysis.specs.Crates.lra_operations.TracesAgree.{KeepsWidth, point_at, TreeRunsUpTo, TracesAgree}
+use Rattle.lra_threads_analysis.specs.Crates.{lra_analysis_spec.Analysis.IsUnreachable, lra_base.declared.refusals.Place.Place, lra_box.Abstraction.box_abstraction, lra_box.Content.BoxContent}
+use Rattle.lra_threads_analysis.specs.Crates.{lra_box.Laws.box_laws, lra_domain.Interference.Interference, lra_fixpoint.Tables.note_view, lra_fixpoint.UnderInterference.begins}
+use Rattle.lra_threads_analysis.specs.Crates.{lra_fixpoint.UnderInterference.RunsUnder, lra_interleavings.ThreadModular.NextOpIsThere, lra_interleavings.ThreadModular.IsThreadModular}
+use Rattle.lra_threads_analysis.specs.Crates.{lra_operations.Agree.point_of, lra_operations.TreeViews.node_view, lra_operations.declared.tree.InlinedProgram.InlinedProgram}
+use Rattle.lra_threads_analysis.specs.Crates.{lra_program.Accesses.OpOutOfBounds, lra_program.Program.Function, lra_program.Program.Program, lra_program.Run.Point, lra_program.Sites.Site}
+use Rattle.lra_threads_analysis.specs.Crates.{lra_program.Sites.sites_of, lra_program.Step.State, lra_program.Traces.Trace, lra_program.Traces.Arrives, lra_program.Traces.ViolatesAssertion}
 use Rattle.lra_threads_fixpoint.specs.{Interference.threads_interference, Rounds.ThreadsFixpoint}
-use Rattle.lra_fixpoint.specs.{Tables.note_view, UnderInterference.begins, UnderInterference.RunsUnder}
-use Rattle.lra_interleavings.specs.Interleavings.{thread_program, AtThread, FailsThread, OutOfBoundsThread}
-use Rattle.lra_interleavings.specs.ThreadModular.{NextOpIsThere, IsThreadModular}
-use Rattle.lra_interference_sound.specs.WritesAgree.{TreeWrites, TreesWriteWithin}
-use Rattle.lra_interference_sound.proofs.ByTrees.{woven_by_trees}
 use Rattle.lra_threads_analysis.specs.Found.{thread_values, verdicts_of, notes_of, access_verdicts_of, write_in, writes_in, thread_finding}
 use Rattle.lra_threads_analysis.specs.Interleaved.{IsThread, AreThreads, HoldsInterleaved, ThreadsHold}
 use Rattle.lra_threads_analysis.specs.{Holding.HoldsInRound, Holding.AllHold, Written.HasWritten, declared.found.ThreadResult.ThreadResult}

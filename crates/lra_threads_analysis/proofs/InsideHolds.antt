@@ -2,13 +2,11 @@
 use Rattle.std.proofs.Common.{◌≡◌, ◌∙◌, ℕ, List, length, Option, Some, None, Bool, true, refl, sym, ap, subst}
 use Rattle.std.proofs.lemmas.Option.{same_Some, slice_get_read}
 use Rattle.std.specs.{List.Contains, Prelude.slice_get}
-use Rattle.lra_linear_spec.proofs.Membership.{map_from}
-use Rattle.lra_base.specs.declared.refusals.Place.{Place}
-use Rattle.lra_domain.specs.{Abstraction.Abstraction, Laws.Laws}
-use Rattle.lra_program.specs.{Accesses.op_accesses_any, Accesses.OpOutOfBounds, Step.State}
-use Rattle.lra_operations.specs.{CheckedOperations.OpAtPoint, CheckedOperations.accessing_ops, CheckedOperations.HoldsAtPoint, CheckedOperations.AreOncePerPoint, Tree.Node}
-use Rattle.lra_analysis_spec.specs.{Accesses.InsideAtPoint, Accesses.JudgesAccesses, Judging.answer_of, Operations.lossy_operations}
-use Rattle.lra_analysis_spec.proofs.{AccessesSound.inside_never_stray, Covers.Has}
+use Rattle.lra_threads_analysis.proofs.Crates.{lra_analysis_spec.AccessesSound.inside_never_stray, lra_analysis_spec.Covers.Has, lra_linear_spec.Membership.map_from}
+use Rattle.lra_threads_analysis.specs.Crates.lra_operations.CheckedOperations.{OpAtPoint, accessing_ops, HoldsAtPoint, AreOncePerPoint}
+use Rattle.lra_threads_analysis.specs.Crates.{lra_analysis_spec.Accesses.InsideAtPoint, lra_analysis_spec.Accesses.JudgesAccesses, lra_analysis_spec.Judging.answer_of}
+use Rattle.lra_threads_analysis.specs.Crates.{lra_analysis_spec.Operations.lossy_operations, lra_base.declared.refusals.Place.Place, lra_domain.Abstraction.Abstraction, lra_domain.Laws.Laws}
+use Rattle.lra_threads_analysis.specs.Crates.{lra_operations.Tree.Node, lra_program.Accesses.op_accesses_any, lra_program.Accesses.OpOutOfBounds, lra_program.Step.State}
 
 -- what is reported about accesses
 abbrev Told : Type 0

@@ -14,3 +14,5 @@ pub mod Held
 pub mod InsideHolds
 -- All of it, for the threads beside each other.
 pub mod HoldBeside
+-- The crates below
+pub mod Crates

@@ -1,11 +1,10 @@
 -- What a tree's run gives on a trace with other names of its points, it gives on one with the points' own names.
 use Rattle.std.proofs.Common.{◌≡◌, ℕ, zero, suc, Bool, true, false, ◌||◌, inl, inr, refl, ap, subst}
-use Rattle.lra_base.specs.{CaseLabels.is_same_case, declared.case_labels.CaseLabel.CaseLabel}
-use Rattle.lra_program.specs.{Program.Cond, Step.State, Step.test, Traces.Trace}
-use Rattle.lra_operations.specs.Traces.{to_end, RunsUpTo, TrailRounds}
-use Rattle.lra_operations.specs.Tree.{Node, empty, probe, point, act, check, seq, choose, iterate, catch, leave, select, Arms, no_arms, entry, arm}
-use Rattle.lra_operations.proofs.TraceUses.{renamed, goes_named}
-use Rattle.lra_analysis_spec.specs.Instrumented as opened
+use Rattle.lra_threads_analysis.specs.Crates.lra_operations.Tree.{Node, empty, probe, point, act, check, seq, choose, iterate, catch, leave, select, Arms, no_arms, entry, arm}
+use Rattle.lra_threads_analysis.specs.Crates.{lra_base.CaseLabels.is_same_case, lra_base.declared.case_labels.CaseLabel.CaseLabel, lra_operations.Traces.to_end, lra_operations.Traces.RunsUpTo}
+use Rattle.lra_threads_analysis.specs.Crates.{lra_operations.Traces.TrailRounds, lra_program.Program.Cond, lra_program.Step.State, lra_program.Step.test, lra_program.Traces.Trace}
+use Rattle.lra_threads_analysis.proofs.Crates.lra_operations.TraceUses.{renamed, goes_named}
+use Rattle.lra_threads_analysis.specs.Crates.lra_analysis_spec.Instrumented as opened
 
 -- past a loop's point and its test; and once round it
 abbrev tested : ℕ → ℕ → Cond → Node

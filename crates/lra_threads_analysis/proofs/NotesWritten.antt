@@ -2,10 +2,9 @@
 use Rattle.std.proofs.Common.{◌≡◌, ◌∙◌, ◌+◌, ◌<◌, ℕ, zero, suc, ℤ, Bool, true, false, nat_eq, List, [], ◌∷◌, Option, None, Some, map, refl, ap, sym, subst, arith, inl, inr}
 use Rattle.std.proofs.{lemmas.Bool.Decides.nat_tests, lemmas.Option.same_Some, lemmas.Option.none-some, lemmas.Option.slice_get-map}
 use Rattle.std.specs.{List.Contains, Option.option_map, Prelude.if◌then◌else◌, Prelude.slice_get}
-use Rattle.lra_linear_spec.proofs.Membership.{contains_cases, contains_none}
-use Rattle.lra_box.specs.Tables.{has_bounds, bound_at, IntervalWithin}
-use Rattle.lra_box.specs.{Abstraction.BoxGamma, Bounds.InInterval, Content.BoxContent, Covering.has_wider, declared.interval.Interval.Interval}
-use Rattle.lra_box.proofs.AdmitLemmas.{bound_has}
+use Rattle.lra_threads_analysis.proofs.Crates.{lra_box.AdmitLemmas.bound_has, lra_linear_spec.Membership.contains_cases, lra_linear_spec.Membership.contains_none}
+use Rattle.lra_threads_analysis.specs.Crates.{lra_box.Abstraction.BoxGamma, lra_box.Bounds.InInterval, lra_box.Content.BoxContent, lra_box.Covering.has_wider, lra_box.Tables.has_bounds}
+use Rattle.lra_threads_analysis.specs.Crates.{lra_box.Tables.bound_at, lra_box.Tables.IntervalWithin, lra_box.declared.interval.Interval.Interval}
 use Rattle.lra_threads_fixpoint.specs.Intervals.{IntervalRow, IntervalTable, joined_option, OptionWithin, EachHas, RowWithin, TableWithin}
 use Rattle.lra_threads_fixpoint.specs.{Interference.written_to, Interference.written_from, Interference.written_by, Rounds.ResultReadings, Rounds.written_in}
 use Rattle.lra_threads_analysis.specs.Written.{HasNumber, HasWritten}

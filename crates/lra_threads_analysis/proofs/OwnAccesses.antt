@@ -2,14 +2,12 @@
 -- iteration.
 use Rattle.std.proofs.Common.{◌≡◌, ◌∙◌, ◌⊎◌, ℕ, List, Bool, Option, None, Some, refl, ap, sym, subst, inl, inr}
 use Rattle.std.proofs.lemmas.Option.{none-some}
-use Rattle.lra_box.specs.{Abstraction.box_abstraction, Content.BoxContent, Laws.box_laws}
-use Rattle.lra_base.specs.declared.refusals.Place.{Place}
-use Rattle.lra_program.specs.Accesses.{op_accesses_any}
-use Rattle.lra_operations.specs.{CheckedOperations.OpAtPoint, CheckedOperations.accessing_ops, Tree.Node}
-use Rattle.lra_analysis_spec.specs.Operations.{exact_operations, lossy_operations, straining_operations}
-use Rattle.lra_analysis_spec.specs.{Accesses.JudgesAccesses, Accesses.OpInside, Instrumented.instrumented, Judging.Finding, Judging.Finds, Judging.first_flagged}
-use Rattle.lra_analysis_spec.proofs.OneAccess.{accesses_written, accesses_strained}
-use Rattle.lra_analysis_spec.proofs.FlagLaws.{flag_stays}
+use Rattle.lra_threads_analysis.specs.Crates.lra_analysis_spec.Operations.{exact_operations, lossy_operations, straining_operations}
+use Rattle.lra_threads_analysis.specs.Crates.lra_operations.CheckedOperations.{OpAtPoint, accessing_ops}
+use Rattle.lra_threads_analysis.specs.Crates.{lra_analysis_spec.Accesses.JudgesAccesses, lra_analysis_spec.Accesses.OpInside, lra_analysis_spec.Instrumented.instrumented}
+use Rattle.lra_threads_analysis.specs.Crates.{lra_analysis_spec.Judging.Finding, lra_analysis_spec.Judging.Finds, lra_analysis_spec.Judging.first_flagged, lra_base.declared.refusals.Place.Place}
+use Rattle.lra_threads_analysis.specs.Crates.{lra_box.Abstraction.box_abstraction, lra_box.Content.BoxContent, lra_box.Laws.box_laws, lra_operations.Tree.Node, lra_program.Accesses.op_accesses_any}
+use Rattle.lra_threads_analysis.proofs.Crates.{lra_analysis_spec.FlagLaws.flag_stays, lra_analysis_spec.OneAccess.accesses_written, lra_analysis_spec.OneAccess.accesses_strained}
 use Rattle.lra_threads_instrument.proofs.InstrumentedTrees.{asks_opened}
 
 abbrev Told : Type 0

@@ -2,13 +2,10 @@
 use Rattle.std.proofs.Common.{◌≡◌, ◌∙◌, ◌<◌, ℕ, List, length, get_or, Some, sym, subst, arith}
 use Rattle.std.proofs.{lemmas.List.length-map, lemmas.Option.slice_get-get_or, lemmas.Option.slice_get_within, lemmas.Option.get_or_from_slice_get}
 use Rattle.std.specs.Prelude.{All, slice_get}
-use Rattle.lra_linear_spec.proofs.ListPlaces.{also_there}
-use Rattle.lra_box.specs.{Abstraction.box_abstraction, Content.BoxContent}
-use Rattle.lra_program.specs.Sites.{Site}
-use Rattle.lra_operations.specs.{CheckedOperations.OpAtPoint, TreeViews.site_view, declared.tree.InlinedProgram.InlinedProgram}
-use Rattle.lra_analysis_spec.specs.LiveLimit.{most_live}
-use Rattle.lra_fixpoint.specs.Lives.{AreWide}
-use Rattle.lra_overflow_checks.specs.Judged.{AreBelow}
+use Rattle.lra_threads_analysis.proofs.Crates.lra_linear_spec.ListPlaces.{also_there}
+use Rattle.lra_threads_analysis.specs.Crates.{lra_analysis_spec.LiveLimit.most_live, lra_box.Abstraction.box_abstraction, lra_box.Content.BoxContent, lra_fixpoint.Lives.AreWide}
+use Rattle.lra_threads_analysis.specs.Crates.{lra_operations.CheckedOperations.OpAtPoint, lra_operations.TreeViews.site_view, lra_operations.declared.tree.InlinedProgram.InlinedProgram}
+use Rattle.lra_threads_analysis.specs.Crates.{lra_overflow_checks.Judged.AreBelow, lra_program.Sites.Site}
 use Rattle.lra_threads_analysis.specs.Found.{sites_in}
 
 module _ (graph : InlinedProgram) (values : List BoxContent) (points : length values ≡ length graph.sites.items) where

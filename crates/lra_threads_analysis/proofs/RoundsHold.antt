@@ -2,19 +2,17 @@
 use Rattle.std.proofs.Common.{◌≡◌, ◌∙◌, ℕ, List, length, Option, None, Some, refl, ap, sym, subst, inl, inr}
 use Rattle.std.proofs.{lemmas.List.length-map, lemmas.Option.none-some, lemmas.Option.same_Some, lemmas.Option.slice_get-map}
 use Rattle.std.specs.Prelude.{slice_get, option_map}
-use Rattle.lra_domain.specs.Interference.{Interference}
-use Rattle.lra_box.specs.{Abstraction.box_abstraction, Content.BoxContent}
-use Rattle.lra_program.specs.{Program.Program, declared.program.GlobalVariable.GlobalVariable}
-use Rattle.lra_operations.specs.{Tree.Node, TreeViews.node_view, declared.tree.InlinedProgram.InlinedProgram}
-use Rattle.lra_analysis_spec.specs.{Analysis.IsSolution, Instrumented.instrumented, Plan.Plan}
-use Rattle.lra_fixpoint.specs.Solved.{IsSolvedUnder}
+use Rattle.lra_threads_analysis.specs.Crates.lra_box.Abstraction.{box_abstraction}
+use Rattle.lra_threads_analysis.specs.Crates.{lra_analysis_spec.Analysis.IsSolution, lra_analysis_spec.Instrumented.instrumented, lra_analysis_spec.Plan.Plan, lra_box.Content.BoxContent}
+use Rattle.lra_threads_analysis.specs.Crates.{lra_domain.Interference.Interference, lra_fixpoint.Solved.IsSolvedUnder, lra_operations.Tree.Node, lra_operations.TreeViews.node_view}
+use Rattle.lra_threads_analysis.specs.Crates.{lra_operations.declared.tree.InlinedProgram.InlinedProgram, lra_program.Program.Program, lra_program.declared.program.GlobalVariable.GlobalVariable}
 use Rattle.lra_threads_fixpoint.specs.{Interference.threads_interference, Rounds.AreThreadResults, Rounds.AllRounds, Rounds.ThreadsFixpoint}
 use Rattle.lra_threads_fixpoint.proofs.FlagLemmas.{unflagged, strained, settles}
 use Rattle.lra_threads_analysis.specs.Found.{AreInstrumented, HoldsOf, IsThreadResultOf, IsExactResultOf, StrainsAt, thread_finding, thread_values, verdicts_of, notes_of, access_verdicts_of}
 use Rattle.lra_threads_analysis.specs.Found.{flag_of_thread}
 use Rattle.lra_threads_analysis.specs.{Analysed.IsAnalysed, Analysed.IsAnalysedOf, Holding.AllHold, Holding.AreFlagged, Holding.HoldsInRound, declared.found.ThreadResult.ThreadResult}
 use Rattle.lra_threads_analysis.proofs.OwnAccesses.{judged_own, none_before, accessed_written, by_flag}
-use Rattle.lra_linear_spec.proofs.ListPlaces.{also_there}
+use Rattle.lra_threads_analysis.proofs.Crates.lra_linear_spec.ListPlaces.{also_there}
 use Rattle.lra_threads_analysis.proofs.{ReadyValues.as_many_sites, RoundsOf.all_told, RoundsOf.all_fit}
 
 -- an element there has its own in the list of which this is the image

@@ -1,7 +1,6 @@
 -- What rounds end with, whatever is found of each thread.
 use Rattle.std.proofs.Common.{◌≡◌, ◌-◌, ℕ, length, Option, None, List, refl}
-use Rattle.lra_domain.specs.Interference.{Interference}
-use Rattle.lra_box.specs.Content.{BoxContent}
+use Rattle.lra_threads_analysis.specs.Crates.{lra_box.Content.BoxContent, lra_domain.Interference.Interference}
 use Rattle.lra_threads_fixpoint.specs.Intervals.{IntervalTable, AreRowsWide, empty_table, next_table}
 use Rattle.lra_threads_fixpoint.specs.Rounds.{ResultReadings, IsRound, RoundsEndIn, settled, unsettled, AllRounds, ThreadsFixpoint, joining_rounds}
 use Rattle.lra_threads_fixpoint.proofs.FallLemmas.{first_table, next_fits}

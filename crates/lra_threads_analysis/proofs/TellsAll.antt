@@ -2,8 +2,8 @@
 use Rattle.std.proofs.Common.{◌≡◌, ◌≢◌, ◌<◌, ℕ, zero, suc, ℤ, [], ◌∷◌, Option, None, Some, length, refl, ap, sym, subst, arith}
 use Rattle.std.proofs.{lemmas.List.length-replicate, lemmas.Option.same_Some, lemmas.Option.none-some}
 use Rattle.std.specs.Prelude.{slice_get}
-use Rattle.lra_box.specs.{Bounds.InInterval, Tables.joined_interval, declared.interval.Interval.Interval}
-use Rattle.lra_box.proofs.AdmitLemmas.{joined_first, joined_second}
+use Rattle.lra_threads_analysis.specs.Crates.{lra_box.Bounds.InInterval, lra_box.Tables.joined_interval, lra_box.declared.interval.Interval.Interval}
+use Rattle.lra_threads_analysis.proofs.Crates.lra_box.AdmitLemmas.{joined_first, joined_second}
 use Rattle.lra_threads_fixpoint.specs.Intervals.{IntervalRow, IntervalTable, no_values, joined_option, grown_option, grown_row}
 use Rattle.lra_threads_fixpoint.specs.{Interference.others_than, Interference.joined_rows, Interference.interference_on, declared.growth.Growth.TheVariants.Join}
 use Rattle.lra_threads_fixpoint.proofs.ListLemmas.{ones_length}

@@ -1,7 +1,6 @@
 -- Note by note, what a thread writes is added.
 use Rattle.std.proofs.Common.{◌≡◌, ◌∙◌, ◌+◌, ◌≤◌, ◌<◌, ℕ, suc, List, ◌∷◌, length, map, get_or, drop, drop-cons, ap, sym, subst, arith}
-use Rattle.lra_box.specs.{Content.BoxContent, Tables.bound_at}
-use Rattle.lra_fixpoint.specs.declared.tables.Note.{Note}
+use Rattle.lra_threads_analysis.specs.Crates.{lra_box.Content.BoxContent, lra_box.Tables.bound_at, lra_fixpoint.declared.tables.Note.Note}
 use Rattle.lra_threads_fixpoint.specs.Intervals.{IntervalRow, grown_option, no_values, updated}
 use Rattle.lra_threads_fixpoint.specs.{Interference.taken_all, Interference.written_by, declared.growth.Growth.TheVariants.Join}
 use Rattle.lra_threads_fixpoint.proofs.{ListLemmas.drop_all, TakenLemmas.taken_is_written}

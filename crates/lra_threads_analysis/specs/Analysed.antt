@@ -1,13 +1,15 @@
 -- What the code finds of a thread by its graph, whose tree is instrumented already.
 use Rattle.std.specs.Prelude.{◌≡◌, ℕ, List, length, map, Some, slice_get}
-use Rattle.lra_domain.specs.Interference.{Interference}
-use Rattle.lra_box.specs.{Abstraction.box_abstraction, Content.BoxContent}
-use Rattle.lra_program.specs.Assertions.{assertions_from}
-use Rattle.lra_program.specs.{Program.Program, declared.program.GlobalVariable.GlobalVariable}
-use Rattle.lra_operations.specs.{Tree.Node, TreeViews.node_view, declared.tree.InlinedProgram.InlinedProgram}
-use Rattle.lra_analysis_spec.specs.Operations.{lossy_operations}
-use Rattle.lra_analysis_spec.specs.{Accesses.JudgesAccesses, Instrumented.instrumented, Plan.Plan}
-use Rattle.lra_fixpoint.specs.{Lives.AreWide, Lives.NotesHave, Solved.IsSolvedUnder}
+use Rattle.lra_threads_analysis.specs.Crates.lra_analysis_spec.Operations.{lossy_operations}
+use Rattle.lra_threads_analysis.specs.Crates.lra_fixpoint.Lives.{AreWide, NotesHave}
+use Rattle.lra_threads_analysis.specs.Crates.{lra_analysis_spec.Accesses.JudgesAccesses}
+use Rattle.lra_threads_analysis.specs.Crates.{lra_analysis_spec.Instrumented.instrumented, lra_analysis_spec.Plan.Plan}
+use Rattle.lra_threads_analysis.specs.Crates.{lra_box.Abstraction.box_abstraction, lra_box.Content.BoxContent}
+use Rattle.lra_threads_analysis.specs.Crates.{lra_domain.Interference.Interference, lra_fixpoint.Solved.IsSolvedUnder}
+use Rattle.lra_threads_analysis.specs.Crates.{lra_operations.Tree.Node, lra_operations.TreeViews.node_view}
+use Rattle.lra_threads_analysis.specs.Crates.{lra_operations.declared.tree.InlinedProgram.InlinedProgram}
+use Rattle.lra_threads_analysis.specs.Crates.{lra_program.Assertions.assertions_from, lra_program.Program.Program}
+use Rattle.lra_threads_analysis.specs.Crates.{lra_program.declared.program.GlobalVariable.GlobalVariable}
 use Rattle.lra_threads_analysis.specs.Found.{sites_in, thread_values, verdicts_of, notes_of, access_verdicts_of}
 use Rattle.lra_threads_analysis.specs.{Found.flag_of_thread, Found.HoldsOf, declared.found.ThreadResult.ThreadResult}
 

@@ -1,22 +1,28 @@
 -- What is found of threads, each by its tree, among what the others give.
 use Rattle.std.specs.List.{Contains}
 use Rattle.std.specs.Prelude.{◌≡◌, ◌↔◌, ◌≤◌, ◌<◌, ◌⊎◌, ℕ, List, length, map, Bool, Option, None, Some, All, slice_get}
-use Rattle.lra_domain.specs.Interference.{Interference}
-use Rattle.lra_box.specs.{Abstraction.box_abstraction, Content.BoxContent}
-use Rattle.lra_base.specs.declared.refusals.Place.{Place}
-use Rattle.lra_program.specs.declared.program.GlobalVariable.{GlobalVariable}
-use Rattle.lra_program.specs.{Program.Program, Sites.Site, WellFormed.AreGoodGlobals}
-use Rattle.lra_operations.specs.{CheckedOperations.accessing_ops, Tree.Node, TreeViews.node_view, TreeViews.site_view}
-use Rattle.lra_operations.specs.{declared.tree.InlinedProgram.InlinedProgram}
-use Rattle.lra_analysis_spec.specs.Operations.{exact_operations, lossy_operations, straining_operations}
-use Rattle.lra_analysis_spec.specs.UnderInterference.{ExactIterationUnder, StrainsUnder}
-use Rattle.lra_analysis_spec.specs.{Accesses.JudgesAccesses, Analysis.IsSolution, Instrumented.instrumented}
-use Rattle.lra_analysis_spec.specs.{LiveLimit.most_live, Pass.recorded, Pass.PassResult, Plan.Plan}
-use Rattle.lra_pass_results.specs.Dimensions.{TreeFits}
-use Rattle.lra_fixpoint.specs.{Lives.PointsHave, Numbers.IsNumbered, Solved.IsSolvedUnder, Tables.note_view}
-use Rattle.lra_fixpoint.specs.{UnderInterference.HoldsUnder, declared.tables.Note.Note}
-use Rattle.lra_overflow_checks.specs.Judged.{AreBelow}
-use Rattle.lra_base.specs.AccessVerdicts.{reported_view}
+use Rattle.lra_threads_analysis.specs.Crates.lra_analysis_spec.Accesses.{JudgesAccesses}
+use Rattle.lra_threads_analysis.specs.Crates.lra_analysis_spec.Operations.{exact_operations, lossy_operations}
+use Rattle.lra_threads_analysis.specs.Crates.lra_analysis_spec.Operations.{straining_operations}
+use Rattle.lra_threads_analysis.specs.Crates.lra_analysis_spec.Pass.{recorded, PassResult}
+use Rattle.lra_threads_analysis.specs.Crates.lra_analysis_spec.UnderInterference.{ExactIterationUnder, StrainsUnder}
+use Rattle.lra_threads_analysis.specs.Crates.lra_box.Abstraction.{box_abstraction}
+use Rattle.lra_threads_analysis.specs.Crates.lra_operations.CheckedOperations.{accessing_ops}
+use Rattle.lra_threads_analysis.specs.Crates.lra_operations.TreeViews.{node_view, site_view}
+use Rattle.lra_threads_analysis.specs.Crates.lra_operations.declared.tree.InlinedProgram.{InlinedProgram}
+use Rattle.lra_threads_analysis.specs.Crates.lra_program.WellFormed.{AreGoodGlobals}
+use Rattle.lra_threads_analysis.specs.Crates.lra_program.declared.program.GlobalVariable.{GlobalVariable}
+use Rattle.lra_threads_analysis.specs.Crates.{lra_analysis_spec.Analysis.IsSolution}
+use Rattle.lra_threads_analysis.specs.Crates.{lra_analysis_spec.Instrumented.instrumented}
+use Rattle.lra_threads_analysis.specs.Crates.{lra_analysis_spec.LiveLimit.most_live, lra_analysis_spec.Plan.Plan}
+use Rattle.lra_threads_analysis.specs.Crates.{lra_base.AccessVerdicts.reported_view}
+use Rattle.lra_threads_analysis.specs.Crates.{lra_base.declared.refusals.Place.Place, lra_box.Content.BoxContent}
+use Rattle.lra_threads_analysis.specs.Crates.{lra_domain.Interference.Interference, lra_fixpoint.Lives.PointsHave}
+use Rattle.lra_threads_analysis.specs.Crates.{lra_fixpoint.Numbers.IsNumbered, lra_fixpoint.Solved.IsSolvedUnder}
+use Rattle.lra_threads_analysis.specs.Crates.{lra_fixpoint.Tables.note_view, lra_fixpoint.UnderInterference.HoldsUnder}
+use Rattle.lra_threads_analysis.specs.Crates.{lra_fixpoint.declared.tables.Note.Note, lra_operations.Tree.Node}
+use Rattle.lra_threads_analysis.specs.Crates.{lra_overflow_checks.Judged.AreBelow, lra_pass_results.Dimensions.TreeFits}
+use Rattle.lra_threads_analysis.specs.Crates.{lra_program.Program.Program, lra_program.Sites.Site}
 use Rattle.lra_threads_fixpoint.specs.Rounds.{ResultReadings}
 use Rattle.lra_threads_analysis.specs.declared.found.ThreadResult.{ThreadResult}
 

@@ -2,15 +2,19 @@
 -- of its own program's points, from 0.
 use Rattle.std.specs.List.{Contains}
 use Rattle.std.specs.Prelude.{◌≡◌, ℕ, ℤ, List, length, Bool, true, Some, slice_get}
-use Rattle.lra_base.specs.declared.refusals.Place.{Place}
-use Rattle.lra_program.specs.{Program.Function, Program.Program, Sites.Site, Sites.sites_of, WellFormed.IsWellFormed}
-use Rattle.lra_operations.specs.Agree.{IsInlinedTree, point_of}
-use Rattle.lra_operations.specs.{Tree.Node, TreeViews.node_view, declared.tree.InlinedProgram.InlinedProgram}
-use Rattle.lra_analysis_spec.specs.{Analysis.IsUnreachable, Instrumented.instrumented}
-use Rattle.lra_box.specs.{Abstraction.box_abstraction, Content.BoxContent}
+use Rattle.lra_threads_analysis.specs.Crates.lra_analysis_spec.Analysis.{IsUnreachable}
+use Rattle.lra_threads_analysis.specs.Crates.lra_analysis_spec.Instrumented.{instrumented}
+use Rattle.lra_threads_analysis.specs.Crates.lra_box.Abstraction.{box_abstraction}
+use Rattle.lra_threads_analysis.specs.Crates.lra_interleavings.Interleavings.{thread_program, AtThread, FailsThread}
+use Rattle.lra_threads_analysis.specs.Crates.lra_interleavings.Interleavings.{OutOfBoundsThread, ThreadWritesValue}
+use Rattle.lra_threads_analysis.specs.Crates.lra_operations.Agree.{IsInlinedTree, point_of}
+use Rattle.lra_threads_analysis.specs.Crates.lra_operations.declared.tree.InlinedProgram.{InlinedProgram}
+use Rattle.lra_threads_analysis.specs.Crates.lra_program.Program.{Function, Program}
+use Rattle.lra_threads_analysis.specs.Crates.lra_program.Sites.{Site, sites_of}
+use Rattle.lra_threads_analysis.specs.Crates.lra_program.WellFormed.{IsWellFormed}
+use Rattle.lra_threads_analysis.specs.Crates.{lra_base.declared.refusals.Place.Place, lra_box.Content.BoxContent}
+use Rattle.lra_threads_analysis.specs.Crates.{lra_operations.Tree.Node, lra_operations.TreeViews.node_view}
 use Rattle.lra_threads_fixpoint.specs.Rounds.{ThreadsFixpoint}
-use Rattle.lra_interleavings.specs.Interleavings.{thread_program, AtThread, FailsThread, OutOfBoundsThread}
-use Rattle.lra_interleavings.specs.Interleavings.{ThreadWritesValue}
 use Rattle.lra_threads_analysis.specs.Found.{thread_values, verdicts_of, access_verdicts_of}
 use Rattle.lra_threads_analysis.specs.{Holding.AllHold, Written.HasWritten, declared.found.ThreadResult.ThreadResult}
 

@@ -4,3 +4,5 @@ pub mod Holding
 pub mod Analysed
 pub mod Written
 pub mod Interleaved
+-- The crates below
+pub mod Crates

@@ -1,6 +1,6 @@
 -- What threads write: the numbers in the intervals of a table.
 use Rattle.std.specs.Prelude.{◌≡◌, ℕ, ℤ, Some, slice_get}
-use Rattle.lra_box.specs.{Bounds.InInterval, declared.interval.Interval.Interval}
+use Rattle.lra_threads_analysis.specs.Crates.{lra_box.Bounds.InInterval, lra_box.declared.interval.Interval.Interval}
 use Rattle.lra_threads_fixpoint.specs.{Interference.interval_at, Intervals.IntervalRow, Intervals.IntervalTable}
 
 -- the row has an interval for the global x, and the number is in it

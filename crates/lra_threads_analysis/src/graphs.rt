@@ -2,17 +2,14 @@
 
 ghost use Rattle.std.specs.Prelude.{◌≡◌, List, length, IfOk};
 ghost use Rattle.lra_threads_fixpoint.specs.{Found.fixpoint_view, Rounds.AllRounds};
-ghost use Rattle.lra_program.specs.Program.{Program};
-ghost use Rattle.lra_operations.specs.Tree.{Node};
+ghost use Rattle.lra_threads_analysis.specs.Crates.{lra_operations.Tree.Node, lra_program.Program.Program};
 ghost use Rattle.lra_threads_analysis.specs.Found.{thread_finding, AreInstrumented, AreReady, IsThreadResultOf};
 ghost use Rattle.lra_threads_analysis.specs.{Analysed.IsAnalysedOf, Holding.AllHold, Holding.AreFlagged};
 
 use crate::found::ThreadResult;
 use lra_bounds_checks::judge_accesses;
-use lra_fixpoint::{Plan, analyse_with};
-use lra_operations::InlinedProgram;
-use lra_program::GlobalVariable;
 use lra_threads_fixpoint::{FixpointRound, Intervals, Threads, find_fixpoint};
+use lra_threads_instrument::{GlobalVariable, InlinedProgram, Plan, analyse_with};
 use std::alloc::{AllocError, Global};
 
 /// The graphs of threads over the same globals, and how they are iterated over. Their trees have been instrumented: in

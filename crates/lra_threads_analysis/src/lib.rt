@@ -9,3 +9,5 @@ mod laws;
 pub use found::ThreadResult;
 pub use graphs::{InlinedThreads, analyse_threads};
 pub use laws::threads_hold;
+pub use lra_threads_fixpoint::{FixpointRound, Interval, Intervals, Threads};
+pub use lra_threads_instrument::{InlinedProgram, instrument_program};

@@ -8,3 +8,5 @@ pub mod RoundLemmas
 pub mod FlagLemmas
 -- Worked examples: the intervals, round by round.
 mod RoundExamples
+-- The crates below
+pub mod Crates

@@ -4,3 +4,5 @@ pub mod Interference
 pub mod Rounds
 pub mod Flags
 pub mod Found
+-- The crates below
+pub mod Crates

@@ -11,4 +11,5 @@ mod tables;
 pub use growth::Growth;
 pub use intervals::Intervals;
 pub use law::one_by_one_is_at_once;
+pub use lra_box::{Boxes, Interval};
 pub use rounds::{FixpointRound, Threads, find_fixpoint};

@@ -1,10 +1,10 @@
 -- What others do, written into a small tree.
 use Rattle.std.proofs.Common.{◌≡◌, refl}
-use Rattle.lra_base.specs.{declared.case_labels.CaseLabel.TheVariants.Default, declared.number_types.NumberType.NumberType}
+use Rattle.lra_threads_instrument.specs.Crates.lra_analysis_spec.Instrumented.{instrumented}
+use Rattle.lra_threads_instrument.specs.Crates.{lra_base.declared.case_labels.CaseLabel.TheVariants.Default, lra_base.declared.number_types.NumberType.NumberType}
 use Rattle.lra_program.specs.{Program.Cond, Program.Expr, Receivers.variable_at, Step.store_value, Step.havoc, Step.truncate_to}
 use Rattle.lra_operations.specs.Tree.{probe, point, act, seq, iterate, select, no_arms, entry, arm}
 use Rattle.lra_operations.specs.declared.probes.Probe.TheVariants.{InterferencePoint, RecordWrite}
-use Rattle.lra_analysis_spec.specs.Instrumented.{instrumented}
 
 -- a loop whose body gives the first variable a value: they act before its point, before the loop and at the end of a
 -- round, and the value is noted

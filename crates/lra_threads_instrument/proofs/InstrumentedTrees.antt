@@ -1,16 +1,16 @@
 -- What others do in a tree leaves alone what is required of it, by induction over the tree.
 use Rattle.std.proofs.Common.{◌≡◌, ◌∙◌, ℕ, ◌+◌, ◌≤◌, ◌<◌, List, ◌++◌, Option, None, Some, Bool, true, false, inl, inr, refl, ap, sym, subst, arith, append-nil}
 use Rattle.std.specs.Prelude.{if◌then◌else◌, nat_lt}
-use Rattle.lra_base.specs.declared.number_types.NumberType.{NumberType}
+use Rattle.lra_threads_instrument.specs.Crates.lra_analysis_spec.Instrumented.{with_recording, instrumented, instrumented_arms}
+use Rattle.lra_threads_instrument.specs.Crates.lra_pass_results.Dimensions.{ArmsFit, ArmsJumpWith, JumpsWith, TreeFits}
+use Rattle.lra_threads_instrument.specs.Crates.{lra_analysis_spec.Live.live_after_op, lra_analysis_spec.Live.live_after, lra_analysis_spec.LiveLimit.most_live}
+use Rattle.lra_threads_instrument.specs.Crates.{lra_base.declared.number_types.NumberType.NumberType, lra_transfer.Changes.CellFits, lra_transfer.Changes.OpFitsDims, lra_transfer.Changes.PlaceFits}
 use Rattle.lra_program.specs.Step.{Op, append, fill, store_value, store_element, havoc, push, push_for, truncate_to, test}
 use Rattle.lra_program.specs.{Receivers.nobody, Sites.Site, WrittenVariables.written_variable, WrittenVariables.cell_variable, WrittenVariables.target_variable, declared.receivers.Cell.Cell}
 use Rattle.lra_program.specs.{declared.receivers.Cell.TheVariants.Variable, declared.receivers.Cell.TheVariants.Waiting, declared.receivers.Target.Target}
 use Rattle.lra_operations.specs.CheckedOperations.{ops_where, ops_where_in_arms, op_where, fresh_after}
 use Rattle.lra_operations.specs.Tree.{Exit, Node, empty, probe, point, act, check, seq, choose, iterate, catch, leave, select, Arms, no_arms, entry, arm}
 use Rattle.lra_operations.specs.declared.probes.Probe.TheVariants.{RecordWrite}
-use Rattle.lra_analysis_spec.specs.{Instrumented.with_recording, Instrumented.instrumented, Instrumented.instrumented_arms, Live.live_after_op, Live.live_after, LiveLimit.most_live}
-use Rattle.lra_transfer.specs.Changes.{CellFits, OpFitsDims, PlaceFits}
-use Rattle.lra_pass_results.specs.Dimensions.{ArmsFit, ArmsJumpWith, JumpsWith, TreeFits}
 use Rattle.lra_fixpoint.specs.{Lives.ArmsHave, Lives.PointsHave, Numbers.IsNumbered, Numbers.checks_in, Numbers.checks_in_arms, Numbers.values_in, Numbers.values_in_arms}
 
 -- the operation alone, or noted

@@ -5,3 +5,5 @@ pub mod OpenFrames
 -- Worked examples.
 mod InstrumentedExamples
 pub mod InstrumentedTrees
+-- The crates below
+pub mod Crates

@@ -3,7 +3,7 @@ use Rattle.std.proofs.Common.{◌≡◌, ◌∙◌, ℕ, ◌+◌, ◌*◌, ◌<�
 use Rattle.std.proofs.{lemmas.List.nil_from_length, lemmas.List.reverse-append, lemmas.List.reverse-reverse, lemmas.List.Sums.sum_by_push}
 use Rattle.std.specs.Prelude as outcome
 use Rattle.std.specs.{List.sum_by, Prelude.IfOk}
-use Rattle.lra_base.specs.declared.case_labels.CaseLabel.{CaseLabel}
+use Rattle.lra_threads_instrument.specs.Crates.{lra_analysis_spec.Instrumented.instrumented, lra_analysis_spec.Instrumented.instrumented_arms, lra_base.declared.case_labels.CaseLabel.CaseLabel}
 use Rattle.lra_program.specs.{ProgramViews.expr_view, declared.program.Expr.Expr}
 use Rattle.lra_operations.specs.TreeViews.{arm_view, arms_before, arms_of, node_view, row}
 use Rattle.lra_operations.specs.{Parts.whole_of, Sizes.arm_sizes, Sizes.arms_tree_sizes, Sizes.whole_size, declared.tree.Arm.Arm, declared.tree.Node.Node, declared.tree.Parts.Parts}
@@ -12,7 +12,6 @@ use Rattle.lra_operations.specs.declared.tree.Node.TheVariants as at
 use Rattle.lra_operations.specs.declared.tree.Parts.TheVariants as parts
 use Rattle.lra_operations.specs.Tree as graph
 use Rattle.lra_operations.proofs.ArmViews.{entry_seen, tree_seen}
-use Rattle.lra_analysis_spec.specs.Instrumented.{instrumented, instrumented_arms}
 use Rattle.lra_threads_instrument.specs.declared.stack.Row as of_row
 use Rattle.lra_threads_instrument.specs.declared.stack.Selection as of_select
 use Rattle.lra_threads_instrument.specs.declared.stack.Next as next

@@ -1,11 +1,13 @@
 -- A program's tree, and the same tree with what others do written into it: what is required of the one before it is
 -- passed holds of the other.
 use Rattle.std.specs.Prelude.{◌≡◌, ℕ, ◌≤◌, ◌↔◌, List, Option, Bool}
-use Rattle.lra_base.specs.declared.number_types.NumberType.{NumberType}
+use Rattle.lra_threads_instrument.specs.Crates.lra_analysis_spec.Instrumented.{instrumented}
+use Rattle.lra_threads_instrument.specs.Crates.lra_analysis_spec.Live.{live_after}
+use Rattle.lra_threads_instrument.specs.Crates.lra_analysis_spec.LiveLimit.{most_live}
+use Rattle.lra_threads_instrument.specs.Crates.lra_base.declared.number_types.NumberType.{NumberType}
+use Rattle.lra_threads_instrument.specs.Crates.lra_pass_results.Dimensions.{JumpsWith, TreeFits}
 use Rattle.lra_program.specs.{Sites.Site, Step.Op}
 use Rattle.lra_operations.specs.{CheckedOperations.ops_where, Tree.Exit, Tree.Node}
-use Rattle.lra_analysis_spec.specs.{Instrumented.instrumented, Live.live_after, LiveLimit.most_live}
-use Rattle.lra_pass_results.specs.Dimensions.{JumpsWith, TreeFits}
 use Rattle.lra_fixpoint.specs.{Lives.PointsHave, Numbers.IsNumbered}
 
 abbrev pub InstrumentKeepsLive : Type 0

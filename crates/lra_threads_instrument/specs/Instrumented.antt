@@ -5,7 +5,8 @@ use Rattle.lra_operations.specs.TreeViews.{arm_view, arms_before, arms_of, exit_
 use Rattle.lra_operations.specs.declared.probes.Probe.TheVariants.{InterferencePoint}
 use Rattle.lra_operations.specs.{declared.tree.Arm.Arm, declared.tree.Node.Node}
 use Rattle.lra_operations.specs.Tree as graph
-use Rattle.lra_analysis_spec.specs.Instrumented.{with_interference, instrumented, instrumented_arms}
+use Rattle.lra_threads_instrument.specs.Crates.lra_analysis_spec.Instrumented.{with_interference, instrumented}
+use Rattle.lra_threads_instrument.specs.Crates.lra_analysis_spec.Instrumented.{instrumented_arms}
 use Rattle.lra_threads_instrument.specs.declared.stack.Row as of_row
 use Rattle.lra_threads_instrument.specs.declared.stack.Selection as of_select
 use Rattle.lra_threads_instrument.specs.declared.stack.Next as next

@@ -2,3 +2,5 @@
 pub mod Instrumented
 pub mod StepsLeft
 pub mod InstrumentKeeps
+-- The crates below
+pub mod Crates

@@ -6,8 +6,8 @@ ghost use Rattle.lra_operations.specs.declared.probes.Probe.TheVariants.{Interfe
 ghost use Rattle.lra_operations.specs.Tree as graph;
 ghost use Rattle.lra_operations.specs.Sizes.{arm_sizes, arms_tree_sizes, whole_size};
 ghost use Rattle.lra_operations.specs.TreeViews.{arm_view, arms_of, node_view, op_view, row};
-ghost use Rattle.lra_analysis_spec.specs.Instrumented.{with_interference, with_recording, instrumented};
-ghost use Rattle.lra_analysis_spec.specs.Instrumented.{instrumented_arms};
+ghost use Rattle.lra_threads_instrument.specs.Crates.lra_analysis_spec.Instrumented.{with_interference, with_recording};
+ghost use Rattle.lra_threads_instrument.specs.Crates.lra_analysis_spec.Instrumented.{instrumented, instrumented_arms};
 ghost use Rattle.lra_program.specs.WrittenVariables.{written_variable, target_variable};
 ghost use Rattle.lra_threads_instrument.specs.Instrumented.{around, row_whole, selection_whole};
 ghost use Rattle.lra_threads_instrument.specs.StepsLeft.{place_left, row_left, selection_left, tree_left};

@@ -2,20 +2,20 @@
 use Rattle.std.proofs.Common.{◌≡◌, ◌∙◌, ◌≤◌, ℕ, ℤ, List, [], ◌∷◌, length, map, refl, sym, ap, ap₂, subst, arith}
 use Rattle.std.proofs.{lemmas.List.length-map, lemmas.Option.get_or_from_slice_get, lemmas.Option.same_Some, lemmas.Option.slice_get_within}
 use Rattle.std.specs.{List.AllZip, Prelude.Some, Prelude.slice_get}
-use Rattle.lra_syntax.specs.{Grammar.Spells, Trees.FileTree}
-use Rattle.lra_resolution_spec.specs.{RefuseThreads.AcceptsThreads, Resolve.resolved_functions, Threads.thread_places, Threads.thread_program}
-use Rattle.lra_program.specs.{Program.Function, Program.Program, ProgramViews.function_or, ProgramViews.program_view, declared.program.GlobalVariable.GlobalVariable}
-use Rattle.lra_program.specs.declared.program.Program as declared
-use Rattle.lra_operations.specs.{Agree.IsInlinedTree, Tree.Node, TreeViews.node_view, TreeViews.site_view, declared.tree.InlinedProgram.InlinedProgram}
-use Rattle.lra_front_end.specs.{Stages.HasConstants, ThreadsClaims.IsAcceptedThreads, ThreadsClaims.IsThreadTree, ThreadsStages.IsInlinedOf, ThreadsStages.IsThreadInlined}
+use Rattle.lra_threads_source.specs.Crates.{lra_analysis_spec.Instrumented.instrumented, lra_analysis_spec.Plan.Plan, lra_front_end.Stages.HasConstants, lra_front_end.ThreadsClaims.IsAcceptedThreads}
+use Rattle.lra_threads_source.specs.Crates.{lra_front_end.ThreadsClaims.IsThreadTree, lra_front_end.ThreadsStages.IsInlinedOf, lra_front_end.ThreadsStages.IsThreadInlined}
+use Rattle.lra_threads_source.specs.Crates.{lra_operations.Agree.IsInlinedTree, lra_operations.Tree.Node, lra_operations.TreeViews.node_view, lra_operations.TreeViews.site_view}
+use Rattle.lra_threads_source.specs.Crates.{lra_operations.declared.tree.InlinedProgram.InlinedProgram, lra_program.Program.Function, lra_program.Program.Program, lra_program.ProgramViews.function_or}
+use Rattle.lra_threads_source.specs.Crates.{lra_program.ProgramViews.program_view, lra_program.declared.program.GlobalVariable.GlobalVariable, lra_resolution_spec.RefuseThreads.AcceptsThreads}
+use Rattle.lra_threads_source.specs.Crates.{lra_resolution_spec.Resolve.resolved_functions, lra_resolution_spec.Threads.thread_places, lra_resolution_spec.Threads.thread_program}
+use Rattle.lra_threads_source.specs.Crates.{lra_syntax.Grammar.Spells, lra_syntax.Trees.FileTree, lra_threads_fixpoint.Rounds.AllRounds, lra_threads_fixpoint.Rounds.ThreadsFixpoint}
+use Rattle.lra_threads_source.specs.Crates.lra_program.declared.program.Program as declared
 use Rattle.lra_analyse_source.proofs.Handing.{image_of}
-use Rattle.lra_analysis_spec.specs.{Instrumented.instrumented, Plan.Plan}
-use Rattle.lra_threads_fixpoint.specs.Rounds.{AllRounds, ThreadsFixpoint}
 use Rattle.lra_threads_analysis.specs.Found.{AreInstrumented, AreReady, IsThreadResultOf, thread_finding}
 use Rattle.lra_threads_analysis.specs.{Holding.AllHold, Holding.AreFlagged, Interleaved.AreThreads, Interleaved.IsThread, Interleaved.ThreadsHold, declared.found.ThreadResult.ThreadResult}
 use Rattle.lra_threads_source.specs.ThreadsReports.{IsThreadsReportOf, shared_program, thread_functions, threads_plan}
 use Rattle.lra_threads_source.specs.{Listed.ShowsThreads, Listed.thread_place, Stages.AreGraphsOf, Stages.AreOfGraphs, Stages.IsFlagIn, Stages.IsInstrumented, ThreadsText.ThreadsReport}
-use Rattle.lra_linear_spec.proofs.ListPlaces.{there_within}
+use Rattle.lra_threads_source.proofs.Crates.lra_linear_spec.ListPlaces.{there_within}
 use Rattle.lra_threads_source.proofs.{FlaggedPoints.flag_there, Handed.of_graphs, Readying.are_graphs, Readying.are_ready, Readying.graph_at, Readying.zip_at, Readying.zip_viewed}
 
 -- the globals as they are handed on

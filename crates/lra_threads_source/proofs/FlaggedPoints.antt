@@ -2,17 +2,17 @@
 use Rattle.std.proofs.Common.{◌≡◌, ◌∙◌, ◌≤◌, ◌<◌, ◌+◌, ◌-◌, ℕ, suc, Bool, List, [], ◌∷◌, length, refl, sym, ap, subst, arith}
 use Rattle.std.proofs.lemmas.Option.{slice_get_past, slice_get_within}
 use Rattle.std.specs.{List.Contains, Prelude.⊤, Prelude.Option, Prelude.None, Prelude.Some, Prelude.slice_get}
-use Rattle.lra_domain.specs.Interference.{Interference}
-use Rattle.lra_box.specs.{Abstraction.box_abstraction, Content.BoxContent}
-use Rattle.lra_base.specs.declared.refusals.Place.{Place}
-use Rattle.lra_program.specs.{Program.Program, Sites.Site, Sites.sites_of}
-use Rattle.lra_operations.specs.{Agree.IsInlinedTree, CheckedOperations.accessing_ops, Tree.Node}
-use Rattle.lra_analysis_spec.specs.{Accesses.JudgesAccesses, Accesses.OpInside, Instrumented.instrumented, Operations.lossy_operations, Plan.Plan, UnderInterference.absorbed}
-use Rattle.lra_fixpoint.specs.{Counts.failing_at, Counts.values_at, Numbers.IsNumbered, Numbers.asserts_of, Numbers.values_in}
-use Rattle.lra_fixpoint.proofs.Counting.{counted_value, failing_counted, pass_found, value_counted}
-use Rattle.lra_threads_instrument.proofs.InstrumentedTrees.{numbered_of}
-use Rattle.lra_threads_fixpoint.specs.Intervals.{IntervalTable, empty_table, next_table}
-use Rattle.lra_threads_fixpoint.specs.Rounds.{AllRounds, AreThreadResults, ResultReadings, IsRound, RoundsEndIn, ThreadsFixpoint, first_flag, flag_of, flag_so_far, joining_rounds, settled, unsettled}
+use Rattle.lra_threads_source.specs.Crates.lra_analysis_spec.Accesses.{JudgesAccesses, OpInside}
+use Rattle.lra_threads_source.specs.Crates.lra_fixpoint.Numbers.{IsNumbered, asserts_of, values_in}
+use Rattle.lra_threads_source.specs.Crates.lra_threads_fixpoint.Intervals.{IntervalTable, empty_table, next_table}
+use Rattle.lra_threads_source.specs.Crates.lra_threads_fixpoint.Rounds.{AllRounds, AreThreadResults, ResultReadings, IsRound, RoundsEndIn, ThreadsFixpoint, first_flag, flag_of, flag_so_far}
+use Rattle.lra_threads_source.specs.Crates.lra_threads_fixpoint.Rounds.{joining_rounds, settled, unsettled}
+use Rattle.lra_threads_source.specs.Crates.{lra_analysis_spec.Instrumented.instrumented, lra_analysis_spec.Operations.lossy_operations, lra_analysis_spec.Plan.Plan}
+use Rattle.lra_threads_source.specs.Crates.{lra_analysis_spec.UnderInterference.absorbed, lra_base.declared.refusals.Place.Place, lra_box.Abstraction.box_abstraction, lra_box.Content.BoxContent}
+use Rattle.lra_threads_source.specs.Crates.{lra_domain.Interference.Interference, lra_fixpoint.Counts.failing_at, lra_fixpoint.Counts.values_at, lra_operations.Agree.IsInlinedTree}
+use Rattle.lra_threads_source.specs.Crates.{lra_operations.CheckedOperations.accessing_ops, lra_operations.Tree.Node, lra_program.Program.Program, lra_program.Sites.Site, lra_program.Sites.sites_of}
+use Rattle.lra_threads_source.proofs.Crates.lra_fixpoint.Counting.{counted_value, failing_counted, pass_found, value_counted}
+use Rattle.lra_threads_source.proofs.Crates.lra_threads_instrument.InstrumentedTrees.{numbered_of}
 use Rattle.lra_analyse_source.proofs.{Flags.IsBelow, Flags.graph_below, Flags.iteration_among_below, Found.flagged_below, Found.found_of, Found.point_below, Handing.no_longer, Numbering.numbered}
 use Rattle.lra_threads_analysis.specs.Found.{IsThreadResult, IsThreadResultOf, flag_of_thread, thread_finding, access_verdicts_of, thread_values, verdicts_of}
 use Rattle.lra_threads_analysis.specs.declared.found.ThreadResult.{ThreadResult}

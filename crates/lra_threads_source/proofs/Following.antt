@@ -2,15 +2,12 @@
 -- paths begin at `main`.
 use Rattle.std.proofs.Common.{◌≡◌, ◌≤◌, ◌<◌, ◌+◌, ◌^◌, ℕ, zero, suc, Bool, List, [], ◌∷◌, ◌++◌, length, map, refl, ap, arith}
 use Rattle.std.specs.{List.AllByRecursion, List.flat_map, Prelude.All, Prelude.Vec, declared.alloc.Global.Global}
-use Rattle.lra_base.specs.declared.refusals.Place.{Place}
-use Rattle.lra_syntax.specs.Labels.{Labelled}
-use Rattle.lra_program.specs.Sites.{Site}
+use Rattle.lra_threads_source.specs.Crates.lra_report_build.AnalysisResults.{access_verdicts, access_verdicts_at, site_at, verdict_at}
+use Rattle.lra_threads_source.specs.Crates.{lra_base.AccessVerdicts.reported_view, lra_base.declared.refusals.Place.Place, lra_program.Sites.Site, lra_syntax.Labels.Labelled}
 use Rattle.lra_report.specs.declared.verdict_kinds.VerdictKind.TheVariants.{Assertion, Fit}
 use Rattle.lra_report.specs.{Listing.AreListed, Report.PointReport, Report.Verdict, declared.verdict_kinds.VerdictKind.VerdictKind}
 use Rattle.lra_report.proofs.Every.{every_append}
-use Rattle.lra_base.specs.AccessVerdicts.{reported_view}
-use Rattle.lra_report_build.specs.{AnalysisResults.access_verdicts, AnalysisResults.access_verdicts_at, AnalysisResults.site_at, AnalysisResults.verdict_at}
-use Rattle.lra_report_build.proofs.PolyhedronShown.{each_of}
+use Rattle.lra_threads_source.proofs.Crates.lra_report_build.PolyhedronShown.{each_of}
 use Rattle.lra_threads_source.specs.Stages.{CanFollow}
 
 -- all that is so of the view of each is so of it

@@ -2,13 +2,11 @@
 use Rattle.std.proofs.Common.{◌≡◌, ◌∙◌, ◌≤◌, ◌<◌, ◌+◌, ℕ, suc, Bool, true, false, List, [], ◌∷◌, length, map, sym, subst, arith}
 use Rattle.std.proofs.{lemmas.List.length-map, lemmas.Option.same_Some}
 use Rattle.std.specs.{List.AllByRecursion, Prelude.Some, Prelude.slice_get, Prelude.if◌then◌else◌}
-use Rattle.lra_base.specs.declared.refusals.Place.{Place}
-use Rattle.lra_program.specs.{Assertions.assertions_from, Program.Program, Sites.Site, declared.program.GlobalVariable.GlobalVariable}
-use Rattle.lra_operations.specs.{Tree.Node, TreeViews.node_view, TreeViews.site_view, declared.tree.InlinedProgram.InlinedProgram}
-use Rattle.lra_linear_spec.proofs.ListPlaces.{by_recursion}
-use Rattle.lra_analysis_spec.specs.Instrumented.{instrumented}
-use Rattle.lra_base.specs.AccessVerdicts.{reported_view}
-use Rattle.lra_threads_fixpoint.specs.Rounds.{ThreadsFixpoint}
+use Rattle.lra_threads_source.specs.Crates.lra_operations.TreeViews.{node_view, site_view}
+use Rattle.lra_threads_source.specs.Crates.{lra_analysis_spec.Instrumented.instrumented, lra_base.AccessVerdicts.reported_view, lra_base.declared.refusals.Place.Place, lra_operations.Tree.Node}
+use Rattle.lra_threads_source.specs.Crates.{lra_operations.declared.tree.InlinedProgram.InlinedProgram, lra_program.Assertions.assertions_from, lra_program.Program.Program, lra_program.Sites.Site}
+use Rattle.lra_threads_source.specs.Crates.{lra_program.declared.program.GlobalVariable.GlobalVariable, lra_threads_fixpoint.Rounds.ThreadsFixpoint}
+use Rattle.lra_threads_source.proofs.Crates.lra_linear_spec.ListPlaces.{by_recursion}
 use Rattle.lra_threads_analysis.specs.Found.{sites_in, access_verdicts_of, thread_values, verdicts_of}
 use Rattle.lra_threads_analysis.specs.{Holding.AllHold, Holding.HoldsInRound, declared.found.ThreadResult.ThreadResult}
 use Rattle.lra_threads_source.specs.Stages.{AreOfGraphs, IsOfGraph, points_in}

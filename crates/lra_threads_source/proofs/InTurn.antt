@@ -3,8 +3,7 @@ use Rattle.std.proofs.Common.{◌≡◌, ◌∙◌, ◌≤◌, ◌<◌, ◌+◌,
 use Rattle.std.proofs.lemmas.List.Elements.{Contains-append_cases, Contains-append_left, Contains-append_right}
 use Rattle.std.proofs.{lemmas.Bool.cases_lt, lemmas.List.at_drop_all, lemmas.List.at_drop_more, lemmas.Option.none-some, lemmas.Option.same_Some}
 use Rattle.std.specs.{List.Contains, Prelude.Some, Prelude.slice_get}
-use Rattle.lra_program.proofs.AccessLaws.{get_right}
-use Rattle.lra_linear_spec.proofs.Membership.{contains_none}
+use Rattle.lra_threads_source.proofs.Crates.{lra_linear_spec.Membership.contains_none, lra_program.AccessLaws.get_right}
 use Rattle.lra_threads_source.specs.Listed.{one_by_one}
 
 -- one thread more

@@ -9,3 +9,5 @@ pub mod Handed
 pub mod Sound
 pub mod Strained
 pub mod Answered
+-- The crates below
+pub mod Crates

@@ -1,12 +1,11 @@
 -- In a tree with what others do, whose points are numbered below m, each operation belongs to such a point.
 use Rattle.std.proofs.{Common.◌≡◌, Common.◌≤◌, Common.◌<◌, Common.◌+◌, Common.ℕ, Common.Bool, Common.true, Common.false, Common.inl, Common.inr, Common.arith, lemmas.Bool.cases_lt}
 use Rattle.std.specs.Prelude.{Option, None, Some, nat_lt, if◌then◌else◌}
-use Rattle.lra_program.specs.{Step.Op, WrittenVariables.written_variable}
-use Rattle.lra_operations.specs.Tree.{Node, empty, probe, point, act, check, seq, choose, iterate, catch, leave, select, Arms, no_arms, entry, arm}
-use Rattle.lra_operations.specs.declared.probes.Probe.TheVariants.{RecordWrite}
-use Rattle.lra_analysis_spec.specs.Instrumented.{with_recording, instrumented, instrumented_arms}
-use Rattle.lra_fixpoint.specs.Numbers.{ArmsAreBelow, AreBelow, values_in, values_in_arms}
-use Rattle.lra_fixpoint.proofs.Counting.{one_same}
+use Rattle.lra_threads_source.specs.Crates.lra_analysis_spec.Instrumented.{with_recording, instrumented, instrumented_arms}
+use Rattle.lra_threads_source.specs.Crates.lra_fixpoint.Numbers.{ArmsAreBelow, AreBelow, values_in, values_in_arms}
+use Rattle.lra_threads_source.specs.Crates.lra_operations.Tree.{Node, empty, probe, point, act, check, seq, choose, iterate, catch, leave, select, Arms, no_arms, entry, arm}
+use Rattle.lra_threads_source.specs.Crates.{lra_operations.declared.probes.Probe.TheVariants.RecordWrite, lra_program.Step.Op, lra_program.WrittenVariables.written_variable}
+use Rattle.lra_threads_source.proofs.Crates.lra_fixpoint.Counting.{one_same}
 
 module _ (m : ℕ) where
   abbrev NoValues : Node → Type 0

@@ -2,10 +2,9 @@
 use Rattle.std.proofs.Common.{◌≡◌, ◌∙◌, ◌≤◌, ◌+◌, ℕ, zero, suc, List, [], ◌∷◌, length, take, refl, sym, ap, subst, arith}
 use Rattle.std.proofs.{lemmas.List.length-map, lemmas.List.Sums.sum_by-cons, lemmas.List.Sums.sum_by_more_le, lemmas.Option.get_or_from_slice_get, lemmas.Option.slice_get_within}
 use Rattle.std.specs.{List.sum_by, Prelude.Option, Prelude.Some, Prelude.None, Prelude.option_map, Prelude.slice_get}
-use Rattle.lra_syntax.specs.Trees.{FileTree}
-use Rattle.lra_resolution_spec.specs.{Refuse.greatest_points, Threads.thread_places, Threads.thread_program}
-use Rattle.lra_program.specs.Sites.{sites_of}
-use Rattle.lra_operations.specs.{TreeViews.site_view, declared.tree.InlinedProgram.InlinedProgram}
+use Rattle.lra_threads_source.specs.Crates.lra_resolution_spec.Refuse.{greatest_points}
+use Rattle.lra_threads_source.specs.Crates.lra_resolution_spec.Threads.{thread_places, thread_program}
+use Rattle.lra_threads_source.specs.Crates.{lra_operations.TreeViews.site_view, lra_operations.declared.tree.InlinedProgram.InlinedProgram, lra_program.Sites.sites_of, lra_syntax.Trees.FileTree}
 use Rattle.lra_threads_source.specs.{Listed.number_in, Listed.points_before, Listed.thread_place, Stages.AreGraphsOf, Stages.points_in}
 
 -- sums of as many terms that are the same

@@ -4,22 +4,20 @@ use Rattle.std.proofs.lemmas.Option.{get_or_from_slice_get, none-some, same_Some
 use Rattle.std.proofs.{Math.Seq.take-length, lemmas.List.length-map, lemmas.List.Sums.sum_by-cons}
 use Rattle.std.specs.Prelude.{All, None, Some, Vec, slice_get, ◌&&◌, not, if◌then◌else◌}
 use Rattle.std.specs.{List.AllZip, List.Contains, List.flat_map, List.sum_by, declared.alloc.Global.Global}
-use Rattle.lra_front_end.proofs.Faultless.{none_right}
-use Rattle.lra_base.specs.declared.refusals.Refusal.{Refusal}
-use Rattle.lra_syntax.specs.{Functions.functions_of, Labels.labels_of, Trees.FileTree}
-use Rattle.lra_resolution_spec.specs.Threads.{has_thread, thread_events, thread_faults, thread_name, thread_places, thread_places_from, thread_program}
-use Rattle.lra_resolution_spec.specs.{NameFaults.parts_faults, Refuse.greatest_points, Refuse.limit_fault, Resolve.function_place}
-use Rattle.lra_program.specs.Sites.{Event, Site, comes, events_of, one_call_more, event_sites, sites_of}
-use Rattle.lra_program.specs.{Accesses.op_accesses_any, Program.Program, WellFormed.AreGoodGlobals, declared.program.GlobalVariable.GlobalVariable}
-use Rattle.lra_operations.specs.{CheckedOperations.OpAtPoint, CheckedOperations.accessing_ops, Tree.Node, TreeViews.node_view, TreeViews.site_view, declared.tree.InlinedProgram.InlinedProgram}
-use Rattle.lra_operations.specs.declared.tree.Site as declared
-use Rattle.lra_analysis_spec.specs.{Instrumented.instrumented, LiveLimit.most_live, Plan.Plan}
-use Rattle.lra_overflow_checks.specs.Judged.{AreBelow}
-use Rattle.lra_pass_results.specs.Dimensions.{TreeFits}
-use Rattle.lra_fixpoint.specs.{Lives.PointsHave, Numbers.IsNumbered}
-use Rattle.lra_threads_instrument.proofs.InstrumentedTrees.{asks_opened, fits_of, numbered_of, points_of}
+use Rattle.lra_threads_source.proofs.Crates.lra_front_end.Faultless.{none_right}
+use Rattle.lra_threads_source.proofs.Crates.lra_threads_instrument.InstrumentedTrees.{asks_opened, fits_of, numbered_of, points_of}
+use Rattle.lra_threads_source.specs.Crates.lra_program.Sites.{Event, Site, comes, events_of, one_call_more, event_sites, sites_of}
+use Rattle.lra_threads_source.specs.Crates.lra_resolution_spec.Refuse.{greatest_points, limit_fault}
+use Rattle.lra_threads_source.specs.Crates.lra_resolution_spec.Threads.{has_thread, thread_events, thread_faults, thread_name, thread_places, thread_places_from, thread_program}
+use Rattle.lra_threads_source.specs.Crates.{lra_analysis_spec.Instrumented.instrumented, lra_analysis_spec.LiveLimit.most_live, lra_analysis_spec.Plan.Plan, lra_base.declared.refusals.Refusal.Refusal}
+use Rattle.lra_threads_source.specs.Crates.{lra_fixpoint.Lives.PointsHave, lra_fixpoint.Numbers.IsNumbered, lra_front_end.ThreadsStages.IsInlinedOf, lra_front_end.ThreadsStages.IsThreadInlined}
+use Rattle.lra_threads_source.specs.Crates.{lra_operations.CheckedOperations.OpAtPoint, lra_operations.CheckedOperations.accessing_ops, lra_operations.Tree.Node, lra_operations.TreeViews.node_view}
+use Rattle.lra_threads_source.specs.Crates.{lra_operations.TreeViews.site_view, lra_operations.declared.tree.InlinedProgram.InlinedProgram, lra_overflow_checks.Judged.AreBelow}
+use Rattle.lra_threads_source.specs.Crates.{lra_pass_results.Dimensions.TreeFits, lra_program.Accesses.op_accesses_any, lra_program.Program.Program, lra_program.WellFormed.AreGoodGlobals}
+use Rattle.lra_threads_source.specs.Crates.{lra_program.declared.program.GlobalVariable.GlobalVariable, lra_resolution_spec.NameFaults.parts_faults, lra_resolution_spec.Resolve.function_place}
+use Rattle.lra_threads_source.specs.Crates.{lra_syntax.Functions.functions_of, lra_syntax.Labels.labels_of, lra_syntax.Trees.FileTree}
+use Rattle.lra_threads_source.specs.Crates.lra_operations.declared.tree.Site as declared
 use Rattle.lra_analyse_source.proofs.{Fitting.few_globals, Fitting.tree_fits, Flags.graph_below, Found.asked_one, Numbering.numbered, ReportSteps.few_behind, Widths.graph_lives}
-use Rattle.lra_front_end.specs.ThreadsStages.{IsInlinedOf, IsThreadInlined}
 use Rattle.lra_threads_analysis.specs.Found.{AreReady, IsReady, sites_in as points_of_graph}
 use Rattle.lra_threads_source.specs.{Listed.thread_sites, Stages.AreGraphsOf, Stages.IsInstrumented, Stages.points_in, ThreadsReports.shared_program}
 use Rattle.lra_threads_source.proofs.PointNumbers.{same_sums}

@@ -3,26 +3,23 @@ use Rattle.std.proofs.Common.{◌≡◌, ◌∙◌, ◌≤◌, ◌<◌, ◌+◌,
 use Rattle.std.proofs.lemmas.Option.{get_or_from_slice_get, same_Some, slice_get-map, slice_get_within}
 use Rattle.std.proofs.{lemmas.List.length-map, lemmas.List.Elements.Contains-append_cases, lemmas.List.Sums.sum_by-cons}
 use Rattle.std.specs.{List.Contains, List.sum_by, Prelude.Option, Prelude.Some, Prelude.IsTrue, Prelude.option_map, Prelude.slice_get}
-use Rattle.lra_linear_spec.proofs.Membership.{contains_cases, contains_head, contains_none, map_from}
-use Rattle.lra_base.specs.declared.refusals.Place.{Place}
-use Rattle.lra_box.specs.{Abstraction.box_abstraction, Content.BoxContent, declared.interval.Interval.Interval}
-use Rattle.lra_syntax.specs.{Labels.Labelled, Labels.labels_of, Trees.FileTree}
-use Rattle.lra_resolution_spec.specs.{LiveNames.globals_named, Resolve.resolved_functions, Threads.thread_places, Threads.thread_program}
-use Rattle.lra_program.specs.{Program.Function, Program.Program, ProgramViews.function_or, Sites.Site, Sites.sites_of}
-use Rattle.lra_operations.specs.{Agree.IsInlinedTree, Agree.point_of, Tree.Node}
+use Rattle.lra_threads_source.proofs.Crates.lra_front_end.Named.{globals_as_many}
+use Rattle.lra_threads_source.proofs.Crates.lra_linear_spec.ListPlaces.{contains_at, there_within, flat_map_from}
+use Rattle.lra_threads_source.proofs.Crates.lra_linear_spec.Membership.{contains_cases, contains_head, contains_none, map_from}
+use Rattle.lra_threads_source.specs.Crates.lra_interleavings.Interleavings.{AtThread, FailsThread, ThreadWritesValue, OutOfBoundsThread}
+use Rattle.lra_threads_source.specs.Crates.lra_report_build.AnalysisResults.{access_verdicts, access_verdicts_at, site_at, state_of, verdict_at}
+use Rattle.lra_threads_source.specs.Crates.lra_resolution_spec.Threads.{thread_places, thread_program}
+use Rattle.lra_threads_source.specs.Crates.lra_threads_fixpoint.Interference.{interval_at, threads_interference}
+use Rattle.lra_threads_source.specs.Crates.{lra_base.declared.refusals.Place.Place, lra_box.Abstraction.box_abstraction, lra_box.Content.BoxContent, lra_box.declared.interval.Interval.Interval}
+use Rattle.lra_threads_source.specs.Crates.{lra_front_end.ThreadsClaims.IsThreadTree, lra_operations.Agree.IsInlinedTree, lra_operations.Agree.point_of, lra_operations.Tree.Node}
+use Rattle.lra_threads_source.specs.Crates.{lra_program.Program.Function, lra_program.Program.Program, lra_program.ProgramViews.function_or, lra_program.Sites.Site, lra_program.Sites.sites_of}
+use Rattle.lra_threads_source.specs.Crates.{lra_report_build.Shown.shown_state, lra_resolution_spec.LiveNames.globals_named, lra_resolution_spec.Resolve.resolved_functions, lra_syntax.Labels.Labelled}
+use Rattle.lra_threads_source.specs.Crates.{lra_syntax.Labels.labels_of, lra_syntax.Trees.FileTree, lra_threads_fixpoint.Rounds.ThreadsFixpoint}
 use Rattle.lra_report.specs.declared.verdict_kinds.VerdictKind.TheVariants.{Assertion, Access}
 use Rattle.lra_report.specs.{Listing.listed_verdict, Report.InvariantHolds, Report.Invariant, Report.PointReport, Report.Verdict, declared.verdict_kinds.VerdictKind.VerdictKind}
-use Rattle.lra_front_end.proofs.Named.{globals_as_many}
-use Rattle.lra_report_build.specs.AnalysisResults.{access_verdicts, access_verdicts_at, site_at, state_of, verdict_at}
-use Rattle.lra_report_build.specs.Shown.{shown_state}
-use Rattle.lra_linear_spec.proofs.ListPlaces.{contains_at, there_within, flat_map_from}
-use Rattle.lra_analyse_source.proofs.Handing.{image_of}
-use Rattle.lra_analyse_source.proofs.Reports.{listed_length}
-use Rattle.lra_interleavings.specs.Interleavings.{AtThread, FailsThread, ThreadWritesValue, OutOfBoundsThread}
-use Rattle.lra_threads_fixpoint.specs.{Interference.interval_at, Interference.threads_interference, Rounds.ThreadsFixpoint}
+use Rattle.lra_analyse_source.proofs.{Handing.image_of, Reports.listed_length}
 use Rattle.lra_threads_analysis.specs.Found.{IsThreadResultOf, thread_finding, access_verdicts_of, thread_values, verdicts_of}
 use Rattle.lra_threads_analysis.specs.{Interleaved.HoldsInterleaved, declared.found.ThreadResult.ThreadResult}
-use Rattle.lra_front_end.specs.ThreadsClaims.{IsThreadTree}
 use Rattle.lra_threads_source.specs.Listed.{AreListedAlone, ShowsPoints, accesses_alone, assertions_alone, number_in, point_in_thread, points_before, reported_points, one_by_one, thread_place}
 use Rattle.lra_threads_source.specs.Listed.{thread_sites, verdict_in_thread, reported_verdicts, reported_write, reported_writes}
 use Rattle.lra_threads_source.specs.ThreadsReports.{BreaksThread, HoldsInInterleavings, IsPointOf, IsThreadsReportOf, IsReportedWrite, ThreadsAreSound, shared_program, thread_functions, threads_plan}

@@ -2,10 +2,10 @@
 -- exceeds a limit.
 use Rattle.std.proofs.{Common.◌≡◌, Common.◌∙◌, Common.ℕ, Common.List, Common.refl, Common.sym, lemmas.Option.none-some, lemmas.Option.same_Some}
 use Rattle.std.specs.Prelude.{Option, None, Some, option_map}
-use Rattle.lra_resolution_spec.specs.Threads.{thread_program}
+use Rattle.lra_threads_source.specs.Crates.lra_resolution_spec.Threads.{thread_program}
 use Rattle.lra_threads_source.specs.ThreadsReports.{AreDefinedThreads, FlaggedThreadsStrain, IsThreadsReportOf, StrainsAtNumber, UnflaggedThreadsAreDefined, shared_program, threads_plan}
 use Rattle.lra_threads_source.specs.{Listed.number_in, Listed.thread_place, Listed.thread_sites, ThreadsText.ThreadsReport}
-use Rattle.lra_linear_spec.proofs.ListPlaces.{there_within}
+use Rattle.lra_threads_source.proofs.Crates.lra_linear_spec.ListPlaces.{there_within}
 use Rattle.lra_threads_source.proofs.{FlaggedPoints.flag_there, Sound.tree_at}
 
 -- a number that is reported is that of a flag

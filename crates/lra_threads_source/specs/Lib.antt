@@ -5,3 +5,5 @@ pub mod ThreadsView
 pub mod Listed
 pub mod ThreadsReports
 pub mod Stages
+-- The crates below
+pub mod Crates

@@ -1,21 +1,23 @@
 -- What is known of the threads of a source before and after the rounds, as the report asks it.
 use Rattle.std.specs.List.{AllZip, flat_map, sum_by}
 use Rattle.std.specs.Prelude.{◌≡◌, ◌≤◌, ◌<◌, ◌+◌, ◌++◌, ◌^◌, ℕ, List, length, map, codes, All, Some, slice_get}
-use Rattle.lra_box.specs.Abstraction.{box_abstraction}
-use Rattle.lra_syntax.specs.{Grammar.Spells, Labels.labels_of, Trees.FileTree, Views.tree_view}
-use Rattle.lra_resolution_spec.specs.Threads.{thread_places, thread_program}
-use Rattle.lra_resolution_spec.specs.{Refuse.greatest_points, RefuseThreads.AcceptsThreads}
-use Rattle.lra_program.specs.ProgramViews.{program_view}
-use Rattle.lra_operations.specs.{TreeViews.node_view, declared.tree.InlinedProgram.InlinedProgram}
+use Rattle.lra_threads_source.specs.Crates.lra_base.AccessVerdicts.{reported_view}
+use Rattle.lra_threads_source.specs.Crates.lra_box.Abstraction.{box_abstraction}
+use Rattle.lra_threads_source.specs.Crates.lra_front_end.ThreadsStages.{IsThreadInlined}
+use Rattle.lra_threads_source.specs.Crates.lra_front_end.declared.threads_front.AcceptedThreads.{AcceptedThreads}
+use Rattle.lra_threads_source.specs.Crates.lra_operations.declared.tree.InlinedProgram.{InlinedProgram}
+use Rattle.lra_threads_source.specs.Crates.lra_program.ProgramViews.{program_view}
+use Rattle.lra_threads_source.specs.Crates.lra_report_build.AnalysisResults.{access_verdicts_at, verdict_at}
+use Rattle.lra_threads_source.specs.Crates.lra_resolution_spec.Refuse.{greatest_points}
+use Rattle.lra_threads_source.specs.Crates.lra_resolution_spec.RefuseThreads.{AcceptsThreads}
+use Rattle.lra_threads_source.specs.Crates.lra_resolution_spec.Threads.{thread_places, thread_program}
+use Rattle.lra_threads_source.specs.Crates.{lra_analysis_spec.Instrumented.instrumented, lra_fixpoint.Lives.AreWide}
+use Rattle.lra_threads_source.specs.Crates.{lra_front_end.Stages.HasConstants, lra_operations.TreeViews.node_view}
+use Rattle.lra_threads_source.specs.Crates.{lra_report_build.declared.listing.Findings.Findings}
+use Rattle.lra_threads_source.specs.Crates.{lra_syntax.Grammar.Spells, lra_syntax.Labels.labels_of}
+use Rattle.lra_threads_source.specs.Crates.{lra_syntax.Trees.FileTree, lra_syntax.Views.tree_view}
 use Rattle.lra_report.specs.Report.{Verdict}
 use Rattle.lra_report.specs.declared.verdict_kinds.VerdictKind.TheVariants.{Assertion, Fit}
-use Rattle.lra_front_end.specs.declared.threads_front.AcceptedThreads.{AcceptedThreads}
-use Rattle.lra_front_end.specs.{Stages.HasConstants, ThreadsStages.IsThreadInlined}
-use Rattle.lra_report_build.specs.AnalysisResults.{access_verdicts_at, verdict_at}
-use Rattle.lra_base.specs.AccessVerdicts.{reported_view}
-use Rattle.lra_report_build.specs.declared.listing.Findings.{Findings}
-use Rattle.lra_analysis_spec.specs.Instrumented.{instrumented}
-use Rattle.lra_fixpoint.specs.Lives.{AreWide}
 use Rattle.lra_threads_analysis.specs.Found.{sites_in, thread_values, verdicts_of}
 use Rattle.lra_threads_analysis.specs.declared.found.ThreadResult.{ThreadResult}
 use Rattle.lra_threads_source.specs.Listed.{thread_sites}

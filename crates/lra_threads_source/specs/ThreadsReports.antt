@@ -2,22 +2,25 @@
 -- that claims of the threads beside each other. Threads and points are counted from 0 here.
 use Rattle.std.specs.List.{Contains}
 use Rattle.std.specs.Prelude.{◌≡◌, ◌<◌, ◌+◌, ℕ, suc, ℤ, List, length, map, None, Some, slice_get, IsTrue}
-use Rattle.lra_box.specs.Bounds.{InInterval}
-use Rattle.lra_syntax.specs.Trees.{FileTree}
-use Rattle.lra_resolution_spec.specs.Threads.{thread_places, thread_program}
-use Rattle.lra_resolution_spec.specs.{LiveNames.globals_named, Resolve.resolved_functions}
-use Rattle.lra_program.specs.{Program.Function, Program.Program, ProgramViews.function_or, Run.Point, Sites.Site}
-use Rattle.lra_operations.specs.{Agree.point_of, Tree.Node}
+use Rattle.lra_threads_source.specs.Crates.lra_analysis_spec.Plan.{Plan, plan_of}
+use Rattle.lra_threads_source.specs.Crates.lra_front_end.ThreadsClaims.{IsAcceptedThreads}
+use Rattle.lra_threads_source.specs.Crates.lra_interleavings.Interleavings.{AtThread, FailsThread, ThreadWritesValue}
+use Rattle.lra_threads_source.specs.Crates.lra_interleavings.Interleavings.{OutOfBoundsThread}
+use Rattle.lra_threads_source.specs.Crates.lra_program.Program.{Function, Program}
+use Rattle.lra_threads_source.specs.Crates.lra_resolution_spec.Resolve.{resolved_functions}
+use Rattle.lra_threads_source.specs.Crates.lra_resolution_spec.Threads.{thread_places, thread_program}
+use Rattle.lra_threads_source.specs.Crates.lra_threads_fixpoint.Flags.{ComesToStrain}
+use Rattle.lra_threads_source.specs.Crates.lra_threads_fixpoint.Rounds.{AllRounds, ThreadsFixpoint, joining_rounds}
+use Rattle.lra_threads_source.specs.Crates.{lra_box.Bounds.InInterval, lra_front_end.Stages.HasConstants}
+use Rattle.lra_threads_source.specs.Crates.{lra_operations.Agree.point_of, lra_operations.Tree.Node}
+use Rattle.lra_threads_source.specs.Crates.{lra_program.ProgramViews.function_or, lra_program.Run.Point}
+use Rattle.lra_threads_source.specs.Crates.{lra_program.Sites.Site, lra_resolution_spec.LiveNames.globals_named}
+use Rattle.lra_threads_source.specs.Crates.{lra_syntax.Trees.FileTree, lra_threads_fixpoint.Intervals.empty_table}
 use Rattle.lra_options.specs.OptionRows.{default_options}
 use Rattle.lra_options.specs.{declared.options.Domain.TheVariants.Box, declared.options.Options.Options}
 use Rattle.lra_report.specs.Report.{PointReport, Verdict, InvariantHolds}
 use Rattle.lra_report.specs.declared.verdict_kinds.VerdictKind.{VerdictKind}
 use Rattle.lra_report.specs.declared.verdict_kinds.VerdictKind.TheVariants.{Assertion, Fit, Access}
-use Rattle.lra_front_end.specs.{Stages.HasConstants, ThreadsClaims.IsAcceptedThreads}
-use Rattle.lra_analysis_spec.specs.Plan.{Plan, plan_of}
-use Rattle.lra_interleavings.specs.Interleavings.{AtThread, FailsThread, ThreadWritesValue, OutOfBoundsThread}
-use Rattle.lra_threads_fixpoint.specs.Rounds.{AllRounds, ThreadsFixpoint, joining_rounds}
-use Rattle.lra_threads_fixpoint.specs.{Flags.ComesToStrain, Intervals.empty_table}
 use Rattle.lra_threads_analysis.specs.Found.{IsThreadResultOf, IsExactResultOf, StrainsAt, thread_finding}
 use Rattle.lra_threads_analysis.specs.Interleaved.{HoldsInterleaved}
 use Rattle.lra_threads_analysis.specs.{Holding.AreFlagged, declared.found.ThreadResult.ThreadResult}

@@ -3,7 +3,7 @@
 -- have one the interval of the values that the thread gives it.
 use Rattle.std.specs.Prelude.{ℕ, ℤ, List, ◌++◌, codes, Option, None, Some}
 use Rattle.std.specs.{Fmt.decimal, Fmt.signed_decimal, List.flat_map}
-use Rattle.lra_row_text.specs.Texts.{text_line}
+use Rattle.lra_threads_source.specs.Crates.lra_row_text.Texts.{text_line}
 use Rattle.lra_report.specs.Report.{PointReport, Verdict}
 use Rattle.lra_report.specs.ReportText.{counts_line, flag_text, point_text, verdict_text}
 

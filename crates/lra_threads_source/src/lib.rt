@@ -9,5 +9,6 @@ mod threads_report;
 
 pub use laws::threads_are_right;
 pub use listing::{ThreadsOutline, list};
+pub use lra_analyse_source::analyse_source;
 pub use text::{ThreadsReport, Writes, threads_text};
 pub use threads_report::threads_source;

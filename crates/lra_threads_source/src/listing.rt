@@ -3,14 +3,16 @@
 ghost use Rattle.std.specs.List.{flat_map, sum_by};
 ghost use Rattle.std.specs.Prelude.{◌≡◌, ◌++◌, ◌<◌, ◌≤◌, ◌+◌, ◌^◌, ℕ, suc, length, map, take, drop, All, Some, IfOk};
 ghost use Rattle.std.specs.Prelude.{option_map, slice_get, string_bytes, codes, List};
-ghost use Rattle.lra_syntax.specs.{Labels.labels_of, Views.tree_view};
-ghost use Rattle.lra_resolution_spec.specs.{LiveNames.globals_named, Refuse.greatest_points};
+ghost use Rattle.lra_threads_source.specs.Crates.lra_resolution_spec.LiveNames.{globals_named};
+ghost use Rattle.lra_threads_source.specs.Crates.lra_resolution_spec.Refuse.{greatest_points};
+ghost use Rattle.lra_threads_source.specs.Crates.{lra_syntax.Labels.labels_of, lra_syntax.Views.tree_view};
 ghost use Rattle.lra_report.specs.Report as report;
 ghost use Rattle.lra_report.specs.View.{point_report_of, verdict_of};
 ghost use Rattle.lra_report.specs.declared.verdict_kinds.VerdictKind.TheVariants.{Assertion, Fit};
-ghost use Rattle.lra_report_build.specs.AnalysisResults.{access_verdicts_at, verdict_at};
-ghost use Rattle.lra_base.specs.AccessVerdicts.{reported_view};
-ghost use Rattle.lra_threads_fixpoint.specs.{Found.fixpoint_view, Interference.interval_at};
+ghost use Rattle.lra_threads_source.specs.Crates.lra_base.AccessVerdicts.{reported_view};
+ghost use Rattle.lra_threads_source.specs.Crates.lra_report_build.AnalysisResults.{access_verdicts_at, verdict_at};
+ghost use Rattle.lra_threads_source.specs.Crates.lra_threads_fixpoint.Found.{fixpoint_view};
+ghost use Rattle.lra_threads_source.specs.Crates.lra_threads_fixpoint.Interference.{interval_at};
 ghost use Rattle.lra_threads_source.specs.Listed.{accesses_alone, all_verdicts, all_writes, assertions_alone};
 ghost use Rattle.lra_threads_source.specs.Listed.{number_in, point_in_thread, points_before, reported_points};
 ghost use Rattle.lra_threads_source.specs.Listed.{one_by_one, thread_path, thread_sites, verdict_in_thread};
@@ -21,17 +23,11 @@ ghost use Rattle.lra_threads_source.specs.Stages.{IsJudgedIn, IsOfGraph, judged_
 ghost use Rattle.lra_threads_source.specs.ThreadsView.{threads_report_of, writes_of};
 
 use crate::text::{ThreadsReport, Writes};
-use lra_box::Interval;
-use lra_operations::InlinedProgram;
-use lra_report::{PointReport, Verdict};
-use lra_report_build::{
-    Findings, list_points, list_verdicts, names_of_globals, number_of, states_of,
+use lra_analyse_source::{
+    Findings, Names, list_points, list_verdicts, names_of_globals, number_of, states_of,
 };
-use lra_resolution_spec::Labels;
-use lra_row_text::Names;
-use lra_syntax::TranslationUnit;
-use lra_threads_analysis::ThreadResult;
-use lra_threads_fixpoint::{FixpointRound, Intervals};
+use lra_report::{Labels, PointReport, TranslationUnit, Verdict};
+use lra_threads_analysis::{FixpointRound, InlinedProgram, Interval, Intervals, ThreadResult};
 use std::alloc::{AllocError, Global};
 
 /// What a report lists of threads: their source's tree, the table of its labels, and the graph of each of them.

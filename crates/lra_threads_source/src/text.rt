@@ -6,10 +6,10 @@ ghost use Rattle.lra_report.specs.{ReportText.flag_text, ReportText.is_unknown, 
 ghost use Rattle.lra_threads_source.specs.ThreadsText as told;
 ghost use Rattle.lra_threads_source.specs.ThreadsView.{threads_report_of, writes_of};
 
-use lra_box::Interval;
 use lra_report::{
     PointReport, Verdict, count_unknown, push_counts, push_flag, push_points, push_verdicts,
 };
+use lra_threads_analysis::Interval;
 use std::alloc::{AllocError, Global};
 use std::fmt::Write;
 

@@ -2,22 +2,17 @@
 
 ghost use Rattle.std.specs.List.{AllZip};
 ghost use Rattle.std.specs.Prelude.{◌≡◌, ◌<◌, ◌+◌, ◌^◌, ℕ, List, length, IfOk};
-ghost use Rattle.lra_base.specs.Refused.{IfRefused};
-ghost use Rattle.lra_syntax.specs.Grammar.{Spells};
-ghost use Rattle.lra_resolution_spec.specs.RefuseThreads.{RefuseThreads};
+ghost use Rattle.lra_threads_source.specs.Crates.lra_resolution_spec.RefuseThreads.{RefuseThreads};
+ghost use Rattle.lra_threads_source.specs.Crates.{lra_base.Refused.IfRefused, lra_syntax.Grammar.Spells};
 ghost use Rattle.lra_threads_source.specs.Stages.{AreThreadsInstrumented, IsInstrumented, IsReadOf};
 ghost use Rattle.lra_threads_source.specs.ThreadsReports as threaded;
 ghost use Rattle.lra_threads_source.specs.{ThreadsReports.IsThreadsReportOf, ThreadsView.threads_report_of};
 
 use crate::listing::{ThreadsOutline, list};
 use crate::text::ThreadsReport;
-use lra_base::SourceError;
-use lra_fixpoint::Plan;
-use lra_front_end::{AcceptedThreads, read_threads};
-use lra_operations::InlinedProgram;
+use lra_analyse_source::{AcceptedThreads, Plan, SourceError, read_threads};
 use lra_options::{Domain, Options, default_options};
-use lra_threads_analysis::{analyse_threads, threads_hold};
-use lra_threads_instrument::instrument_program;
+use lra_threads_analysis::{InlinedProgram, analyse_threads, instrument_program, threads_hold};
 use std::alloc::{AllocError, Global};
 use std::mem;
 

@@ -3,11 +3,11 @@ use Rattle.std.proofs.Common.{◌≡◌, ℕ, zero, suc, ◌+◌, ◌<◌, ◌�
 use Rattle.std.proofs.{lemmas.List.map_more, lemmas.List.take_all, lemmas.List.drop_more, lemmas.List.drop_all, lemmas.Result.IfOk-weaker}
 use Rattle.std.specs.Prelude.{not, IfOk}
 use Rattle.std.specs.Prelude as handed
-use Rattle.lra_domain.specs.{Abstraction.Abstraction, declared.Exactness.Exactness}
+use Rattle.lra_transfer.specs.Crates.lra_analysis_spec.Operations.{lossy_operations}
+use Rattle.lra_transfer.specs.Crates.{lra_analysis_spec.Moves.Takes, lra_analysis_spec.MovesOf.guard, lra_domain.Abstraction.Abstraction, lra_domain.declared.Exactness.Exactness}
 use Rattle.lra_program.specs.declared.program.Cond as declared_cond
 use Rattle.lra_program.specs.{Program.Cond, ProgramViews.all_of, ProgramViews.any_of, ProgramViews.cond_view}
-use Rattle.lra_analysis_spec.specs.{Moves.Takes, MovesOf.guard, Operations.lossy_operations}
-use Rattle.lra_analysis_spec.proofs.Takes.{then_takes}
+use Rattle.lra_transfer.proofs.Crates.lra_analysis_spec.Takes.{then_takes}
 use Rattle.lra_linearize.specs.Conditions.{in_turn_of, either_of}
 use Rattle.lra_linearize.proofs.CondSizes.{cond_size, chain_size, size_in}
 use Rattle.lra_transfer.specs.Splits.{TakesTo, SplitsBy, AreJoinedTo, AreJoinedBack, AllKeptHave, IsEitherSoFar}

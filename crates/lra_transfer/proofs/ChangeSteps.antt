@@ -1,20 +1,23 @@
 -- Steps of the proofs on changes of values.
 use Rattle.std.proofs.Common.{◌≡◌, ℕ, suc, ◌+◌, ◌-◌, ◌≤◌, ◌<◌, List, ◌∷◌, Some, length, refl, sym, ap, ◌∙◌, subst, arith}
 use Rattle.std.proofs.lemmas.List.{length-replicate, length-set}
-use Rattle.lra_linear_forms.specs.{Form.Form, declared.test.Test.Test}
-use Rattle.lra_domain.specs.{Abstraction.Abstraction, Abstraction.TransfersTo, Abstraction.worse, Actions.Action, Actions.assign, Actions.embed, Actions.remove_last, Actions.dims_after, Actions.test}
-use Rattle.lra_domain.specs.{Changes.AllCanBeMade, Moves.Moves, Moves.stay, Moves.make, Moves.dims_moved, Parts.CapsWithin, declared.Exactness.Exactness, declared.Exactness.TheVariants.Exact}
+use Rattle.lra_transfer.specs.Crates.lra_analysis_spec.Linear.{constant_form, comparison_test}
+use Rattle.lra_transfer.specs.Crates.lra_analysis_spec.Linearization.{Divides, LinearizedFits, linearized, subtracted, linearized_difference}
+use Rattle.lra_transfer.specs.Crates.lra_analysis_spec.MovesOf.{test_action, in_turn, in_case, first_case, second_case, in_cases, above_least, below_greatest, within_type, set_to, append_set}
+use Rattle.lra_transfer.specs.Crates.lra_analysis_spec.MovesOf.{set_cell, set_target}
+use Rattle.lra_transfer.specs.Crates.lra_analysis_spec.declared.linearization.Linearized.TheVariants.{Linear, Divided, Unseen}
+use Rattle.lra_transfer.specs.Crates.lra_domain.Abstraction.{Abstraction, TransfersTo, worse}
+use Rattle.lra_transfer.specs.Crates.lra_domain.Actions.{Action, assign, embed, remove_last, dims_after, test}
+use Rattle.lra_transfer.specs.Crates.lra_domain.Moves.{Moves, stay, make, dims_moved}
+use Rattle.lra_transfer.specs.Crates.{lra_analysis_spec.LiveLimit.most_live, lra_analysis_spec.Operations.lossy_operations, lra_analysis_spec.declared.linearization.Division.Division}
+use Rattle.lra_transfer.specs.Crates.{lra_analysis_spec.declared.linearization.Linearized.Linearized, lra_base.OperatorViews.comparison_view, lra_base.declared.number_types.NumberType.NumberType}
+use Rattle.lra_transfer.specs.Crates.{lra_base.declared.number_types.NumberType.TheVariants.Int, lra_base.declared.operators.Comparison.Comparison, lra_domain.Changes.AllCanBeMade}
+use Rattle.lra_transfer.specs.Crates.{lra_domain.Parts.CapsWithin, lra_domain.declared.Exactness.Exactness, lra_domain.declared.Exactness.TheVariants.Exact, lra_linear_forms.Form.Form}
+use Rattle.lra_transfer.specs.Crates.{lra_linear_forms.declared.test.Test.Test, lra_linear_spec.declared.ConKind.TheVariants.Ge}
 use Rattle.lra_program.specs.{Program.Expr, declared.receivers.Cell.Cell, declared.receivers.Cell.TheVariants.Variable, declared.receivers.Target.Target}
-use Rattle.lra_analysis_spec.specs.Linear.{constant_form, comparison_test}
-use Rattle.lra_analysis_spec.specs.Linearization.{Divides, LinearizedFits, linearized, subtracted, linearized_difference}
-use Rattle.lra_analysis_spec.specs.MovesOf.{test_action, in_turn, in_case, first_case, second_case, in_cases, above_least, below_greatest, within_type, set_to, append_set, set_cell, set_target}
-use Rattle.lra_analysis_spec.specs.declared.linearization.Linearized.TheVariants.{Linear, Divided, Unseen}
-use Rattle.lra_analysis_spec.specs.{LiveLimit.most_live, Operations.lossy_operations, declared.linearization.Division.Division, declared.linearization.Linearized.Linearized}
-use Rattle.lra_base.specs.{OperatorViews.comparison_view, declared.number_types.NumberType.NumberType, declared.number_types.NumberType.TheVariants.Int, declared.operators.Comparison.Comparison}
 use Rattle.lra_linearize.proofs.GuardThresholdSteps.{test_wide}
-use Rattle.lra_linear_spec.specs.declared.ConKind.TheVariants.{Ge}
 use Rattle.std.specs.Prelude.{ℤ, pos, negsuc, neg_ℤ, ◌-ℤ◌, replicate, slice_set}
-use Rattle.lra_analysis_spec.proofs.DivisionLemmas.{constant_form_wide, constant_length, extended_length, opposite_length, room, seen_fits, subtracted_fits}
+use Rattle.lra_transfer.proofs.Crates.lra_analysis_spec.DivisionLemmas.{constant_form_wide, constant_length, extended_length, opposite_length, room, seen_fits, subtracted_fits}
 use Rattle.lra_transfer.specs.Changes.{Does, Stays, CellFits}
 
 -- one change alone

@@ -2,12 +2,12 @@
 use Rattle.std.proofs.Common.{◌≡◌, ◌∙◌, ℕ, ℤ, Bool, refl, ap, sym}
 use Rattle.std.specs.Prelude.{IfOk}
 use Rattle.std.specs.Prelude as handed
-use Rattle.lra_base.specs.Operators.{Comparison, equal}
-use Rattle.lra_domain.specs.{Abstraction.Abstraction, Moves.Moves, declared.Exactness.Exactness, declared.Exactness.TheVariants.Exact}
-use Rattle.lra_analysis_spec.specs.MovesOf.{comparison_as, split_moves, comparison_moves, number_moves}
-use Rattle.lra_analysis_spec.specs.declared.linearization.Linearized.TheVariants.{Linear, Divided, Unseen}
-use Rattle.lra_analysis_spec.specs.{Linear.constant_form, Linearization.subtracted, Moves.Takes, Operations.lossy_operations, declared.linearization.Linearized.Linearized}
-use Rattle.lra_analysis_spec.proofs.Takes.{takes_made}
+use Rattle.lra_transfer.specs.Crates.lra_analysis_spec.MovesOf.{comparison_as, split_moves, comparison_moves, number_moves}
+use Rattle.lra_transfer.specs.Crates.lra_analysis_spec.declared.linearization.Linearized.TheVariants.{Linear, Divided, Unseen}
+use Rattle.lra_transfer.specs.Crates.{lra_analysis_spec.Linear.constant_form, lra_analysis_spec.Linearization.subtracted, lra_analysis_spec.Moves.Takes, lra_analysis_spec.Operations.lossy_operations}
+use Rattle.lra_transfer.specs.Crates.{lra_analysis_spec.declared.linearization.Linearized.Linearized, lra_base.Operators.Comparison, lra_base.Operators.equal, lra_domain.Abstraction.Abstraction}
+use Rattle.lra_transfer.specs.Crates.{lra_domain.Moves.Moves, lra_domain.declared.Exactness.Exactness, lra_domain.declared.Exactness.TheVariants.Exact}
+use Rattle.lra_transfer.proofs.Crates.lra_analysis_spec.Takes.{takes_made}
 use Rattle.lra_transfer.specs.Changes.{Does}
 use Rattle.lra_transfer.proofs.SideSteps.{leaves_as}
 

@@ -2,9 +2,10 @@
 use Rattle.std.proofs.Common.{◌≡◌, ℕ, suc, ◌+◌, ℤ, List, ◌∷◌, length, refl, ap, ◌∙◌, subst, arith}
 use Rattle.std.proofs.lemmas.List.{length-replicate}
 use Rattle.std.specs.Prelude.{pos}
-use Rattle.lra_linear_forms.specs.Form.{Form}
-use Rattle.lra_domain.specs.{Abstraction.Abstraction, Abstraction.TransfersTo, Abstraction.worse, Actions.assign, Actions.embed, Parts.CapsWithin, declared.Exactness.Exactness}
-use Rattle.lra_analysis_spec.specs.{Linear.constant_form, MovesOf.within_type, MovesOf.append_set, MovesOf.first_values, declared.linearization.Linearized.TheVariants.Linear}
+use Rattle.lra_transfer.specs.Crates.lra_analysis_spec.MovesOf.{within_type, append_set, first_values}
+use Rattle.lra_transfer.specs.Crates.lra_domain.Abstraction.{Abstraction, TransfersTo, worse}
+use Rattle.lra_transfer.specs.Crates.{lra_analysis_spec.Linear.constant_form, lra_analysis_spec.declared.linearization.Linearized.TheVariants.Linear, lra_domain.Actions.assign}
+use Rattle.lra_transfer.specs.Crates.{lra_domain.Actions.embed, lra_domain.Parts.CapsWithin, lra_domain.declared.Exactness.Exactness, lra_linear_forms.Form.Form}
 use Rattle.lra_program.specs.declared.program.GlobalVariable.{GlobalVariable}
 use Rattle.lra_transfer.specs.Changes.{Does}
 use Rattle.lra_transfer.proofs.ChangeSteps.{done_one}

@@ -4,3 +4,5 @@ mod ChainSteps
 pub mod ChangeSteps
 mod GlobalSteps
 pub mod OperationWidths
+-- The crates below
+pub mod Crates

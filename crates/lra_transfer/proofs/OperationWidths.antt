@@ -1,20 +1,22 @@
 -- How many dimensions values have after moves.
 use Rattle.std.proofs.Common.{◌≡◌, ℕ, ℤ, zero, suc, ◌+◌, ◌-◌, List, [], ◌∷◌, length, Option, Some, None, Bool, true, false, refl, ap, ◌∙◌, arith}
 use Rattle.std.specs.Prelude.{not}
-use Rattle.lra_base.specs.Operators.{Comparison, below, at_most, above, at_least, equal, differs}
-use Rattle.lra_base.specs.{declared.number_types.NumberType.NumberType, declared.number_types.NumberType.TheVariants.Int, declared.number_types.NumberType.TheVariants.Long}
+use Rattle.lra_transfer.specs.Crates.lra_analysis_spec.Linearization.{linearized, subtracted, linearized_difference}
+use Rattle.lra_transfer.specs.Crates.lra_analysis_spec.MovesOf.{within_type, set_to, append_set, set_target, push_all, drop_last, moves_of, first_values, test_action, test_moves, case_moves, set_cell}
+use Rattle.lra_transfer.specs.Crates.lra_analysis_spec.MovesOf.{linearized_moves, split_moves, comparison_moves, comparison_as, guard, value_moves}
+use Rattle.lra_transfer.specs.Crates.lra_analysis_spec.declared.linearization.Linearized.TheVariants.{Linear, Divided, Unseen}
+use Rattle.lra_transfer.specs.Crates.lra_base.Operators.{Comparison, below, at_most, above, at_least, equal, differs}
+use Rattle.lra_transfer.specs.Crates.lra_base.declared.number_types.NumberType.TheVariants.{Int, Long}
+use Rattle.lra_transfer.specs.Crates.lra_domain.Moves.{Moves, stay, make, first_then, join_of, dims_moved}
+use Rattle.lra_transfer.specs.Crates.{lra_analysis_spec.Linear.comparison_test, lra_analysis_spec.Live.live_after_op, lra_analysis_spec.Moves.AreMade, lra_analysis_spec.Operations.lossy_operations}
+use Rattle.lra_transfer.specs.Crates.{lra_analysis_spec.Pass.OpTransfer, lra_analysis_spec.Pass.Filters, lra_analysis_spec.Pass.ValueIs, lra_analysis_spec.declared.linearization.Division.Division}
+use Rattle.lra_transfer.specs.Crates.{lra_analysis_spec.declared.linearization.Linearized.Linearized, lra_base.declared.number_types.NumberType.NumberType, lra_domain.Abstraction.Abstraction}
+use Rattle.lra_transfer.specs.Crates.{lra_domain.Actions.embed, lra_domain.declared.Exactness.Exactness, lra_linear_forms.declared.test.Test.Test}
 use Rattle.lra_program.specs.{Program.Expr, Program.Cond, Program.literal, Program.compare, Program.nonzero, Program.opposite, Program.both_of, Program.either_of, Step.Op, Step.append, Step.fill}
 use Rattle.lra_program.specs.{Step.store_value, Step.store_element, Step.havoc, Step.push_for, Step.truncate_to, Step.test, Value.Argument, declared.program.GlobalVariable.GlobalVariable}
 use Rattle.lra_program.specs.{declared.receivers.Cell.Cell, declared.receivers.Cell.TheVariants.Variable, declared.receivers.Cell.TheVariants.Waiting, declared.receivers.Target.Target}
 use Rattle.lra_program.specs.Step as step
-use Rattle.lra_domain.specs.{Abstraction.Abstraction, Actions.embed, Moves.Moves, Moves.stay, Moves.make, Moves.first_then, Moves.join_of, Moves.dims_moved, declared.Exactness.Exactness}
-use Rattle.lra_linear_forms.specs.declared.test.Test.{Test}
-use Rattle.lra_analysis_spec.specs.Linear as linear
-use Rattle.lra_analysis_spec.specs.MovesOf.{within_type, set_to, append_set, set_target, push_all, drop_last, moves_of, first_values, test_action, test_moves, case_moves, set_cell, linearized_moves}
-use Rattle.lra_analysis_spec.specs.MovesOf.{split_moves, comparison_moves, comparison_as, guard, value_moves}
-use Rattle.lra_analysis_spec.specs.declared.linearization.Linearized.TheVariants.{Linear, Divided, Unseen}
-use Rattle.lra_analysis_spec.specs.{Linear.comparison_test, Linearization.linearized, Linearization.subtracted, Linearization.linearized_difference, Live.live_after_op, Moves.AreMade}
-use Rattle.lra_analysis_spec.specs.{Operations.lossy_operations, Pass.OpTransfer, Pass.Filters, Pass.ValueIs, declared.linearization.Division.Division, declared.linearization.Linearized.Linearized}
+use Rattle.lra_transfer.specs.Crates.lra_analysis_spec.Linear as linear
 use Rattle.lra_transfer.proofs.ChangeSteps.{cases_dims, set_dims}
 
 -- moves ----------------------------------------------------------------------------------------------------------------

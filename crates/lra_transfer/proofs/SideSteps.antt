@@ -2,16 +2,15 @@
 use Rattle.std.proofs.Common.{rules, Box, Vec, Global, map, ◌≡◌, ℕ, List, ◌∷◌, Bool, true, false, sym, ap, subst, ◌∙◌}
 use Rattle.std.specs.Prelude.{not, IfOk}
 use Rattle.std.specs.Prelude as handed
-use Rattle.lra_base.specs.declared.operators.Comparison as declared_comparison
-use Rattle.lra_base.specs.OperatorViews.{comparison_view}
-use Rattle.lra_domain.specs.{Abstraction.Abstraction, Moves.Moves, Moves.first_then, Moves.join_of, declared.Exactness.Exactness}
+use Rattle.lra_transfer.specs.Crates.lra_base.declared.operators.Comparison as declared_comparison
+use Rattle.lra_transfer.specs.Crates.{lra_analysis_spec.Moves.Takes, lra_analysis_spec.MovesOf.guard, lra_analysis_spec.Operations.lossy_operations, lra_base.OperatorViews.comparison_view}
+use Rattle.lra_transfer.specs.Crates.{lra_domain.Abstraction.Abstraction, lra_domain.Moves.Moves, lra_domain.Moves.first_then, lra_domain.Moves.join_of, lra_domain.declared.Exactness.Exactness}
 use Rattle.lra_program.specs.declared.program.Cond as declared_cond
 use Rattle.lra_program.specs.declared.program.Cond.{Compare, Nonzero, Opposite, All, Any, the_lemmas}
 use Rattle.lra_program.specs.{Program.compare, Program.nonzero, Program.opposite, Program.Cond, ProgramViews.all_of, ProgramViews.any_of, ProgramViews.cond_view, ProgramViews.expr_view}
 use Rattle.lra_program.specs.declared.program.Expr as declared_expr
 use Rattle.lra_linearize.proofs.CondSteps.{all_view, any_view}
-use Rattle.lra_analysis_spec.specs.{Moves.Takes, MovesOf.guard, Operations.lossy_operations}
-use Rattle.lra_analysis_spec.proofs.Takes.{then_takes, join_takes}
+use Rattle.lra_transfer.proofs.Crates.lra_analysis_spec.Takes.{then_takes, join_takes}
 use Rattle.lra_transfer.specs.{Splits.TakesTo, Splits.SplitsBy, Splits.AreJoinedTo, declared.splits.ConditionSplit.ConditionSplit, declared.splits.Kept.Kept}
 
 -- the views of the forms, by the conditions in them

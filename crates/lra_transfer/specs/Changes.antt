@@ -1,11 +1,13 @@
 -- Changes of values, in the derivation with drops.
 use Rattle.std.specs.Prelude.{◌≡◌, ℕ, ◌+◌, ◌<◌, ◌≤◌, ⊤, length, Option, None, Some}
-use Rattle.lra_domain.specs.Actions.{Action, dims_after}
-use Rattle.lra_domain.specs.{Abstraction.Abstraction, Changes.CanBeMade, Moves.Moves, declared.Exactness.Exactness}
+use Rattle.lra_transfer.specs.Crates.lra_domain.Actions.{Action, dims_after}
+use Rattle.lra_transfer.specs.Crates.{lra_analysis_spec.LiveLimit.most_live, lra_analysis_spec.Moves.AreMade}
+use Rattle.lra_transfer.specs.Crates.{lra_analysis_spec.Operations.lossy_operations, lra_analysis_spec.Pass.OpTransfer}
+use Rattle.lra_transfer.specs.Crates.{lra_domain.Abstraction.Abstraction, lra_domain.Changes.CanBeMade}
+use Rattle.lra_transfer.specs.Crates.{lra_domain.Moves.Moves, lra_domain.declared.Exactness.Exactness}
 use Rattle.lra_program.specs.Step.{Op, append, fill, store_value, store_element, havoc, push, push_for, truncate_to}
 use Rattle.lra_program.specs.declared.receivers.Cell.TheVariants.{Variable, Waiting}
 use Rattle.lra_program.specs.{Step.test, declared.receivers.Cell.Cell, declared.receivers.Target.Target}
-use Rattle.lra_analysis_spec.specs.{LiveLimit.most_live, Moves.AreMade, Operations.lossy_operations, Pass.OpTransfer}
 
 -- the moves lead from the first value to the second one, with this exactness
 abbrev pub Does : {V H : Type 0} → Abstraction V H → Moves → V → Exactness → V → Type 0

@@ -1,2 +1,4 @@
 pub mod Splits
 pub mod Changes
+-- The crates below
+pub mod Crates

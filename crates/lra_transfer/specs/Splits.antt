@@ -1,8 +1,10 @@
 -- Both sides of a condition at once, each with the exactness of what led to it.
 use Rattle.std.specs.Prelude.{◌≡◌, ℕ, Bool, not, List, [], ◌∷◌}
-use Rattle.lra_domain.specs.{Abstraction.Abstraction, Abstraction.worse, Moves.Moves, declared.Exactness.Exactness}
+use Rattle.lra_transfer.specs.Crates.lra_analysis_spec.Operations.{lossy_operations}
+use Rattle.lra_transfer.specs.Crates.lra_domain.Abstraction.{Abstraction, worse}
+use Rattle.lra_transfer.specs.Crates.{lra_analysis_spec.Moves.Takes, lra_analysis_spec.MovesOf.guard}
+use Rattle.lra_transfer.specs.Crates.{lra_domain.Moves.Moves, lra_domain.declared.Exactness.Exactness}
 use Rattle.lra_program.specs.Program.{Cond}
-use Rattle.lra_analysis_spec.specs.{Moves.Takes, MovesOf.guard, Operations.lossy_operations}
 use Rattle.lra_linearize.specs.Conditions.{either_of}
 use Rattle.lra_transfer.specs.{declared.splits.ConditionSplit.ConditionSplit, declared.splits.Kept.Kept}
 

@@ -1,16 +1,14 @@
 //! What is done to a value in a division's two cases.
 
 ghost use Rattle.std.specs.Prelude.{◌≡◌, ◌≤◌, ◌<◌, ◌+◌, length, IfOk, OnOk};
-ghost use Rattle.lra_domain.specs.Actions.{assign};
-ghost use Rattle.lra_domain.specs.Changes.{action_of, actions_of, AllCanBeMade, dims_after_actions};
-ghost use Rattle.lra_analysis_spec.specs.MovesOf.{in_turn, first_case, second_case, in_case, in_cases};
-ghost use Rattle.lra_analysis_spec.specs.{Linearization.Divides, LiveLimit.most_live};
+ghost use Rattle.lra_transfer.specs.Crates.lra_analysis_spec.LiveLimit.{most_live};
+ghost use Rattle.lra_transfer.specs.Crates.lra_analysis_spec.MovesOf.{in_turn, first_case, second_case, in_case};
+ghost use Rattle.lra_transfer.specs.Crates.lra_analysis_spec.MovesOf.{in_cases};
+ghost use Rattle.lra_transfer.specs.Crates.lra_domain.Changes.{action_of, actions_of, AllCanBeMade, dims_after_actions};
+ghost use Rattle.lra_transfer.specs.Crates.{lra_analysis_spec.Linearization.Divides, lra_domain.Actions.assign};
 ghost use Rattle.lra_transfer.specs.Changes.{Does, Stays};
 
-use lra_analysis_spec::Division;
-use lra_domain::{Change, Domain, Exactness, worse};
-use lra_linear_forms::LinExpr;
-use lra_linearize::{first_case, second_case};
+use lra_linearize::{Change, Division, Domain, Exactness, LinExpr, first_case, second_case, worse};
 use std::alloc::{AllocError, Global};
 
 /// Makes the changes, one after the other.

@@ -2,21 +2,20 @@
 
 ghost use Rattle.std.specs.Prelude.{◌≡◌, ◌≤◌, ◌<◌, ◌+◌, ◌-◌, Some, suc, map, length, IfOk, OnOk};
 ghost use Rattle.lra_program.specs.{ProgramViews.argument_view, ProgramViews.expr_view, Step.append};
-ghost use Rattle.lra_operations.specs.TreeViews.{op_view};
-ghost use Rattle.lra_analysis_spec.specs.MovesOf.{within_type, set_to, set_target, append_set, push_all, drop_last};
-ghost use Rattle.lra_analysis_spec.specs.{Linearization.linearized, Live.live_after_op, LiveLimit.most_live};
-ghost use Rattle.lra_analysis_spec.specs.{declared.linearization.Linearized.TheVariants.Unseen};
+ghost use Rattle.lra_transfer.specs.Crates.lra_analysis_spec.Linearization.{linearized};
+ghost use Rattle.lra_transfer.specs.Crates.lra_analysis_spec.Live.{live_after_op};
+ghost use Rattle.lra_transfer.specs.Crates.lra_analysis_spec.LiveLimit.{most_live};
+ghost use Rattle.lra_transfer.specs.Crates.lra_analysis_spec.MovesOf.{within_type, set_to, set_target, append_set};
+ghost use Rattle.lra_transfer.specs.Crates.lra_analysis_spec.MovesOf.{push_all, drop_last};
+ghost use Rattle.lra_transfer.specs.Crates.lra_analysis_spec.declared.linearization.Linearized.TheVariants.{Unseen};
+ghost use Rattle.lra_transfer.specs.Crates.lra_operations.TreeViews.{op_view};
 ghost use Rattle.lra_transfer.specs.Changes.{Does, OpTransfersTo, CellFits, OpFitsDims};
 
 use crate::cases::assign_in_cases;
 use crate::conditions::filter_condition;
 use crate::types::hold_type;
-use lra_analysis_spec::Linearized;
-use lra_base::NumberType;
-use lra_domain::{Domain, Exactness, worse};
-use lra_linearize::linearize;
-use lra_operations::Op;
-use lra_program::{Argument, Cell, Expr, Target};
+use lra_linearize::{Domain, Exactness, Linearized, Op, linearize, worse};
+use lra_program::{Argument, Cell, Expr, NumberType, Target};
 use std::alloc::{AllocError, Global};
 
 /// The variable at the place gets the expression's value, as far as it is seen: that of its form; that of a division,

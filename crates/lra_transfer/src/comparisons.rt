@@ -1,21 +1,24 @@
 //! What a comparison leaves of a value.
 
 ghost use Rattle.std.specs.Prelude.{◌≡◌, ◌≤◌, ◌+◌, length, IfOk, OnOk};
-ghost use Rattle.lra_base.specs.{OperatorViews.comparison_view, Operators.below, Operators.differs};
+ghost use Rattle.lra_transfer.specs.Crates.lra_analysis_spec.Linear.{comparison_test};
+ghost use Rattle.lra_transfer.specs.Crates.lra_analysis_spec.Linearization.{Divides, LinearizedFits};
+ghost use Rattle.lra_transfer.specs.Crates.lra_analysis_spec.Linearization.{linearized_difference};
+ghost use Rattle.lra_transfer.specs.Crates.lra_analysis_spec.MovesOf.{test_moves, case_moves, linearized_moves};
+ghost use Rattle.lra_transfer.specs.Crates.lra_analysis_spec.MovesOf.{split_moves, comparison_moves, number_moves};
+ghost use Rattle.lra_transfer.specs.Crates.lra_analysis_spec.Operations.{lossy_operations};
+ghost use Rattle.lra_transfer.specs.Crates.lra_base.OperatorViews.{comparison_view};
+ghost use Rattle.lra_transfer.specs.Crates.lra_base.Operators.{below, differs};
+ghost use Rattle.lra_transfer.specs.Crates.{lra_analysis_spec.LiveLimit.most_live, lra_analysis_spec.Moves.Takes};
 ghost use Rattle.lra_program.specs.ProgramViews.{expr_view};
-ghost use Rattle.lra_analysis_spec.specs.Linearization.{Divides, LinearizedFits, linearized_difference};
-ghost use Rattle.lra_analysis_spec.specs.MovesOf.{test_moves, case_moves, linearized_moves, split_moves};
-ghost use Rattle.lra_analysis_spec.specs.{Linear.comparison_test, LiveLimit.most_live, Moves.Takes};
-ghost use Rattle.lra_analysis_spec.specs.{MovesOf.comparison_moves, MovesOf.number_moves, Operations.lossy_operations};
 ghost use Rattle.lra_transfer.specs.Changes.{Does};
 
 use crate::cases::change_in_cases;
-use lra_analysis_spec::{Division, Linearized};
-use lra_base::Comparison;
-use lra_domain::{Change, Domain, Exactness, worse};
-use lra_linear_forms::LinExpr;
-use lra_linearize::{comparison_where, linearize_difference, subtract_number, test_of};
-use lra_program::Expr;
+use lra_linearize::{
+    Change, Division, Domain, Exactness, LinExpr, Linearized, comparison_where,
+    linearize_difference, subtract_number, test_of, worse,
+};
+use lra_program::{Comparison, Expr};
 use std::alloc::{AllocError, Global};
 
 /// What the comparison's test leaves of the value, by what is seen of its difference; all of it if there is none.

@@ -4,16 +4,16 @@
 ghost use Rattle.std.specs.Prelude.{◌≡◌, ◌≤◌, ◌∷◌, [], map, length, slice_index_or, IfOk, OnOk};
 ghost use Rattle.lra_program.specs.Program.{nonzero};
 ghost use Rattle.lra_program.specs.ProgramViews.{all_of, any_of, cond_view, expr_view};
-ghost use Rattle.lra_analysis_spec.specs.{LiveLimit.most_live, Moves.Takes, MovesOf.guard, Operations.lossy_operations};
+ghost use Rattle.lra_transfer.specs.Crates.lra_analysis_spec.LiveLimit.{most_live};
+ghost use Rattle.lra_transfer.specs.Crates.lra_analysis_spec.Operations.{lossy_operations};
+ghost use Rattle.lra_transfer.specs.Crates.{lra_analysis_spec.Moves.Takes, lra_analysis_spec.MovesOf.guard};
 ghost use Rattle.lra_linearize.specs.Conditions.{in_turn_of, either_of};
 ghost use Rattle.lra_transfer.specs.Splits.{AreJoinedBack, AllKeptHave, IsEitherSoFar};
 
 use crate::comparisons::{Surroundings, filter_comparison};
 use crate::splits::{Kept, divide, join_back};
-use lra_base::{Comparison, NumberType};
-use lra_domain::{Domain, Exactness};
-use lra_linearize::comparison_where;
-use lra_program::{Cond, Expr};
+use lra_linearize::{Domain, Exactness, comparison_where};
+use lra_program::{Comparison, Cond, Expr, NumberType};
 use std::alloc::{AllocError, Global};
 
 /// What `e != 0`, wanted true or false, leaves of the value.

@@ -1,14 +1,14 @@
 //! The global variables at their first values, with which an iteration begins.
 
 ghost use Rattle.std.specs.Prelude.{◌≡◌, ◌+◌, ◌<◌, ◌≤◌, suc, length, IfOk, OnOk};
-ghost use Rattle.lra_analysis_spec.specs.Linear.{constant_form};
-ghost use Rattle.lra_analysis_spec.specs.MovesOf.{within_type, append_set, first_values};
-ghost use Rattle.lra_analysis_spec.specs.{LiveLimit.most_live, declared.linearization.Linearized.TheVariants.Linear};
+ghost use Rattle.lra_transfer.specs.Crates.lra_analysis_spec.Linear.{constant_form};
+ghost use Rattle.lra_transfer.specs.Crates.lra_analysis_spec.LiveLimit.{most_live};
+ghost use Rattle.lra_transfer.specs.Crates.lra_analysis_spec.MovesOf.{within_type, append_set, first_values};
+ghost use Rattle.lra_transfer.specs.Crates.lra_analysis_spec.declared.linearization.Linearized.TheVariants.{Linear};
 ghost use Rattle.lra_transfer.specs.Changes.{Does};
 
 use crate::types::hold_type;
-use lra_domain::{Domain, Exactness, worse};
-use lra_linearize::constant_of;
+use lra_linearize::{Domain, Exactness, constant_of, worse};
 use lra_program::GlobalVariable;
 use std::alloc::{AllocError, Global};
 

@@ -2,17 +2,15 @@
 //! What is never inlined holds nothing while the function for a condition inside this one runs.
 
 ghost use Rattle.std.specs.Prelude.{◌≡◌, ◌≤◌, map, true, IfOk};
-ghost use Rattle.lra_base.specs.OperatorViews.{comparison_view};
+ghost use Rattle.lra_transfer.specs.Crates.lra_analysis_spec.LiveLimit.{most_live};
+ghost use Rattle.lra_transfer.specs.Crates.lra_base.OperatorViews.{comparison_view};
 ghost use Rattle.lra_program.specs.Program.{compare, nonzero};
 ghost use Rattle.lra_program.specs.ProgramViews.{all_of, any_of, expr_view, cond_view};
-ghost use Rattle.lra_analysis_spec.specs.LiveLimit.{most_live};
 ghost use Rattle.lra_transfer.specs.Splits.{SplitsBy, AreJoinedTo, AreJoinedBack, AllKeptHave};
 
 use crate::comparisons::{Surroundings, filter_comparison};
-use lra_base::{Comparison, NumberType};
-use lra_domain::{Domain, Exactness, worse};
-use lra_linearize::opposite_of;
-use lra_program::{Cond, Expr};
+use lra_linearize::{Domain, Exactness, opposite_of, worse};
+use lra_program::{Comparison, Cond, Expr, NumberType};
 use std::alloc::{AllocError, Global};
 
 /// A value, with the exactness of what led to it.

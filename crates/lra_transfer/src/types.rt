@@ -1,16 +1,14 @@
 //! What is left of a value where a variable lies within its type.
 
 ghost use Rattle.std.specs.Prelude.{◌≡◌, ◌≤◌, IfOk, OnOk};
-ghost use Rattle.lra_base.specs.declared.number_types.NumberType.TheVariants.{Int};
-ghost use Rattle.lra_domain.specs.Moves.{Moves};
-ghost use Rattle.lra_analysis_spec.specs.{LiveLimit.most_live, MovesOf.within_type};
+ghost use Rattle.lra_transfer.specs.Crates.lra_analysis_spec.LiveLimit.{most_live};
+ghost use Rattle.lra_transfer.specs.Crates.lra_analysis_spec.MovesOf.{within_type};
+ghost use Rattle.lra_transfer.specs.Crates.lra_base.declared.number_types.NumberType.TheVariants.{Int};
+ghost use Rattle.lra_transfer.specs.Crates.lra_domain.Moves.{Moves};
 ghost use Rattle.lra_transfer.specs.Changes.{Does};
 
-use lra_base::NumberType;
-use lra_domain::{Domain, Exactness, worse};
-use lra_linear_forms::Test;
-use lra_linear_spec::ConKind;
-use lra_linearize::form_of_one;
+use lra_linearize::{ConKind, Domain, Exactness, Test, form_of_one, worse};
+use lra_program::NumberType;
 use std::alloc::{AllocError, Global};
 
 /// What is left where the variable at the place lies within 32 bits, after what led to the value: `x + 2^31 >= 0`,

@@ -1,21 +1,19 @@
 -- What an input must get, by the answer to its program and to the lines after its source.
 use Rattle.std.proofs.Common.{◌≡◌, ◌≤◌, ◌<◌, inl, inr, ℕ, List, length, Option, Some, None, Result, Ok, Err, IfOk, refl, ap, sym, ◌∙◌, subst, arith}
 use Rattle.std.proofs.lemmas.List.{length-map}
-use Rattle.lra_program.specs.{Program.Program, ProgramViews.program_view, Sites.Site, Sites.sites_of}
+use Rattle.lra_verify.specs.Crates.lra_certificate_spec.Claims.{IsProgram, program_of, HasHead, VerifiesTo, verified, source_refused, line_refused, greatest_certificate}
+use Rattle.lra_verify.specs.Crates.lra_certificate_spec.Judged.{Head, judged, head_of, too_long, bad_line}
+use Rattle.lra_verify.specs.Crates.{lra_base.declared.refusals.Cause.Cause, lra_base.declared.refusals.Place.Place, lra_front_end.Stages.HasTree, lra_front_end.Stages.HasInlinedTree}
+use Rattle.lra_verify.specs.Crates.{lra_front_end.declared.front.AcceptedSource.AcceptedSource, lra_program.Program.Program, lra_program.ProgramViews.program_view, lra_program.Sites.Site}
+use Rattle.lra_verify.specs.Crates.{lra_program.Sites.sites_of, lra_resolution_spec.Refuse.Refuse, lra_resolution_spec.Resolve.resolve, lra_syntax.Grammar.Spells, lra_syntax.Views.tree_view}
 use Rattle.lra_operations.specs.{Tree.Node, TreeViews.node_view, TreeViews.site_view}
 use Rattle.lra_paths.specs.Paths.{AreFewPaths}
 use Rattle.lra_certificate_lines.specs.declared.refusals.VerifyError.TheVariants.{Refused, Memory}
 use Rattle.lra_certificate_lines.specs.declared.refusals.VerifyRefusal.TheVariants.{Source, Paths, Line}
 use Rattle.lra_certificate_lines.specs.{LineViews.IsJudgedAs, declared.refusals.VerifyError.VerifyError}
-use Rattle.lra_certificate_spec.specs.Claims.{IsProgram, program_of, HasHead, VerifiesTo, verified, source_refused, line_refused, greatest_certificate}
-use Rattle.lra_certificate_spec.specs.Judged.{Head, judged, head_of, too_long, bad_line}
 use Rattle.lra_verify.specs.{HeadViews.head_view, RefusalViews.IfRefused, SourceViews.IsAnswerTo}
-use Rattle.lra_certificate_spec.proofs.JudgedBothWays.{few_points, judged_exactly}
+use Rattle.lra_verify.proofs.Crates.lra_certificate_spec.JudgedBothWays.{few_points, judged_exactly}
 use Rattle.std.specs.{List.All, Prelude.map, Prelude.option_map, Prelude.◌^◌}
-use Rattle.lra_base.specs.{declared.refusals.Cause.Cause, declared.refusals.Place.Place}
-use Rattle.lra_syntax.specs.{Grammar.Spells, Views.tree_view}
-use Rattle.lra_resolution_spec.specs.{Refuse.Refuse, Resolve.resolve}
-use Rattle.lra_front_end.specs.{Stages.HasTree, Stages.HasInlinedTree, declared.front.AcceptedSource.AcceptedSource}
 use Rattle.lra_verify.specs.declared.head.Head as declared
 use Rattle.lra_verify.proofs.VerifySteps.{live_few}
 

@@ -2,22 +2,20 @@
 use Rattle.std.proofs.Common.{◌≡◌, ◌≤◌, ◌<◌, ◌+◌, ◌-◌, ◌++◌, ◌∷◌, [], ℕ, suc, List, length, drop, Option, Some, None, Result, Ok, Err, Vec, refl, ap, sym, ◌∙◌, subst, arith, add-one, drop-cons}
 use Rattle.std.proofs.{Common.slice_index_or, Common.append_assoc, lemmas.List.drop_all}
 use Rattle.std.specs.{Borrow.Bor, Fmt.decimal, Global.Global, List.range_with_len, Prelude.slice_get, Prelude.codes, Prelude.IfSome}
-use Rattle.lra_domain.specs.{Actions.Action, declared.changes.Change.Change}
-use Rattle.lra_linear_spec.specs.{Descriptions.LinearRow, declared.ConKind.ConKind, declared.Excess.Excess}
-use Rattle.lra_systems.specs.LinearSystems.{LinearSystem, constraints}
-use Rattle.lra_path_segments.specs.Segments.{Goal, comes_to, violates}
+use Rattle.lra_verify.specs.Crates.lra_certificate_spec.Certificates.{PathPremises, contradiction, state_from, state_to}
+use Rattle.lra_verify.specs.Crates.lra_certificate_spec.Judged.{Left, Judged, RowsAtPoint, takes, judged_from, judged_dead, judged_walk, judged_multipliers, multipliers_in, line_on, line_or_empty}
+use Rattle.lra_verify.specs.Crates.lra_multipliers.Symbols.{SymbolicState, executed_path, tests_in}
+use Rattle.lra_verify.specs.Crates.{lra_certificate_spec.CertificateText.edge_text, lra_certificate_spec.Lines.HasNoFeed, lra_certificate_spec.Lines.judged_in_turn, lra_domain.Actions.Action}
+use Rattle.lra_verify.specs.Crates.{lra_domain.declared.changes.Change.Change, lra_linear_spec.Descriptions.LinearRow, lra_linear_spec.declared.ConKind.ConKind, lra_linear_spec.declared.Excess.Excess}
+use Rattle.lra_verify.specs.Crates.{lra_multipliers.Multipliers.Multipliers, lra_path_disjuncts.TableDisjuncts.all_done, lra_path_disjuncts.TableDisjuncts.lists_done, lra_path_segments.Segments.Goal}
+use Rattle.lra_verify.specs.Crates.{lra_path_segments.Segments.comes_to, lra_path_segments.Segments.violates, lra_systems.LinearSystems.LinearSystem, lra_systems.LinearSystems.constraints}
 use Rattle.lra_paths.specs.{Paths.Path, Paths.path_by, Sources.to_goal, declared.sources.Source.Source}
-use Rattle.lra_path_disjuncts.specs.TableDisjuncts.{all_done, lists_done}
-use Rattle.lra_multipliers.specs.{Multipliers.Multipliers, Symbols.SymbolicState, Symbols.executed_path, Symbols.tests_in}
-use Rattle.lra_certificate_spec.specs.Certificates.{PathPremises, contradiction, state_from, state_to}
-use Rattle.lra_certificate_spec.specs.Judged.{Left, Judged, RowsAtPoint, takes, judged_from, judged_dead, judged_walk, judged_multipliers, multipliers_in, line_on, line_or_empty}
-use Rattle.lra_certificate_spec.specs.{CertificateText.edge_text, Lines.HasNoFeed, Lines.judged_in_turn}
 use Rattle.lra_certificate_lines.specs.PathCheckViews.{IsPathCheck, target_rows, line_by, lines_by}
 use Rattle.lra_certificate_lines.specs.{LineViews.IsFault, declared.path_checks.PathCheck.PathCheck, declared.refusals.VerifyError.VerifyError}
 use Rattle.lra_verify.specs.EdgeViews.{edge_by, dims_of, path_of, dead_by, sites_in, states_in, actions_out_of, actions_by, live_by, step_by, paths_to_by, violation_by}
 use Rattle.lra_verify.specs.{declared.annotated.AnnotatedProgram.AnnotatedProgram, declared.edges.Edge.Edge}
 use Rattle.lra_certificate_lines.proofs.{ShowSteps.turn_same, ShowSteps.lines_are, ShowSteps.dead_is, Told.then_ok, Told.then_err, Told.fault_through}
-use Rattle.lra_certificate_spec.proofs.{WritePaths.edge_from, WriteText.clean}
+use Rattle.lra_verify.proofs.Crates.{lra_certificate_spec.WritePaths.edge_from, lra_certificate_spec.WriteText.clean}
 
 -- ---- paths that are written
 pub lists_next : (paths : List (Vec (Bor Change) Global)) (i : ℕ) (p : Vec (Bor Change) Global) → i < length paths → p ≡ slice_index_or paths i p →

@@ -2,8 +2,8 @@
 use Rattle.std.proofs.Common.{◌≡◌, ◌≤◌, ◌+◌, ℕ, suc, ℤ, pos, negsuc, Bool, false, List, [], ◌∷◌, length, take, drop, Option, Some, None, Vec, refl, ap, sym, ◌∙◌, arith, add-one, drop-drop}
 use Rattle.std.proofs.lemmas.Option.{slice_get_past, same_Some}
 use Rattle.std.specs.{Global.Global, List.position_or_len, Prelude.if◌then◌else◌, Prelude.slice_get, Prelude.codes, Prelude.nat_eq}
-use Rattle.lra_script.specs.Views.{option_items}
-use Rattle.lra_certificate_spec.specs.{Judged.Head, Judged.has_feed, Judged.headed, Judged.head_of, Judged.numbers_after}
+use Rattle.lra_verify.specs.Crates.lra_certificate_spec.Judged.{Head, has_feed, headed, head_of, numbers_after}
+use Rattle.lra_verify.specs.Crates.lra_script.Views.{option_items}
 
 abbrev pub head : List ℕ → List ℕ → Head
 head source rest = record { source = source; rest = rest }

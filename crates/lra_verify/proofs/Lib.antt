@@ -5,3 +5,5 @@ pub mod EndSteps
 pub mod HeadSteps
 pub mod VerifySteps
 pub mod Deserved
+-- The crates below
+pub mod Crates

@@ -1,14 +1,13 @@
 -- Listed assertions, one after the other, as the code states them.
 use Rattle.std.proofs.Common.{◌≡◌, ◌+◌, ◌∷◌, [], ℕ, suc, Bool, true, false, List, Ok, Err, refl, ap, sym, ◌∙◌, subst, arith, add-one}
-use Rattle.std.specs.{Fmt.decimal, Prelude.if◌then◌else◌, Prelude.◌&&◌, Prelude.codes}
 use Rattle.std.proofs.lemmas.Bool.{and_right}
-use Rattle.lra_program.specs.Sites.{Site}
+use Rattle.std.specs.{Fmt.decimal, Prelude.if◌then◌else◌, Prelude.◌&&◌, Prelude.codes}
+use Rattle.lra_verify.specs.Crates.lra_certificate_spec.Judged.{Left, Judged, then_judged, after_line, is_next_line, line_on, one_more}
+use Rattle.lra_verify.specs.Crates.{lra_certificate_spec.CertificateText.numbered_text, lra_certificate_spec.CertificateText.assert_text, lra_certificate_spec.Lines.HasNoFeed, lra_program.Sites.Site}
 use Rattle.lra_certificate_lines.specs.{LineViews.IsFault, declared.refusals.VerifyError.VerifyError}
-use Rattle.lra_certificate_spec.specs.Judged.{Left, Judged, then_judged, after_line, is_next_line, line_on, one_more}
-use Rattle.lra_certificate_spec.specs.{CertificateText.numbered_text, CertificateText.assert_text, Lines.HasNoFeed}
 use Rattle.lra_verify.specs.EdgeViews.{assertion_by, listed_by}
 use Rattle.lra_certificate_lines.proofs.Told.{then_ok, then_err, fault_through}
-use Rattle.lra_certificate_spec.proofs.WriteText.{AreFrom, from_lower, from_joined, text_from, decimal_from, clean}
+use Rattle.lra_verify.proofs.Crates.lra_certificate_spec.WriteText.{AreFrom, from_lower, from_joined, text_from, decimal_from, clean}
 
 -- ---- the line of an assertion
 assert_line : (q : ℕ) (text : List ℕ) → text ≡ numbered_text (codes "assert") (q + 1) → text ≡ assert_text q

@@ -3,13 +3,12 @@ use Rattle.std.proofs.Common.{◌≡◌, ◌<◌, ◌⊎◌, inl, inr, ◌++◌,
 use Rattle.std.proofs.Common.{arith}
 use Rattle.std.proofs.{lemmas.List.drop_all, lemmas.List.map-append, lemmas.Option.slice_get_read, lemmas.Option.slice_get-map, lemmas.Option.slice_get_within, lemmas.Option.get_or_from_slice_get}
 use Rattle.std.specs.{Borrow.Bor, List.All, Prelude.slice_get, Prelude.IfSome, Prelude.option_map}
-use Rattle.lra_linear_spec.specs.declared.ConKind.{ConKind}
-use Rattle.lra_systems.specs.LinearSystems.{LinearSystem}
-use Rattle.lra_program.specs.Sites as sites
+use Rattle.lra_verify.specs.Crates.lra_certificate_spec.Judged.{Left, Judged, RowsAtPoint, judged_state, judged_states}
+use Rattle.lra_verify.specs.Crates.{lra_certificate_spec.Certificates.state_or_empty, lra_linear_spec.declared.ConKind.ConKind, lra_systems.LinearSystems.LinearSystem}
+use Rattle.lra_verify.specs.Crates.lra_program.Sites as sites
 use Rattle.lra_operations.specs.{TreeViews.site_view, declared.tree.Site.Site}
-use Rattle.lra_resolution_spec.proofs.NameLists.{last_or_before}
+use Rattle.lra_verify.proofs.Crates.lra_resolution_spec.NameLists.{last_or_before}
 use Rattle.lra_paths.specs.Paths.{live_of}
-use Rattle.lra_certificate_spec.specs.{Certificates.state_or_empty, Judged.Left, Judged.Judged, Judged.RowsAtPoint, Judged.judged_state, Judged.judged_states}
 use Rattle.lra_verify.specs.PointViews.{HaveDims, state_view}
 use Rattle.lra_certificate_lines.proofs.Told.{states_after, states_more}
 

@@ -2,26 +2,24 @@
 use Rattle.std.proofs.Common.{◌≡◌, ◌≤◌, ◌<◌, ◌^◌, ℤ, ◌+◌, ◌++◌, ◌∷◌, [], ℕ, zero, suc, List, length, map, Bool, true, false, Option, Some, None, Ok, refl, ap, sym, ◌∙◌, subst, arith, ◌⊎◌, inl, inr}
 use Rattle.std.proofs.{Common.leb, lemmas.Bool.Decides.leb_tells, lemmas.List.length-map, lemmas.Option.slice_get-get_or, lemmas.Option.slice_get-map}
 use Rattle.std.specs.{List.flat_map, List.range_with_len, List.All, Prelude.if◌then◌else◌, Prelude.slice_get, Prelude.◌&&◌, Prelude.option_map, Prelude.get_or}
-use Rattle.lra_front_end.specs.Claims.{AreFew}
+use Rattle.lra_verify.specs.Crates.lra_certificate_spec.Certificates.{live_at_source, state_from, state_to}
+use Rattle.lra_verify.specs.Crates.lra_certificate_spec.Judged.{Left, Judged, RowsAtPoint, then_judged, judged_states, judged_path, judged_paths, violation_from, judged_violations, judged_listed}
+use Rattle.lra_verify.specs.Crates.lra_certificate_spec.Judged.{after_line, is_next_line, line_on, one_more, counted}
+use Rattle.lra_verify.specs.Crates.lra_systems.LinearSystems.{LinearSystem, rows_by_kind}
+use Rattle.lra_verify.specs.Crates.{lra_certificate_spec.CertificateText.assert_text, lra_certificate_spec.Lines.judged_in_turn, lra_certificate_spec.Lines.left_at, lra_domain.Actions.Action}
+use Rattle.lra_verify.specs.Crates.{lra_front_end.Claims.AreFew, lra_linear_spec.Kinds.is_equality, lra_linear_spec.declared.ConKind.ConKind, lra_path_disjuncts.Disjuncts.greatest_paths}
+use Rattle.lra_verify.specs.Crates.{lra_path_disjuncts.Tables.IsTable, lra_path_segments.Segments.Goal, lra_path_segments.Segments.comes_to, lra_path_segments.Segments.violates}
+use Rattle.lra_verify.specs.Crates.{lra_program.Program.Program, lra_program.Sites.Site, lra_program.Sites.sites_of, lra_program.declared.program.GlobalVariable.GlobalVariable}
 use Rattle.lra_operations.specs.declared.tree.Site as declared
-use Rattle.lra_path_disjuncts.proofs.TableSteps.{get_left, get_seam}
-use Rattle.lra_domain.specs.Actions.{Action}
-use Rattle.lra_linear_spec.specs.{Kinds.is_equality, declared.ConKind.ConKind}
-use Rattle.lra_systems.specs.LinearSystems.{LinearSystem, rows_by_kind}
+use Rattle.lra_verify.proofs.Crates.lra_path_disjuncts.TableSteps.{get_left, get_seam}
 use Rattle.lra_verify.specs.EdgeViews.{edge_by, dead_by, sites_in, states_in, actions_out_of, actions_by, live_by, step_by, paths_to_by, IsAnnotatedProgram, source_by, sources_by, violation_by}
 use Rattle.lra_verify.specs.EdgeViews.{violations_by, listed_by, rest_by}
 use Rattle.lra_verify.specs.{PointViews.HaveDims, SourceViews.AreSources, SourceViews.LeadAs, declared.annotated.AnnotatedProgram.AnnotatedProgram}
-use Rattle.lra_program.specs.{Program.Program, Sites.Site, Sites.sites_of, declared.program.GlobalVariable.GlobalVariable}
 use Rattle.lra_operations.specs.{Tree.Node, TreeViews.site_view}
-use Rattle.lra_path_segments.specs.Segments.{Goal, comes_to, violates}
 use Rattle.lra_paths.specs.Paths.{Path, path_by, paths_between, paths_of, violations_of, sources_of, points_of, actions_between, actions_between_in, AreFewIn, AreFewPaths, HasTooManyIn}
 use Rattle.lra_paths.specs.{Paths.HasTooManyPaths, Sources.to_goal, Sources.AreFewTo, declared.sources.Source.Source}
-use Rattle.lra_path_disjuncts.specs.{Disjuncts.greatest_paths, Tables.IsTable}
 use Rattle.lra_certificate_lines.specs.{LineViews.IsFault, declared.refusals.VerifyError.VerifyError}
-use Rattle.lra_certificate_spec.specs.Judged.{Left, Judged, RowsAtPoint, then_judged, judged_states, judged_path, judged_paths, violation_from, judged_violations, judged_listed, after_line}
-use Rattle.lra_certificate_spec.specs.Judged.{is_next_line, line_on, one_more, counted}
-use Rattle.lra_certificate_spec.specs.{CertificateText.assert_text, Certificates.live_at_source, Certificates.state_from, Certificates.state_to, Lines.judged_in_turn, Lines.left_at}
-use Rattle.lra_certificate_spec.specs.Judged as judged
+use Rattle.lra_verify.specs.Crates.lra_certificate_spec.Judged as judged
 use Rattle.lra_certificate_lines.proofs.{ShowSteps.turn_both, ShowSteps.turn_same, Told.then_ok, Told.then_err, Told.then_same, Told.fault_through}
 use Rattle.lra_verify.proofs.EdgeSteps.{dead_same}
 

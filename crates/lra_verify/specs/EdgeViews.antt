@@ -2,19 +2,19 @@
 use Rattle.std.specs.Prelude.{◌≡◌, ◌<◌, ◌+◌, ◌^◌, ℕ, zero, suc, Bool, List, [], ◌∷◌, map, length, Ok, Option, None}
 use Rattle.std.specs.Prelude.{Some, slice_get, ◌&&◌, if◌then◌else◌}
 use Rattle.std.specs.{Borrow.Bor, List.All, List.range_with_len}
-use Rattle.lra_linear_spec.specs.declared.ConKind.{ConKind}
-use Rattle.lra_systems.specs.LinearSystems.{LinearSystem, constraints}
-use Rattle.lra_domain.specs.Actions.{Action}
-use Rattle.lra_program.specs.Sites.{Site}
+use Rattle.lra_verify.specs.Crates.lra_certificate_spec.CertificateText.{edge_text, assert_text}
+use Rattle.lra_verify.specs.Crates.lra_certificate_spec.Certificates.{state_from, state_to}
+use Rattle.lra_verify.specs.Crates.lra_certificate_spec.Judged.{Left, Judged, RowsAtPoint, then_judged, takes}
+use Rattle.lra_verify.specs.Crates.lra_certificate_spec.Judged.{judged_from, judged_dead, after_line, is_next_line}
+use Rattle.lra_verify.specs.Crates.lra_certificate_spec.Judged.{line_on, one_more, counted}
+use Rattle.lra_verify.specs.Crates.lra_certificate_spec.Lines.{judged_in_turn, left_at}
+use Rattle.lra_verify.specs.Crates.lra_path_segments.Segments.{Goal, comes_to, violates}
+use Rattle.lra_verify.specs.Crates.lra_systems.LinearSystems.{LinearSystem, constraints}
+use Rattle.lra_verify.specs.Crates.{lra_domain.Actions.Action, lra_linear_spec.declared.ConKind.ConKind}
+use Rattle.lra_verify.specs.Crates.{lra_path_disjuncts.Tables.IsTable, lra_program.Sites.Site}
 use Rattle.lra_operations.specs.TreeViews.{site_view}
-use Rattle.lra_path_segments.specs.Segments.{Goal, comes_to, violates}
 use Rattle.lra_paths.specs.Paths.{Path, path_by, live_of}
 use Rattle.lra_paths.specs.{Sources.to_goal, Sources.AreFewTo, declared.sources.Source.Source}
-use Rattle.lra_path_disjuncts.specs.Tables.{IsTable}
-use Rattle.lra_certificate_spec.specs.Judged.{Left, Judged, RowsAtPoint, then_judged, takes, judged_from, judged_dead}
-use Rattle.lra_certificate_spec.specs.Judged.{after_line, is_next_line, line_on, one_more, counted}
-use Rattle.lra_certificate_spec.specs.{CertificateText.edge_text, CertificateText.assert_text, Certificates.state_from}
-use Rattle.lra_certificate_spec.specs.{Certificates.state_to, Lines.judged_in_turn, Lines.left_at}
 use Rattle.lra_verify.specs.PointViews.{state_view, HaveDims}
 use Rattle.lra_verify.specs.{declared.annotated.AnnotatedProgram.AnnotatedProgram, declared.edges.Edge.Edge}
 use Rattle.lra_certificate_lines.specs.PathCheckViews.{target_rows}

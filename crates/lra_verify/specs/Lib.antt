@@ -4,3 +4,5 @@ pub mod PointViews
 pub mod HeadViews
 pub mod EdgeViews
 pub mod SourceViews
+-- The crates below
+pub mod Crates

@@ -1,10 +1,10 @@
 -- Rows and points of a certificate as the code reads them.
 use Rattle.std.specs.Prelude.{◌≡◌, ℕ, List, map, Option, Some, None, slice_get}
-use Rattle.lra_linear_spec.specs.{Descriptions.LinearRow, declared.ConKind.ConKind}
-use Rattle.lra_systems.specs.LinearSystems.{LinearSystem, constraints}
-use Rattle.lra_program.specs.Sites.{Site}
+use Rattle.lra_verify.specs.Crates.lra_certificate_spec.Judged.{Left, RowsAtPoint}
+use Rattle.lra_verify.specs.Crates.lra_systems.LinearSystems.{LinearSystem, constraints}
+use Rattle.lra_verify.specs.Crates.{lra_certificate_spec.Lines.left_at, lra_linear_spec.Descriptions.LinearRow}
+use Rattle.lra_verify.specs.Crates.{lra_linear_spec.declared.ConKind.ConKind, lra_program.Sites.Site}
 use Rattle.lra_paths.specs.Paths.{live_of}
-use Rattle.lra_certificate_spec.specs.{Judged.Left, Judged.RowsAtPoint, Lines.left_at}
 use Rattle.lra_verify.specs.declared.points.PointRows.{PointRows}
 use Rattle.lra_verify.specs.{declared.points.Point.Point, declared.points.Points.Points}
 

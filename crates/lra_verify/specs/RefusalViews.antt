@@ -4,7 +4,7 @@ use Rattle.lra_certificate_lines.specs.declared.refusals.VerifyError.TheVariants
 use Rattle.lra_certificate_lines.specs.declared.refusals.VerifyRefusal.{VerifyRefusal}
 use Rattle.lra_certificate_lines.specs.declared.refusals.VerifyRefusal.TheVariants.{Source, Paths, Line}
 use Rattle.lra_certificate_lines.specs.{Views.fault_view, declared.refusals.VerifyError.VerifyError}
-use Rattle.lra_certificate_spec.specs.Claims as claims
+use Rattle.lra_verify.specs.Crates.lra_certificate_spec.Claims as claims
 
 abbrev pub refusal_view : VerifyRefusal → claims.VerifyAnswer
 refusal_view (Source r) = claims.source_refused r.cause r.place

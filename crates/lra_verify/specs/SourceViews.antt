@@ -1,17 +1,15 @@
 -- Programs, with the segments from their sources, as the code judges them.
 use Rattle.std.specs.List.{All}
 use Rattle.std.specs.Prelude.{◌≡◌, ◌<◌, ℕ, suc, List, length, slice_get, Result, Ok, Err, ⊤}
-use Rattle.lra_program.specs.Program.{Program}
+use Rattle.lra_verify.specs.Crates.{lra_certificate_spec.Judged.judged, lra_path_disjuncts.Tables.IsTable}
+use Rattle.lra_verify.specs.Crates.{lra_path_segments.Segments.Goal, lra_program.Program.Program}
 use Rattle.lra_operations.specs.Tree.{Node}
-use Rattle.lra_path_segments.specs.Segments.{Goal}
 use Rattle.lra_paths.specs.Paths.{actions_between, AreFewPaths, HasTooManyPaths}
 use Rattle.lra_paths.specs.{Sources.AreFewTo, declared.sources.Source.Source}
-use Rattle.lra_path_disjuncts.specs.Tables.{IsTable}
 use Rattle.lra_certificate_lines.specs.declared.refusals.VerifyRefusal.{VerifyRefusal}
 use Rattle.lra_certificate_lines.specs.{Views.fault_view, declared.refusals.VerifyError.VerifyError}
 use Rattle.lra_certificate_lines.specs.declared.refusals.VerifyError.TheVariants as of_error
 use Rattle.lra_certificate_lines.specs.declared.refusals.VerifyRefusal.TheVariants as of_refusal
-use Rattle.lra_certificate_spec.specs.Judged.{judged}
 use Rattle.lra_verify.specs.EdgeViews.{actions_out_of}
 
 -- a source more than there are points, from each no more paths to one goal than may be

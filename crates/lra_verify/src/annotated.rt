@@ -3,19 +3,17 @@
 ghost use Rattle.std.specs.List.{range_with_len};
 ghost use Rattle.std.specs.Prelude.{◌≡◌, ◌≤◌, ◌<◌, ◌^◌, length, slice_get, IfOk, IfSome};
 ghost use Rattle.lra_paths.specs.Paths.{live_of};
-ghost use Rattle.lra_path_segments.specs.Segments.{comes_to};
-ghost use Rattle.lra_certificate_spec.specs.Certificates.{state_from, state_to};
-ghost use Rattle.lra_certificate_spec.specs.Lines.{judged_in_turn, left_at};
+ghost use Rattle.lra_verify.specs.Crates.lra_certificate_spec.Certificates.{state_from, state_to};
+ghost use Rattle.lra_verify.specs.Crates.lra_certificate_spec.Lines.{judged_in_turn, left_at};
+ghost use Rattle.lra_verify.specs.Crates.lra_path_segments.Segments.{comes_to};
 ghost use Rattle.lra_verify.specs.EdgeViews.{IsAnnotatedProgram, live_by, sites_in, states_in, paths_to_by, source_by};
 ghost use Rattle.lra_verify.specs.EdgeViews.{sources_by};
 ghost use Rattle.lra_certificate_lines.specs.{LineViews.IsJudgedAs, PathCheckViews.target_rows};
 
 use crate::edges::{Edge, take_paths};
-use lra_certificate_lines::VerifyError;
+use lra_certificate_lines::{ConSys, VerifyError};
 use lra_operations::Site;
-use lra_path_segments::Goal;
-use lra_paths::Source;
-use lra_systems::ConSys;
+use lra_paths::{Goal, Source};
 use std::alloc::Global;
 
 /// The points of a program with the rows that are said of them, none if nothing comes there; no row of its start;

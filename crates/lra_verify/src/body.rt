@@ -2,7 +2,7 @@
 
 ghost use Rattle.std.specs.Prelude.{◌≤◌, ◌<◌, ◌^◌, length};
 ghost use Rattle.lra_verify.specs.EdgeViews.{IsAnnotatedProgram, rest_by};
-ghost use Rattle.lra_certificate_spec.specs.{Judged.judged_end, Lines.left_at};
+ghost use Rattle.lra_verify.specs.Crates.{lra_certificate_spec.Judged.judged_end, lra_certificate_spec.Lines.left_at};
 ghost use Rattle.lra_certificate_lines.specs.LineViews.{IsJudgedAs};
 
 use crate::annotated::AnnotatedProgram;

@@ -2,15 +2,13 @@
 
 ghost use Rattle.std.specs.Fmt.{decimal};
 ghost use Rattle.std.specs.Prelude.{◌≡◌, ◌≤◌, ◌<◌, ◌++◌, ◌^◌, length, codes, string_bytes, Some, IfOk, IfSome};
-ghost use Rattle.lra_systems.specs.LinearSystems.{constraints};
-ghost use Rattle.lra_path_disjuncts.specs.TableDisjuncts.{all_done, lists_done};
+ghost use Rattle.lra_verify.specs.Crates.lra_certificate_spec.Lines.{judged_in_turn, left_at};
+ghost use Rattle.lra_verify.specs.Crates.lra_path_disjuncts.TableDisjuncts.{all_done, lists_done};
+ghost use Rattle.lra_verify.specs.Crates.lra_systems.LinearSystems.{constraints};
 ghost use Rattle.lra_verify.specs.EdgeViews.{dead_by, path_of};
-ghost use Rattle.lra_certificate_spec.specs.Lines.{judged_in_turn, left_at};
 ghost use Rattle.lra_certificate_lines.specs.LineViews.{IsJudgedAs};
 
-use lra_certificate_lines::{PathCheck, VerifyError, take_line};
-use lra_domain::Change;
-use lra_systems::ConSys;
+use lra_certificate_lines::{Change, ConSys, PathCheck, VerifyError, take_line};
 use std::alloc::{AllocError, Global};
 
 /// A source and a point, with the rows that are said of them; none if nothing comes there.

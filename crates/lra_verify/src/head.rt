@@ -1,7 +1,7 @@
 //! The head of an input: how many bytes its source has, and these.
 
 ghost use Rattle.std.specs.Prelude.{◌≡◌, ◌≤◌, [], ◌∷◌, length, Some, pos, IfOk, IfSome, option_map};
-ghost use Rattle.lra_certificate_spec.specs.Judged.{head_of, headed};
+ghost use Rattle.lra_verify.specs.Crates.lra_certificate_spec.Judged.{head_of, headed};
 ghost use Rattle.lra_verify.specs.HeadViews.{head_view};
 
 use lra_certificate_lines::{numbers_behind, place_of};

@@ -13,5 +13,9 @@ mod points;
 mod verifying;
 
 pub use annotated::AnnotatedProgram;
-pub use lra_certificate_lines::{LineFault, VerifyError, VerifyRefusal};
+pub use lra_certificate_lines::{
+    Change, LineFault, Multipliers, PathCheck, PathFacts, VerifyError, VerifyRefusal,
+};
+pub use lra_operations::{InlinedProgram, Program};
+pub use lra_paths::{Goal, PathsFailure, find_paths};
 pub use verifying::{GREATEST_CERTIFICATE, all_sources, verify};

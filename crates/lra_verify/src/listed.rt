@@ -1,7 +1,8 @@
 //! The assertions that are listed: nothing goes along the paths to where they are false.
 
 ghost use Rattle.std.specs.Prelude.{◌≡◌, ◌≤◌, ◌<◌, ◌^◌, ◌+◌, length, codes, string_bytes, IfOk};
-ghost use Rattle.lra_certificate_spec.specs.{CertificateText.numbered_text, Lines.left_at};
+ghost use Rattle.lra_verify.specs.Crates.lra_certificate_spec.CertificateText.{numbered_text};
+ghost use Rattle.lra_verify.specs.Crates.lra_certificate_spec.Lines.{left_at};
 ghost use Rattle.lra_verify.specs.EdgeViews.{IsAnnotatedProgram, assertion_by, violation_by, violations_by, listed_by};
 ghost use Rattle.lra_verify.specs.EdgeViews.{listed_view, sites_in};
 ghost use Rattle.lra_certificate_lines.specs.LineViews.{IsJudgedAs};
@@ -9,7 +10,7 @@ ghost use Rattle.lra_certificate_lines.specs.LineViews.{IsJudgedAs};
 use crate::annotated::AnnotatedProgram;
 use crate::edges::take_all_dead;
 use lra_certificate_lines::{VerifyError, after_text};
-use lra_path_segments::Goal;
+use lra_paths::Goal;
 use std::alloc::{AllocError, Global};
 
 /// How many assertions are listed, and where the next line begins.

@@ -3,25 +3,21 @@
 ghost use Rattle.std.specs.List.{All, starts_with};
 ghost use Rattle.std.specs.Prelude.{◌≡◌, ◌≤◌, ◌<◌, ◌^◌, ◌++◌, length, map, codes, string_bytes, MatchOption, IfOk};
 ghost use Rattle.std.specs.Prelude.{IfSome, nat_eq, true, false, option_map, suc};
-ghost use Rattle.lra_program.specs.Sites.{Site};
+ghost use Rattle.lra_verify.specs.Crates.lra_certificate_spec.Judged.{constraint_row, numbers_after, row_in, line_on};
+ghost use Rattle.lra_verify.specs.Crates.lra_certificate_spec.Judged.{judged_rows, judged_state, judged_states};
+ghost use Rattle.lra_verify.specs.Crates.lra_certificate_spec.Lines.{pieces_at, line_number_at, left_at, IsLineAt};
+ghost use Rattle.lra_verify.specs.Crates.{lra_certificate_spec.CertificateText.point_text};
+ghost use Rattle.lra_verify.specs.Crates.{lra_certificate_spec.Lines.is_row_line, lra_linear_spec.Kinds.is_equality};
+ghost use Rattle.lra_verify.specs.Crates.{lra_program.Sites.Site, lra_script.Views.constraint_of};
 ghost use Rattle.lra_operations.specs.TreeViews.{site_view};
-ghost use Rattle.lra_script.specs.Views.{constraint_of};
-ghost use Rattle.lra_certificate_spec.specs.CertificateText.{point_text};
-ghost use Rattle.lra_certificate_spec.specs.Judged.{constraint_row, numbers_after, row_in, line_on, judged_rows};
-ghost use Rattle.lra_certificate_spec.specs.Judged.{judged_state, judged_states};
-ghost use Rattle.lra_certificate_spec.specs.Lines.{pieces_at, line_number_at, left_at, IsLineAt, is_row_line};
 ghost use Rattle.lra_certificate_lines.specs.LineViews.{IsJudgedAs};
 ghost use Rattle.lra_verify.specs.PointViews.{rows_view, point_view, points_view, HaveDims};
-ghost use Rattle.lra_linear_spec.specs.Kinds.{is_equality};
 
 use lra_certificate_lines::{
-    LineFault, VerifyError, after_text, line_at, numbers_behind, refuse, take_line,
+    ConKind, ConSys, Constraint, LineFault, Row, VerifyError, after_text, line_at, numbers_behind,
+    refuse, take_line,
 };
-use lra_linear_spec::ConKind;
 use lra_operations::Site;
-use lra_row::Row;
-use lra_script::Constraint;
-use lra_systems::ConSys;
 use std::alloc::{AllocError, Global};
 
 /// The rows of a point, and where the next line begins.

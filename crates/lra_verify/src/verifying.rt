@@ -3,13 +3,14 @@
 
 ghost use Rattle.std.specs.List.{All};
 ghost use Rattle.std.specs.Prelude.{◌≡◌, ◌≤◌, ◌<◌, ◌^◌, ℕ, suc, [], length, map, slice_get, IfOk};
-ghost use Rattle.lra_program.specs.Program as programs;
-ghost use Rattle.lra_program.specs.{ProgramViews.program_view, Sites.sites_of};
+ghost use Rattle.lra_verify.specs.Crates.lra_program.Program as programs;
+ghost use Rattle.lra_verify.specs.Crates.{lra_program.ProgramViews.program_view, lra_program.Sites.sites_of};
 ghost use Rattle.lra_operations.specs.{Tree.Node, TreeViews.node_view, TreeViews.site_view};
 ghost use Rattle.lra_paths.specs.Paths.{actions_between_in};
-ghost use Rattle.lra_path_segments.specs.{Segments.Goal, TreeSegmentViews.seen, TreeSegments.AreSegmentsOf};
-ghost use Rattle.lra_path_disjuncts.specs.Tables.{IsTable};
-ghost use Rattle.lra_certificate_spec.specs.{Claims.VerifiesTo, Claims.verified, Judged.judged};
+ghost use Rattle.lra_verify.specs.Crates.lra_certificate_spec.Claims.{VerifiesTo, verified};
+ghost use Rattle.lra_verify.specs.Crates.lra_path_segments.TreeSegments.{AreSegmentsOf};
+ghost use Rattle.lra_verify.specs.Crates.{lra_certificate_spec.Judged.judged, lra_path_disjuncts.Tables.IsTable};
+ghost use Rattle.lra_verify.specs.Crates.{lra_path_segments.Segments.Goal, lra_path_segments.TreeSegmentViews.seen};
 ghost use Rattle.lra_verify.specs.SourceViews.{AreSources, IsAnswerTo, LeadAs};
 ghost use Rattle.lra_verify.specs.{EdgeViews.actions_out_of, RefusalViews.IfRefused};
 ghost use Rattle.lra_certificate_lines.specs.LineViews.{IsJudgedAs};
@@ -17,13 +18,9 @@ ghost use Rattle.lra_certificate_lines.specs.LineViews.{IsJudgedAs};
 use crate::annotated::AnnotatedProgram;
 use crate::head::head_of;
 use crate::points::take_points;
-use lra_base::SourceError;
-use lra_certificate_lines::{LineFault, VerifyError, VerifyRefusal};
-use lra_front_end::read_source;
-use lra_operations::{InlinedProgram, Site};
+use lra_certificate_lines::{ConSys, LineFault, VerifyError, VerifyRefusal, read_source};
+use lra_operations::{InlinedProgram, Program, Site, SourceError};
 use lra_paths::{Paths, PathsFailure, Source, find_paths};
-use lra_program::Program;
-use lra_systems::ConSys;
 use std::alloc::{AllocError, Global};
 
 /// The most bytes of an input that is to be a certificate.

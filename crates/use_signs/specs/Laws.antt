@@ -1,13 +1,13 @@
 -- What signs keep.
 use Rattle.std.proofs.Common.{◌≡◌, ◌<◌, ◌≤◌, ◌^◌, ℕ, ℤ, pos, negsuc, ◌≤ℤ◌, ◌+ℤ◌, ◌*ℤ◌, Bool, true, false, not, ◌&&◌}
 use Rattle.std.proofs.Common.{◌||◌, List, [], ◌∷◌, length, refl, subst, sym, arith, ◌↔◌}
+use Rattle.std.proofs.lemmas.Bool.{and_parts}
 use Rattle.std.proofs.{Math.Bool.or-not_self, lemmas.Int.ints}
 use Rattle.std.specs.{Ordering.int_eq, Prelude.int_le}
 use Rattle.guzhtarel.specs.Domains.ExactDomains.{Facts, abstraction_of, laws_of}
 use Rattle.guzhtarel.specs.EntryDomains.{EntryFacts, one_if, of_entries}
 use Rattle.guzhtarel.specs.Linear.Vectors.{entry, product}
 use Rattle.guzhtarel.specs.{Domains.Laws.Laws, Entries.AllHave, Entries.AllHold, Linear.ConKind.TheVariants.Ge}
-use Rattle.std.proofs.lemmas.Bool.{and_parts}
 use Rattle.guzhtarel.proofs.{EntryDomains.facts_of, Rows.UnitRows.unit_product}
 use Rattle.use_signs.specs.Signs.{Known, is_sum_known, sign_row, sign}
 

@@ -2,8 +2,8 @@
 
 ghost use Rattle.std.specs.Prelude.{◌≡◌, ◌≤◌, ℕ, List, [], ◌++◌, length, map, slice_get, IfOk, None, Some};
 ghost use Rattle.lra_operations.specs.{Agree.IsInlinedTree, Agree.Agrees, CheckedOperations.AgreesOnAccesses};
-ghost use Rattle.lra_syntax.specs.Labels.{Labelled};
-ghost use Rattle.lra_resolution_spec.specs.Refuse.{greatest_live, limit_fault};
+ghost use Rattle.lra_inline.specs.Crates.lra_resolution_spec.Refuse.{greatest_live, limit_fault};
+ghost use Rattle.lra_inline.specs.Crates.lra_syntax.Labels.{Labelled};
 ghost use Rattle.lra_program.specs.Sites as points;
 ghost use Rattle.lra_program.specs.Sites.{events_of, sites_of};
 ghost use Rattle.lra_program.specs.{ProgramViews.program_view, WellFormed.IsWellFormed};

@@ -1,6 +1,7 @@
 -- Goals of `forms_are_right`: linear forms have the value of their expressions wherever it exists, and tests pass
 -- exactly where their comparisons are true.
-use Rattle.lra_analysis_spec.proofs.{DivisionLemmas.seen_is_right, FormLemmas.forms_are_right, FormLemmas.tests_are_right, FormLemmas.differs_is_right}
+use Rattle.lra_analyse_source.proofs.Crates.lra_analysis_spec.DivisionLemmas.{seen_is_right}
+use Rattle.lra_analyse_source.proofs.Crates.lra_analysis_spec.FormLemmas.{forms_are_right, tests_are_right, differs_is_right}
 use Rattle.lra_analyse_source.proofs.laws.forms_are_right.Goals as goal
 
 pub returns-clause-forms : goal.returns-clause-forms

@@ -1,10 +1,7 @@
 -- Goals of `report_solution`: the report of what an iteration found of the program that is read of a source.
 use Rattle.std.proofs.{Common.◌≡◌, Common.map, Common.length, Common.ap, Common.◌∙◌, Common.arith, lemmas.List.length-map}
-use Rattle.lra_syntax.specs.Views.{tree_view}
-use Rattle.lra_operations.specs.TreeViews.{node_view, site_view}
-use Rattle.lra_analysis_spec.specs.Plan.{plan_of}
-use Rattle.lra_report.specs.View.{report_of}
-use Rattle.lra_base.specs.AccessVerdicts.{reported_view}
+use Rattle.lra_analyse_source.specs.Crates.lra_operations.TreeViews.{node_view, site_view}
+use Rattle.lra_analyse_source.specs.Crates.{lra_analysis_spec.Plan.plan_of, lra_base.AccessVerdicts.reported_view, lra_report.View.report_of, lra_syntax.Views.tree_view}
 use Rattle.lra_analyse_source.proofs.ReportSteps.{few_points, tells_solution, canonical_there, shown_there, states_handed, verdicts_handed, few_dims, accessed_handed, asked_handed, fitting_handed}
 use Rattle.lra_analyse_source.proofs.ReportSteps.{inside_handed, last_handed, is_told, told_so}
 use Rattle.lra_analyse_source.proofs.reporting.report_solution.Goals as goal

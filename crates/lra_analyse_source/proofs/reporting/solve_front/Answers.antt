@@ -1,8 +1,6 @@
 -- Goals of `solve_front`: what an iteration over a domain finds of the program that is read of a source.
 use Rattle.std.proofs.Common.{map}
-use Rattle.lra_syntax.specs.Views.{tree_view}
-use Rattle.lra_operations.specs.TreeViews.{node_view, site_view}
-use Rattle.lra_resolution_spec.specs.Resolve.{resolve}
+use Rattle.lra_analyse_source.specs.Crates.{lra_operations.TreeViews.node_view, lra_operations.TreeViews.site_view, lra_resolution_spec.Resolve.resolve, lra_syntax.Views.tree_view}
 use Rattle.lra_analyse_source.proofs.ReportSteps.{fits, globals_seen, small_globals, good_globals, is_numbered}
 use Rattle.lra_analyse_source.proofs.reporting.solve_front.Goals as goal
 

@@ -1,9 +1,7 @@
 -- Goals of `analyse_over`: the report of a source over a domain that shows its values as the options name it, or
 -- its one refusal.
 use Rattle.std.proofs.Common.{ap, ◌∙◌}
-use Rattle.lra_analysis_spec.specs.Plan.{plan_of}
-use Rattle.lra_syntax.specs.Views.{tree_view}
-use Rattle.lra_report.specs.View.{report_of}
+use Rattle.lra_analyse_source.specs.Crates.{lra_analysis_spec.Plan.plan_of, lra_report.View.report_of, lra_syntax.Views.tree_view}
 use Rattle.lra_analyse_source.proofs.StageSteps.{is_answered}
 use Rattle.lra_analyse_source.proofs.source_report.analyse_over.Goals as goal
 

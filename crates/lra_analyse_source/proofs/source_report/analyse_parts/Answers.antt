@@ -1,7 +1,7 @@
 -- Goals of `analyse_parts`: the report of a source over the sets of a domain's values where the options allow more
 -- parts than one, else over the domain itself; or its one refusal.
 use Rattle.std.proofs.lemmas.Result.{IfOk-weaker}
-use Rattle.lra_report.specs.View.{report_of}
+use Rattle.lra_analyse_source.specs.Crates.lra_report.View.{report_of}
 use Rattle.lra_analyse_source.specs.SourceReports.{IsAnalysisReportOver}
 use Rattle.lra_analyse_source.proofs.Sayings.{over_sets, over_one}
 use Rattle.lra_analyse_source.proofs.source_report.analyse_parts.Goals as goal

@@ -2,10 +2,8 @@
 -- or its one refusal; memory may run out.
 use Rattle.std.proofs.lemmas.Result.{IfOk-weaker}
 use Rattle.lra_options.specs.declared.options.Domain.TheVariants.{Poly, Box, Oct}
-use Rattle.lra_box.specs.Abstraction.{box_abstraction}
-use Rattle.lra_octagon.specs.Abstraction.{octagon_abstraction}
+use Rattle.lra_analyse_source.specs.Crates.{lra_box.Abstraction.box_abstraction, lra_octagon.Abstraction.octagon_abstraction, lra_report.View.report_of}
 use Rattle.lra_poly_domain.specs.Abstraction.{polyhedron_abstraction}
-use Rattle.lra_report.specs.View.{report_of}
 use Rattle.lra_report_build.specs.{Polyhedra.shown_polyhedron, Shown.shown_state}
 use Rattle.lra_analyse_source.proofs.Sayings.{over_domain}
 use Rattle.lra_analyse_source.proofs.source_report.analyse_source.Goals as goal

@@ -1,6 +1,6 @@
 use Rattle.std.proofs.Common.{map}
 use Rattle.lra_operations.specs.{Tree.Node, TreeViews.site_view}
-use Rattle.lra_path_segments.specs.{TreeSegmentViews.seen, TreeSegments.AreSegmentsOf}
+use Rattle.lra_back.specs.Crates.{lra_path_segments.TreeSegmentViews.seen, lra_path_segments.TreeSegments.AreSegmentsOf}
 use Rattle.lra_back.proofs.BackSteps.{IsNothingBefore}
 use Rattle.lra_back.proofs.analysis.are_none_left.Given as goal
 

@@ -2,7 +2,7 @@
 use Rattle.std.proofs.Common.{Err, List, ap, map, refl, subst, sym, ◌∙◌}
 use Rattle.lra_operations.specs.TreeViews.{node_view, site_view}
 use Rattle.lra_program.specs.Sites.{Site}
-use Rattle.lra_path_segments.specs.TreeSegmentViews.{seen}
+use Rattle.lra_back.specs.Crates.lra_path_segments.TreeSegmentViews.{seen}
 use Rattle.lra_back.specs.BackwardAnalysis.{AreWide}
 use Rattle.lra_back.proofs.{BackSteps.asserts_is, BackSteps.backs_over, BackSteps.left_over, BackSteps.needs_over, BackSteps.too_many, Transfer.traced}
 use Rattle.lra_back.proofs.analysis.back.Goals as goal

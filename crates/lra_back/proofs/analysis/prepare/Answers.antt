@@ -2,7 +2,7 @@
 use Rattle.std.proofs.{Common.List, Common.ap, Common.arith, Common.map, Common.subst, Common.sym, Common.◌∙◌, lemmas.Option.none-some}
 use Rattle.lra_operations.specs.TreeViews.{site_view}
 use Rattle.lra_program.specs.ProgramViews.{cond_view}
-use Rattle.lra_path_segments.specs.{TreeSegmentViews.seen, TreeSegments.AreSegmentsOf, declared.segments.TreeSegment.TreeSegment}
+use Rattle.lra_back.specs.Crates.{lra_path_segments.TreeSegmentViews.seen, lra_path_segments.TreeSegments.AreSegmentsOf, lra_path_segments.declared.segments.TreeSegment.TreeSegment}
 use Rattle.lra_back.specs.BackwardCalls.{condition_seen}
 use Rattle.lra_back.proofs.{BackSteps.asserted_found, BackSteps.is_task, PathSteps.read_at, PathSteps.same_there, WideSteps.assertion_inside, WideSteps.wide_at}
 use Rattle.lra_back.proofs.analysis.prepare.Goals as goal

@@ -1,6 +1,6 @@
 use Rattle.std.proofs.Common.{◌≡◌, ℕ, Some, length, map, slice_get}
 use Rattle.lra_operations.specs.{Tree.Node, TreeViews.site_view}
-use Rattle.lra_path_segments.specs.{TreeSegmentViews.seen, TreeSegments.AreSegmentsOf}
+use Rattle.lra_back.specs.Crates.{lra_path_segments.TreeSegmentViews.seen, lra_path_segments.TreeSegments.AreSegmentsOf}
 use Rattle.lra_paths.specs.{Paths.AreFewIn, declared.sources.Source.Source}
 use Rattle.lra_back.specs.BackwardCalls.{IsSourceOf}
 use Rattle.lra_back.proofs.analysis.sources_of.Given as goal

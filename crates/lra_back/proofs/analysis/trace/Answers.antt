@@ -2,7 +2,7 @@
 use Rattle.std.proofs.Common.{◌≡◌, ℕ, List, Option, Some, ap, length, map, slice_get, subst, sym, ◌∙◌}
 use Rattle.std.proofs.lemmas.Result.{IfOk-weaker}
 use Rattle.lra_operations.specs.TreeViews.{site_view}
-use Rattle.lra_path_segments.specs.TreeSegmentViews.{seen}
+use Rattle.lra_back.specs.Crates.lra_path_segments.TreeSegmentViews.{seen}
 use Rattle.lra_back.specs.{BackwardAnalysis.AreWide, BackwardAnalysis.BackwardAnalysis, BackwardCalls.IsBackwardSolution, BackwardCalls.task_view, Operations.lossy_back_operations}
 use Rattle.lra_back.proofs.{BackSteps.all_backs, WideSteps.wide_values}
 use Rattle.lra_back.proofs.analysis.trace.Goals as goal

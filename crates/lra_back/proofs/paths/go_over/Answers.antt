@@ -2,7 +2,7 @@
 use Rattle.std.proofs.Common.{◌≡◌, ◌<◌, ◌-◌, suc, length, take, arith, subst, sym}
 use Rattle.std.specs.Borrow.{Bor}
 use Rattle.lra_domain.specs.{Changes.action_of, Changes.dims_after_actions, declared.Exactness.Exactness, declared.changes.Change.Change}
-use Rattle.lra_path_disjuncts.specs.TableDisjuncts.{all_done}
+use Rattle.lra_back.specs.Crates.lra_path_disjuncts.TableDisjuncts.{all_done}
 use Rattle.lra_back.specs.Operations.{lossy_back_operations}
 use Rattle.lra_back.proofs.PathSteps.{IsOverFrom, over_one, read_mapped, undo_fits}
 use Rattle.lra_back.proofs.paths.go_over.Goals as goal

@@ -1,4 +1,4 @@
-use Rattle.lra_path_disjuncts.specs.TableDisjuncts.{all_done}
+use Rattle.lra_back.specs.Crates.lra_path_disjuncts.TableDisjuncts.{all_done}
 use Rattle.lra_back.specs.Operations.{lossy_back_operations}
 use Rattle.lra_back.proofs.PathSteps.{IsOverFrom}
 use Rattle.lra_back.proofs.paths.go_over.Given as goal

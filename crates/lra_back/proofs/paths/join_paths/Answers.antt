@@ -1,8 +1,8 @@
 -- Goals of `join_paths`: what the paths bring back comes to what is joined so far, one after the other.
 use Rattle.std.proofs.Common.{◌+◌, add-one}
-use Rattle.lra_path_disjuncts.specs.TableDisjuncts.{all_done, lists_done}
+use Rattle.lra_back.specs.Crates.lra_path_disjuncts.TableDisjuncts.{all_done, lists_done}
 use Rattle.lra_back.specs.Operations.{lossy_back_operations}
-use Rattle.lra_linear_spec.proofs.ListPlaces.{contains_at}
+use Rattle.lra_back.proofs.Crates.lra_linear_spec.ListPlaces.{contains_at}
 use Rattle.lra_back.proofs.{JoinSteps.first_comes, JoinSteps.last_comes, JoinSteps.next_comes, PathSteps.mapped_past, PathSteps.read_mapped}
 use Rattle.lra_back.proofs.paths.join_paths.Goals as goal
 

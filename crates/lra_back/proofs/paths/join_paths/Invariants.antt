@@ -1,4 +1,4 @@
-use Rattle.lra_path_disjuncts.specs.TableDisjuncts.{lists_done}
+use Rattle.lra_back.specs.Crates.lra_path_disjuncts.TableDisjuncts.{lists_done}
 use Rattle.lra_back.specs.{BackwardCalls.IfThereHas, Operations.lossy_back_operations}
 use Rattle.lra_back.proofs.JoinSteps.{StillComes}
 use Rattle.lra_back.proofs.paths.join_paths.Given as goal

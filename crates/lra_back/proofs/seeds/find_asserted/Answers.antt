@@ -1,6 +1,6 @@
 -- Goals of `find_asserted`: the condition that is asserted at the point.
 use Rattle.std.proofs.Common.{ap, map, sym, ◌∙◌}
-use Rattle.lra_path_segments.specs.TreeSegmentViews.{move_view}
+use Rattle.lra_back.specs.Crates.lra_path_segments.TreeSegmentViews.{move_view}
 use Rattle.lra_back.proofs.{PathSteps.read_at, SeedSteps.first_found}
 use Rattle.lra_back.proofs.seeds.find_asserted.Goals as goal
 

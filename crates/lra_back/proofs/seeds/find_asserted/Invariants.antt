@@ -1,5 +1,5 @@
 use Rattle.std.proofs.Common.{◌≡◌, [], take}
-use Rattle.lra_path_segments.specs.TreeSegmentViews.{seen}
+use Rattle.lra_back.specs.Crates.lra_path_segments.TreeSegmentViews.{seen}
 use Rattle.lra_back.proofs.SeedSteps.{denials_in}
 use Rattle.lra_back.proofs.seeds.find_asserted.Given as goal
 

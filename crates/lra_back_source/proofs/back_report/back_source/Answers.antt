@@ -1,7 +1,6 @@
 -- Goals of `back_source`: what going back over a source finds.
 use Rattle.std.proofs.Common.{map}
-use Rattle.lra_syntax.specs.Views.{tree_view}
-use Rattle.lra_operations.specs.TreeViews.{node_view, site_view}
+use Rattle.lra_back_source.specs.Crates.{lra_operations.TreeViews.node_view, lra_operations.TreeViews.site_view, lra_syntax.Views.tree_view}
 use Rattle.lra_back_source.specs.{BackReports.IsBackRefusalOf, Refusals.IfRefusal, declared.refusals.BackError.TheVariants.Memory}
 use Rattle.lra_back_source.proofs.Answered.{exit_by, refused, small_number, told}
 use Rattle.lra_back_source.proofs.back_report.back_source.Goals as goal

@@ -1,7 +1,6 @@
 -- Goals of `list_states`: the points of a source with the states that show these values.
 use Rattle.std.proofs.{Common.length, Common.map, Common.ap, Common.arith, lemmas.List.length-map}
-use Rattle.lra_syntax.specs.Views.{tree_view}
-use Rattle.lra_operations.specs.TreeViews.{node_view, site_view}
+use Rattle.lra_back_source.specs.Crates.{lra_operations.TreeViews.node_view, lra_operations.TreeViews.site_view, lra_syntax.Views.tree_view}
 use Rattle.lra_report.specs.View.{point_report_of}
 use Rattle.lra_analyse_source.proofs.ReportSteps.{few_points}
 use Rattle.lra_back_source.proofs.Showing.{shows_points, states_listed}

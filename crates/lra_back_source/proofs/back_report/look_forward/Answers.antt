@@ -1,9 +1,7 @@
 -- Goals of `look_forward`: what is gone back over.
 use Rattle.std.proofs.Common.{map}
-use Rattle.lra_syntax.specs.Views.{tree_view}
-use Rattle.lra_operations.specs.TreeViews.{node_view, site_view}
-use Rattle.lra_base.specs.AccessVerdicts.{reported_view}
-use Rattle.lra_poly_domain.specs.{Abstraction.polyhedron_abstraction, Laws.polyhedron_laws}
+use Rattle.lra_back_source.specs.Crates.lra_operations.TreeViews.{node_view, site_view}
+use Rattle.lra_back_source.specs.Crates.{lra_base.AccessVerdicts.reported_view, lra_poly_domain.Abstraction.polyhedron_abstraction, lra_poly_domain.Laws.polyhedron_laws, lra_syntax.Views.tree_view}
 use Rattle.lra_analyse_source.proofs.ReportSteps.{accessed_handed, few_dims}
 use Rattle.lra_back_source.specs.Forward.{forward_plan}
 use Rattle.lra_back_source.proofs.{Answered.listed_number, Forward.are_wide, Forward.flag_there, Forward.is_forward}

@@ -1,8 +1,6 @@
 -- Goals of `retrace`: what going back from a point finds.
 use Rattle.std.proofs.Common.{map}
-use Rattle.lra_syntax.specs.Views.{tree_view}
-use Rattle.lra_operations.specs.TreeViews.{node_view, site_view}
-use Rattle.lra_back.specs.BackwardAnalysis.{PathsFit}
+use Rattle.lra_back_source.specs.Crates.{lra_back.BackwardAnalysis.PathsFit, lra_operations.TreeViews.node_view, lra_operations.TreeViews.site_view, lra_syntax.Views.tree_view}
 use Rattle.lra_analyse_source.proofs.ReportSteps.{globals_seen}
 use Rattle.lra_back_source.proofs.Answered.{all_found, failed, flag_at, listed_number, retraced, unlisted_number}
 use Rattle.lra_back_source.proofs.Forward.{asserted_at, handed, paths_at}

@@ -1,7 +1,7 @@
 -- Goals of `judge_accesses`: which accesses of a tree are inside.
 use Rattle.std.proofs.Common.{None}
-use Rattle.lra_operations.specs.{CheckedOperations.accessing_ops, TreeViews.node_view}
-use Rattle.lra_analysis_spec.specs.{Accesses.OpInside, Operations.lossy_operations}
+use Rattle.lra_bounds_checks.specs.Crates.lra_analysis_spec.Operations.{lossy_operations}
+use Rattle.lra_bounds_checks.specs.Crates.{lra_analysis_spec.Accesses.OpInside, lra_operations.CheckedOperations.accessing_ops, lra_operations.TreeViews.node_view}
 use Rattle.lra_bounds_checks.proofs.ShownSteps.{finds_shown}
 use Rattle.lra_bounds_checks.proofs.judgements.judge_accesses.Goals as goal
 

@@ -3,7 +3,7 @@
 use Rattle.std.proofs.Common.{◌∙◌, List, refl, ap, map}
 use Rattle.lra_program.specs.declared.program.Cond as declared
 use Rattle.lra_program.specs.{Accesses.cond_accesses, ProgramViews.cond_view}
-use Rattle.lra_linearize.proofs.CondSteps.{all_view, any_view}
+use Rattle.lra_bounds_checks.proofs.Crates.lra_linearize.CondSteps.{all_view, any_view}
 use Rattle.lra_bounds_checks.specs.Listed.{access_view, side_accesses}
 use Rattle.lra_bounds_checks.proofs.ListedSteps.{all_accesses, any_accesses, next_behind, ok_behind}
 use Rattle.lra_bounds_checks.proofs.listing.+conditions.Goals as goal

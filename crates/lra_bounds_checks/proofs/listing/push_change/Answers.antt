@@ -2,8 +2,8 @@
 use Rattle.std.proofs.Common.{ap, map}
 use Rattle.lra_program.specs.Accesses.{aim_accesses, arguments_accesses, expr_accesses, op_accesses}
 use Rattle.lra_program.specs.ProgramViews.{argument_view, element_view, expr_view}
-use Rattle.lra_operations.specs.declared.tree.Op as declared
-use Rattle.lra_operations.specs.TreeViews.{op_view}
+use Rattle.lra_bounds_checks.specs.Crates.lra_operations.declared.tree.Op as declared
+use Rattle.lra_bounds_checks.specs.Crates.lra_operations.TreeViews.{op_view}
 use Rattle.lra_bounds_checks.specs.Listed.{access_view}
 use Rattle.lra_bounds_checks.proofs.ListedSteps.{ok_behind}
 use Rattle.lra_bounds_checks.proofs.listing.push_change.Goals as goal

@@ -1,7 +1,7 @@
 -- Goals of `opposite_row`: the same times -1.
 use Rattle.std.proofs.{Common.rules, Common.map, Common.◌≡◌, Common.[], Common.◌∷◌, Common.◌++◌, Common.◌∙◌, Common.append_assoc, Common.FitsSigned, lemmas.List.Elements.All-push}
 use Rattle.std.specs.{Int.w128, Prelude.neg_ℤ}
-use Rattle.lra_linear_spec.specs.Range.{InRange}
+use Rattle.lra_box.specs.Crates.lra_linear_spec.Range.{InRange}
 use Rattle.lra_box.proofs.bounds.opposite_row.Goals as goal
 
 pub loop-factor-preserved : goal.loop-factor-preserved

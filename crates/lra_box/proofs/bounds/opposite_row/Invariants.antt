@@ -1,6 +1,6 @@
 use Rattle.std.proofs.Common.{◌≡◌, ◌++◌, length, map}
 use Rattle.std.specs.{List.All, Prelude.neg_ℤ}
-use Rattle.lra_linear_spec.specs.Range.{InRange}
+use Rattle.lra_box.specs.Crates.lra_linear_spec.Range.{InRange}
 use Rattle.lra_box.proofs.bounds.opposite_row.Given as goal
 
 abbrev pub invariant-loop-factor : goal.invariant-loop-factor

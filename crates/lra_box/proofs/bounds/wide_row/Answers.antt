@@ -2,7 +2,7 @@
 use Rattle.std.proofs.Common.{rules, ◌≡◌, [], ◌∷◌, ◌++◌, ◌∙◌, List, ℤ, pos, get_or, sym, ap, FitsSigned}
 use Rattle.std.proofs.{lemmas.List.take_more, lemmas.List.Elements.All-push}
 use Rattle.std.specs.Int.{w64}
-use Rattle.lra_linear_spec.specs.Range.{InRange}
+use Rattle.lra_box.specs.Crates.lra_linear_spec.Range.{InRange}
 use Rattle.lra_box.proofs.bounds.wide_row.Goals as goal
 
 pub loop-factor-preserved : goal.loop-factor-preserved

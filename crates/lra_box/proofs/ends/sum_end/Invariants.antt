@@ -1,5 +1,5 @@
 use Rattle.std.proofs.Common.{◌≡◌, length}
-use Rattle.lra_linear_spec.specs.Range.{InRange}
+use Rattle.lra_box.specs.Crates.lra_linear_spec.Range.{InRange}
 use Rattle.lra_box.specs.Bounds.{end_sum, SumPasses}
 use Rattle.lra_box.proofs.ends.sum_end.Given as goal
 

@@ -1,6 +1,6 @@
 -- Goals of `push_equals`: adds the equalities of all places.
 use Rattle.std.proofs.Common.{rules, arith, suc, add-one, ◌≡◌, ◌∷◌, length}
-use Rattle.lra_linear_spec.specs.declared.ConKind.TheVariants.{Eq}
+use Rattle.lra_box.specs.Crates.lra_linear_spec.declared.ConKind.TheVariants.{Eq}
 use Rattle.lra_box.specs.Parts.{box_equalities}
 use Rattle.lra_box.proofs.PartLemmas.{rows_added, kinds_added}
 use Rattle.lra_box.proofs.parts.push_equals.Goals as goal

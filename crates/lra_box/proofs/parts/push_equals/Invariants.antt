@@ -1,5 +1,5 @@
 use Rattle.std.proofs.Common.{◌≡◌, ◌+◌, ◌++◌, length, replicate}
-use Rattle.lra_linear_spec.specs.declared.ConKind.TheVariants.{Eq}
+use Rattle.lra_box.specs.Crates.lra_linear_spec.declared.ConKind.TheVariants.{Eq}
 use Rattle.lra_box.specs.{Bounds.AllValidIntervals, Parts.box_equalities}
 use Rattle.lra_box.proofs.parts.push_equals.Given as goal
 

@@ -1,6 +1,6 @@
 -- Goals of `push_unequals`: adds the inequalities of all places.
 use Rattle.std.proofs.Common.{rules, arith, suc, add-one, ◌≡◌, ◌∷◌, length}
-use Rattle.lra_linear_spec.specs.declared.ConKind.TheVariants.{Ge}
+use Rattle.lra_box.specs.Crates.lra_linear_spec.declared.ConKind.TheVariants.{Ge}
 use Rattle.lra_box.specs.Parts.{box_inequalities}
 use Rattle.lra_box.proofs.PartLemmas.{rows_added, kinds_added}
 use Rattle.lra_box.proofs.parts.push_unequals.Goals as goal

@@ -2,8 +2,7 @@
 use Rattle.std.proofs.Common.{arith, sym, subst, Err, None}
 use Rattle.lra_base.specs.declared.refusals.Place.{Place}
 use Rattle.lra_base.proofs.Limit.{limit_is, taken}
-use Rattle.lra_linear_spec.proofs.Polyhedra.{con_gen}
-use Rattle.lra_duality.proofs.{GreatestValues.maximum_tells, InclusionLemmas.inclusion_tells}
+use Rattle.lra_calc.proofs.Crates.{lra_duality.GreatestValues.maximum_tells, lra_duality.InclusionLemmas.inclusion_tells, lra_linear_spec.Polyhedra.con_gen}
 use Rattle.lra_script.specs.ScriptText.{lines}
 use Rattle.lra_calc.specs.Script.{TooLong, Runs, AnswersTo}
 use Rattle.lra_calc.proofs.{Endings.answers_by, Limit.answer_too_long, Limit.answer_not_long, OneEnd.one_end, OneRefusal.one_refusal, OneRefusal.never_widens}

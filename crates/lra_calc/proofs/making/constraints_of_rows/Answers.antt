@@ -1,6 +1,6 @@
 -- Goals of `constraints_of_rows`: the constraints, each of n + 1 numbers.
 use Rattle.std.proofs.Common.{arith, ◌∙◌, suc, ℤ, List, ap, sym, length, length-append}
-use Rattle.lra_linear_spec.specs.Kinds.{is_equality}
+use Rattle.lra_calc.specs.Crates.lra_linear_spec.Kinds.{is_equality}
 use Rattle.lra_script.specs.Views.{constraint_of}
 use Rattle.lra_calc.proofs.MakingLemmas.{wide_here, pushed_here}
 use Rattle.lra_calc.proofs.making.constraints_of_rows.Goals as goal

@@ -1,6 +1,6 @@
 -- Goals of `generators_of_written`: the generators, each with as many numbers as it needs.
 use Rattle.std.proofs.Common.{arith, ◌∙◌, suc, ap, sym, length-append}
-use Rattle.lra_linear_spec.specs.Kinds.{is_line}
+use Rattle.lra_calc.specs.Crates.lra_linear_spec.Kinds.{is_line}
 use Rattle.lra_script.specs.{LineForms.row_of_generator, Views.generator_view}
 use Rattle.lra_calc.proofs.MakingLemmas.{generator_fits, pushed_here, fit_later}
 use Rattle.lra_calc.proofs.making.generators_of_written.Goals as goal

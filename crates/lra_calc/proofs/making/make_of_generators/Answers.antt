@@ -1,6 +1,6 @@
 -- Goals of `make_of_generators`: the polyhedron of the points that the generators generate.
 use Rattle.std.proofs.Common.{map, ◌∙◌}
-use Rattle.lra_linear_spec.specs.{Descriptions.Gen as generated_by, OperationStrain.FromGeneratorsStrains}
+use Rattle.lra_calc.specs.Crates.{lra_linear_spec.Descriptions.Gen as generated_by, lra_linear_spec.OperationStrain.FromGeneratorsStrains}
 use Rattle.lra_script.specs.{LineForms.row_of_generator, Views.generator_view}
 use Rattle.lra_calc.proofs.MakingLemmas.{made_as_told, map_map}
 use Rattle.lra_calc.proofs.making.make_of_generators.Goals as goal

@@ -1,6 +1,6 @@
 -- Goals of `make_of_rows`: the polyhedron of the points at which the constraints hold.
 use Rattle.std.proofs.Common.{map}
-use Rattle.lra_linear_spec.specs.{Descriptions.Con as points_of, OperationStrain.FromRowsStrains}
+use Rattle.lra_calc.specs.Crates.{lra_linear_spec.Descriptions.Con as points_of, lra_linear_spec.OperationStrain.FromRowsStrains}
 use Rattle.lra_script.specs.Views.{constraint_of}
 use Rattle.lra_calc.proofs.MakingLemmas.{made_as_told}
 use Rattle.lra_calc.proofs.making.make_of_rows.Goals as goal

@@ -1,8 +1,7 @@
 -- Goals of `map_set`: the set mapped by the form, its constant first, in place of the coordinate of this number,
 -- from 1.
 use Rattle.std.proofs.Common.{arith, ◌≡◌, ◌-◌, ℕ, suc, subst}
-use Rattle.lra_linear_forms.specs.Form.{form_row}
-use Rattle.lra_poly.specs.Outcomes.{Becomes}
+use Rattle.lra_calc.specs.Crates.{lra_linear_forms.Form.form_row, lra_poly.Outcomes.Becomes}
 use Rattle.lra_calc.specs.MadeSets.{mapped_set, MappingStrains}
 use Rattle.lra_calc.proofs.MakingLemmas.{made_as_told}
 use Rattle.lra_calc.proofs.making.map_set.Goals as goal

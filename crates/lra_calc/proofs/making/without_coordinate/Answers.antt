@@ -1,8 +1,7 @@
 -- Goals of `without_coordinate`: the set with any value of the coordinate of this number, from 1.
 use Rattle.std.proofs.Common.{arith, ◌≡◌, ◌-◌, ℕ, suc, subst}
-use Rattle.lra_linear_spec.specs.{Descriptions.Con as points_of, OperationStrain.ForgetStrains}
-use Rattle.lra_linear_spec.specs.SetOperations as sets
-use Rattle.lra_poly.specs.Outcomes.{Becomes}
+use Rattle.lra_calc.specs.Crates.{lra_linear_spec.Descriptions.Con as points_of, lra_linear_spec.OperationStrain.ForgetStrains, lra_poly.Outcomes.Becomes}
+use Rattle.lra_calc.specs.Crates.lra_linear_spec.SetOperations as sets
 use Rattle.lra_calc.proofs.MakingLemmas.{made_as_told}
 use Rattle.lra_calc.proofs.making.without_coordinate.Goals as goal
 

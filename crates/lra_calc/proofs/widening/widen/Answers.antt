@@ -1,5 +1,5 @@
 -- Goals of `widen`: the first set widened by the second.
-use Rattle.lra_linear_spec.specs.{OperationStrain.StandardStrains, Widening.StandardWidening}
+use Rattle.lra_calc.specs.Crates.{lra_linear_spec.OperationStrain.StandardStrains, lra_linear_spec.Widening.StandardWidening}
 use Rattle.lra_calc.specs.MadeSets.{IsWidened}
 use Rattle.lra_calc.proofs.WidenLemmas.{made_widens, outside_widens, refusal_placed}
 use Rattle.lra_calc.proofs.widening.widen.Goals as goal

@@ -1,5 +1,5 @@
 use Rattle.std.proofs.Common.{ℕ, ◌<◌, [], get_or}
-use Rattle.lra_linear_spec.specs.Echelon.{Before, pivot}
+use Rattle.lra_canonical.specs.Crates.lra_linear_spec.Echelon.{Before, pivot}
 use Rattle.lra_canonical.proofs.forms.rows_before.Given as goal
 
 abbrev pub invariant-loop-place : goal.invariant-loop-place

@@ -1,5 +1,5 @@
 use Rattle.std.proofs.Common.{◌≡◌, ◌<◌, ℕ, [], pos, slice_index_or}
-use Rattle.lra_linear_spec.specs.{Echelon.pivot, Vectors.entry}
+use Rattle.lra_canonical.specs.Crates.{lra_linear_spec.Echelon.pivot, lra_linear_spec.Vectors.entry}
 use Rattle.lra_canonical.proofs.reduction.is_clear.Given as goal
 
 abbrev pub invariant-loop-line : goal.invariant-loop-line

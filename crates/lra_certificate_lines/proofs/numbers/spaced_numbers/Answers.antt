@@ -2,7 +2,7 @@
 use Rattle.std.proofs.Common.{rules, arith, ◌≡◌, ◌<◌, [], ◌∷◌, ◌++◌, length, FitsSigned, ap, length-append}
 use Rattle.std.proofs.{lemmas.Grind.common_steps, lemmas.Int.to_z-of_z, lemmas.List.Elements.All-append, lemmas.List.Elements.All-cons, lemmas.List.Elements.All-nil}
 use Rattle.std.specs.Int.{w128}
-use Rattle.lra_linear_spec.specs.Range.{InRange}
+use Rattle.lra_certificate_lines.specs.Crates.lra_linear_spec.Range.{InRange}
 use Rattle.lra_certificate_spec.specs.Judged.{spaced_numbers, words_of}
 use Rattle.lra_certificate_spec.proofs.NumberSteps.{number_more, too_many}
 use Rattle.lra_certificate_lines.proofs.numbers.spaced_numbers.Goals as goal

@@ -1,6 +1,6 @@
 use Rattle.std.proofs.Common.{◌≡◌, ◌≤◌, ◌-◌, length}
 use Rattle.std.specs.List.{All}
-use Rattle.lra_linear_spec.specs.Range.{InRange}
+use Rattle.lra_certificate_lines.specs.Crates.lra_linear_spec.Range.{InRange}
 use Rattle.lra_certificate_spec.specs.Judged.{spaced_numbers, words_of}
 use Rattle.lra_certificate_spec.proofs.NumberSteps.{onto}
 use Rattle.lra_certificate_lines.proofs.numbers.spaced_numbers.Given as goal

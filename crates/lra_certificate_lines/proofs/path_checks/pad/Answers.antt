@@ -2,7 +2,7 @@
 use Rattle.std.proofs.Common.{arith, ◌≡◌, ◌∷◌, ◌++◌, ◌-◌, [], ℤ, List, pos, length, ap, sym, ◌∙◌, length-append, subst}
 use Rattle.std.proofs.{lemmas.Grind.common_steps, lemmas.List.Elements.All-append}
 use Rattle.std.specs.List.{All}
-use Rattle.lra_linear_spec.specs.{Range.InRange, Vectors.zeros}
+use Rattle.lra_certificate_lines.specs.Crates.{lra_linear_spec.Range.InRange, lra_linear_spec.Vectors.zeros}
 use Rattle.lra_certificate_lines.proofs.{TrackSteps.padded_more, WalkSteps.zeros_in}
 use Rattle.lra_certificate_lines.proofs.path_checks.pad.Goals as goal
 

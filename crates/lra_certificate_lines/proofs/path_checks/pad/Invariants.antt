@@ -1,5 +1,5 @@
 use Rattle.std.proofs.Common.{◌≡◌, ◌≤◌, ◌++◌, ◌-◌, length}
-use Rattle.lra_linear_spec.specs.Vectors.{zeros}
+use Rattle.lra_certificate_lines.specs.Crates.lra_linear_spec.Vectors.{zeros}
 use Rattle.lra_certificate_lines.proofs.path_checks.pad.Given as goal
 
 abbrev pub invariant-columns : goal.invariant-columns

@@ -1,6 +1,6 @@
 -- Goals of `pad_rows`: the rows of a source, over so many symbols.
 use Rattle.std.proofs.Common.{arith, ◌≡◌, ◌+◌, ◌-◌, ◌++◌, ℕ, suc, ap, sym, ◌∙◌, map, length}
-use Rattle.lra_linear_spec.specs.Vectors.{zeros}
+use Rattle.lra_certificate_lines.specs.Crates.lra_linear_spec.Vectors.{zeros}
 use Rattle.lra_certificate_spec.specs.Certificates.{padded}
 use Rattle.lra_certificate_lines.proofs.TrackSteps.{padded_pushed, padded_length, all_constraints}
 use Rattle.lra_multipliers.proofs.ListedKinds.{kinds_pushed}

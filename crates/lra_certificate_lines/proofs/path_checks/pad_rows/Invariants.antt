@@ -1,5 +1,5 @@
 use Rattle.std.proofs.Common.{◌≡◌, suc, map, take, length}
-use Rattle.lra_systems.specs.LinearSystems.{constraints}
+use Rattle.lra_certificate_lines.specs.Crates.lra_systems.LinearSystems.{constraints}
 use Rattle.lra_certificate_spec.specs.Certificates.{padded}
 use Rattle.lra_certificate_lines.proofs.path_checks.pad_rows.Given as goal
 

@@ -1,7 +1,6 @@
 -- Goals of `push_rows`: the rows come last.
 use Rattle.std.proofs.Common.{◌++◌, List, arith, ap, refl, ◌∙◌}
-use Rattle.lra_linear_spec.specs.Descriptions.{LinearRow}
-use Rattle.lra_systems.specs.LinearSystems.{constraints}
+use Rattle.lra_certificate_lines.specs.Crates.{lra_linear_spec.Descriptions.LinearRow, lra_systems.LinearSystems.constraints}
 use Rattle.lra_certificate_lines.proofs.TrackSteps.{row_pushed, all_constraints}
 use Rattle.lra_multipliers.proofs.ListedKinds.{kinds_pushed}
 use Rattle.lra_certificate_lines.proofs.path_checks.push_rows.Goals as goal

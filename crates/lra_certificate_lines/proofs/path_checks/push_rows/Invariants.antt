@@ -1,5 +1,5 @@
 use Rattle.std.proofs.Common.{◌≡◌, ◌++◌, take, length}
-use Rattle.lra_systems.specs.LinearSystems.{constraints}
+use Rattle.lra_certificate_lines.specs.Crates.lra_systems.LinearSystems.{constraints}
 use Rattle.lra_certificate_lines.proofs.path_checks.push_rows.Given as goal
 
 abbrev pub invariant-loop-place : goal.invariant-loop-place

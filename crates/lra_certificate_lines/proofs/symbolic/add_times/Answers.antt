@@ -2,8 +2,8 @@
 use Rattle.std.proofs.Common.{ℕ, ap, rules, to_z, ◌≡◌, ◌∙◌, sym, subst, refl, length, ℤ, pos, List, FitsSigned, Result, Ok}
 use Rattle.std.proofs.{lemmas.Int.to_z-of_z, lemmas.Result.IfOk-weaker, lemmas.Result.IfErr-weaker}
 use Rattle.std.specs.Int.{w128}
-use Rattle.lra_linear_spec.specs.{CheckedArithmetic.checked_added, declared.Excess.Excess}
-use Rattle.lra_linear_spec.proofs.CheckedArithmetic.{checked_blend_in_range}
+use Rattle.lra_certificate_lines.specs.Crates.{lra_linear_spec.CheckedArithmetic.checked_added, lra_linear_spec.declared.Excess.Excess}
+use Rattle.lra_certificate_lines.proofs.Crates.lra_linear_spec.CheckedArithmetic.{checked_blend_in_range}
 use Rattle.lra_row.specs.Rows.{IsExcessOf}
 use Rattle.lra_row.proofs.Combination.{blend_added}
 use Rattle.lra_certificate_spec.proofs.WalkedRows.{added_value}

@@ -2,7 +2,7 @@
 use Rattle.std.proofs.Common.{rules, arith, suc, ◌+◌, ◌<◌, inl, inr, sym, ◌∙◌, ap, ◌-◌, List, ℤ, length, subst, FitsSigned}
 use Rattle.std.proofs.lemmas.Int.{to_z-of_z}
 use Rattle.std.specs.{Int.w128, List.All, Prelude.slice_set}
-use Rattle.lra_linear_spec.specs.{Range.InRange, Vectors.zeros}
+use Rattle.lra_certificate_lines.specs.Crates.{lra_linear_spec.Range.InRange, lra_linear_spec.Vectors.zeros}
 use Rattle.lra_certificate_lines.proofs.WalkSteps.{begun, first_in, goes_on, passes_on, ends}
 use Rattle.lra_certificate_lines.proofs.symbolic.compose.Goals.{then-columns-test+else-place-width, else-columns-test}
 use Rattle.lra_certificate_lines.proofs.symbolic.compose.Goals as goal

@@ -1,6 +1,6 @@
 use Rattle.std.proofs.Common.{◌≡◌, ◌-◌, length}
 use Rattle.std.specs.List.{All}
-use Rattle.lra_linear_spec.specs.Range.{InRange}
+use Rattle.lra_certificate_lines.specs.Crates.lra_linear_spec.Range.{InRange}
 use Rattle.lra_certificate_lines.proofs.WalkSteps.{IsSoFar}
 use Rattle.lra_certificate_lines.proofs.symbolic.compose.Given as goal
 

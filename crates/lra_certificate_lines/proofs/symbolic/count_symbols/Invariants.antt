@@ -1,6 +1,6 @@
 use Rattle.std.proofs.Common.{◌≡◌, ◌<◌, ◌+◌, ◌^◌, drop}
 use Rattle.lra_multipliers.specs.Symbols.{new_symbols}
-use Rattle.lra_path_disjuncts.specs.TableDisjuncts.{all_done}
+use Rattle.lra_certificate_lines.specs.Crates.lra_path_disjuncts.TableDisjuncts.{all_done}
 use Rattle.lra_certificate_lines.proofs.symbolic.count_symbols.Given as goal
 
 abbrev pub invariant-loop-change : goal.invariant-loop-change

@@ -1,7 +1,6 @@
 -- Goals of `certify`: the lines after the source of a certificate.
 use Rattle.std.proofs.Common.{Err, map, ap, sym, string_bytes}
-use Rattle.lra_program.specs.{ProgramViews.program_view, Sites.sites_of}
-use Rattle.lra_operations.specs.TreeViews.{node_view, site_view}
+use Rattle.lra_certify.specs.Crates.{lra_operations.TreeViews.node_view, lra_operations.TreeViews.site_view, lra_program.ProgramViews.program_view, lra_program.Sites.sites_of}
 use Rattle.lra_verify.specs.PointViews.{state_view}
 use Rattle.lra_verify.proofs.VerifySteps.{few_ready, many_ready}
 use Rattle.lra_certify.specs.Certified.{IsFailure}

@@ -1,5 +1,5 @@
 -- Goals of `find_multipliers`: the first multipliers of a claim, or why there are none.
-use Rattle.lra_certificate_lines.specs.PathCheckViews.{claim_row}
+use Rattle.lra_certify.specs.Crates.lra_certificate_lines.PathCheckViews.{claim_row}
 use Rattle.lra_farkas.proofs.FirstPoints.{as_wide}
 use Rattle.lra_certify.proofs.ClaimSteps.{line_found, line_fails}
 use Rattle.lra_certify.proofs.claims.find_multipliers.Goals as goal

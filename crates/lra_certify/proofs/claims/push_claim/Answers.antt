@@ -1,6 +1,6 @@
 -- Goals of `push_claim`: the line of a claim that holds wherever the premises do.
 use Rattle.std.proofs.Common.{Some, subst, string_bytes}
-use Rattle.lra_multipliers.specs.MultiplierViews.{multipliers_view}
+use Rattle.lra_certify.specs.Crates.lra_multipliers.MultiplierViews.{multipliers_view}
 use Rattle.lra_farkas.specs.declared.first.MultipliersFailure.{MultipliersFailure}
 use Rattle.lra_certify.specs.PathFactViews.{IsLineFailure}
 use Rattle.lra_certify.proofs.{ClaimSteps.claim_added, ClaimSteps.claim_stops, FarkasLaws.laws, FoundPaths.claim_shown}

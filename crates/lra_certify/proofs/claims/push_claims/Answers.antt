@@ -1,8 +1,7 @@
 -- Goals of `push_claims`: the lines of the claims of all rows.
 use Rattle.std.proofs.{Common.◌+◌, Common.[], Common.drop, Common.ap, Common.arith, Common.string_bytes, lemmas.List.drop_all}
-use Rattle.lra_linear_spec.specs.{Cones.with_row, Descriptions.system_of, Kinds.is_equality}
-use Rattle.lra_systems.specs.LinearSystems.{constraints}
-use Rattle.lra_certificate_lines.proofs.{ShowSteps.constraint_from, TrackSteps.constraints_few}
+use Rattle.lra_certify.specs.Crates.{lra_linear_spec.Cones.with_row, lra_linear_spec.Descriptions.system_of, lra_linear_spec.Kinds.is_equality, lra_systems.LinearSystems.constraints}
+use Rattle.lra_certify.proofs.Crates.{lra_certificate_lines.ShowSteps.constraint_from, lra_certificate_lines.TrackSteps.constraints_few}
 use Rattle.lra_certify.specs.PathFactViews.{IsClaimLine, ClaimStrained, by_line, SomeStrains, IfStrained}
 use Rattle.lra_certify.proofs.EachSteps.{left_all, left_next, left_stops, left_end}
 use Rattle.lra_certify.proofs.{ClaimSteps.system_next, ClaimSteps.hold_row, PathSteps.exit_with, PathSteps.strained_weaker}

@@ -1,6 +1,5 @@
 use Rattle.std.proofs.Common.{drop, string_bytes}
-use Rattle.lra_linear_spec.specs.Descriptions.{system_of}
-use Rattle.lra_systems.specs.LinearSystems.{constraints}
+use Rattle.lra_certify.specs.Crates.{lra_linear_spec.Descriptions.system_of, lra_systems.LinearSystems.constraints}
 use Rattle.lra_certify.specs.PathFactViews.{LinesLeft}
 use Rattle.lra_certify.proofs.claims.push_claims.Given as goal
 

@@ -1,9 +1,7 @@
 -- Goals of `push_evidence`: what is said of a path with these grounds.
 use Rattle.std.proofs.Common.{None, ap, subst, string_bytes}
-use Rattle.lra_systems.specs.LinearSystems.{constraints}
-use Rattle.lra_multipliers.specs.MultiplierViews.{multipliers_view}
-use Rattle.lra_certificate_spec.specs.Judged.{RowsAtPoint}
-use Rattle.lra_certificate_lines.specs.PathCheckViews.{target_rows}
+use Rattle.lra_certify.specs.Crates.lra_multipliers.MultiplierViews.{multipliers_view}
+use Rattle.lra_certify.specs.Crates.{lra_certificate_lines.PathCheckViews.target_rows, lra_certificate_spec.Judged.RowsAtPoint, lra_systems.LinearSystems.constraints}
 use Rattle.lra_farkas.specs.declared.first.MultipliersFailure.{MultipliersFailure}
 use Rattle.lra_certify.specs.PathFactViews.{AllLead, IsLineFailure}
 use Rattle.lra_certify.proofs.{ClaimSteps.dead_added, ClaimSteps.dead_stops, ClaimSteps.claims_told, ClaimSteps.claims_failed, FarkasLaws.laws, FoundPaths.dead_shown, FoundPaths.target_holds}

@@ -1,6 +1,6 @@
 -- Goals of `push_row_claims`: the lines of a row's claims.
 use Rattle.std.proofs.Common.{◌∙◌, ◌∷◌, [], sym, string_bytes}
-use Rattle.lra_linear_spec.specs.{Cones.with_row, Kinds.is_equality}
+use Rattle.lra_certify.specs.Crates.{lra_linear_spec.Cones.with_row, lra_linear_spec.Kinds.is_equality}
 use Rattle.lra_certify.specs.PathFactViews.{SomeStrains, IfStrained}
 use Rattle.lra_certify.proofs.{ClaimSteps.row_holds, ClaimSteps.opposite_holds, ClaimSteps.row_stops, ClaimSteps.two_told, ClaimSteps.opposite_failed, PathSteps.exit_with, PathSteps.strained_weaker}
 use Rattle.lra_certify.proofs.claims.push_row_claims.Goals as goal

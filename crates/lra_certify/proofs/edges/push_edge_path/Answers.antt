@@ -1,11 +1,7 @@
 -- Goals of `push_edge_path`: the lines of a path from a source to a point.
 use Rattle.std.proofs.Common.{Some, ap, sym, ◌∙◌, append-nil, string_bytes, arith}
-use Rattle.lra_paths.specs.Paths.{path_by}
-use Rattle.lra_path_disjuncts.specs.TableDisjuncts.{all_done}
-use Rattle.lra_path_segments.specs.Segments.{comes_to}
-use Rattle.lra_systems.specs.LinearSystems.{constraints}
-use Rattle.lra_certificate_lines.specs.PathCheckViews.{target_rows}
-use Rattle.lra_certificate_spec.specs.Certificates.{none}
+use Rattle.lra_certify.specs.Crates.{lra_certificate_lines.PathCheckViews.target_rows, lra_certificate_spec.Certificates.none, lra_path_disjuncts.TableDisjuncts.all_done}
+use Rattle.lra_certify.specs.Crates.{lra_path_segments.Segments.comes_to, lra_paths.Paths.path_by, lra_systems.LinearSystems.constraints}
 use Rattle.lra_certify.proofs.PathSteps.{stays_on, nothing_found, adds_path, path_adds, path_strained}
 use Rattle.lra_certify.proofs.edges.push_edge_path.Goals as goal
 

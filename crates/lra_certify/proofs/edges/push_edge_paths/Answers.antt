@@ -1,8 +1,6 @@
 -- Goals of `push_edge_paths`: the lines of the paths from a source to a point.
 use Rattle.std.proofs.Common.{◌+◌, ◌∷◌, [], drop, map, ap, arith, string_bytes}
-use Rattle.lra_paths.specs.Paths.{path_by}
-use Rattle.lra_path_disjuncts.specs.TableDisjuncts.{all_done, lists_done}
-use Rattle.lra_path_segments.specs.Segments.{comes_to}
+use Rattle.lra_certify.specs.Crates.{lra_path_disjuncts.TableDisjuncts.all_done, lra_path_disjuncts.TableDisjuncts.lists_done, lra_path_segments.Segments.comes_to, lra_paths.Paths.path_by}
 use Rattle.lra_certify.specs.WrittenPaths.{edge_lines}
 use Rattle.lra_certify.proofs.PathSteps.{stay_path, list_has, paths_begin, paths_next, paths_stop, paths_end, paths_flat, no_paths}
 use Rattle.lra_certify.proofs.edges.push_edge_paths.Goals as goal

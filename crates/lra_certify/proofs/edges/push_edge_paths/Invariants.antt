@@ -1,7 +1,5 @@
 use Rattle.std.proofs.Common.{drop, map, string_bytes}
-use Rattle.lra_paths.specs.Paths.{path_by}
-use Rattle.lra_path_disjuncts.specs.TableDisjuncts.{lists_done}
-use Rattle.lra_path_segments.specs.Segments.{comes_to}
+use Rattle.lra_certify.specs.Crates.{lra_path_disjuncts.TableDisjuncts.lists_done, lra_path_segments.Segments.comes_to, lra_paths.Paths.path_by}
 use Rattle.lra_certify.specs.WrittenPaths.{PathsLeft, edge_lines}
 use Rattle.lra_certify.proofs.edges.push_edge_paths.Given as goal
 

@@ -1,9 +1,7 @@
 -- Goals of `push_edges`: the lines of all paths from a source to a point.
 use Rattle.std.proofs.{Common.length, Common.ap, Common.sym, Common.◌∙◌, Common.refl, Common.arith, Common.map, Common.List, Common.subst, Common.string_bytes, lemmas.Option.slice_get_read}
-use Rattle.lra_domain.specs.Actions.{Action}
-use Rattle.lra_paths.specs.{Paths.path_by, Sources.to_goal, declared.sources.Source.Source}
-use Rattle.lra_path_segments.specs.Segments.{comes_to}
-use Rattle.lra_path_disjuncts.specs.TableDisjuncts.{lists_done}
+use Rattle.lra_certify.specs.Crates.lra_path_disjuncts.TableDisjuncts.{lists_done}
+use Rattle.lra_certify.specs.Crates.{lra_domain.Actions.Action, lra_path_segments.Segments.comes_to, lra_paths.Paths.path_by, lra_paths.Sources.to_goal, lra_paths.declared.sources.Source.Source}
 use Rattle.lra_certify.specs.WrittenPaths.{AllAreInductive, AddsPaths, SomePathStops, SomeStops, IfStopped, edge_lines, paths_to}
 use Rattle.lra_certify.specs.{PathFactViews.IfStrained, declared.failures.CertifyFailure.CertifyFailure}
 use Rattle.lra_certify.proofs.PathSteps.{led_lists, failed_edge}

@@ -1,7 +1,6 @@
 -- Goals of `push_path`: what is said of a path from a source with rows.
 use Rattle.std.proofs.Common.{string_bytes}
-use Rattle.lra_path_disjuncts.specs.TableDisjuncts.{all_done}
-use Rattle.lra_certificate_lines.specs.PathCheckViews.{target_rows}
+use Rattle.lra_certify.specs.Crates.{lra_certificate_lines.PathCheckViews.target_rows, lra_path_disjuncts.TableDisjuncts.all_done}
 use Rattle.lra_certify.proofs.{EdgeFound.walk_strained, EdgeFound.grounds_lead, EdgeFound.evidence_told, EdgeFound.evidence_failed, EdgeFound.grounds_are, FarkasLaws.laws}
 use Rattle.lra_certify.proofs.edges.push_path.Goals as goal
 

@@ -2,7 +2,7 @@
 use Rattle.std.proofs.Common.{◌+◌, ◌-◌, ℕ, length, arith, string_bytes}
 use native.Mathlib.Numerals.{unary_clauses}
 use Rattle.std.specs.List.{flat_map, range_with_len}
-use Rattle.lra_path_segments.specs.Segments.{comes_to}
+use Rattle.lra_certify.specs.Crates.lra_path_segments.Segments.{comes_to}
 use Rattle.lra_certify.specs.WrittenPaths.{edge_lines, paths_to, paths_from}
 use Rattle.lra_certify.proofs.PathSteps.{stay_to, paths_begin, paths_next, ways_stop, paths_end, numbers_flat, no_numbers}
 use Rattle.lra_certify.proofs.edges.push_source.Goals as goal

@@ -1,6 +1,6 @@
 use Rattle.std.proofs.Common.{◌-◌, length, string_bytes}
 use Rattle.std.specs.List.{flat_map, range_with_len}
-use Rattle.lra_path_segments.specs.Segments.{comes_to}
+use Rattle.lra_certify.specs.Crates.lra_path_segments.Segments.{comes_to}
 use Rattle.lra_certify.specs.WrittenPaths.{PathsLeft, edge_lines, paths_to, paths_from}
 use Rattle.lra_certify.proofs.edges.push_source.Given as goal
 

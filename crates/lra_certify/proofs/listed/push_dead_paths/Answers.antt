@@ -1,7 +1,6 @@
 -- Goals of `push_dead_paths`: the lines of paths along which nothing goes.
 use Rattle.std.proofs.Common.{◌+◌, ap, drop, arith, string_bytes}
-use Rattle.lra_systems.specs.LinearSystems.{constraints}
-use Rattle.lra_path_disjuncts.specs.TableDisjuncts.{all_done, lists_done}
+use Rattle.lra_certify.specs.Crates.{lra_path_disjuncts.TableDisjuncts.all_done, lra_path_disjuncts.TableDisjuncts.lists_done, lra_systems.LinearSystems.constraints}
 use Rattle.lra_certify.proofs.PathSteps.{list_has, list_first, dead_begin, dead_next, dead_stop, dead_end}
 use Rattle.lra_verify.proofs.EdgeSteps.{lists_end}
 use Rattle.lra_certify.proofs.listed.push_dead_paths.Goals as goal

@@ -1,6 +1,5 @@
 use Rattle.std.proofs.Common.{drop, string_bytes}
-use Rattle.lra_systems.specs.LinearSystems.{constraints}
-use Rattle.lra_path_disjuncts.specs.TableDisjuncts.{lists_done}
+use Rattle.lra_certify.specs.Crates.{lra_path_disjuncts.TableDisjuncts.lists_done, lra_systems.LinearSystems.constraints}
 use Rattle.lra_certify.specs.WrittenPaths.{DeadLeft}
 use Rattle.lra_certify.proofs.listed.push_dead_paths.Given as goal
 

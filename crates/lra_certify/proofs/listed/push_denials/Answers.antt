@@ -2,7 +2,7 @@
 use Rattle.std.proofs.Common.{◌+◌, ◌-◌, ℕ, length, arith, string_bytes}
 use native.Mathlib.Numerals.{unary_clauses}
 use Rattle.std.specs.List.{flat_map, range_with_len}
-use Rattle.lra_path_segments.specs.Segments.{violates}
+use Rattle.lra_certify.specs.Crates.lra_path_segments.Segments.{violates}
 use Rattle.lra_certify.specs.WrittenPaths.{violation_lines, paths_to, violating_paths}
 use Rattle.lra_certify.proofs.PathSteps.{stay_denied, paths_begin, paths_next, paths_stop, paths_end, numbers_flat, no_numbers}
 use Rattle.lra_certify.proofs.listed.push_denials.Goals as goal

@@ -1,6 +1,6 @@
 use Rattle.std.proofs.Common.{◌-◌, length, string_bytes}
 use Rattle.std.specs.List.{flat_map, range_with_len}
-use Rattle.lra_path_segments.specs.Segments.{violates}
+use Rattle.lra_certify.specs.Crates.lra_path_segments.Segments.{violates}
 use Rattle.lra_certify.specs.WrittenPaths.{PathsLeft, violation_lines, paths_to, violating_paths}
 use Rattle.lra_certify.proofs.listed.push_denials.Given as goal
 

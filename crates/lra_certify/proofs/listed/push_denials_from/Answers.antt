@@ -1,10 +1,7 @@
 -- Goals of `push_denials_from`: the paths from a source to where an assertion is false.
 use Rattle.std.proofs.{Common.length, Common.ap, Common.sym, Common.◌∙◌, Common.refl, Common.arith, Common.string_bytes, lemmas.Option.slice_get_read}
-use Rattle.lra_systems.specs.LinearSystems.{constraints}
-use Rattle.lra_path_segments.specs.Segments.{violates}
-use Rattle.lra_paths.specs.{Sources.to_goal, declared.sources.Source.Source}
-use Rattle.lra_path_disjuncts.specs.TableDisjuncts.{lists_done}
-use Rattle.lra_certificate_lines.specs.PathCheckViews.{target_rows}
+use Rattle.lra_certify.specs.Crates.{lra_certificate_lines.PathCheckViews.target_rows, lra_path_disjuncts.TableDisjuncts.lists_done, lra_path_segments.Segments.violates, lra_paths.Sources.to_goal}
+use Rattle.lra_certify.specs.Crates.{lra_paths.declared.sources.Source.Source, lra_systems.LinearSystems.constraints}
 use Rattle.lra_certify.proofs.PathSteps.{led_lists, none_denied, denied_told, denied_failed, denied_stay}
 use Rattle.lra_certify.proofs.listed.push_denials_from.Goals as goal
 

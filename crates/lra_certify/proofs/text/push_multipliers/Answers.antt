@@ -1,8 +1,7 @@
 -- Goals of `push_multipliers`: the line of this word with the multipliers.
 use Rattle.std.proofs.{Common.◌++◌, Common.◌∙◌, Common.rules, Common.ap, Common.FitsSigned, Common.List, Common.ℤ, Common.string_bytes, lemmas.Int.to_z-of_z}
 use Rattle.std.specs.Int.{w128}
-use Rattle.lra_multipliers.specs.MultiplierViews.{multipliers_view}
-use Rattle.lra_certificate_spec.specs.CertificateText.{numbers_text}
+use Rattle.lra_certify.specs.Crates.{lra_certificate_spec.CertificateText.numbers_text, lra_multipliers.MultiplierViews.multipliers_view}
 use Rattle.lra_certify.proofs.TextSteps.{multipliers_line}
 use Rattle.lra_certify.proofs.text.push_multipliers.Goals as goal
 

@@ -1,5 +1,5 @@
 use Rattle.std.proofs.Common.{◌≡◌, ◌++◌, take, string_bytes}
-use Rattle.lra_certificate_spec.specs.CertificateText.{numbers_text}
+use Rattle.lra_certify.specs.Crates.lra_certificate_spec.CertificateText.{numbers_text}
 use Rattle.lra_certify.proofs.text.push_numbers.Given as goal
 
 abbrev pub invariant-loop-number : goal.invariant-loop-number

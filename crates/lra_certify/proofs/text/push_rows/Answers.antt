@@ -1,8 +1,7 @@
 -- Goals of `push_rows`: the lines of the rows.
 use Rattle.std.proofs.{Common.◌+◌, Common.◌++◌, Common.drop, Common.arith, Common.string_bytes, lemmas.List.drop_all}
-use Rattle.lra_linear_spec.specs.Kinds.{is_equality}
-use Rattle.lra_systems.specs.LinearSystems.{constraints}
-use Rattle.lra_certificate_lines.proofs.{ShowSteps.constraint_from, TrackSteps.constraints_few}
+use Rattle.lra_certify.specs.Crates.{lra_linear_spec.Kinds.is_equality, lra_systems.LinearSystems.constraints}
+use Rattle.lra_certify.proofs.Crates.{lra_certificate_lines.ShowSteps.constraint_from, lra_certificate_lines.TrackSteps.constraints_few}
 use Rattle.lra_certify.specs.Lines.{rows_text}
 use Rattle.lra_certify.proofs.TextSteps.{rows_left, rows_end, point_rows}
 use Rattle.lra_certify.proofs.text.push_rows.Goals as goal

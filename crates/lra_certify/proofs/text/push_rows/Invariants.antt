@@ -1,5 +1,5 @@
 use Rattle.std.proofs.Common.{◌≡◌, ◌++◌, drop, string_bytes}
-use Rattle.lra_systems.specs.LinearSystems.{constraints}
+use Rattle.lra_certify.specs.Crates.lra_systems.LinearSystems.{constraints}
 use Rattle.lra_certify.specs.Lines.{rows_text}
 use Rattle.lra_certify.proofs.text.push_rows.Given as goal
 

@@ -1,6 +1,6 @@
 -- Goals of `push_states`: the lines of the points.
 use Rattle.std.proofs.{Common.◌++◌, Common.suc, Common.refl, Common.drop, Common.map, Common.ap, Common.arith, Common.string_bytes, lemmas.List.drop_all, lemmas.List.Elements.All-nil}
-use Rattle.lra_certificate_spec.specs.CertificateText.{states_text}
+use Rattle.lra_certify.specs.Crates.lra_certificate_spec.CertificateText.{states_text}
 use Rattle.lra_verify.specs.PointViews.{state_view}
 use Rattle.lra_certify.specs.Lines.{HasPointRows}
 use Rattle.lra_certify.proofs.TextSteps.{states_so_far, fit_so_far, states_end, fit_all}

@@ -1,6 +1,6 @@
 use Rattle.std.proofs.Common.{◌≡◌, ◌++◌, suc, drop, take, map, string_bytes}
 use Rattle.std.specs.List.{All}
-use Rattle.lra_certificate_spec.specs.CertificateText.{states_text}
+use Rattle.lra_certify.specs.Crates.lra_certificate_spec.CertificateText.{states_text}
 use Rattle.lra_verify.specs.PointViews.{state_view}
 use Rattle.lra_certify.specs.Lines.{HasPointRows}
 use Rattle.lra_certify.proofs.text.push_states.Given as goal

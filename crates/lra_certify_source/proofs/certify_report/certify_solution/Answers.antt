@@ -1,12 +1,9 @@
 -- Goals of `certify_solution`: the lines after the source, by what the iteration found of its program.
 use Rattle.std.proofs.{Common.◌≡◌, Common.◌∙◌, Common.List, Common.length, Common.map, Common.ap, Common.subst, lemmas.List.length-map}
-use Rattle.lra_linear_spec.specs.Polyhedra.{Polyhedron, IsPolyhedron}
+use Rattle.lra_certify_source.specs.Crates.lra_linear_spec.Polyhedra.{Polyhedron, IsPolyhedron}
+use Rattle.lra_certify_source.specs.Crates.{lra_operations.TreeViews.node_view, lra_operations.TreeViews.site_view, lra_program.ProgramViews.program_view, lra_program.Sites.sites_of}
+use Rattle.lra_certify_source.specs.Crates.{lra_resolution_spec.Resolve.resolve, lra_syntax.Views.tree_view, lra_verify.PointViews.state_view}
 use Rattle.std.specs.List.{AllByRecursion}
-use Rattle.lra_syntax.specs.Views.{tree_view}
-use Rattle.lra_resolution_spec.specs.Resolve.{resolve}
-use Rattle.lra_program.specs.{ProgramViews.program_view, Sites.sites_of}
-use Rattle.lra_operations.specs.TreeViews.{node_view, site_view}
-use Rattle.lra_verify.specs.PointViews.{state_view}
 use Rattle.lra_certify_source.specs.Extraction.{state_by, dims_by, proved_in}
 use Rattle.lra_certify.specs.{Certified.AreListable, InductiveRows.AreInductiveRows}
 use Rattle.lra_certify_source.proofs.Answered.{live_small, many_small, sites_are, states_many, listed, stay, have_dims, asked_so, written_so, failed_so, few_so}

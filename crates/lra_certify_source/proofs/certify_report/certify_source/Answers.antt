@@ -1,9 +1,7 @@
 -- Goals of `certify_source`: the certificate of a source, with the report of its analysis without narrowing.
 use Rattle.std.proofs.Common.{◌∙◌, ◌++◌, List, ℕ, map, ap, string_bytes}
-use Rattle.lra_syntax.specs.Views.{tree_view}
-use Rattle.lra_operations.specs.TreeViews.{node_view, site_view}
+use Rattle.lra_certify_source.specs.Crates.{lra_certificate_spec.CertificateText.head_text, lra_operations.TreeViews.node_view, lra_operations.TreeViews.site_view, lra_syntax.Views.tree_view}
 use Rattle.lra_report.specs.View.{report_of}
-use Rattle.lra_certificate_spec.specs.CertificateText.{head_text}
 use Rattle.lra_certify.proofs.PathSteps.{exit_with}
 use Rattle.lra_certify_source.specs.Certified.{HasSmallPoint, IsCertifyRefusalOf}
 use Rattle.lra_certify_source.specs.{Extraction.state_by, Extraction.proved_in, Refusals.IfRefusal, declared.refusals.CertifyError.TheVariants.Memory}

@@ -1,8 +1,8 @@
 -- Goals of `state_of`: the rows of a value; none if it has no point.
 use Rattle.std.proofs.{Common.◌≡◌, Common.◌∙◌, Common.◌<◌, Common.List, Common.length, Common.sym, Common.ap, Common.arith, lemmas.Grind.common_steps}
 use Rattle.std.specs.Prelude.{Some, option_map}
-use Rattle.lra_linear_spec.specs.{Descriptions.LinearRow, declared.ConKind.ConKind}
-use Rattle.lra_systems.specs.LinearSystems.{LinearSystem, constraints}
+use Rattle.lra_certify_source.specs.Crates.lra_systems.LinearSystems.{LinearSystem, constraints}
+use Rattle.lra_certify_source.specs.Crates.{lra_linear_spec.Descriptions.LinearRow, lra_linear_spec.declared.ConKind.ConKind}
 use Rattle.lra_certify_source.proofs.TakenSteps.{rows_kept}
 use Rattle.lra_certify_source.proofs.extraction.state_of.Goals as goal
 

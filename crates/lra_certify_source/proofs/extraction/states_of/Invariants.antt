@@ -1,8 +1,7 @@
 -- So far the states of the first values are there, with their dimensions.
 use Rattle.std.proofs.Common.{◌≡◌, map, take}
 use Rattle.std.specs.List.{AllByRecursion}
-use Rattle.lra_linear_spec.specs.Polyhedra.{IsPolyhedron}
-use Rattle.lra_verify.specs.PointViews.{state_view}
+use Rattle.lra_certify_source.specs.Crates.{lra_linear_spec.Polyhedra.IsPolyhedron, lra_verify.PointViews.state_view}
 use Rattle.lra_certify_source.specs.Extraction.{state_by, dims_by, dims_in}
 use Rattle.lra_certify_source.proofs.extraction.states_of.Given as goal
 

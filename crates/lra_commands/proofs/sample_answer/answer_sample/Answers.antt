@@ -1,7 +1,6 @@
 -- Goals of `answer_sample`: the answer to a sample of up to 400 blocks.
 use Rattle.std.proofs.Common.{◌∙◌, rules}
-use Rattle.lra_syntax.specs.Grammar.{Spells}
-use Rattle.lra_resolution_spec.specs.Refuse.{Refuse}
+use Rattle.lra_commands.specs.Crates.{lra_resolution_spec.Refuse.Refuse, lra_syntax.Grammar.Spells}
 use Rattle.lra_commands.proofs.SampleWays.{summary_answer, refusal_answer}
 use Rattle.lra_commands.proofs.sample_answer.answer_sample.Goals as goal
 

@@ -1,8 +1,8 @@
 -- Goals of `positive_cone`: the cone of the points of n dimensions.
 use Rattle.std.proofs.Common.{ap, sym, subst, ◌∙◌, length, suc, false, List, ℤ}
-use Rattle.lra_linear_spec.specs.OperationStrain.{unit_row}
+use Rattle.lra_cone.specs.Crates.lra_linear_spec.OperationStrain.{unit_row}
 use Rattle.lra_cone.specs.{Cones.ConeContent, Strains.IsConeError, Strains.IsStrain}
-use Rattle.lra_linear_spec.proofs.UnitRows.{unit_length}
+use Rattle.lra_cone.proofs.Crates.lra_linear_spec.UnitRows.{unit_length}
 use Rattle.lra_cone.proofs.PositiveCone.{positive_strains_not}
 use Rattle.lra_cone.proofs.cone.positive_cone.Goals as goal
 

@@ -1,7 +1,7 @@
 -- Goals of `take_rows`: takes the rows into the cone in their order.
 use Rattle.std.proofs.Common.{◌∙◌, arith}
 use Rattle.lra_systems.specs.LinearSystems.{constraints}
-use Rattle.lra_linear_spec.specs.Kinds.{is_equality}
+use Rattle.lra_cone.specs.Crates.lra_linear_spec.Kinds.{is_equality}
 use Rattle.lra_cone.proofs.RowsTaken.{taken_next}
 use Rattle.lra_cone.proofs.conversions.take_rows.Goals as goal
 

@@ -1,6 +1,6 @@
 use Rattle.std.proofs.Common.{◌≡◌, take}
 use Rattle.lra_systems.specs.LinearSystems.{constraints, rows_by_kind}
-use Rattle.lra_linear_spec.specs.Kinds.{is_equality}
+use Rattle.lra_cone.specs.Crates.lra_linear_spec.Kinds.{is_equality}
 use Rattle.lra_cone.specs.Conversions.{IsConversion}
 use Rattle.lra_cone.proofs.conversions.take_rows.Given as goal
 

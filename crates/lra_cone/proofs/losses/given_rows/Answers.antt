@@ -1,6 +1,6 @@
 -- Goals of `given_rows`: the rows of the list.
 use Rattle.std.proofs.Common.{arith}
-use Rattle.lra_linear_spec.specs.Kinds.{is_equality}
+use Rattle.lra_cone.specs.Crates.lra_linear_spec.Kinds.{is_equality}
 use Rattle.lra_systems.proofs.LinearRows.{given_pushed}
 use Rattle.lra_cone.proofs.losses.given_rows.Goals as goal
 

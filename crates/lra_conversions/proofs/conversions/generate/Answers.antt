@@ -3,7 +3,7 @@ use Rattle.std.proofs.Common.{◌∙◌, ap, sym, subst, suc, ℕ, List}
 use Rattle.lra_systems.specs.LinearSystems.{constraints, generators}
 use Rattle.lra_description_pair.proofs.{GeneratorLists.generated, GeneratorLists.same_points, PairLosses.behind_positivity}
 use Rattle.lra_cone.proofs.Stepped.{lines_have_width, rays_have_width}
-use Rattle.lra_linear_spec.specs.Descriptions.{LinearRow}
+use Rattle.lra_conversions.specs.Crates.lra_linear_spec.Descriptions.{LinearRow}
 use Rattle.lra_cone.specs.Conversions.{AreTried}
 use Rattle.lra_conversions.proofs.conversions.generate.Goals as goal
 

@@ -1,6 +1,6 @@
 -- Goals of `all_reduced`: the rows reduced by the form.
 use Rattle.std.proofs.{Common.arith, Common.subst, Common.List, Common.ℤ, lemmas.Result.err_from_is_err_and}
-use Rattle.lra_canonical.specs.Reduced.{IsReducedBy}
+use Rattle.lra_description_pair.specs.Crates.lra_canonical.Reduced.{IsReducedBy}
 use Rattle.lra_description_pair.proofs.OwnRows.{some_excess, reduced_more, width_more}
 use Rattle.lra_description_pair.proofs.own.all_reduced.Goals as goal
 

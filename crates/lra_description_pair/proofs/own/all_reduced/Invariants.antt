@@ -1,5 +1,5 @@
 use Rattle.std.proofs.Common.{take}
-use Rattle.lra_canonical.specs.Echelons.{HaveWidth}
+use Rattle.lra_description_pair.specs.Crates.lra_canonical.Echelons.{HaveWidth}
 use Rattle.lra_description_pair.specs.OwnLists.{AreReducedBy}
 use Rattle.lra_description_pair.proofs.own.all_reduced.Given as goal
 

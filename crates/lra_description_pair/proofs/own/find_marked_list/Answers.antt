@@ -1,6 +1,6 @@
 -- Goals of `find_marked_list`: the canonical description of what the rows added to the cone generate, with the matrix.
 use Rattle.std.proofs.{Common.◌≡◌, Common.◌+◌, Common.arith, Common.sym, Common.subst, Common.suc, Common.length, Common.List, Common.ℤ, Common.ℕ, lemmas.Result.err_from_is_err_and}
-use Rattle.lra_canonical.specs.Echelons.{HaveWidth}
+use Rattle.lra_description_pair.specs.Crates.lra_canonical.Echelons.{HaveWidth}
 use Rattle.lra_description_pair.specs.OwnLists.{AnyReductionExcess}
 use Rattle.lra_description_pair.proofs.OwnMade.{own_made, own_matrix}
 use Rattle.lra_description_pair.proofs.OwnRows.{all_width, tight_width, loose_width, echelon_excess, reduction_excess, as_many}

@@ -1,6 +1,6 @@
 -- Goals of `part_rows`: the parts of the rows added.
 use Rattle.std.proofs.Common.{◌≡◌, ◌<◌, ◌∙◌, arith, ap, sym, length, take}
-use Rattle.lra_linear_spec.specs.{Descriptions.rows_of, Kinds.is_equality}
+use Rattle.lra_description_pair.specs.Crates.{lra_linear_spec.Descriptions.rows_of, lra_linear_spec.Kinds.is_equality}
 use Rattle.lra_description_pair.proofs.OwnRows.{rows_listed, parts_next, parts_all}
 use Rattle.lra_description_pair.proofs.own.part_rows.Goals as goal
 

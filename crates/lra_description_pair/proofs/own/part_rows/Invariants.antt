@@ -1,5 +1,5 @@
 use Rattle.std.proofs.Common.{◌≡◌, length, take}
-use Rattle.lra_linear_spec.specs.Descriptions.{rows_of}
+use Rattle.lra_description_pair.specs.Crates.lra_linear_spec.Descriptions.{rows_of}
 use Rattle.lra_description_pair.specs.OwnLists.{AreParts}
 use Rattle.lra_description_pair.proofs.own.part_rows.Given as goal
 

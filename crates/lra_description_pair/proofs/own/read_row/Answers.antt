@@ -1,6 +1,6 @@
 -- Goals of `read_row`: the row added at the place, and where it is tight.
 use Rattle.std.proofs.Common.{rules, ◌≡◌, ◌<◌, ◌∙◌, arith, ap, sym, length}
-use Rattle.lra_linear_spec.specs.{Descriptions.rows_of, Kinds.is_equality}
+use Rattle.lra_description_pair.specs.Crates.{lra_linear_spec.Descriptions.rows_of, lra_linear_spec.Kinds.is_equality}
 use Rattle.lra_description_pair.proofs.OwnRows.{taken_length, told_row, row_told, rows_listed}
 use Rattle.lra_description_pair.proofs.own.read_row.Goals as goal
 

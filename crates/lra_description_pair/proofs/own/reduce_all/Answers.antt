@@ -2,7 +2,7 @@
 use Rattle.std.proofs.Common.{arith, ◌≡◌, ◌≤◌, ◌<◌, ◌∙◌, drop, length, subst, sym, List, ℤ, ℕ}
 use Rattle.std.proofs.lemmas.Result.{err_from_is_err_and}
 use Rattle.std.specs.List.{All}
-use Rattle.lra_canonical.specs.Echelons.{HaveWidth}
+use Rattle.lra_description_pair.specs.Crates.lra_canonical.Echelons.{HaveWidth}
 use Rattle.lra_description_pair.specs.OwnLists.{AreReducedBy}
 use Rattle.lra_description_pair.proofs.RowsReduced.{next_excess, next_reduced, next_width, partly_none, rows_reduced, rows_widths, taken_back}
 use Rattle.lra_description_pair.proofs.own.reduce_all.Goals as goal

@@ -1,4 +1,4 @@
-use Rattle.lra_double_description.specs.Steps.{IsFilled}
+use Rattle.lra_description_pair.specs.Crates.lra_double_description.Steps.{IsFilled}
 use Rattle.lra_description_pair.specs.OwnLists.{tight_value}
 use Rattle.lra_description_pair.proofs.own.tight_where.Given as goal
 

@@ -1,5 +1,5 @@
 -- Goals of `empty`: the polyhedron without a point.
-use Rattle.lra_linear_spec.specs.{OperationStrain.unit_row, Vectors.negated, declared.ConKind.TheVariants.Ge}
+use Rattle.lra_description_pair.specs.Crates.{lra_linear_spec.OperationStrain.unit_row, lra_linear_spec.Vectors.negated, lra_linear_spec.declared.ConKind.TheVariants.Ge}
 use Rattle.lra_description_pair.proofs.{ConstraintLists.nothing_is, KnownPairs.nothing_known, PairLists.empty_lists}
 use Rattle.lra_description_pair.proofs.pair.empty.Goals as goal
 

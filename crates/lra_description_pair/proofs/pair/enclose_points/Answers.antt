@@ -1,5 +1,5 @@
 -- Goals of `enclose_points`: the polyhedron of constraints that hold at each of the points, after a loss.
-use Rattle.lra_systems.specs.LinearSystems.{constraints}
+use Rattle.lra_description_pair.specs.Crates.lra_systems.LinearSystems.{constraints}
 use Rattle.lra_description_pair.proofs.GeneratorPairs.{of_first}
 use Rattle.lra_description_pair.proofs.pair.enclose_points.Goals as goal
 

@@ -1,6 +1,6 @@
 -- Goals of `find_own_loss`: what is reported if there is no own list.
 use Rattle.std.proofs.{Common.◌∙◌, Common.arith, Common.ap, Common.sym, Common.length, Common.◌<◌, Common.◌-◌, lemmas.Result.IfOk-weaker}
-use Rattle.lra_linear_spec.specs.Kinds.{is_equality}
+use Rattle.lra_description_pair.specs.Crates.lra_linear_spec.Kinds.{is_equality}
 use Rattle.lra_description_pair.specs.OwnLists.{IsOwnLoss}
 use Rattle.lra_description_pair.proofs.{OwnRows.some_rows, PairLosses.own_loss_is}
 use Rattle.lra_description_pair.proofs.pair.find_own_loss.Goals as goal

@@ -1,6 +1,6 @@
 -- Goals of `first_rows`: the first constraints of the list, at most as many as are kept after a loss.
 use Rattle.std.proofs.Common.{◌≡◌, take, ap, ◌∙◌, arith}
-use Rattle.lra_systems.specs.LinearSystems.{constraints}
+use Rattle.lra_description_pair.specs.Crates.lra_systems.LinearSystems.{constraints}
 use Rattle.lra_description_pair.specs.TakenPoints.{most_kept}
 use Rattle.lra_description_pair.proofs.GeneratorPairs.{all_first, first_listed, so_many}
 use Rattle.lra_description_pair.proofs.pair.first_rows.Goals.{then-rows-lt-MOST_KEPT, else-rows-lt-MOST_KEPT}

@@ -1,7 +1,7 @@
 -- Goals of `from_cone`: the polyhedron of the constraints that were added to a cone after the positivity row,
 -- and of further ones that are added after them; and what was lost of these, as by `from_rows`.
 use Rattle.std.proofs.lemmas.Result.{IfOk-weaker}
-use Rattle.lra_systems.specs.LinearSystems.{constraints}
+use Rattle.lra_description_pair.specs.Crates.lra_systems.LinearSystems.{constraints}
 use Rattle.lra_description_pair.proofs.{MadeLemmas.tried_is_made, MadeLemmas.tried_some, PairLosses.of_tried}
 use Rattle.lra_description_pair.proofs.pair.from_cone.Goals as goal
 

@@ -1,8 +1,9 @@
 -- Goals of `from_generators`: the polyhedron of the generators, and what was lost.
 use Rattle.std.proofs.{Common.◌∙◌, Common.ap, Common.subst, Common.List, Common.ℕ, Common.◌∷◌, Common.[], lemmas.Result.IfOk-weaker}
 use Rattle.std.specs.List.{Contains}
-use Rattle.lra_linear_spec.specs.{Descriptions.Gen, Descriptions.inequality, OperationStrain.FromGeneratorsStrains, Polyhedra.falsity, declared.GenKind.GenKind, declared.GenKind.TheVariants.Point}
-use Rattle.lra_systems.specs.LinearSystems.{generators}
+use Rattle.lra_description_pair.specs.Crates.lra_linear_spec.OperationStrain.{FromGeneratorsStrains}
+use Rattle.lra_description_pair.specs.Crates.{lra_linear_spec.Descriptions.Gen, lra_linear_spec.Descriptions.inequality, lra_linear_spec.Polyhedra.falsity, lra_linear_spec.declared.GenKind.GenKind}
+use Rattle.lra_description_pair.specs.Crates.{lra_linear_spec.declared.GenKind.TheVariants.Point, lra_systems.LinearSystems.generators}
 use Rattle.lra_description_pair.proofs.{ConstraintLists.no_point_given, MadeLemmas.points_made, MadeLemmas.whole_made, PairLists.empty_pair}
 use Rattle.lra_description_pair.proofs.pair.from_generators.Goals as goal
 

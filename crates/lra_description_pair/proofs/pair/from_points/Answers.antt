@@ -1,8 +1,7 @@
 -- Goals of `from_points`: the polyhedron of generators, some of them points, and what was lost.
 use Rattle.std.proofs.{Common.◌≡◌, Common.◌≢◌, Common.arith, Common.sym, Common.subst, Common.length, Common.ℕ, Common.[], lemmas.Grind.common_steps, lemmas.Result.IfOk-weaker}
 use Rattle.std.specs.Vec.{vec_len}
-use Rattle.lra_linear_spec.specs.{Descriptions.Gen, Points.IsEmptySet}
-use Rattle.lra_systems.specs.LinearSystems.{generators}
+use Rattle.lra_description_pair.specs.Crates.{lra_linear_spec.Descriptions.Gen, lra_linear_spec.Points.IsEmptySet, lra_systems.LinearSystems.generators}
 use Rattle.lra_description_pair.proofs.{GeneratorPairs.all_taken, GeneratorPairs.if_both, GeneratorPairs.some_lost, OwnRows.none_of, OwnRows.some_of}
 use Rattle.lra_description_pair.proofs.pair.from_points.Goals as goal
 

@@ -1,7 +1,6 @@
 -- Goals of `from_rows`: the polyhedron of the constraints, and what was lost.
 use Rattle.std.proofs.{Common.List, Common.subst, lemmas.Result.IfOk-weaker}
-use Rattle.lra_linear_spec.specs.Descriptions.{LinearRow}
-use Rattle.lra_systems.specs.LinearSystems.{constraints}
+use Rattle.lra_description_pair.specs.Crates.{lra_linear_spec.Descriptions.LinearRow, lra_systems.LinearSystems.constraints}
 use Rattle.lra_description_pair.specs.{KeptRows.IsOfSome, Made.IsMadeOfRows, TriedRows.IsOfTried}
 use Rattle.lra_description_pair.proofs.PairLosses.{behind_positivity, none_behind, positive_alone}
 use Rattle.lra_description_pair.proofs.pair.from_rows.Goals as goal

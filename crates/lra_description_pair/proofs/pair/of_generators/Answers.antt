@@ -1,7 +1,7 @@
 -- Goals of `of_generators`: the polyhedron of the generators that were added to the cone, some of them points, of
 -- which this is the own list.
 use Rattle.std.proofs.Common.{◌∙◌, ap, length, refl, sym}
-use Rattle.lra_bits.specs.Matrix.{Matrix}
+use Rattle.lra_description_pair.specs.Crates.lra_bits.Matrix.{Matrix}
 use Rattle.lra_description_pair.specs.OwnLists.{columns_of}
 use Rattle.lra_description_pair.proofs.KnownPairs.{enough_rows, generators_known, own_generators_seen, own_known}
 use Rattle.lra_description_pair.proofs.PairLists.{own_lines_width, own_rays_width, generators_made}

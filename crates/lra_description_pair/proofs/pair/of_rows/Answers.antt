@@ -1,6 +1,6 @@
 -- Goals of `of_rows`: the polyhedron of the rows that were added to the cone, of which this is the own list.
 use Rattle.std.proofs.Common.{rules, ◌≡◌, ◌≢◌, ◌∙◌, ap, length, refl, sym, []}
-use Rattle.lra_bits.specs.Matrix.{Matrix}
+use Rattle.lra_description_pair.specs.Crates.lra_bits.Matrix.{Matrix}
 use Rattle.lra_description_pair.specs.OwnLists.{columns_of}
 use Rattle.lra_description_pair.proofs.PairLists.{own_lines_width, own_rays_width, rows_made, none_made}
 use Rattle.lra_description_pair.proofs.{KnownPairs.enough_rows, KnownPairs.own_known, KnownPairs.own_list_seen, KnownPairs.rows_known, OwnRows.no_rows}

@@ -2,7 +2,7 @@
 -- points; if a number passes in the canonical ones, or there are too many, that of constraints that hold at each
 -- of them.
 use Rattle.std.proofs.Common.{inl}
-use Rattle.lra_systems.specs.LinearSystems.{constraints}
+use Rattle.lra_description_pair.specs.Crates.lra_systems.LinearSystems.{constraints}
 use Rattle.lra_description_pair.proofs.GeneratorPairs.{if_both, list_lost, some_taken}
 use Rattle.lra_description_pair.proofs.pair.of_taken_generators.Goals as goal
 

@@ -1,6 +1,6 @@
 -- Goals of `take_points`: the generators added to a cone, and constraints that hold at each of them.
 use Rattle.std.proofs.Common.{◌∙◌, ap}
-use Rattle.lra_systems.specs.LinearSystems.{constraints}
+use Rattle.lra_description_pair.specs.Crates.lra_systems.LinearSystems.{constraints}
 use Rattle.lra_cone.specs.Cones.{whole_space}
 use Rattle.lra_description_pair.proofs.GeneratorPairs.{taken}
 use Rattle.lra_description_pair.proofs.pair.take_points.Goals as goal

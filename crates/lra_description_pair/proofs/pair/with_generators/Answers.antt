@@ -2,8 +2,8 @@
 -- that are added after them, some of all of them points.
 use Rattle.std.proofs.{Common.◌≡◌, Common.◌≢◌, Common.◌∙◌, Common.arith, Common.length, Common.subst, Common.sym, Common.IfSome, Common.List, Common.ℕ, Common.[], lemmas.Grind.common_steps}
 use Rattle.std.specs.Vec.{vec_len}
-use Rattle.lra_linear_spec.specs.{Descriptions.LinearRow, Descriptions.Gen, Points.IsEmptySet, Polyhedra.IsPolyhedronOf}
-use Rattle.lra_systems.specs.LinearSystems.{constraints, generators}
+use Rattle.lra_description_pair.specs.Crates.lra_systems.LinearSystems.{constraints, generators}
+use Rattle.lra_description_pair.specs.Crates.{lra_linear_spec.Descriptions.LinearRow, lra_linear_spec.Descriptions.Gen, lra_linear_spec.Points.IsEmptySet, lra_linear_spec.Polyhedra.IsPolyhedronOf}
 use Rattle.lra_description_pair.proofs.GeneratorPairs.{further_columns, further_rows, further_taken}
 use Rattle.lra_description_pair.proofs.{OwnRows.none_of, OwnRows.some_of, PairLosses.if_none, PairLosses.list_strains, PairLosses.one_left_out}
 use Rattle.lra_description_pair.proofs.pair.with_generators.Goals as goal

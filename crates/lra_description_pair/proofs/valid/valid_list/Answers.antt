@@ -2,7 +2,7 @@
 -- were to be added.
 use Rattle.std.proofs.Common.{ap, sym, ◌∙◌, suc}
 use Rattle.lra_cone.proofs.Stepped.{lines_have_width, rays_have_width}
-use Rattle.lra_systems.specs.LinearSystems.{constraints}
+use Rattle.lra_description_pair.specs.Crates.lra_systems.LinearSystems.{constraints}
 use Rattle.lra_description_pair.proofs.ConstraintLists.{shows_valid}
 use Rattle.lra_description_pair.proofs.valid.valid_list.Goals as goal
 

@@ -1,6 +1,6 @@
 -- Goals of `append_generators`: marked rows after what is there.
 use Rattle.std.proofs.Common.{◌∙◌, ap}
-use Rattle.lra_bits.specs.Matrix.{Matrix}
+use Rattle.lra_descriptions.specs.Crates.lra_bits.Matrix.{Matrix}
 use Rattle.lra_canonical.specs.declared.order.Marked.{Marked}
 use Rattle.lra_descriptions.proofs.KnownLists.{kinds_more, matrix_more, put_more}
 use Rattle.lra_descriptions.proofs.known.append_generators.Goals as goal

@@ -1,8 +1,7 @@
 -- Goals of `known_constraints`: the constraints, with the rows of the matrix in the same order.
 use Rattle.std.proofs.Common.{◌≡◌, ◌∙◌, ◌++◌, ap, length, replicate, subst, suc, sym, List, ℕ, ℤ}
 use Rattle.std.specs.List.{All}
-use Rattle.lra_bits.specs.Matrix.{Matrix}
-use Rattle.lra_linear_spec.specs.declared.ConKind.TheVariants.{Ge}
+use Rattle.lra_descriptions.specs.Crates.{lra_bits.Matrix.Matrix, lra_linear_spec.declared.ConKind.TheVariants.Ge}
 use Rattle.lra_canonical.specs.{MarkedRows.bits_in, MarkedRows.rows_in, declared.order.Marked.Marked}
 use Rattle.lra_canonical.proofs.MarkedOrder.{rows_length, rows_shuffled}
 use Rattle.lra_descriptions.specs.ShownLists.{without}

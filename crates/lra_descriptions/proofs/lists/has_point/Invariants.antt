@@ -1,5 +1,5 @@
 use Rattle.std.proofs.Common.{◌≢◌, ℕ, ◌<◌, slice_index_or}
-use Rattle.lra_linear_spec.specs.declared.GenKind.TheVariants.{Point}
+use Rattle.lra_descriptions.specs.Crates.lra_linear_spec.declared.GenKind.TheVariants.{Point}
 use Rattle.lra_descriptions.proofs.lists.has_point.Given as goal
 
 abbrev pub invariant-loop-place : goal.invariant-loop-place

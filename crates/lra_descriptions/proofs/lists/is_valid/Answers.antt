@@ -1,7 +1,7 @@
 -- Goals of `is_valid`: whether the product of the row with each of these is in the range and as both kinds ask.
 use Rattle.std.proofs.{Common.rules, Common.FitsSigned, Common.arith, Common.refl, lemmas.Int.to_z-of_z}
 use Rattle.std.specs.Int.{w128}
-use Rattle.lra_linear_spec.specs.{Kinds.is_equality, declared.ConKind.TheVariants.Ge}
+use Rattle.lra_descriptions.specs.Crates.{lra_linear_spec.Kinds.is_equality, lra_linear_spec.declared.ConKind.TheVariants.Ge}
 use Rattle.lra_systems.proofs.FirstMembers.{ok_of}
 use Rattle.lra_descriptions.proofs.Validity.{not_accepted, passes_not, refuses, valid_next, valid_all}
 use Rattle.lra_descriptions.proofs.lists.is_valid.Goals.{then-not-accepts-via-then-not-accepts, then-not-accepts-via-else-not-accepts+then-not-accepts-2}

@@ -1,6 +1,6 @@
 use Rattle.std.proofs.Common.{take}
 use Rattle.lra_systems.specs.LinearSystems.{rows_by_kind}
-use Rattle.lra_linear_spec.specs.Kinds.{is_equality}
+use Rattle.lra_descriptions.specs.Crates.lra_linear_spec.Kinds.{is_equality}
 use Rattle.lra_descriptions.specs.ShownLists.{IsSeenValid}
 use Rattle.lra_descriptions.proofs.lists.is_valid.Given as goal
 

@@ -1,6 +1,6 @@
 -- Goals of `nothing`: the one row -1 >= 0, which holds at no point.
 use Rattle.std.proofs.Common.{ap, sym, ◌∙◌, length, suc}
-use Rattle.lra_linear_spec.proofs.{Products.negated_length, UnitRows.unit_length}
+use Rattle.lra_descriptions.proofs.Crates.{lra_linear_spec.Products.negated_length, lra_linear_spec.UnitRows.unit_length}
 use Rattle.lra_descriptions.proofs.lists.nothing.Goals as goal
 
 pub push-requires : goal.push-requires

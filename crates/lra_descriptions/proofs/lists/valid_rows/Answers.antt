@@ -1,7 +1,7 @@
 -- Goals of `valid_rows`: those of the rows that are valid on each of the list.
 use Rattle.std.proofs.Common.{refl, suc}
 use Rattle.lra_systems.specs.LinearSystems.{constraints}
-use Rattle.lra_linear_spec.specs.Kinds.{is_equality}
+use Rattle.lra_descriptions.specs.Crates.lra_linear_spec.Kinds.{is_equality}
 use Rattle.lra_descriptions.proofs.Validity.{kept_widths, seen_all, seen_kept, not_told, seen_passed}
 use Rattle.lra_descriptions.proofs.lists.valid_rows.Goals.{then-is_valid+in_ok-copy+in_ok-push, else-is_valid}
 use Rattle.lra_descriptions.proofs.lists.valid_rows.Goals as goal

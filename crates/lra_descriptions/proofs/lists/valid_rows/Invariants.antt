@@ -1,6 +1,6 @@
 use Rattle.std.proofs.Common.{take}
 use Rattle.lra_systems.specs.LinearSystems.{constraints}
-use Rattle.lra_linear_spec.specs.Kinds.{is_equality}
+use Rattle.lra_descriptions.specs.Crates.lra_linear_spec.Kinds.{is_equality}
 use Rattle.lra_descriptions.proofs.Validity.{AreSeen}
 use Rattle.lra_descriptions.proofs.lists.valid_rows.Given as goal
 

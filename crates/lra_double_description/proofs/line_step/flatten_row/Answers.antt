@@ -1,7 +1,7 @@
 -- Goals of `flatten_row`: the row combined with the line so that its product is 0, in lowest terms.
 use Rattle.std.proofs.{Common.rules, Common.FitsSigned, Common.subst, Common.List, Common.ℤ, lemmas.Int.to_z-of_z}
 use Rattle.std.specs.Int.{w128}
-use Rattle.lra_linear_spec.specs.LowestTerms.{IsLowest}
+use Rattle.lra_double_description.specs.Crates.lra_linear_spec.LowestTerms.{IsLowest}
 use Rattle.lra_double_description.proofs.Flattening.{flattened_above, flattened_below, below_sum}
 use Rattle.lra_double_description.proofs.line_step.flatten_row.Goals.{then-product-gt0+in_ok-flat, else-product-gt0+in_ok-flat-2}
 use Rattle.lra_double_description.proofs.line_step.flatten_row.Goals as goal

@@ -1,6 +1,6 @@
 use Rattle.std.proofs.Common.{◌≡◌, map, take}
 use Rattle.std.specs.List.{All}
-use Rattle.lra_linear_spec.specs.{Range.InRange, Vectors.product}
+use Rattle.lra_double_description.specs.Crates.{lra_linear_spec.Range.InRange, lra_linear_spec.Vectors.product}
 use Rattle.lra_double_description.proofs.products.multiply_all.Given as goal
 
 abbrev pub invariant-loop-place : goal.invariant-loop-place

@@ -1,7 +1,7 @@
 -- Goals of `count_inside`: how many products are as the kind asks.
 use Rattle.std.proofs.{Common.rules, Common.FitsSigned, Common.get_or, Common.pos, Common.ap, Common.sym, Common.◌∙◌, Common.cond, Common.◌+◌, Common.Bool, lemmas.Int.to_z-of_z}
 use Rattle.std.specs.Int.{w128}
-use Rattle.lra_linear_spec.specs.Kinds.{is_equality}
+use Rattle.lra_double_description.specs.Crates.lra_linear_spec.Kinds.{is_equality}
 use Rattle.lra_double_description.proofs.{PairLists.counted, PairLists.plus_none, ray_step.count_inside.Goals.then-accepts, ray_step.count_inside.Goals.else-accepts}
 use Rattle.lra_double_description.proofs.ray_step.count_inside.Goals as goal
 

@@ -1,5 +1,5 @@
 use Rattle.std.proofs.Common.{◌≡◌, ◌≤◌, take}
-use Rattle.lra_linear_spec.specs.Kinds.{is_equality}
+use Rattle.lra_double_description.specs.Crates.lra_linear_spec.Kinds.{is_equality}
 use Rattle.lra_double_description.specs.Steps.{inside_count}
 use Rattle.lra_double_description.proofs.ray_step.count_inside.Given as goal
 

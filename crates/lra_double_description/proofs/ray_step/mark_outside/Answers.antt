@@ -2,7 +2,7 @@
 -- not marked.
 use Rattle.std.proofs.{Common.rules, Common.arith, Common.FitsSigned, Common.get_or, Common.pos, lemmas.Int.to_z-of_z}
 use Rattle.std.specs.Int.{w128}
-use Rattle.lra_linear_spec.specs.Kinds.{is_equality}
+use Rattle.lra_double_description.specs.Crates.lra_linear_spec.Kinds.{is_equality}
 use Rattle.lra_double_description.proofs.Filling.{marks_more, marks_end}
 use Rattle.lra_double_description.proofs.ray_step.mark_outside.Goals as goal
 

@@ -1,5 +1,5 @@
 use Rattle.std.proofs.Common.{length, ◌+◌, slice_index_or, pos, not}
-use Rattle.lra_linear_spec.specs.Kinds.{is_equality}
+use Rattle.lra_double_description.specs.Crates.lra_linear_spec.Kinds.{is_equality}
 use Rattle.lra_double_description.specs.Steps.{IsFilled, is_inside}
 use Rattle.lra_double_description.proofs.ray_step.mark_outside.Given as goal
 

@@ -1,7 +1,7 @@
 -- Goals of `divides`: whether the modulus divides the product of two rows.
 use Rattle.std.proofs.{Common.rules, Common.FitsSigned, lemmas.Int.to_z-of_z}
 use Rattle.std.specs.Int.{w128}
-use Rattle.lra_linear_spec.specs.Vectors.{product}
+use Rattle.lra_duality.specs.Crates.lra_linear_spec.Vectors.{product}
 use Rattle.lra_duality.proofs.ResidueLemmas.{residue_decides, zero_bits}
 use Rattle.lra_duality.proofs.exact.divides.Goals as goal
 

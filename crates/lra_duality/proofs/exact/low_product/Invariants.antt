@@ -1,5 +1,5 @@
 use Rattle.std.proofs.Common.{take, pos, ◌^◌}
-use Rattle.lra_linear_spec.specs.Vectors.{product}
+use Rattle.lra_duality.specs.Crates.lra_linear_spec.Vectors.{product}
 use Rattle.lra_duality.specs.Residues.{IsResidue}
 use Rattle.lra_duality.proofs.exact.low_product.Given as goal
 

@@ -1,6 +1,6 @@
 -- Goals of `vanishes`: whether the product of two rows is 0.
 use Rattle.std.proofs.Common.{rules, refl, length, ◌<◌, ◌^◌, pos}
-use Rattle.lra_linear_spec.specs.Vectors.{product}
+use Rattle.lra_duality.specs.Crates.lra_linear_spec.Vectors.{product}
 use Rattle.lra_duality.proofs.ResidueLemmas.{last_left, one_left}
 use Rattle.lra_duality.proofs.exact.vanishes.Goals as goal
 

@@ -1,6 +1,6 @@
 -- Goals of `equalities_among`: the equalities among the constraints.
 use Rattle.std.proofs.Common.{◌≡◌, ◌∙◌, ap, length, sym}
-use Rattle.lra_linear_spec.specs.{Kinds.is_equality, declared.ConKind.TheVariants.Ge}
+use Rattle.lra_duality.specs.Crates.{lra_linear_spec.Kinds.is_equality, lra_linear_spec.declared.ConKind.TheVariants.Ge}
 use Rattle.lra_duality.proofs.{StartLemmas.line_more, StartLemmas.line_left, facets.equalities_among.Goals.then-is_equality+in_ok-copy+in_ok-push, facets.equalities_among.Goals.else-is_equality}
 use Rattle.lra_duality.proofs.facets.equalities_among.Goals as goal
 

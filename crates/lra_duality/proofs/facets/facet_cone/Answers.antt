@@ -1,9 +1,9 @@
 -- Goals of `facet_cone`: the cone of what is valid on the generators, by the constraints; none if `cone_of` gives
 -- none, or there are as many constraints, equalities counted with them, as a cone may have rays.
 use Rattle.std.proofs.Common.{◌∙◌, ℕ, List, ap, refl, subst, sym}
-use Rattle.lra_linear_spec.specs.{Descriptions.LinearRow, Kinds.is_equality, Kinds.is_line}
+use Rattle.lra_duality.specs.Crates.lra_systems.LinearSystems.{constraints, generators}
+use Rattle.lra_duality.specs.Crates.{lra_linear_spec.Descriptions.LinearRow, lra_linear_spec.Kinds.is_equality, lra_linear_spec.Kinds.is_line}
 use Rattle.lra_cone.specs.Cones.{ConeContent, cone_saturation as by_rays}
-use Rattle.lra_systems.specs.LinearSystems.{constraints, generators}
 use Rattle.lra_duality.specs.Incremental.{MayGoOn}
 use Rattle.lra_duality.proofs.{FacetLemmas.seen, FacetLemmas.taken_generators, StartLemmas.given_count, StartLemmas.no_room, StartLemmas.not_fitting, StartLemmas.not_turning, StartLemmas.some_given}
 use Rattle.lra_duality.proofs.facets.facet_cone.Goals as goal

@@ -1,10 +1,9 @@
 -- Goals of `facets`: the rays of the cone of what is valid on the generators, and which generators they are tight
 -- at.
 use Rattle.std.proofs.Common.{◌∙◌, ap, length, suc, sym, ℕ}
-use Rattle.lra_bits.specs.Matrix.{Matrix}
-use Rattle.lra_linear_spec.specs.{Descriptions.rays_of, OperationStrain.unit_row}
-use Rattle.lra_linear_spec.proofs.UnitRows.{unit_length}
-use Rattle.lra_systems.specs.LinearSystems.{constraints, generators}
+use Rattle.lra_duality.specs.Crates.lra_systems.LinearSystems.{constraints, generators}
+use Rattle.lra_duality.specs.Crates.{lra_bits.Matrix.Matrix, lra_linear_spec.Descriptions.rays_of, lra_linear_spec.OperationStrain.unit_row}
+use Rattle.lra_duality.proofs.Crates.lra_linear_spec.UnitRows.{unit_length}
 use Rattle.lra_duality.proofs.FacetLemmas.{alone_matrix, alone_start, covered_matrix, covered_so, covered_start, matrix_rows, uncovered_so, values_width}
 use Rattle.lra_duality.proofs.facets.facets.Goals as goal
 

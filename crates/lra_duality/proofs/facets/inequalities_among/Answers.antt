@@ -1,6 +1,6 @@
 -- Goals of `inequalities_among`: the inequalities among them.
 use Rattle.std.proofs.Common.{◌≡◌, ◌∙◌, ap, length, sym}
-use Rattle.lra_linear_spec.specs.{Kinds.is_equality, declared.ConKind.TheVariants.Ge}
+use Rattle.lra_duality.specs.Crates.{lra_linear_spec.Kinds.is_equality, lra_linear_spec.declared.ConKind.TheVariants.Ge}
 use Rattle.lra_duality.proofs.StartLemmas.{ray_more, ray_left}
 use Rattle.lra_duality.proofs.facets.inequalities_among.Goals.{then-not-is_equality+in_ok-copy+in_ok-push, else-not-is_equality}
 use Rattle.lra_duality.proofs.facets.inequalities_among.Goals as goal

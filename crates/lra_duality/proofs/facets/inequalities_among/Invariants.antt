@@ -1,6 +1,6 @@
 use Rattle.std.proofs.Common.{◌≡◌}
-use Rattle.lra_linear_spec.specs.{Descriptions.rays_of, Kinds.is_equality}
-use Rattle.lra_systems.proofs.FirstMembers.{front}
+use Rattle.lra_duality.specs.Crates.{lra_linear_spec.Descriptions.rays_of, lra_linear_spec.Kinds.is_equality}
+use Rattle.lra_duality.proofs.Crates.lra_systems.FirstMembers.{front}
 use Rattle.lra_duality.proofs.facets.inequalities_among.Given as goal
 
 abbrev pub invariant-loop-place : goal.invariant-loop-place

@@ -1,10 +1,9 @@
 -- Goals of `inequality_saturation`: which generators the inequalities are tight at.
 use Rattle.std.proofs.Common.{◌≡◌, ◌<◌, ◌≤◌, ◌∙◌, List, [], ap, arith, get_or, length, refl, subst, sym}
 use Rattle.std.proofs.lemmas.List.{get_or_default}
-use Rattle.lra_bits.specs.Matrix.{Matrix}
-use Rattle.lra_linear_spec.specs.{Descriptions.LinearRow, Descriptions.rays_of, Kinds.is_equality, declared.ConKind.ConKind, declared.ConKind.TheVariants.Ge}
+use Rattle.lra_duality.specs.Crates.{lra_bits.Matrix.Matrix, lra_linear_spec.Descriptions.LinearRow, lra_linear_spec.Descriptions.rays_of, lra_linear_spec.Kinds.is_equality}
+use Rattle.lra_duality.specs.Crates.{lra_linear_spec.declared.ConKind.ConKind, lra_linear_spec.declared.ConKind.TheVariants.Ge, lra_systems.LinearSystems.rows_by_kind}
 use Rattle.lra_cone.specs.Cones.{cone_saturation as by_rays}
-use Rattle.lra_systems.specs.LinearSystems.{rows_by_kind}
 use Rattle.lra_duality.specs.Saturations.{saturation_of}
 use Rattle.lra_duality.proofs.facets.inequality_saturation.Goals.{then-not-is_equality+in_ok-copy+in_ok-add_row, else-not-is_equality}
 use Rattle.lra_duality.proofs.{FacetLemmas.tight_more, FacetLemmas.tight_left, FacetLemmas.tight_none, StartLemmas.seen_all}

@@ -1,9 +1,8 @@
 use Rattle.std.proofs.Common.{◌≡◌, List}
-use Rattle.lra_linear_spec.specs.{Descriptions.LinearRow, Descriptions.rays_of, Kinds.is_equality}
+use Rattle.lra_duality.specs.Crates.{lra_linear_spec.Descriptions.LinearRow, lra_linear_spec.Descriptions.rays_of, lra_linear_spec.Kinds.is_equality, lra_systems.LinearSystems.rows_by_kind}
 use Rattle.lra_cone.specs.Cones.{cone_saturation as by_rays}
-use Rattle.lra_systems.specs.LinearSystems.{rows_by_kind}
 use Rattle.lra_duality.specs.Saturations.{saturation_of}
-use Rattle.lra_systems.proofs.FirstMembers.{front}
+use Rattle.lra_duality.proofs.Crates.lra_systems.FirstMembers.{front}
 use Rattle.lra_duality.proofs.facets.inequality_saturation.Given as goal
 
 abbrev pub invariant-loop-place : goal.invariant-loop-place

@@ -1,11 +1,11 @@
 -- Goals of `inclusion_of`: whether each of the generators meets each of the constraints.
 use Rattle.std.proofs.Common.{arith, ap, sym, ◌∙◌, ◌≡◌, length, List}
 use Rattle.std.specs.List.{All}
-use Rattle.lra_linear_spec.specs.{Descriptions.LinearRow, Kinds.is_line, declared.GenKind.TheVariants.Point}
-use Rattle.lra_systems.specs.declared.membership.MembershipAnswer.TheVariants as holds
-use Rattle.lra_systems.specs.{FirstPlaces.FirstAt, LinearSystems.constraints}
+use Rattle.lra_duality.specs.Crates.lra_systems.LinearSystems.{constraints}
+use Rattle.lra_duality.specs.Crates.{lra_linear_spec.Descriptions.LinearRow, lra_linear_spec.Kinds.is_line, lra_linear_spec.declared.GenKind.TheVariants.Point, lra_systems.FirstPlaces.FirstAt}
+use Rattle.lra_duality.specs.Crates.lra_systems.declared.membership.MembershipAnswer.TheVariants as holds
 use Rattle.lra_duality.specs.Inclusions.{Satisfies, SatisfiesAll, Passes, ViolatesFirst}
-use Rattle.lra_systems.proofs.FirstMembers.{first_at, one_more, all_gone_through}
+use Rattle.lra_duality.proofs.Crates.lra_systems.FirstMembers.{first_at, one_more, all_gone_through}
 use Rattle.lra_duality.proofs.InclusionLemmas.{reply_seen, seen_generators}
 use Rattle.lra_duality.proofs.inclusion.inclusion_of.Goals as goal
 

@@ -1,9 +1,9 @@
 -- Goals of `reply`: whether each row holds with the generator.
 use Rattle.std.proofs.{Common.rules, Common.arith, Common.refl, Common.FitsSigned, lemmas.Int.to_z-of_z}
 use Rattle.std.specs.Int.{w128}
-use Rattle.lra_linear_spec.specs.{Descriptions.LinearRow, Kinds.is_equality, declared.ConKind.TheVariants.Ge}
+use Rattle.lra_duality.specs.Crates.{lra_linear_spec.Descriptions.LinearRow, lra_linear_spec.Kinds.is_equality, lra_linear_spec.declared.ConKind.TheVariants.Ge}
 use Rattle.lra_duality.specs.Inclusions.{Satisfies, Violates, Passes}
-use Rattle.lra_systems.proofs.FirstMembers.{member, first_at, one_more, all_gone_through, ok_of, err_of}
+use Rattle.lra_duality.proofs.Crates.lra_systems.FirstMembers.{member, first_at, one_more, all_gone_through, ok_of, err_of}
 use Rattle.lra_duality.proofs.inclusion.reply.Goals as goal
 
 pub returns-then-not-accepts : goal.returns-then-not-accepts

@@ -1,6 +1,6 @@
 -- Goals of `join_generators`: the generators of the first list, then those of the second.
 use Rattle.std.proofs.Common.{arith, ap, sym, ◌∙◌, length}
-use Rattle.lra_linear_spec.specs.Kinds.{is_line}
+use Rattle.lra_duality.specs.Crates.lra_linear_spec.Kinds.{is_line}
 use Rattle.lra_duality.proofs.JoinedLists.{joined_given, joined_kinds}
 use Rattle.lra_duality.proofs.lists.join_generators.Goals as goal
 

@@ -1,6 +1,6 @@
 -- Goals of `join_rows`: the constraints of the first list, then those of the second.
 use Rattle.std.proofs.Common.{arith, ap, sym, ◌∙◌, length}
-use Rattle.lra_linear_spec.specs.Kinds.{is_equality}
+use Rattle.lra_duality.specs.Crates.lra_linear_spec.Kinds.{is_equality}
 use Rattle.lra_duality.proofs.JoinedLists.{joined_given}
 use Rattle.lra_duality.proofs.lists.join_rows.Goals as goal
 

@@ -1,7 +1,6 @@
 -- Goals of `list_test`: the constraint of the test, alone.
 use Rattle.std.proofs.Common.{◌≡◌, ◌∙◌, ◌++◌, ◌∷◌, [], List, ℤ, ap, length, refl, sym}
-use Rattle.lra_linear_spec.specs.Kinds.{is_equality}
-use Rattle.lra_systems.specs.LinearSystems.{rows_by_kind}
+use Rattle.lra_duality.specs.Crates.{lra_linear_spec.Kinds.is_equality, lra_systems.LinearSystems.rows_by_kind}
 use Rattle.lra_linear_forms.specs.Form.{form_row}
 use Rattle.lra_duality.specs.Rows.{test_row}
 use Rattle.lra_duality.proofs.JoinedLists.{row_added}

@@ -1,7 +1,7 @@
 -- Goals of `at`: the form's value at the point, in lowest terms.
 use Rattle.std.proofs.{Common.rules, Common.FitsSigned, lemmas.Int.to_z-of_z, lemmas.Int.quot_is, lemmas.Int.quot_fits}
 use Rattle.std.specs.Int.{w128}
-use Rattle.lra_linear_spec.specs.Vectors.{entry, product}
+use Rattle.lra_duality.specs.Crates.lra_linear_spec.Vectors.{entry, product}
 use Rattle.lra_duality.specs.Maxima.{directed}
 use Rattle.lra_duality.proofs.MaximumLemmas.{in_lowest_terms, quotient_above, quotient_in_range}
 use Rattle.lra_duality.proofs.maximum.at.Goals as goal

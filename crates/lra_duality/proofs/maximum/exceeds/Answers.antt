@@ -1,6 +1,6 @@
 -- Goals of `exceeds`: the comparison of the two values.
 use Rattle.std.proofs.{Common.ℤ, Common.pos, Common.◌<ℤ◌, Common.sym, Common.subst, Common.arith, lemmas.Int.ints}
-use Rattle.lra_linear_spec.specs.Vectors.{entry, product}
+use Rattle.lra_duality.specs.Crates.lra_linear_spec.Vectors.{entry, product}
 use Rattle.lra_duality.specs.Maxima.{directed}
 use Rattle.lra_duality.proofs.BetterPoints.{stored_is, is_above, is_not_above}
 use Rattle.lra_duality.proofs.maximum.exceeds.Goals as goal

@@ -1,10 +1,9 @@
 -- Goals of `first_improving`: the first ray along which the form grows, or line along which it changes.
 use Rattle.std.proofs.Common.{◌≡◌, ◌∙◌, ap, arith, false, length, List, refl, sym, true}
 use Rattle.std.specs.List.{All}
-use Rattle.lra_linear_spec.specs.{Descriptions.LinearRow, Kinds.is_line, declared.GenKind.TheVariants.Point}
-use Rattle.lra_systems.specs.FirstPlaces.{FirstAt}
+use Rattle.lra_duality.specs.Crates.{lra_linear_spec.Descriptions.LinearRow, lra_linear_spec.Kinds.is_line, lra_linear_spec.declared.GenKind.TheVariants.Point, lra_systems.FirstPlaces.FirstAt}
 use Rattle.lra_duality.specs.Maxima.{DoesNotImprove, Improves, StaysInRange, directed}
-use Rattle.lra_systems.proofs.FirstMembers.{all_gone_through, at_member, first_at, member, one_more}
+use Rattle.lra_duality.proofs.Crates.lra_systems.FirstMembers.{all_gone_through, at_member, first_at, member, one_more}
 use Rattle.lra_duality.proofs.{InclusionLemmas.seen_generators, MaximumLemmas.both_seen}
 use Rattle.lra_duality.proofs.maximum.first_improving.Goals as goal
 

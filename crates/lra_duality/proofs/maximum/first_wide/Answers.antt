@@ -1,10 +1,9 @@
 -- Goals of `first_wide`: the first generator with which the product passes the range.
 use Rattle.std.proofs.Common.{arith, List, sym}
 use Rattle.std.specs.List.{All}
-use Rattle.lra_linear_spec.specs.{Descriptions.LinearRow, Kinds.is_line, declared.GenKind.TheVariants.Point}
-use Rattle.lra_systems.specs.FirstPlaces.{FirstAt}
+use Rattle.lra_duality.specs.Crates.{lra_linear_spec.Descriptions.LinearRow, lra_linear_spec.Kinds.is_line, lra_linear_spec.declared.GenKind.TheVariants.Point, lra_systems.FirstPlaces.FirstAt}
 use Rattle.lra_duality.specs.Maxima.{StaysInRange, PassesRange, directed}
-use Rattle.lra_systems.proofs.FirstMembers.{first_at, one_more, all_gone_through, ok_of}
+use Rattle.lra_duality.proofs.Crates.lra_systems.FirstMembers.{first_at, one_more, all_gone_through, ok_of}
 use Rattle.lra_duality.proofs.MaximumLemmas.{many, seen_rows}
 use Rattle.lra_duality.proofs.maximum.first_wide.Goals as goal
 

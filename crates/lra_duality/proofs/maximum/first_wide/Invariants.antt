@@ -1,7 +1,7 @@
 use Rattle.std.specs.List.{All}
-use Rattle.lra_linear_spec.specs.Kinds.{is_line}
+use Rattle.lra_duality.specs.Crates.lra_linear_spec.Kinds.{is_line}
 use Rattle.lra_duality.specs.Maxima.{StaysInRange, directed}
-use Rattle.lra_systems.proofs.FirstMembers.{front}
+use Rattle.lra_duality.proofs.Crates.lra_systems.FirstMembers.{front}
 use Rattle.lra_duality.proofs.maximum.first_wide.Given as goal
 
 abbrev pub invariant-loop-place : goal.invariant-loop-place

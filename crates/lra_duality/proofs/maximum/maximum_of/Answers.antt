@@ -1,10 +1,9 @@
 -- Goals of `maximum_of`: the greatest value on the points of the generators.
 use Rattle.std.proofs.Common.{◌<◌, ap, length, subst, sym, ℕ}
 use Rattle.std.specs.List.{All}
-use Rattle.lra_linear_spec.specs.{Kinds.is_line, declared.GenKind.TheVariants.Point}
-use Rattle.lra_systems.specs.LinearSystems.{generators}
+use Rattle.lra_duality.specs.Crates.{lra_linear_spec.Kinds.is_line, lra_linear_spec.declared.GenKind.TheVariants.Point, lra_systems.LinearSystems.generators}
 use Rattle.lra_duality.specs.Maxima.{StaysInRange, directed}
-use Rattle.lra_systems.proofs.FirstMembers.{at_member}
+use Rattle.lra_duality.proofs.Crates.lra_systems.FirstMembers.{at_member}
 use Rattle.lra_duality.proofs.MaximumLemmas.{greatest_there, many, row_there, rows_seen}
 use Rattle.lra_duality.proofs.maximum.maximum_of.Goals as goal
 

@@ -1,9 +1,9 @@
 -- Goals of `place_of_greatest`: the first point at which the form's value is the greatest.
 use Rattle.std.proofs.Common.{arith, refl}
 use Rattle.std.specs.List.{All}
-use Rattle.lra_linear_spec.specs.{Kinds.is_line, declared.GenKind.TheVariants.Point}
+use Rattle.lra_duality.specs.Crates.{lra_linear_spec.Kinds.is_line, lra_linear_spec.declared.GenKind.TheVariants.Point}
 use Rattle.lra_duality.specs.Maxima.{StaysInRange, directed}
-use Rattle.lra_systems.proofs.FirstMembers.{at_member}
+use Rattle.lra_duality.proofs.Crates.lra_systems.FirstMembers.{at_member}
 use Rattle.lra_duality.proofs.MaximumLemmas.{best_found, best_kept, best_taken, many, rows_seen}
 use Rattle.lra_duality.proofs.maximum.place_of_greatest.Goals.{then-exceeds, else-exceeds}
 use Rattle.lra_duality.proofs.maximum.place_of_greatest.Goals as goal

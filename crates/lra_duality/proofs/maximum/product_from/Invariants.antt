@@ -1,5 +1,5 @@
 use Rattle.std.proofs.Common.{◌≡◌, length}
-use Rattle.lra_linear_spec.specs.CheckedArithmetic.{checked_product_from}
+use Rattle.lra_duality.specs.Crates.lra_linear_spec.CheckedArithmetic.{checked_product_from}
 use Rattle.lra_duality.proofs.maximum.product_from.Given as goal
 
 abbrev pub invariant-loop-factor : goal.invariant-loop-factor

@@ -1,8 +1,8 @@
 -- Goals of `mark_saturated`: for each of the generators, whether the row has product 0 with it.
 use Rattle.std.proofs.{Common.ap, Common.arith, Common.get_or, Common.length, Common.pos, Common.sym, Common.true, Common.List, Common.ℤ, Common.[], Common.◌∙◌, Common.◌≡◌, lemmas.List.get_or_default}
 use Rattle.std.specs.Ordering.{int_eq}
-use Rattle.lra_linear_spec.specs.{Kinds.is_line, Vectors.product}
-use Rattle.lra_double_description.proofs.{Filling.filled_more, Thirds.filled_skip}
+use Rattle.lra_duality.specs.Crates.{lra_linear_spec.Kinds.is_line, lra_linear_spec.Vectors.product}
+use Rattle.lra_duality.proofs.Crates.{lra_double_description.Filling.filled_more, lra_double_description.Thirds.filled_skip}
 use Rattle.lra_duality.proofs.{SaturationLemmas.filled_saturated, saturation.mark_saturated.Goals.then-saturates, saturation.mark_saturated.Goals.else-saturates}
 use Rattle.lra_duality.proofs.saturation.mark_saturated.Goals as goal
 

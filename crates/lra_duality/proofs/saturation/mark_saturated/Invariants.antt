@@ -1,7 +1,6 @@
 use Rattle.std.proofs.Common.{length, get_or, [], pos}
 use Rattle.std.specs.Ordering.{int_eq}
-use Rattle.lra_double_description.specs.Steps.{IsFilled}
-use Rattle.lra_linear_spec.specs.Vectors.{product}
+use Rattle.lra_duality.specs.Crates.{lra_double_description.Steps.IsFilled, lra_linear_spec.Vectors.product}
 use Rattle.lra_duality.proofs.saturation.mark_saturated.Given as goal
 
 abbrev pub invariant-loop-place : goal.invariant-loop-place

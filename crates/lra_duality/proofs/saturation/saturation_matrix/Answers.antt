@@ -1,7 +1,6 @@
 -- Goals of `saturation_matrix`: a row for each of the constraints, with a column for each of the generators.
 use Rattle.std.proofs.Common.{arith}
-use Rattle.lra_linear_spec.specs.Kinds.{is_equality, is_line}
-use Rattle.lra_systems.specs.LinearSystems.{generators}
+use Rattle.lra_duality.specs.Crates.{lra_linear_spec.Kinds.is_equality, lra_linear_spec.Kinds.is_line, lra_systems.LinearSystems.generators}
 use Rattle.lra_duality.proofs.SaturationLemmas.{all_saturated, matrix_start}
 use Rattle.lra_duality.proofs.saturation.saturation_matrix.Goals as goal
 

@@ -1,5 +1,5 @@
 use Rattle.std.proofs.Common.{◌≡◌, length, map, take}
-use Rattle.lra_systems.specs.LinearSystems.{generators}
+use Rattle.lra_duality.specs.Crates.lra_systems.LinearSystems.{generators}
 use Rattle.lra_duality.specs.Saturations.{saturated}
 use Rattle.lra_duality.proofs.saturation.saturation_matrix.Given as goal
 

@@ -1,6 +1,6 @@
 -- Goals of `behind_positivity`: the constraints, after the positivity row.
 use Rattle.std.proofs.Common.{◌∙◌, ap, length, suc, sym}
-use Rattle.lra_linear_spec.proofs.UnitRows.{unit_length}
+use Rattle.lra_duality.proofs.Crates.lra_linear_spec.UnitRows.{unit_length}
 use Rattle.lra_duality.proofs.start.behind_positivity.Goals as goal
 
 pub push-requires : goal.push-requires

@@ -1,8 +1,7 @@
 -- Goals of `cone_of`: the cone of the constraints, by these generators; none if there is no generator, or are more,
 -- lines counted with them, than a cone may have rays, or too many dimensions.
 use Rattle.std.proofs.Common.{ℕ, subst}
-use Rattle.lra_linear_spec.specs.{ConeStrain.row_limit, Kinds.is_line}
-use Rattle.lra_systems.specs.LinearSystems.{constraints, generators}
+use Rattle.lra_duality.specs.Crates.{lra_linear_spec.ConeStrain.row_limit, lra_linear_spec.Kinds.is_line, lra_systems.LinearSystems.constraints, lra_systems.LinearSystems.generators}
 use Rattle.lra_duality.specs.Incremental.{MayGoOn}
 use Rattle.lra_duality.proofs.KeptCones.{start_cone}
 use Rattle.lra_duality.proofs.StartLemmas.{few_given, fitting, given_count, matrix_width, not_fitting, some_given, start_matrix}

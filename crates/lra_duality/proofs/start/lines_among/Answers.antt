@@ -1,6 +1,6 @@
 -- Goals of `lines_among`: the lines among the generators.
 use Rattle.std.proofs.Common.{◌≡◌, ◌∙◌, ap, length, sym}
-use Rattle.lra_linear_spec.specs.{Kinds.is_line, declared.GenKind.TheVariants.Point}
+use Rattle.lra_duality.specs.Crates.{lra_linear_spec.Kinds.is_line, lra_linear_spec.declared.GenKind.TheVariants.Point}
 use Rattle.lra_duality.proofs.{StartLemmas.line_more, StartLemmas.line_left, start.lines_among.Goals.then-goes_both_ways+in_ok-copy+in_ok-push, start.lines_among.Goals.else-goes_both_ways}
 use Rattle.lra_duality.proofs.start.lines_among.Goals as goal
 

@@ -1,6 +1,6 @@
 use Rattle.std.proofs.Common.{◌≡◌}
-use Rattle.lra_linear_spec.specs.{Descriptions.lines_of, Kinds.is_line}
-use Rattle.lra_systems.proofs.FirstMembers.{front}
+use Rattle.lra_duality.specs.Crates.{lra_linear_spec.Descriptions.lines_of, lra_linear_spec.Kinds.is_line}
+use Rattle.lra_duality.proofs.Crates.lra_systems.FirstMembers.{front}
 use Rattle.lra_duality.proofs.start.lines_among.Given as goal
 
 abbrev pub invariant-loop-place : goal.invariant-loop-place

@@ -1,7 +1,6 @@
 -- Goals of `ray_saturation`: which of the positivity row and the constraints are tight at which points and rays.
 use Rattle.std.proofs.Common.{◌≡◌, ◌∙◌, ◌∷◌, ap, length, sym}
-use Rattle.lra_bits.specs.Matrix.{Matrix}
-use Rattle.lra_linear_spec.specs.{Descriptions.inequality, Polyhedra.positivity, declared.GenKind.TheVariants.Point}
+use Rattle.lra_duality.specs.Crates.{lra_bits.Matrix.Matrix, lra_linear_spec.Descriptions.inequality, lra_linear_spec.Polyhedra.positivity, lra_linear_spec.declared.GenKind.TheVariants.Point}
 use Rattle.lra_duality.proofs.StartLemmas.{matrix_more, matrix_left}
 use Rattle.lra_duality.proofs.start.ray_saturation.Goals.{then-not-goes_both_ways+in_ok-values_of+in_ok-add_row, else-not-goes_both_ways}
 use Rattle.lra_duality.proofs.start.ray_saturation.Goals as goal

@@ -1,6 +1,6 @@
 -- Goals of `rays_among`: the points and rays among them.
 use Rattle.std.proofs.Common.{◌≡◌, ◌∙◌, ap, length, sym}
-use Rattle.lra_linear_spec.specs.{Kinds.is_line, declared.GenKind.TheVariants.Point}
+use Rattle.lra_duality.specs.Crates.{lra_linear_spec.Kinds.is_line, lra_linear_spec.declared.GenKind.TheVariants.Point}
 use Rattle.lra_duality.proofs.{StartLemmas.ray_more, StartLemmas.ray_left, start.rays_among.Goals.then-not-goes_both_ways+in_ok-copy+in_ok-push, start.rays_among.Goals.else-not-goes_both_ways}
 use Rattle.lra_duality.proofs.start.rays_among.Goals as goal
 

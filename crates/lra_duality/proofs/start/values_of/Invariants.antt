@@ -1,6 +1,5 @@
 use Rattle.std.proofs.Common.{◌∷◌}
-use Rattle.lra_bits.specs.TruthValues.{value_at}
-use Rattle.lra_double_description.specs.Steps.{IsFilled}
+use Rattle.lra_duality.specs.Crates.{lra_bits.TruthValues.value_at, lra_double_description.Steps.IsFilled}
 use Rattle.lra_duality.specs.Saturations.{column}
 use Rattle.lra_duality.proofs.start.values_of.Given as goal
 

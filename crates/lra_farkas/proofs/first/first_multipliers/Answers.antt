@@ -2,7 +2,7 @@
 use Rattle.std.proofs.Common.{rules, ◌≡◌, ◌≤◌, ◌∙◌, ap, sym, subst, length, drop, List, ℤ, arith}
 use Rattle.std.proofs.{lemmas.Int.to_z-of_z, lemmas.List.Elements.All-drop}
 use Rattle.std.specs.{Int.w128, List.All}
-use Rattle.lra_linear_spec.specs.Range.{InRange}
+use Rattle.lra_farkas.specs.Crates.lra_linear_spec.Range.{InRange}
 use Rattle.lra_farkas.proofs.FirstPoints.{some_rows, first_listed}
 use Rattle.lra_farkas.proofs.first.first_multipliers.Goals as goal
 

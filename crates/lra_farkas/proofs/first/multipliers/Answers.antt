@@ -1,6 +1,6 @@
 -- Goals of `multipliers`: the first multipliers that show the claim, or why there are none.
 use Rattle.std.proofs.Common.{◌∙◌, ap, sym, length, List}
-use Rattle.lra_linear_spec.specs.declared.ConKind.{ConKind}
+use Rattle.lra_farkas.specs.Crates.lra_linear_spec.declared.ConKind.{ConKind}
 use Rattle.lra_systems.specs.LinearSystems.{constraints}
 use Rattle.lra_multipliers.specs.MultiplierViews.{multipliers_view}
 use Rattle.lra_farkas.specs.FirstMultipliers.{IsMultipliersFailure}

@@ -2,7 +2,7 @@
 use Rattle.std.proofs.Common.{◌≡◌, ℤ, List, suc, map, length, ap, sym, ◌∙◌, refl, subst, arith}
 use Rattle.std.proofs.lemmas.List.Elements.{All-push, All-nil}
 use Rattle.std.specs.List.{All}
-use Rattle.lra_linear_spec.specs.Kinds.{is_equality}
+use Rattle.lra_farkas.specs.Crates.lra_linear_spec.Kinds.{is_equality}
 use Rattle.lra_systems.proofs.LinearRows.{all_given}
 use Rattle.lra_farkas.specs.{KeyedRows.row_of_keyed, declared.orders.Keyed.Keyed}
 use Rattle.lra_farkas.proofs.KeyedRows.{keyed_pushed}

@@ -1,6 +1,6 @@
 use Rattle.std.proofs.Common.{◌≡◌, suc, map, take, length}
 use Rattle.std.specs.List.{All}
-use Rattle.lra_linear_spec.specs.Kinds.{is_equality}
+use Rattle.lra_farkas.specs.Crates.lra_linear_spec.Kinds.{is_equality}
 use Rattle.lra_systems.specs.LinearSystems.{rows_by_kind}
 use Rattle.lra_farkas.specs.{KeyedRows.row_of_keyed, declared.orders.Keyed.Keyed}
 use Rattle.lra_farkas.proofs.orders.key_rows.Given as goal

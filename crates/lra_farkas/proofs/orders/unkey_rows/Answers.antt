@@ -1,6 +1,6 @@
 -- Goals of `unkey_rows`: the rows, without what decided their places.
 use Rattle.std.proofs.{Common.◌≡◌, Common.ℤ, Common.List, Common.suc, Common.map, Common.length, Common.ap, Common.sym, Common.◌∙◌, Common.subst, Common.arith, lemmas.List.take_all}
-use Rattle.lra_linear_spec.specs.declared.ConKind.{ConKind}
+use Rattle.lra_farkas.specs.Crates.lra_linear_spec.declared.ConKind.{ConKind}
 use Rattle.lra_multipliers.proofs.ListedKinds.{kinds_pushed}
 use Rattle.lra_farkas.specs.{KeyedRows.row_of_keyed, declared.orders.Keyed.Keyed}
 use Rattle.lra_farkas.proofs.{KeyedRows.unkeyed_more, ListedRows.none_listed}

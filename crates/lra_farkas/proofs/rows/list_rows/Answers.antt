@@ -1,8 +1,8 @@
 -- Goals of `list_rows`: the rows of the polyhedron of all multipliers.
 use Rattle.std.proofs.Common.{◌≡◌, ◌+◌, suc, length, refl, sym, ◌∙◌, arith}
-use Rattle.lra_linear_spec.specs.Kinds.{is_equality}
+use Rattle.lra_farkas.specs.Crates.lra_linear_spec.Kinds.{is_equality}
 use Rattle.lra_systems.specs.LinearSystems.{constraints}
-use Rattle.lra_duality.proofs.SaturationLemmas.{given_length}
+use Rattle.lra_farkas.proofs.Crates.lra_duality.SaturationLemmas.{given_length}
 use Rattle.lra_farkas.proofs.ListedRows.{rows_listed}
 use Rattle.lra_farkas.proofs.rows.list_rows.Goals as goal
 

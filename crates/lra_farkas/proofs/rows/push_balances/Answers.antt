@@ -1,7 +1,7 @@
 -- Goals of `push_balances`: the equalities of all columns come last.
 use Rattle.std.proofs.Common.{ap, sym, ◌∙◌, arith, suc, ℕ, ◌++◌, map}
 use Rattle.std.specs.List.{range_with_len}
-use Rattle.lra_linear_spec.specs.{Descriptions.equality, declared.ConKind.TheVariants.Eq}
+use Rattle.lra_farkas.specs.Crates.{lra_linear_spec.Descriptions.equality, lra_linear_spec.declared.ConKind.TheVariants.Eq}
 use Rattle.lra_systems.specs.LinearSystems.{constraints}
 use Rattle.lra_farkas.specs.MultiplierRows.{balance_row}
 use Rattle.lra_multipliers.proofs.ListedKinds.{kinds_pushed}

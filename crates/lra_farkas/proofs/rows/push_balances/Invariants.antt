@@ -1,6 +1,6 @@
 use Rattle.std.proofs.Common.{◌≡◌, ◌++◌, map, length}
 use Rattle.std.specs.List.{range_with_len}
-use Rattle.lra_linear_spec.specs.Descriptions.{equality}
+use Rattle.lra_farkas.specs.Crates.lra_linear_spec.Descriptions.{equality}
 use Rattle.lra_systems.specs.LinearSystems.{constraints}
 use Rattle.lra_farkas.specs.MultiplierRows.{balance_row}
 use Rattle.lra_farkas.proofs.rows.push_balances.Given as goal

@@ -2,7 +2,7 @@
 use Rattle.std.proofs.Common.{rules, ◌≡◌, ◌<◌, ◌++◌, ◌∷◌, [], List, ℤ, map, length, FitsSigned, ap, sym, ◌∙◌, subst, arith}
 use Rattle.std.proofs.{lemmas.Int.to_z-of_z, lemmas.List.take_all, lemmas.List.Elements.All-push}
 use Rattle.std.specs.{Int.w128, List.All}
-use Rattle.lra_linear_spec.specs.{Range.InRange, Vectors.entry}
+use Rattle.lra_farkas.specs.Crates.{lra_linear_spec.Range.InRange, lra_linear_spec.Vectors.entry}
 use Rattle.lra_farkas.proofs.ListedRows.{column_more}
 use Rattle.lra_farkas.proofs.rows.push_column.Goals as goal
 

@@ -1,6 +1,6 @@
 use Rattle.std.proofs.Common.{◌≡◌, ◌++◌, map, take}
 use Rattle.std.specs.List.{All}
-use Rattle.lra_linear_spec.specs.{Range.InRange, Vectors.entry}
+use Rattle.lra_farkas.specs.Crates.{lra_linear_spec.Range.InRange, lra_linear_spec.Vectors.entry}
 use Rattle.lra_farkas.proofs.rows.push_column.Given as goal
 
 abbrev pub invariant-loop-row : goal.invariant-loop-row

@@ -1,7 +1,7 @@
 -- Goals of `push_sign`: that a multiplier is not below 0 comes last.
 use Rattle.std.proofs.Common.{ap, ◌∙◌, suc, length, List, ℤ}
-use Rattle.lra_linear_spec.specs.declared.ConKind.TheVariants.{Ge}
-use Rattle.lra_linear_spec.proofs.UnitRows.{unit_length}
+use Rattle.lra_farkas.specs.Crates.lra_linear_spec.declared.ConKind.TheVariants.{Ge}
+use Rattle.lra_farkas.proofs.Crates.lra_linear_spec.UnitRows.{unit_length}
 use Rattle.lra_multipliers.proofs.ListedKinds.{kinds_pushed}
 use Rattle.lra_farkas.proofs.ListedRows.{sign_pushed}
 use Rattle.lra_farkas.proofs.rows.push_sign.Goals as goal

@@ -1,7 +1,7 @@
 -- Goals of `catch_continues`: `continue` comes out here.
 use Rattle.std.proofs.Common.{ap, ◌∙◌}
 use Rattle.lra_operations.specs.Tree.{continued}
-use Rattle.lra_analysis_spec.specs.{Operations.lossy_operations, Pass.AreJoined, Pass.jumps_caught}
+use Rattle.lra_fixpoint.specs.Crates.{lra_analysis_spec.Operations.lossy_operations, lra_analysis_spec.Pass.AreJoined, lra_analysis_spec.Pass.jumps_caught}
 use Rattle.lra_pass_results.specs.Outcome.{outcome_view}
 use Rattle.lra_fixpoint.proofs.catches.catch_continues.Goals as goal
 

@@ -1,7 +1,7 @@
 -- Goals of `catch_returns`: `return` comes out here.
 use Rattle.std.proofs.Common.{rules, ◌≡◌, ◌++◌, ◌∷◌, [], ap, ◌∙◌}
 use Rattle.lra_operations.specs.Tree.{returned}
-use Rattle.lra_analysis_spec.specs.{Operations.lossy_operations, Pass.jumps_caught}
+use Rattle.lra_fixpoint.specs.Crates.{lra_analysis_spec.Operations.lossy_operations, lra_analysis_spec.Pass.jumps_caught}
 use Rattle.lra_pass_results.specs.Outcome.{outcome_view, AllHave}
 use Rattle.lra_fixpoint.proofs.PassLoops.{returns_have, returns_joined}
 use Rattle.lra_fixpoint.proofs.catches.catch_returns.Goals as goal

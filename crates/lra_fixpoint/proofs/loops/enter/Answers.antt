@@ -1,8 +1,7 @@
 -- Goals of `enter`: what comes into a loop's body from the value at its head.
 use Rattle.std.proofs.{Common.true, lemmas.Result.IfOk-weaker}
-use Rattle.lra_program.specs.ProgramViews.{cond_view}
-use Rattle.lra_analysis_spec.specs.{MovesOf.guard, Operations.lossy_operations}
-use Rattle.lra_analysis_spec.proofs.Takes.{takes_made}
+use Rattle.lra_fixpoint.specs.Crates.{lra_analysis_spec.MovesOf.guard, lra_analysis_spec.Operations.lossy_operations, lra_program.ProgramViews.cond_view}
+use Rattle.lra_fixpoint.proofs.Crates.lra_analysis_spec.Takes.{takes_made}
 use Rattle.lra_operations.specs.TreeViews.{node_view}
 use Rattle.lra_pass_results.specs.Outcome.{EntersWith, IsEntered}
 use Rattle.lra_pass_results.proofs.Again.{entered_with, kept_inside}

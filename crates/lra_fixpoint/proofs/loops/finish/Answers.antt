@@ -1,5 +1,5 @@
 -- Goals of `finish`: the loop is left with the value at its head and its last round, and may be kept.
-use Rattle.lra_program.specs.ProgramViews.{cond_view}
+use Rattle.lra_fixpoint.specs.Crates.lra_program.ProgramViews.{cond_view}
 use Rattle.lra_pass_results.specs.Outcome.{outcome_view}
 use Rattle.lra_pass_results.proofs.CachedLoops.{recall_later, left_later}
 use Rattle.lra_fixpoint.proofs.loops.finish.Goals as goal

@@ -1,6 +1,6 @@
 -- Goals of `go_on_growing`: after a round of a loop whose head grows.
 use Rattle.std.proofs.Common.{ap, ◌∙◌, ◌^◌}
-use Rattle.lra_analysis_spec.specs.Plan.{Plan}
+use Rattle.lra_fixpoint.specs.Crates.lra_analysis_spec.Plan.{Plan}
 use Rattle.lra_fixpoint.proofs.{LoopFrames.grown_wide, LoopFrames.grown_stable, LoopFrames.grown_next, RoundSteps.stable_less, RoundSteps.grown_less}
 use Rattle.lra_fixpoint.proofs.loops.go_on_growing.Goals as goal
 

@@ -1,9 +1,8 @@
 -- Goals of `leave_loop`: the value at the head and what its round found, and after it what that value leaves where
 -- the condition is false.
 use Rattle.std.proofs.Common.{ap, ◌∙◌, false}
-use Rattle.lra_program.specs.ProgramViews.{cond_view}
-use Rattle.lra_analysis_spec.specs.{MovesOf.guard, Operations.lossy_operations}
-use Rattle.lra_analysis_spec.proofs.Takes.{takes_made}
+use Rattle.lra_fixpoint.specs.Crates.{lra_analysis_spec.MovesOf.guard, lra_analysis_spec.Operations.lossy_operations, lra_program.ProgramViews.cond_view}
+use Rattle.lra_fixpoint.proofs.Crates.lra_analysis_spec.Takes.{takes_made}
 use Rattle.lra_pass_results.specs.Outcome.{headed, outcome_view}
 use Rattle.lra_fixpoint.proofs.loops.leave_loop.Goals as goal
 

@@ -1,6 +1,6 @@
 -- Goals of `open_loop`: a loop's head starts, unless what the loop gave for this value is kept.
 use Rattle.std.proofs.Common.{ap, ◌∙◌, ◌^◌}
-use Rattle.lra_analysis_spec.specs.Plan.{Plan}
+use Rattle.lra_fixpoint.specs.Crates.lra_analysis_spec.Plan.{Plan}
 use Rattle.lra_fixpoint.proofs.{LoopFrames.due_few, LoopFrames.head_opens, LoopFrames.loop_recalled, RoundSteps.begun_less}
 use Rattle.lra_fixpoint.proofs.loops.open_loop.Goals as goal
 

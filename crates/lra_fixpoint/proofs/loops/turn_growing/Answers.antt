@@ -1,6 +1,6 @@
 -- Goals of `turn_growing`: once round a loop whose head grows, from its value.
 use Rattle.std.proofs.Common.{refl, subst}
-use Rattle.lra_program.specs.ProgramViews.{cond_view}
+use Rattle.lra_fixpoint.specs.Crates.lra_program.ProgramViews.{cond_view}
 use Rattle.lra_operations.specs.TreeViews.{node_view}
 use Rattle.lra_pass_results.specs.{Outcome.IsEntered, declared.heads.Growing.Growing, declared.tree_forms.Loop.Loop}
 use Rattle.lra_pass_stack.specs.declared.stack.GrowingFrame.{GrowingFrame}

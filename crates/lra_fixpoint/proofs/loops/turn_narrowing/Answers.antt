@@ -1,6 +1,6 @@
 -- Goals of `turn_narrowing`: once round a loop that is narrowed, from the value at its head.
 use Rattle.std.proofs.Common.{refl, subst}
-use Rattle.lra_program.specs.ProgramViews.{cond_view}
+use Rattle.lra_fixpoint.specs.Crates.lra_program.ProgramViews.{cond_view}
 use Rattle.lra_operations.specs.TreeViews.{node_view}
 use Rattle.lra_pass_results.specs.Outcome.{IsEntered}
 use Rattle.lra_fixpoint.proofs.BoxedFrames.{narrowing_again_less, narrowing_leads, narrowing_less, narrowing_made}

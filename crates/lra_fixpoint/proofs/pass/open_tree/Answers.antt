@@ -2,10 +2,9 @@
 use Rattle.std.proofs.{Common.◌<◌, Common.◌≤◌, Common.◌^◌, Common.refl, Common.sym, Common.subst, Common.arith, lemmas.Result.IfOk-weaker}
 use Rattle.std.specs.Prelude.{IfOk}
 use Rattle.lra_operations.specs.Tree.{probe}
-use Rattle.lra_analysis_spec.specs.Plan.{Plan}
+use Rattle.lra_fixpoint.specs.Crates.{lra_analysis_spec.Plan.Plan, lra_domain.Interference.no_interference}
 use Rattle.lra_pass_results.specs.declared.tree_forms.TreeForm.TheVariants.{Probe, Leaf, Row, Choice, Loop, Catch, Select}
 use Rattle.lra_pass_results.specs.{Dimensions.TreeFits, Outcome.outcome_view, Outcome.IsPassed, TreeForms.leaf_view, TreeForms.IsTreeForm, declared.tree_forms.TreeForm.TreeForm}
-use Rattle.lra_domain.specs.Interference.{no_interference}
 use Rattle.lra_pass_stack.specs.{Stack.pass_task, Stack.IsMade, Stack.MayBePassed, StepsLeft.most_rounds, StepsLeft.next_left, StepsLeft.tree_steps}
 use Rattle.lra_pass_results.proofs.AnyInterference.{leaf_among}
 use Rattle.lra_pass_stack.proofs.{OpenFrames.catch_leads, OpenFrames.leaf_made, RowLeaves.row_less, SelectSteps.arms_less}

@@ -1,6 +1,6 @@
 -- Goals of `admit`: the value takes in what others may do.
 use Rattle.std.proofs.Common.{◌≡◌, ◌∙◌}
-use Rattle.lra_analysis_spec.specs.Pass.{noted}
+use Rattle.lra_fixpoint.specs.Crates.lra_analysis_spec.Pass.{noted}
 use Rattle.lra_pass_results.specs.Outcome.{outcome_view}
 use Rattle.lra_fixpoint.proofs.ProbeSteps.{begun_seen, entering_passed}
 use Rattle.lra_fixpoint.proofs.probes.admit.Goals as goal

@@ -2,7 +2,7 @@
 use Rattle.std.proofs.{Common.◌≡◌, Common.[], Common.◌∷◌, Common.sym, Common.subst, lemmas.Result.IfOk-weaker}
 use Rattle.std.specs.Prelude.{IfOk}
 use Rattle.lra_operations.specs.Tree.{probe}
-use Rattle.lra_analysis_spec.specs.Pass.{recorded, goes_on}
+use Rattle.lra_fixpoint.specs.Crates.lra_analysis_spec.Pass.{recorded, goes_on}
 use Rattle.lra_pass_results.specs.Outcome.{outcome_view, IsPassed}
 use Rattle.lra_fixpoint.proofs.ProbeSteps.{noting_passed}
 use Rattle.lra_fixpoint.proofs.probes.pass_probe.Goals as goal

@@ -1,9 +1,9 @@
 -- Goals of `analyse`: without interference a derivation is one of a program that runs alone.
 use Rattle.std.proofs.Common.{List, map, sym, subst}
-use Rattle.lra_program.specs.{WellFormed.AreGoodGlobals, declared.program.GlobalVariable.GlobalVariable}
+use Rattle.lra_fixpoint.specs.Crates.lra_analysis_spec.Pass.{nothing_absorbed}
+use Rattle.lra_fixpoint.specs.Crates.{lra_analysis_spec.Operations.lossy_operations, lra_program.WellFormed.AreGoodGlobals, lra_program.declared.program.GlobalVariable.GlobalVariable}
 use Rattle.lra_operations.specs.TreeViews.{node_view, site_view}
-use Rattle.lra_analysis_spec.specs.{Operations.lossy_operations, Pass.nothing_absorbed}
-use Rattle.lra_analysis_spec.proofs.Unflagged.{derived_among_nobody}
+use Rattle.lra_fixpoint.proofs.Crates.lra_analysis_spec.Unflagged.{derived_among_nobody}
 use Rattle.lra_fixpoint.proofs.{Counting.pass_counted, Covering.begun_covers, Covering.covered_holds, Solving.solved}
 use Rattle.lra_fixpoint.proofs.solution.analyse.Goals as goal
 

@@ -2,9 +2,9 @@
 -- at their first values.
 use Rattle.std.proofs.{Common.List, Common.None, Common.length, Common.map, Common.sym, Common.subst, lemmas.List.Elements.All-nil}
 use Rattle.std.specs.List.{All}
-use Rattle.lra_program.specs.{WellFormed.AreGoodGlobals, declared.program.GlobalVariable.GlobalVariable}
+use Rattle.lra_fixpoint.specs.Crates.{lra_analysis_spec.Operations.lossy_operations, lra_analysis_spec.Pass.noted, lra_analysis_spec.Pass.PassUnder, lra_analysis_spec.UnderInterference.absorbed}
+use Rattle.lra_fixpoint.specs.Crates.{lra_program.WellFormed.AreGoodGlobals, lra_program.declared.program.GlobalVariable.GlobalVariable}
 use Rattle.lra_operations.specs.{Tree.Node, TreeViews.node_view, TreeViews.site_view}
-use Rattle.lra_analysis_spec.specs.{Operations.lossy_operations, Pass.noted, Pass.PassUnder, UnderInterference.absorbed}
 use Rattle.lra_pass_results.specs.{LoopCache.IsRecalled, Outcome.outcome_view}
 use Rattle.lra_fixpoint.specs.Tables.{note_view}
 use Rattle.lra_fixpoint.proofs.CoveringUnder.{begun_covers_among, covered_among}

@@ -1,5 +1,5 @@
 -- Goals of `read_source`: all that is read of a source, or its one refusal; memory may run out.
-use Rattle.lra_syntax.specs.Views.{tree_view}
+use Rattle.lra_front_end.specs.Crates.lra_syntax.Views.{tree_view}
 use Rattle.lra_front_end.proofs.{ReadSteps.exit_tree, StageSteps.well}
 use Rattle.lra_front_end.proofs.front.read_source.Goals as goal
 

@@ -1,6 +1,5 @@
 -- Goals of `check_calls`: that no function reaches itself by calls, or the refusal of the first call by which one does.
-use Rattle.lra_syntax.specs.Views.{tree_view}
-use Rattle.lra_program.specs.ProgramViews.{program_view}
+use Rattle.lra_front_end.specs.Crates.{lra_program.ProgramViews.program_view, lra_syntax.Views.tree_view}
 use Rattle.lra_front_end.proofs.StageSteps.{none_recursive}
 use Rattle.lra_front_end.proofs.program.check_calls.Goals as goal
 

@@ -1,11 +1,9 @@
 -- Goals of `inline_calls`: the tree of operations of a program without recursion and its points; or the refusal for its
 -- first recursive call, or for the first limit that it passes.
 use Rattle.std.proofs.Common.{◌≡◌, List, map, Some, ap}
-use Rattle.lra_syntax.specs.{Labels.Labelled, Views.tree_view}
-use Rattle.lra_program.specs.{Program.Program, ProgramViews.program_view, Sites.events_of}
-use Rattle.lra_operations.specs.TreeViews.{node_view, site_view}
-use Rattle.lra_resolution_spec.specs.Refuse.{limit_fault}
-use Rattle.lra_inline_steps.specs.Limits.{refusal_of}
+use Rattle.lra_front_end.specs.Crates.lra_operations.TreeViews.{node_view, site_view}
+use Rattle.lra_front_end.specs.Crates.{lra_inline_steps.Limits.refusal_of, lra_program.Program.Program, lra_program.ProgramViews.program_view, lra_program.Sites.events_of}
+use Rattle.lra_front_end.specs.Crates.{lra_resolution_spec.Refuse.limit_fault, lra_syntax.Labels.Labelled, lra_syntax.Views.tree_view}
 use Rattle.lra_front_end.proofs.StageSteps.{has_graph, exit_recursive, limit_passed, limit_refused}
 use Rattle.lra_front_end.proofs.program.inline_calls.Goals as goal
 

@@ -1,6 +1,6 @@
 -- Goals of `program_of`: the program of a source without faults of names, and the table of its labels; or the first
 -- such fault.
-use Rattle.lra_syntax.specs.Views.{tree_view}
+use Rattle.lra_front_end.specs.Crates.lra_syntax.Views.{tree_view}
 use Rattle.lra_front_end.proofs.StageSteps.{exit_named}
 use Rattle.lra_front_end.proofs.program.program_of.Goals as goal
 

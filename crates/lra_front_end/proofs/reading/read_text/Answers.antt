@@ -1,11 +1,10 @@
 -- Goals of `read_text`: the tree of a source and its constants, or its refusal.
 use Rattle.std.proofs.Common.{List, arith, refl, sym, subst}
-use Rattle.lra_syntax.specs.{Faults.IsTree, Grammar.Spells, Views.tree_view, declared.tokens.Token.Token}
+use Rattle.lra_front_end.specs.Crates.{lra_parser_spec.Files.EndsOnce, lra_resolution_spec.RefuseThreads.NotParsed, lra_syntax.Faults.IsTree, lra_syntax.Grammar.Spells, lra_syntax.Views.tree_view}
+use Rattle.lra_front_end.specs.Crates.{lra_syntax.declared.tokens.Token.Token}
 use Rattle.lra_base.specs.{declared.refusals.Cause.TheVariants.TooLong, declared.refusals.Place.Place}
 use Rattle.lra_base.proofs.Limit.{taken}
-use Rattle.lra_resolution_spec.specs.RefuseThreads.{NotParsed}
-use Rattle.lra_parser_spec.specs.Files.{EndsOnce}
-use Rattle.lra_parser_spec.proofs.Ended.{lexed_end}
+use Rattle.lra_front_end.proofs.Crates.lra_parser_spec.Ended.{lexed_end}
 use Rattle.lra_front_end.proofs.ReadSteps.{long_unread, unread_refused, refused_unread, exit_lexed, exit_parsed, has_constants, has_tree}
 use Rattle.lra_front_end.proofs.reading.read_text.Goals as goal
 

@@ -1,10 +1,8 @@
 -- Goals of `graph_of`: the tree of operations of one thread's program, or the refusal for the limit that it passes
 -- after the threads before it.
 use Rattle.std.proofs.Common.{◌≡◌, List, length, Some, sym, ap, ◌∙◌}
-use Rattle.lra_syntax.specs.Labels.{Labelled}
-use Rattle.lra_program.specs.{ProgramViews.program_view, Sites.events_of}
-use Rattle.lra_resolution_spec.specs.Refuse.{limit_fault}
-use Rattle.lra_inline_steps.specs.{Inlining.points_in, Limits.refusal_of}
+use Rattle.lra_front_end.specs.Crates.{lra_inline_steps.Inlining.points_in, lra_inline_steps.Limits.refusal_of, lra_program.ProgramViews.program_view, lra_program.Sites.events_of}
+use Rattle.lra_front_end.specs.Crates.{lra_resolution_spec.Refuse.limit_fault, lra_syntax.Labels.Labelled}
 use Rattle.lra_front_end.proofs.StageSteps.{limit_passed}
 use Rattle.lra_front_end.proofs.threads.graph_of.Goals as goal
 

@@ -3,11 +3,9 @@
 use Rattle.std.proofs.Common.{◌≡◌, ◌+◌, [], ◌++◌, length, map, drop, get_or, None, refl, ap, sym, ◌∙◌, subst}
 use Rattle.std.proofs.lemmas.List.{at_drop_all, take_all, get_or_default}
 use Rattle.std.specs.List.{AllZip}
-use Rattle.lra_syntax.specs.{Labels.labels_of, Views.tree_view}
-use Rattle.lra_program.specs.{Program.Program, Sites.events_of, Sites.sites_of, WellFormed.IsWellFormed}
-use Rattle.lra_operations.specs.TreeViews.{site_view}
-use Rattle.lra_resolution_spec.specs.{LabelTable.LabelLists, Refuse.limit_fault, Threads.thread_program}
-use Rattle.lra_inline_steps.specs.Inlining.{points_in}
+use Rattle.lra_front_end.specs.Crates.{lra_inline_steps.Inlining.points_in, lra_operations.TreeViews.site_view, lra_program.Program.Program, lra_program.Sites.events_of, lra_program.Sites.sites_of}
+use Rattle.lra_front_end.specs.Crates.{lra_program.WellFormed.IsWellFormed, lra_resolution_spec.LabelTable.LabelLists, lra_resolution_spec.Refuse.limit_fault}
+use Rattle.lra_front_end.specs.Crates.{lra_resolution_spec.Threads.thread_program, lra_syntax.Labels.labels_of, lra_syntax.Views.tree_view}
 use Rattle.lra_front_end.specs.ThreadsStages.{IsInlinedOf, IsThreadInlined}
 use Rattle.lra_front_end.proofs.ThreadSteps.{exit_recursive, placed, stays_placed, events_at, events_behind, exit_limit, each_at, next_at, more_points, zip_more}
 use Rattle.lra_front_end.proofs.threads.inline_threads.Goals as goal

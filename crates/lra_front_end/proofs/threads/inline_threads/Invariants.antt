@@ -1,10 +1,8 @@
 -- The threads so far have their trees, and passed no limit; those that are left count after their points.
 use Rattle.std.proofs.Common.{◌≡◌, length, drop, take}
 use Rattle.std.specs.List.{AllZip}
-use Rattle.lra_syntax.specs.{Labels.labels_of, Views.tree_view}
-use Rattle.lra_program.specs.ProgramViews.{program_view}
-use Rattle.lra_resolution_spec.specs.{Refuse.limit_fault, Threads.thread_program, Threads.thread_events}
-use Rattle.lra_inline_steps.specs.Inlining.{points_in}
+use Rattle.lra_front_end.specs.Crates.{lra_inline_steps.Inlining.points_in, lra_program.ProgramViews.program_view, lra_resolution_spec.Refuse.limit_fault, lra_resolution_spec.Threads.thread_program}
+use Rattle.lra_front_end.specs.Crates.{lra_resolution_spec.Threads.thread_events, lra_syntax.Labels.labels_of, lra_syntax.Views.tree_view}
 use Rattle.lra_front_end.specs.ThreadsStages.{IsThreadInlined}
 use Rattle.lra_front_end.proofs.ThreadSteps.{events_at}
 use Rattle.lra_front_end.proofs.threads.inline_threads.Given as goal

@@ -1,5 +1,5 @@
 -- Goals of `threads_of`: the program and the threads of a source without faults of names, or the first such fault.
-use Rattle.lra_syntax.specs.Views.{tree_view}
+use Rattle.lra_front_end.specs.Crates.lra_syntax.Views.{tree_view}
 use Rattle.lra_front_end.proofs.ThreadSteps.{exit_named}
 use Rattle.lra_front_end.proofs.threads.threads_of.Goals as goal
 

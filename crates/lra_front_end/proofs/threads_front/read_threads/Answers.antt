@@ -1,9 +1,7 @@
 -- Goals of `read_threads`: all that is read of a source of several threads, or its one refusal; memory may run out.
 use Rattle.std.proofs.Common.{◌∙◌, ap, sym, subst}
 use Rattle.std.specs.List.{AllByRecursion, AllZip}
-use Rattle.lra_syntax.specs.Views.{tree_view}
-use Rattle.lra_program.specs.WellFormed.{IsWellFormed}
-use Rattle.lra_resolution_spec.specs.{LabelTable.LabelLists, Threads.thread_program}
+use Rattle.lra_front_end.specs.Crates.{lra_program.WellFormed.IsWellFormed, lra_resolution_spec.LabelTable.LabelLists, lra_resolution_spec.Threads.thread_program, lra_syntax.Views.tree_view}
 use Rattle.lra_front_end.specs.ThreadsStages.{IsThreadInlined}
 use Rattle.lra_front_end.proofs.ThreadSteps.{exit_unread, exit_tree, well, accepted}
 use Rattle.lra_front_end.proofs.threads_front.read_threads.Goals as goal

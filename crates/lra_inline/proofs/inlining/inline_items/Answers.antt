@@ -1,9 +1,8 @@
 -- Goals of `inline_items`: what is written out is the items, on the path as it was copied.
-use Rattle.std.proofs.Common.{◌≡◌, map}
+use Rattle.std.proofs.{Common.◌≡◌, Common.map, lemmas.Result.IfOk-weaker}
 use Rattle.lra_program.specs.{ProgramViews.item_view, ProgramViews.items_of, Sites.live_after_items}
 use Rattle.lra_operations.specs.TreeViews.{node_view}
 use Rattle.lra_inline_steps.specs.{Inlining.points_in, Inlining.program_around, Inlining.StopsItems, Inlining.AreItemsWrittenOut, Stack.inline_task, Stack.all_items, Stack.Stops, Stack.IsWritten}
-use Rattle.std.proofs.lemmas.Result.{IfOk-weaker}
 use Rattle.lra_inline_steps.proofs.Stopping.{limit_through}
 use Rattle.lra_inline.proofs.inlining.inline_items.Goals as goal
 

@@ -1,6 +1,6 @@
 -- Goals of `writes_agree`: does nothing.
 use Rattle.std.proofs.Common.{ap, length, IsTrue}
-use Rattle.lra_program.specs.{Step.State, Traces.NoChange}
+use Rattle.lra_interference_sound.specs.Crates.{lra_program.Step.State, lra_program.Traces.NoChange}
 use Rattle.lra_interleavings.specs.ThreadModular.{OthersInterfere, OthersWrite}
 use Rattle.lra_interleavings.proofs.RunSegments.{changes_width}
 use Rattle.lra_interference_sound.proofs.Writes as gifts

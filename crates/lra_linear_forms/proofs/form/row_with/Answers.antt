@@ -1,6 +1,6 @@
 -- Goals of `row_with`: the row with a number in column 0, then the coefficients.
 use Rattle.std.proofs.{Common.rules, Common.◌≡◌, Common.[], Common.◌∷◌, Common.◌++◌, Common.◌∙◌, Common.append_assoc, lemmas.List.Elements.All-push}
-use Rattle.lra_linear_spec.specs.Range.{InRange}
+use Rattle.lra_linear_forms.specs.Crates.lra_linear_spec.Range.{InRange}
 use Rattle.lra_linear_forms.proofs.form.row_with.Goals as goal
 
 pub loop-coefficient-preserved : goal.loop-coefficient-preserved

@@ -1,6 +1,6 @@
 use Rattle.std.proofs.Common.{◌≡◌, ◌∷◌, ◌++◌, length}
 use Rattle.std.specs.List.{All}
-use Rattle.lra_linear_spec.specs.Range.{InRange}
+use Rattle.lra_linear_forms.specs.Crates.lra_linear_spec.Range.{InRange}
 use Rattle.lra_linear_forms.proofs.form.row_with.Given as goal
 
 abbrev pub invariant-loop-coefficient : goal.invariant-loop-coefficient

@@ -1,6 +1,6 @@
 use Rattle.std.proofs.Common.{◌≡◌, ◌↔◌, length, ◌+ℤ◌}
 use Rattle.lra_linear_forms.specs.Form.{SummingPasses}
-use Rattle.lra_linear_spec.specs.Vectors.{product}
+use Rattle.lra_linear_forms.specs.Crates.lra_linear_spec.Vectors.{product}
 use Rattle.lra_linear_forms.proofs.form.sum_of.Given as goal
 
 abbrev pub invariant-loop-factor : goal.invariant-loop-factor

@@ -1,5 +1,5 @@
 -- Goals of `difference_of`: the form of the left side minus the right one.
-use Rattle.lra_program.specs.ProgramViews.{expr_view}
+use Rattle.lra_linearize.specs.Crates.lra_program.ProgramViews.{expr_view}
 use Rattle.lra_linearize.proofs.CondSteps.{difference_is}
 use Rattle.lra_linearize.proofs.comparisons.difference_of.Goals as goal
 

@@ -1,6 +1,6 @@
 -- Goals of the functions that call each other around `form`: `form_of_chain`, `form_of_expression`.
 use Rattle.std.proofs.Common.{rules, ◌≡◌, Some, None, map, sym}
-use Rattle.lra_program.specs.{ProgramViews.chained, ProgramViews.expr_view, ProgramViews.operation_view, declared.program.Expr.the_lemmas}
+use Rattle.lra_linearize.specs.Crates.{lra_program.ProgramViews.chained, lra_program.ProgramViews.expr_view, lra_program.ProgramViews.operation_view, lra_program.declared.program.Expr.the_lemmas}
 use Rattle.lra_analysis_spec.specs.Linear.{form_of}
 use Rattle.lra_linearize.proofs.FormSteps.{chain_form, chain_none, chain_stops, chain_fails, chain_next}
 use Rattle.lra_linearize.proofs.forms.+form.Goals as goal

@@ -1,5 +1,5 @@
 use Rattle.std.proofs.Common.{◌≡◌, map, drop, Some}
-use Rattle.lra_program.specs.ProgramViews.{operation_view}
+use Rattle.lra_linearize.specs.Crates.lra_program.ProgramViews.{operation_view}
 use Rattle.lra_linearize.specs.Forms.{rest_form}
 use Rattle.lra_linearize.proofs.forms.+form.Given as goal
 

@@ -1,6 +1,6 @@
 use Rattle.std.proofs.Common.{length, ◌≡◌}
 use Rattle.std.specs.List.{list_all}
-use Rattle.lra_program.specs.Value.{is_zero}
+use Rattle.lra_linearize.specs.Crates.lra_program.Value.{is_zero}
 use Rattle.lra_linearize.proofs.forms.has_no_variable.Given as goal
 
 abbrev pub invariant-loop-coefficient : goal.invariant-loop-coefficient

@@ -2,7 +2,7 @@
 use Rattle.std.proofs.Common.{rules, ◌≡◌, ◌++◌, [], ◌∷◌, Some, map}
 use Rattle.std.specs.Prelude.{◌*ℤ◌}
 use Rattle.lra_base.specs.declared.number_types.NumberType.TheVariants.{Long}
-use Rattle.lra_program.specs.Value.{number}
+use Rattle.lra_linearize.specs.Crates.lra_program.Value.{number}
 use Rattle.lra_linearize.proofs.FormSteps.{so_far_next}
 use Rattle.lra_linearize.proofs.forms.product_entries.Goals as goal
 

@@ -1,7 +1,7 @@
 -- Goals of `sum_entries`: the sums or differences place by place, where all have 64 bits.
 use Rattle.std.proofs.Common.{rules, ◌≡◌, ◌++◌, [], ◌∷◌, Some}
 use Rattle.lra_base.specs.declared.number_types.NumberType.TheVariants.{Long}
-use Rattle.lra_program.specs.Value.{number}
+use Rattle.lra_linearize.specs.Crates.lra_program.Value.{number}
 use Rattle.lra_analysis_spec.specs.Linear.{entrywise}
 use Rattle.lra_linearize.specs.Forms.{sum_or_difference}
 use Rattle.lra_linearize.proofs.FormSteps.{so_far_next}

@@ -1,7 +1,7 @@
 -- Goals of the functions that call each other around `give`: `give`.
 use Rattle.std.proofs.Common.{map, arith}
 use Rattle.lra_linearize.proofs.{CondSizes.size_in, CondSteps.any_view, GuardThresholdSteps.any_rows, GuardThresholdSteps.chain_more}
-use Rattle.lra_program.specs.ProgramViews.{cond_view}
+use Rattle.lra_linearize.specs.Crates.lra_program.ProgramViews.{cond_view}
 use Rattle.lra_linearize.proofs.guard_thresholds.+give.Goals as goal
 
 pub give-returns-in-Any : goal.give-returns-in-Any

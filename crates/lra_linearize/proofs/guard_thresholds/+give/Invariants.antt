@@ -1,5 +1,5 @@
 use Rattle.std.proofs.Common.{map, take}
-use Rattle.lra_program.specs.ProgramViews.{all_of, cond_view}
+use Rattle.lra_linearize.specs.Crates.lra_program.ProgramViews.{all_of, cond_view}
 use Rattle.lra_analysis_spec.specs.GuardThresholds.{guard_rows}
 use Rattle.lra_linearize.specs.GuardThresholds.{HasMore}
 use Rattle.lra_linearize.proofs.CondSizes.{cond_size, chain_size}

@@ -1,5 +1,5 @@
 -- Goals of `give_comparison`: the rows of a comparison; none if its difference isn't linear.
-use Rattle.lra_program.specs.ProgramViews.{expr_view}
+use Rattle.lra_linearize.specs.Crates.lra_program.ProgramViews.{expr_view}
 use Rattle.lra_linearize.proofs.{CondSteps.difference_wide, CondSteps.difference_there, GuardThresholdSteps.rows_by_test}
 use Rattle.std.proofs.Common.{sym}
 use Rattle.lra_linearize.proofs.guard_thresholds.give_comparison.Goals as goal

@@ -1,7 +1,7 @@
 -- Goals of `opposite_row_of`: the row `-form >= 0`.
 use Rattle.std.proofs.{Common.rules, Common.map, Common.◌≡◌, Common.[], Common.◌∷◌, Common.◌++◌, Common.◌∙◌, Common.append_assoc, lemmas.List.Elements.All-push}
 use Rattle.std.specs.Prelude.{neg_ℤ}
-use Rattle.lra_linear_spec.specs.Range.{InRange}
+use Rattle.lra_linearize.specs.Crates.lra_linear_spec.Range.{InRange}
 use Rattle.lra_linearize.proofs.guard_thresholds.opposite_row_of.Goals as goal
 
 pub loop-coefficient-preserved : goal.loop-coefficient-preserved

@@ -1,6 +1,6 @@
 use Rattle.std.proofs.Common.{◌≡◌, ◌++◌, length, map}
 use Rattle.std.specs.{List.All, Prelude.neg_ℤ}
-use Rattle.lra_linear_spec.specs.Range.{InRange}
+use Rattle.lra_linearize.specs.Crates.lra_linear_spec.Range.{InRange}
 use Rattle.lra_analysis_spec.specs.GuardThresholds.{opposite_row}
 use Rattle.lra_linearize.proofs.guard_thresholds.opposite_row_of.Given as goal
 

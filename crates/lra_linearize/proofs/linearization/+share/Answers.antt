@@ -1,7 +1,8 @@
 -- Goals of the functions that call each other around `share`: `see_last_share`, `see_share`.
 use Rattle.std.proofs.{Common.rules, Common.◌≡◌, Common.◌++◌, Common.List, Common.[], Common.◌∷◌, Common.Some, Common.None, Common.map, Common.sym, Common.ap, Common.◌∙◌, lemmas.List.nil_from_length}
 use Rattle.lra_base.specs.OperatorViews.{operator_view}
-use Rattle.lra_program.specs.{Program.Expr, ProgramViews.chained, ProgramViews.expr_view, ProgramViews.operation_view, declared.program.Expr.the_lemmas, declared.program.Operation.Operation}
+use Rattle.lra_linearize.specs.Crates.lra_program.ProgramViews.{chained, expr_view, operation_view}
+use Rattle.lra_linearize.specs.Crates.{lra_program.Program.Expr, lra_program.declared.program.Expr.the_lemmas, lra_program.declared.program.Operation.Operation}
 use Rattle.lra_analysis_spec.specs.{Linear.form_of, Linearization.share_form, Linearization.share_of, Linearization.linearized_from}
 use Rattle.lra_analysis_spec.proofs.FormLemmas.{form_wide}
 use Rattle.lra_linearize.proofs.LinearizationSteps.{chain_cut, share_none, share_no_front, share_is, handed_on}

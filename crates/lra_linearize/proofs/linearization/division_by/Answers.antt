@@ -1,7 +1,7 @@
 -- Goals of `division_by`: the division of the one by the other, where this is a constant above 0 and the two cases fit 64 bits.
 use Rattle.std.proofs.Common.{rules, ◌≡◌, ◌∙◌, sym, subst, ℤ, pos, Some, None, true, to_z, of_z}
 use Rattle.std.specs.{Int.w64, Prelude.◌&&◌, Prelude.int_le}
-use Rattle.lra_linear_forms.specs.Form.{Form, opposite_form}
+use Rattle.lra_linearize.specs.Crates.lra_linear_forms.Form.{Form, opposite_form}
 use Rattle.lra_analysis_spec.specs.{Linear.fitting, Linear.is_constant, Linearization.form_plus_one, Linearization.division, declared.linearization.Division.Division}
 use Rattle.lra_linearize.proofs.LinearizationSteps.{no_divisor, no_more, no_opposite, division_is}
 use Rattle.lra_linearize.proofs.linearization.division_by.Goals as goal

@@ -1,6 +1,6 @@
 -- Goals of `form_of_front`: the form of what stands before the last operation.
 use Rattle.std.proofs.Common.{◌≡◌, Some, None, map}
-use Rattle.lra_program.specs.ProgramViews.{expr_view, operation_view}
+use Rattle.lra_linearize.specs.Crates.lra_program.ProgramViews.{expr_view, operation_view}
 use Rattle.lra_analysis_spec.specs.Linear.{form_of}
 use Rattle.lra_linearize.proofs.LinearizationSteps.{front_none, front_is, handed_on}
 use Rattle.lra_linearize.proofs.linearization.form_of_front.Goals as goal

@@ -1,6 +1,6 @@
 -- Goals of `linearize`: the linear form of an expression, or what is seen of the division that it is.
 use Rattle.std.proofs.Common.{◌≡◌, Some, None}
-use Rattle.lra_program.specs.ProgramViews.{expr_view}
+use Rattle.lra_linearize.specs.Crates.lra_program.ProgramViews.{expr_view}
 use Rattle.lra_analysis_spec.specs.Linear.{form_of}
 use Rattle.lra_linearize.proofs.LinearizationSteps.{seen_linear, seen_share, handed_on}
 use Rattle.lra_linearize.proofs.linearization.linearize.Goals as goal

@@ -1,5 +1,5 @@
 -- Goals of `linearize_difference`: what is seen of the left side minus the right one.
-use Rattle.lra_program.specs.ProgramViews.{expr_view}
+use Rattle.lra_linearize.specs.Crates.lra_program.ProgramViews.{expr_view}
 use Rattle.lra_linearize.proofs.LinearizationSteps.{difference_is_seen, handed_on}
 use Rattle.lra_linearize.proofs.linearization.linearize_difference.Goals as goal
 

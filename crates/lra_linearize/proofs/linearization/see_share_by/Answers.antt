@@ -1,6 +1,6 @@
 -- Goals of `see_share_by`: what is seen of the numerator divided by an operand.
 use Rattle.std.proofs.Common.{◌≡◌, Some, None}
-use Rattle.lra_program.specs.ProgramViews.{expr_view}
+use Rattle.lra_linearize.specs.Crates.lra_program.ProgramViews.{expr_view}
 use Rattle.lra_analysis_spec.specs.{Linear.form_of, Linearization.division}
 use Rattle.lra_linearize.proofs.LinearizationSteps.{by_none, by_unseen, by_seen}
 use Rattle.lra_linearize.proofs.linearization.see_share_by.Goals as goal

@@ -1,7 +1,7 @@
 -- Goals of the functions that call each other around `take_condition`: as those of `give` (proofs/given/+give), with `HasTaken` for `HasMore`.
 use Rattle.std.proofs.Common.{map, arith}
 use Rattle.lra_linearize.proofs.{CondSizes.size_in, CondSteps.any_view, ThresholdSteps.any_taken, ThresholdSteps.chain_taken}
-use Rattle.lra_program.specs.ProgramViews.{cond_view}
+use Rattle.lra_linearize.specs.Crates.lra_program.ProgramViews.{cond_view}
 use Rattle.lra_linearize.proofs.thresholds.+condition.Goals as goal
 
 pub take_condition-returns-in-Any : goal.take_condition-returns-in-Any

@@ -1,8 +1,8 @@
 -- Goals of the functions that call each other around `take_tree`: what each kind of tree gives, trees that stand in a row, and a row's trees.
 use Rattle.std.proofs.Common.{rules, ◌≡◌, ◌∙◌, ◌++◌, ◌∷◌, ap, arith, map}
-use Rattle.lra_operations.specs.Tree as graph
-use Rattle.lra_operations.specs.TreeViews.{exit_view, node_view, op_view, row, arm_view, arms_of}
-use Rattle.lra_program.specs.ProgramViews.{cond_view, expr_view}
+use Rattle.lra_linearize.specs.Crates.lra_operations.Tree as graph
+use Rattle.lra_linearize.specs.Crates.lra_operations.TreeViews.{exit_view, node_view, op_view, row, arm_view, arms_of}
+use Rattle.lra_linearize.specs.Crates.lra_program.ProgramViews.{cond_view, expr_view}
 use Rattle.lra_analysis_spec.specs.Thresholds.{condition_rows, round_rows, rows_in}
 use Rattle.lra_linearize.proofs.TreeViews.{act_view, catch_view, check_view, choose_view, iterate_view, last_taken, row_ends, select_view, seq_view, taken_as, taken_seen, arms_taken, entry_taken}
 use Rattle.lra_linearize.proofs.TreeViews.{none_taken, one_arm_taken, taken_dims, tree_taken, two_rounds}

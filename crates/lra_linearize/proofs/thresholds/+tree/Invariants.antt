@@ -1,6 +1,6 @@
 use Rattle.std.proofs.Common.{drop, map, suc, take}
 use Rattle.std.specs.List.{flat_map}
-use Rattle.lra_operations.specs.TreeViews.{node_view}
+use Rattle.lra_linearize.specs.Crates.lra_operations.TreeViews.{node_view}
 use Rattle.lra_analysis_spec.specs.Thresholds.{rows_in}
 use Rattle.lra_linearize.specs.Thresholds.{HasTaken}
 use Rattle.lra_linearize.proofs.{TreeSizes.arm_size, TreeSizes.arms_size, TreeSizes.tree_size, TreeSizes.trees_size, TreeViews.IsTakenFrom}

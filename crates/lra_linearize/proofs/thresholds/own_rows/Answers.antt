@@ -1,6 +1,5 @@
 -- Goals of `own_rows`: the rows around a loop's own condition and around those in it, each once.
-use Rattle.lra_operations.specs.TreeViews.{node_view}
-use Rattle.lra_program.specs.ProgramViews.{cond_view}
+use Rattle.lra_linearize.specs.Crates.{lra_operations.TreeViews.node_view, lra_program.ProgramViews.cond_view}
 use Rattle.lra_linearize.proofs.ThresholdSteps.{own_is}
 use Rattle.lra_linearize.proofs.thresholds.own_rows.Goals as goal
 

@@ -1,6 +1,6 @@
 use Rattle.std.proofs.Common.{◌≡◌, ◌++◌, length, map}
 use Rattle.std.specs.{List.All, Prelude.neg_ℤ}
-use Rattle.lra_linear_spec.specs.Range.{InRange}
+use Rattle.lra_linearize.specs.Crates.lra_linear_spec.Range.{InRange}
 use Rattle.lra_analysis_spec.specs.Thresholds.{row_against}
 use Rattle.lra_linearize.proofs.thresholds.row_against.Given as goal
 

@@ -1,6 +1,6 @@
 -- Goals of `row_less`: the row `form - less >= 0`.
 use Rattle.std.proofs.{Common.rules, Common.◌≡◌, Common.[], Common.◌∷◌, Common.◌++◌, Common.◌∙◌, Common.append_assoc, lemmas.List.Elements.All-push}
-use Rattle.lra_linear_spec.specs.Range.{InRange}
+use Rattle.lra_linearize.specs.Crates.lra_linear_spec.Range.{InRange}
 use Rattle.lra_linearize.proofs.thresholds.row_less.Goals as goal
 
 pub loop-coefficient-preserved : goal.loop-coefficient-preserved

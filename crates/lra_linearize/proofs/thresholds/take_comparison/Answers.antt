@@ -1,7 +1,7 @@
 -- Goals of `take_comparison`: the rows around a comparison; none if its difference isn't linear, or a variable doesn't
 -- live.
 use Rattle.std.proofs.Common.{sym}
-use Rattle.lra_program.specs.ProgramViews.{expr_view}
+use Rattle.lra_linearize.specs.Crates.lra_program.ProgramViews.{expr_view}
 use Rattle.lra_linearize.proofs.CondSteps.{difference_wide, difference_there}
 use Rattle.lra_linearize.proofs.thresholds.take_comparison.Goals as goal
 

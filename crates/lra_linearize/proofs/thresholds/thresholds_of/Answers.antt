@@ -1,7 +1,6 @@
 -- Goals of `thresholds_of`: the rows that thresholds give to a loop's head.
 use Rattle.std.proofs.Common.{◌≡◌, ◌++◌, arith}
-use Rattle.lra_operations.specs.TreeViews.{node_view}
-use Rattle.lra_program.specs.ProgramViews.{cond_view}
+use Rattle.lra_linearize.specs.Crates.{lra_operations.TreeViews.node_view, lra_program.ProgramViews.cond_view}
 use Rattle.lra_analysis_spec.specs.Thresholds.{condition_rows, round_rows, rows_once}
 use Rattle.lra_linearize.proofs.ThresholdSteps.{variables_added, whole_is}
 use Rattle.lra_linearize.proofs.thresholds.thresholds_of.Goals as goal

@@ -1,8 +1,8 @@
 -- Goals of `assign_list`: the generators, each with the form's value as coordinate x; or what is reported about the
 -- first with which a number passes.
 use Rattle.std.proofs.Common.{arith, refl, subst, suc, sym}
-use Rattle.lra_linear_spec.specs.{CheckedArithmetic.checked_product, SetOperations.assigned}
-use Rattle.lra_linear_spec.specs.declared.Excess as E
+use Rattle.lra_mapped_systems.specs.Crates.{lra_linear_spec.CheckedArithmetic.checked_product, lra_linear_spec.SetOperations.assigned}
+use Rattle.lra_mapped_systems.specs.Crates.lra_linear_spec.declared.Excess as E
 use Rattle.lra_systems.specs.LinearSystems.{generators}
 use Rattle.lra_mapped_systems.specs.Forming.{IsLossAt}
 use Rattle.lra_mapped_systems.proofs.{Assigning.assigned_level, ListLemmas.mapped_kinds, ListLemmas.mapped_listed, LossLemmas.excess_of, LossLemmas.lost_at}

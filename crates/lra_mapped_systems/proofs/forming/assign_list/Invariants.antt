@@ -1,5 +1,5 @@
 use Rattle.std.proofs.Common.{◌≡◌, map, suc, take}
-use Rattle.lra_linear_spec.specs.SetOperations.{assigned}
+use Rattle.lra_mapped_systems.specs.Crates.lra_linear_spec.SetOperations.{assigned}
 use Rattle.lra_mapped_systems.proofs.forming.assign_list.Given as goal
 
 abbrev pub invariant-loop-place : goal.invariant-loop-place

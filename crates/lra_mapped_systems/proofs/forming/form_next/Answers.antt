@@ -2,7 +2,7 @@
 -- passes in it, what is reported about that, unless something is reported already.
 use Rattle.std.proofs.Common.{◌≡◌, ◌∙◌, ◌<◌, ap, get_or, length, refl, subst, sym, ℤ, List, Some, rules}
 use Rattle.std.specs.Prelude.{false, is_none}
-use Rattle.lra_linear_spec.specs.CheckedArithmetic.{checked_substitution}
+use Rattle.lra_mapped_systems.specs.Crates.lra_linear_spec.CheckedArithmetic.{checked_substitution}
 use Rattle.lra_systems.specs.LinearSystems.{constraints}
 use Rattle.lra_mapped_systems.specs.Forming.{IsLossAt}
 use Rattle.lra_mapped_systems.proofs.{FormedLists.formed_if_pushed, FormedLists.formed_left, FormedLists.formed_lost, FormedLists.substituted_fits, LossLemmas.excess_of, LossLemmas.lost_at}

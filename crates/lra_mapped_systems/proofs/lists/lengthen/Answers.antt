@@ -1,7 +1,7 @@
 -- Goals of `lengthen`: the row with k zeros after it.
 use Rattle.std.proofs.{Common.◌≡◌, Common.◌++◌, Common.◌∷◌, Common.[], Common.arith, Common.pos, Common.subst, Common.sym, lemmas.List.Elements.All-push}
 use Rattle.std.specs.List.{All}
-use Rattle.lra_linear_spec.specs.Range.{InRange}
+use Rattle.lra_mapped_systems.specs.Crates.lra_linear_spec.Range.{InRange}
 use Rattle.lra_mapped_systems.proofs.PushedLists.{zero_pushed}
 use Rattle.lra_mapped_systems.proofs.lists.lengthen.Goals as goal
 

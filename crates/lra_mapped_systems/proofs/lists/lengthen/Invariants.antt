@@ -1,6 +1,6 @@
 use Rattle.std.proofs.Common.{◌≡◌, ◌++◌}
 use Rattle.std.specs.List.{All}
-use Rattle.lra_linear_spec.specs.{Range.InRange, Vectors.zeros}
+use Rattle.lra_mapped_systems.specs.Crates.{lra_linear_spec.Range.InRange, lra_linear_spec.Vectors.zeros}
 use Rattle.lra_mapped_systems.proofs.lists.lengthen.Given as goal
 
 abbrev pub invariant-loop : goal.invariant-loop

@@ -1,6 +1,6 @@
 -- Goals of `lengthen_list`: the generators with k more columns of zeros.
 use Rattle.std.proofs.Common.{◌∙◌, ◌++◌, ◌<◌, ap, arith, length, subst, suc, sym, ℕ}
-use Rattle.lra_linear_spec.specs.Vectors.{zeros}
+use Rattle.lra_mapped_systems.specs.Crates.lra_linear_spec.Vectors.{zeros}
 use Rattle.lra_mapped_systems.proofs.{ListLemmas.kinds_more, ListLemmas.longer_entry, ListLemmas.mapped_kinds, ListLemmas.mapped_listed, ListLemmas.mapped_more, PushedLists.longer_length}
 use Rattle.lra_mapped_systems.proofs.lists.lengthen_list.Goals as goal
 

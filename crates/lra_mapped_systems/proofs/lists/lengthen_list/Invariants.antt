@@ -1,5 +1,5 @@
 use Rattle.std.proofs.Common.{◌≡◌, ◌+◌, ◌++◌, map, take}
-use Rattle.lra_linear_spec.specs.Vectors.{zeros}
+use Rattle.lra_mapped_systems.specs.Crates.lra_linear_spec.Vectors.{zeros}
 use Rattle.lra_mapped_systems.proofs.lists.lengthen_list.Given as goal
 
 abbrev pub invariant-loop-place : goal.invariant-loop-place

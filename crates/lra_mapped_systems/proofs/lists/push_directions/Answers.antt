@@ -1,6 +1,6 @@
 -- Goals of `push_directions`: the generators of the first, then those of the second as directions.
 use Rattle.std.proofs.Common.{◌≡◌, ◌∙◌, ap, length, sym, ℤ, List}
-use Rattle.lra_linear_spec.specs.Vectors.{entry}
+use Rattle.lra_mapped_systems.specs.Crates.lra_linear_spec.Vectors.{entry}
 use Rattle.lra_systems.specs.LinearSystems.{generators}
 use Rattle.lra_mapped_systems.proofs.{ListLemmas.direction_level, PushedLists.direction_added, PushedLists.fit_more, PushedLists.many_more}
 use Rattle.lra_mapped_systems.proofs.lists.push_directions.Goals as goal

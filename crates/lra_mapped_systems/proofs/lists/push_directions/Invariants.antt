@@ -1,5 +1,5 @@
 use Rattle.std.proofs.Common.{◌≡◌, ◌++◌, length}
-use Rattle.lra_linear_spec.specs.{Kinds.is_line, OperationStrain.as_directions}
+use Rattle.lra_mapped_systems.specs.Crates.{lra_linear_spec.Kinds.is_line, lra_linear_spec.OperationStrain.as_directions}
 use Rattle.lra_systems.specs.LinearSystems.{FitKinds, generators}
 use Rattle.lra_systems.proofs.FirstMembers.{front}
 use Rattle.lra_mapped_systems.proofs.lists.push_directions.Given as goal

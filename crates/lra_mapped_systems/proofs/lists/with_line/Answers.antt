@@ -1,7 +1,7 @@
 -- Goals of `with_line`: the generators, then a line along a dimension.
 use Rattle.std.proofs.Common.{◌∙◌, ap, length, suc, sym}
-use Rattle.lra_linear_spec.specs.{OperationStrain.unit_row, declared.GenKind.GenKind}
-use Rattle.lra_linear_spec.proofs.UnitRows.{unit_length}
+use Rattle.lra_mapped_systems.specs.Crates.{lra_linear_spec.OperationStrain.unit_row, lra_linear_spec.declared.GenKind.GenKind}
+use Rattle.lra_mapped_systems.proofs.Crates.lra_linear_spec.UnitRows.{unit_length}
 use Rattle.lra_systems.specs.LinearSystems.{LinearSystem}
 use Rattle.lra_mapped_systems.proofs.ListLemmas.{line_added, line_fits, unit_level, unit_seen}
 use Rattle.lra_mapped_systems.proofs.lists.with_line.Goals as goal

@@ -1,7 +1,7 @@
 -- Goals of `with_new_lines`: the generators, then a line along each of the dimensions after the first n.
 use Rattle.std.proofs.Common.{◌∙◌, ◌+◌, ap, arith, length, refl, suc, sym, ℤ, List}
-use Rattle.lra_linear_spec.specs.{Vectors.entry, declared.GenKind.TheVariants.Line}
-use Rattle.lra_linear_spec.proofs.UnitRows.{unit_length, unit_other}
+use Rattle.lra_mapped_systems.specs.Crates.{lra_linear_spec.Vectors.entry, lra_linear_spec.declared.GenKind.TheVariants.Line}
+use Rattle.lra_mapped_systems.proofs.Crates.lra_linear_spec.UnitRows.{unit_length, unit_other}
 use Rattle.lra_systems.specs.LinearSystems.{generators}
 use Rattle.lra_mapped_systems.proofs.PushedLists.{all_lines, fit_more, line_pushed, many_more}
 use Rattle.lra_mapped_systems.proofs.lists.with_new_lines.Goals as goal

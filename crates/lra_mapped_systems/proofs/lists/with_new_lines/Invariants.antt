@@ -1,5 +1,5 @@
 use Rattle.std.proofs.Common.{◌≡◌, ◌+◌, ◌++◌, length, map, suc, take, true}
-use Rattle.lra_linear_spec.specs.{Descriptions.rows_as, Vectors.units, Vectors.zeros}
+use Rattle.lra_mapped_systems.specs.Crates.{lra_linear_spec.Descriptions.rows_as, lra_linear_spec.Vectors.units, lra_linear_spec.Vectors.zeros}
 use Rattle.lra_systems.specs.LinearSystems.{FitKinds, generators}
 use Rattle.lra_mapped_systems.proofs.lists.with_new_lines.Given as goal
 

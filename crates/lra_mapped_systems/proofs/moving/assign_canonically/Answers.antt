@@ -1,6 +1,6 @@
 -- Goals of `assign_canonically`: the generators with the form's value in the column, as a canonical list.
 use Rattle.std.proofs.{Common.◌+◌, Common.arith, Common.◌∙◌, lemmas.Result.err_from_is_err_and}
-use Rattle.lra_linear_spec.specs.{Kinds.is_line, SetOperations.assigned}
+use Rattle.lra_mapped_systems.specs.Crates.{lra_linear_spec.Kinds.is_line, lra_linear_spec.SetOperations.assigned}
 use Rattle.lra_systems.specs.LinearSystems.{generators}
 use Rattle.lra_mapped_systems.proofs.{MovedLists.KeepsWidth, MovedLists.lines_wide, MovedLists.rays_wide, MovingLosses.assignment_canonical, MovingLosses.assignment_forms, TakenBack.assigned_width}
 use Rattle.lra_mapped_systems.proofs.moving.assign_canonically.Goals as goal

@@ -1,6 +1,7 @@
 -- Goals of `assign_parts`: the generators with the form's value in the column, lines apart.
 use Rattle.std.proofs.{Common.◌≡◌, Common.◌∙◌, Common.ap, Common.length, Common.sym, lemmas.Result.err_from_is_err_and}
-use Rattle.lra_linear_spec.specs.{CheckedArithmetic.checked_product, Kinds.is_line, SetOperations.assigned, declared.GenKind.TheVariants.Point}
+use Rattle.lra_mapped_systems.specs.Crates.lra_linear_spec.CheckedArithmetic.{checked_product}
+use Rattle.lra_mapped_systems.specs.Crates.{lra_linear_spec.Kinds.is_line, lra_linear_spec.SetOperations.assigned, lra_linear_spec.declared.GenKind.TheVariants.Point}
 use Rattle.lra_mapped_systems.proofs.{MovedLists.part_seen, MovingLosses.some_passes}
 use Rattle.lra_mapped_systems.proofs.moving.assign_parts.Goals as goal
 

@@ -1,4 +1,4 @@
-use Rattle.lra_linear_spec.specs.{Kinds.is_line, SetOperations.assigned}
+use Rattle.lra_mapped_systems.specs.Crates.{lra_linear_spec.Kinds.is_line, lra_linear_spec.SetOperations.assigned}
 use Rattle.lra_mapped_systems.proofs.MovedLists.{ArePartsOf}
 use Rattle.lra_mapped_systems.proofs.moving.assign_parts.Given as goal
 

@@ -1,6 +1,6 @@
 -- Goals of `remake`: the lines in echelon form, and the rays reduced by it.
 use Rattle.std.proofs.{Common.sym, Common.subst, Common.List, Common.ℤ, lemmas.Result.err_from_is_err_and}
-use Rattle.lra_canonical.specs.Echelons.{HaveWidth}
+use Rattle.lra_mapped_systems.specs.Crates.lra_canonical.Echelons.{HaveWidth}
 use Rattle.lra_description_pair.specs.OwnLists.{AnyReductionExcess}
 use Rattle.lra_mapped_systems.proofs.MovingLosses.{echelon_passes, reduction_passes}
 use Rattle.lra_mapped_systems.proofs.moving.remake.Goals as goal

@@ -1,6 +1,6 @@
 -- Goals of `substitute_canonically`: the constraints with the form put in for the column, as a canonical list.
 use Rattle.std.proofs.{Common.◌+◌, Common.arith, Common.sym, Common.◌∙◌, lemmas.Result.err_from_is_err_and}
-use Rattle.lra_linear_spec.specs.{Kinds.is_equality, Vectors.substituted}
+use Rattle.lra_mapped_systems.specs.Crates.{lra_linear_spec.Kinds.is_equality, lra_linear_spec.Vectors.substituted}
 use Rattle.lra_systems.specs.LinearSystems.{constraints}
 use Rattle.lra_mapped_systems.proofs.MovingLosses.{substitution_canonical, substitution_forms}
 use Rattle.lra_mapped_systems.proofs.{MovedLists.KeepsWidth, MovedLists.lines_wide, MovedLists.rays_wide, TakenBack.substituted_width}

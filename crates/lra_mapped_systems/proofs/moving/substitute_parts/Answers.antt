@@ -1,6 +1,7 @@
 -- Goals of `substitute_parts`: the constraints with the form put in for the column, equalities apart.
 use Rattle.std.proofs.{Common.◌≡◌, Common.◌∙◌, Common.ap, Common.length, Common.sym, lemmas.Result.err_from_is_err_and}
-use Rattle.lra_linear_spec.specs.{CheckedArithmetic.checked_substitution, Kinds.is_equality, Vectors.substituted, declared.ConKind.TheVariants.Ge}
+use Rattle.lra_mapped_systems.specs.Crates.lra_linear_spec.CheckedArithmetic.{checked_substitution}
+use Rattle.lra_mapped_systems.specs.Crates.{lra_linear_spec.Kinds.is_equality, lra_linear_spec.Vectors.substituted, lra_linear_spec.declared.ConKind.TheVariants.Ge}
 use Rattle.lra_mapped_systems.proofs.{MovedLists.part_seen, MovingLosses.some_passes}
 use Rattle.lra_mapped_systems.proofs.moving.substitute_parts.Goals as goal
 

@@ -1,4 +1,4 @@
-use Rattle.lra_linear_spec.specs.{Kinds.is_equality, Vectors.substituted}
+use Rattle.lra_mapped_systems.specs.Crates.{lra_linear_spec.Kinds.is_equality, lra_linear_spec.Vectors.substituted}
 use Rattle.lra_mapped_systems.proofs.MovedLists.{ArePartsOf}
 use Rattle.lra_mapped_systems.proofs.moving.substitute_parts.Given as goal
 

@@ -1,5 +1,5 @@
 use Rattle.std.proofs.Common.{◌≡◌, drop}
-use Rattle.lra_linear_spec.specs.Range.{InRange}
+use Rattle.lra_multipliers.specs.Crates.lra_linear_spec.Range.{InRange}
 use Rattle.lra_multipliers.specs.Columns.{column_sum}
 use Rattle.lra_multipliers.proofs.CheckLoops.{placed_sum}
 use Rattle.lra_multipliers.proofs.columns.sum_column.Given as goal

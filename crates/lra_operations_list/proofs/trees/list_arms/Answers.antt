@@ -1,6 +1,6 @@
 -- Goals of `list_arms`: what the first of the arms does comes after the others.
 use Rattle.std.proofs.{Common.rules, Common.◌≡◌, Common.◌∷◌, Common.map, lemmas.List.nil_from_length}
-use Rattle.lra_operations.specs.Sizes.{arm_sizes, arms_tree_sizes}
+use Rattle.lra_operations_list.specs.Crates.lra_operations.Sizes.{arm_sizes, arms_tree_sizes}
 use Rattle.lra_operations_list.specs.{Due.all_due, Due.all_left, TreeOperations.op_at_point_view}
 use Rattle.lra_operations_list.proofs.TreeSteps.{entry_asks, entry_falls, no_arms_ask, none_falls, same_way, tree_asks, tree_falls, way_if}
 use Rattle.lra_operations_list.proofs.trees.list_arms.Goals as goal

@@ -1,6 +1,6 @@
 -- Goals of `list_next`: what is due is opened.
 use Rattle.std.proofs.{Common.rules, Common.◌≡◌, Common.◌∷◌, Common.ap, Common.map, lemmas.List.nil_from_length}
-use Rattle.lra_operations.specs.Sizes.{whole_size}
+use Rattle.lra_operations_list.specs.Crates.lra_operations.Sizes.{whole_size}
 use Rattle.lra_operations_list.specs.{Due.all_due, Due.all_left, Due.due_size, Due.due_view, TreeOperations.op_at_point_view}
 use Rattle.lra_operations_list.proofs.TreeSteps.{apart_falls, apart_way, last_asks, last_falls, row_asks, row_falls, way_if}
 use Rattle.lra_operations_list.proofs.trees.list_next.Goals as goal

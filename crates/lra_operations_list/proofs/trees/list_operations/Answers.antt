@@ -1,6 +1,6 @@
 -- Goals of `list_operations`: what is done in a tree, along a list of what is due.
 use Rattle.std.proofs.{Common.◌∙◌, Common.ap, Common.map, Common.refl, Common.sym, lemmas.List.nil_from_length}
-use Rattle.lra_operations.specs.TreeViews.{node_view}
+use Rattle.lra_operations_list.specs.Crates.lra_operations.TreeViews.{node_view}
 use Rattle.lra_operations_list.specs.TreeOperations.{op_at_point_view}
 use Rattle.lra_operations_list.proofs.TreeSteps.{fewer_left, next_way, way_first, way_whole}
 use Rattle.lra_operations_list.proofs.trees.list_operations.Goals as goal

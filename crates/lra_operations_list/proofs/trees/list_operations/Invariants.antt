@@ -1,5 +1,5 @@
 use Rattle.std.proofs.Common.{None, map}
-use Rattle.lra_operations.specs.TreeViews.{node_view}
+use Rattle.lra_operations_list.specs.Crates.lra_operations.TreeViews.{node_view}
 use Rattle.lra_operations_list.specs.{Due.IsOnWay, Due.all_due, Due.all_left, TreeOperations.op_at_point_view}
 use Rattle.lra_operations_list.proofs.trees.list_operations.Given as goal
 

@@ -1,6 +1,6 @@
 -- Goals of `push_apart`: a tree is due before the others, and after it no variable is new.
 use Rattle.std.proofs.Common.{◌∙◌, ap, arith}
-use Rattle.lra_operations.specs.{Tree.seq, TreeViews.node_view}
+use Rattle.lra_operations_list.specs.Crates.{lra_operations.Tree.seq, lra_operations.TreeViews.node_view}
 use Rattle.lra_operations_list.proofs.TreeSteps.{due_push, left_push}
 use Rattle.lra_operations_list.proofs.trees.push_apart.Goals as goal
 

@@ -1,7 +1,7 @@
 -- Goals of the functions that call each other around `judge_condition`: `judge_condition`, `pass_operand`, `judge_sides`.
 use Rattle.std.proofs.Common.{map, ◌≤◌, length, arith}
 use Rattle.lra_program.specs.ProgramViews.{cond_view}
-use Rattle.lra_linearize.proofs.CondSizes.{size_in}
+use Rattle.lra_overflow_checks.proofs.Crates.lra_linearize.CondSizes.{size_in}
 use Rattle.lra_overflow_checks.proofs.ConditionSteps.{compare_judged, nonzero_judged, opposite_judged, all_judged, any_judged, operand_passed, judged_first, judged_on, judged_all, first_smaller}
 use Rattle.lra_overflow_checks.proofs.conditions.+judge.Goals as goal
 

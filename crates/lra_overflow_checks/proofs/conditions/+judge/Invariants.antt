@@ -1,6 +1,6 @@
 use Rattle.std.proofs.Common.{◌<◌, ◌+◌, ◌*◌, map, drop}
 use Rattle.lra_program.specs.ProgramViews.{cond_view}
-use Rattle.lra_linearize.proofs.CondSizes.{cond_size, chain_size}
+use Rattle.lra_overflow_checks.proofs.Crates.lra_linearize.CondSizes.{cond_size, chain_size}
 use Rattle.lra_overflow_checks.proofs.ConditionSteps.{AreJudgedSoFar}
 use Rattle.lra_overflow_checks.proofs.conditions.+judge.Given as goal
 

@@ -1,6 +1,6 @@
 -- Goals of the functions that call each other around `judge_expression`: what is computed of a chain's operands so far.
 use Rattle.std.proofs.Common.{rules, ◌≡◌, ◌∙◌, ◌≤◌, List, refl, ap, map, sym, length, arith}
-use Rattle.lra_base.specs.declared.number_types.NumberType.TheVariants.{Long}
+use Rattle.lra_overflow_checks.specs.Crates.lra_base.declared.number_types.NumberType.TheVariants.{Long}
 use Rattle.lra_program.specs.ProgramViews.{chained, expr_view, operation_view, variable_view}
 use Rattle.lra_program.specs.{Program.literal, Program.read, Program.input, Program.negate, Program.element, declared.program.Expr.the_lemmas, declared.program.Operation.Operation}
 use Rattle.lra_program.specs.declared.program.Expr as declared

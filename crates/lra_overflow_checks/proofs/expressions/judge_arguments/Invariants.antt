@@ -1,6 +1,6 @@
 use Rattle.std.proofs.Common.{map, take}
 use Rattle.lra_program.specs.ProgramViews.{argument_view}
-use Rattle.lra_analysis_spec.specs.Fits.{ArgumentsJudged}
+use Rattle.lra_overflow_checks.specs.Crates.lra_analysis_spec.Fits.{ArgumentsJudged}
 use Rattle.lra_overflow_checks.specs.Judged.{HasAnswers}
 use Rattle.lra_overflow_checks.proofs.expressions.judge_arguments.Given as goal
 

@@ -1,7 +1,7 @@
 -- Goals of `judge_arguments_for`: the answers on the index, then those on the arguments.
 use Rattle.std.proofs.Common.{map}
 use Rattle.lra_program.specs.ProgramViews.{argument_view, expr_view}
-use Rattle.lra_analysis_spec.specs.Fits.{ArgumentsJudged}
+use Rattle.lra_overflow_checks.specs.Crates.lra_analysis_spec.Fits.{ArgumentsJudged}
 use Rattle.lra_overflow_checks.proofs.ExpressionSteps.{behind_index}
 use Rattle.lra_overflow_checks.proofs.expressions.judge_arguments_for.Goals as goal
 

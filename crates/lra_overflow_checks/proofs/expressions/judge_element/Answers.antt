@@ -2,7 +2,7 @@
 use Rattle.std.proofs.Common.{List, Bool, subst}
 use Rattle.std.specs.Prelude.{OnOk}
 use Rattle.lra_program.specs.{ProgramViews.expr_view, Receivers.waiting_in, declared.receivers.Receiver.Receiver}
-use Rattle.lra_analysis_spec.specs.Fits.{GivenJudged}
+use Rattle.lra_overflow_checks.specs.Crates.lra_analysis_spec.Fits.{GivenJudged}
 use Rattle.lra_overflow_checks.specs.Judged.{HasAnswers}
 use Rattle.lra_overflow_checks.proofs.ExpressionSteps.{behind_index}
 use Rattle.lra_overflow_checks.proofs.expressions.judge_element.Goals as goal

@@ -1,5 +1,5 @@
 -- Goals of `judge_operator`: an operator between what is computed.
-use Rattle.lra_base.specs.OperatorViews.{operator_view}
+use Rattle.lra_overflow_checks.specs.Crates.lra_base.OperatorViews.{operator_view}
 use Rattle.lra_overflow_checks.proofs.ExpressionSteps.{combined_is_wide, operator_computed}
 use Rattle.lra_overflow_checks.proofs.expressions.judge_operator.Goals as goal
 

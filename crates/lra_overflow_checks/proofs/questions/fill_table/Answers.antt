@@ -1,6 +1,6 @@
 -- Goals of `fill_table`: the verdicts on all of what is done of which it is asked.
 use Rattle.std.proofs.{Common.◌<◌, Common.◌≤◌, Common.length, Common.refl, Common.sym, Common.subst, Common.arith, lemmas.Option.slice_get_read}
-use Rattle.lra_analysis_spec.specs.{LiveLimit.most_live, Operations.lossy_operations}
+use Rattle.lra_overflow_checks.specs.Crates.{lra_analysis_spec.LiveLimit.most_live, lra_analysis_spec.Operations.lossy_operations}
 use Rattle.lra_overflow_checks.proofs.TableSteps.{asked_more, none_fills, point_inside, unasked_more, whole_filled}
 use Rattle.lra_overflow_checks.proofs.questions.fill_table.Goals.{then-asked+in_ok-verdict, else-asked}
 use Rattle.lra_overflow_checks.proofs.questions.fill_table.Goals as goal

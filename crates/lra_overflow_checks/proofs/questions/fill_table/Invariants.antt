@@ -1,6 +1,6 @@
 use Rattle.std.proofs.Common.{map, take}
 use Rattle.lra_operations_list.specs.TreeOperations.{op_at_point_view}
-use Rattle.lra_analysis_spec.specs.Operations.{lossy_operations}
+use Rattle.lra_overflow_checks.specs.Crates.lra_analysis_spec.Operations.{lossy_operations}
 use Rattle.lra_overflow_checks.specs.Judged.{Fills, asked_by}
 use Rattle.lra_overflow_checks.proofs.questions.fill_table.Given as goal
 

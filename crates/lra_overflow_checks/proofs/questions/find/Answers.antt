@@ -1,8 +1,7 @@
 -- Goals of `find`: what is found of a tree, by the values at its points.
 use Rattle.std.proofs.Common.{map, length}
-use Rattle.lra_operations.specs.TreeViews.{node_view}
+use Rattle.lra_overflow_checks.specs.Crates.{lra_analysis_spec.Operations.lossy_operations, lra_operations.TreeViews.node_view}
 use Rattle.lra_operations_list.specs.TreeOperations.{op_at_point_view}
-use Rattle.lra_analysis_spec.specs.Operations.{lossy_operations}
 use Rattle.lra_overflow_checks.proofs.TableSteps.{below_asked, empty_long, table_finds}
 use Rattle.lra_overflow_checks.proofs.questions.find.Goals as goal
 

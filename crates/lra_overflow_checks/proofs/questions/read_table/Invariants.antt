@@ -1,5 +1,5 @@
 use Rattle.std.proofs.Common.{◌≡◌, length, map}
-use Rattle.lra_analysis_spec.specs.Judging.{first_flagged, answer_of}
+use Rattle.lra_overflow_checks.specs.Crates.lra_analysis_spec.Judging.{first_flagged, answer_of}
 use Rattle.lra_overflow_checks.specs.Judged.{findings_from}
 use Rattle.lra_overflow_checks.proofs.questions.read_table.Given as goal
 

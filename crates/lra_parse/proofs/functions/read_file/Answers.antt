@@ -2,7 +2,7 @@
 use Rattle.std.proofs.{Common.List, Common.refl, Common.ap, Common.map, lemmas.Result.err_from_is_err_and}
 use Rattle.lra_syntax.specs.{Trees.ExternalTree, Views.external_view}
 use Rattle.lra_parser_spec.specs.Files.{begins_part, part_at, parts_at}
-use Rattle.lra_parse_expressions.proofs.Turning.{list_grown, list_start, list_turn}
+use Rattle.lra_parse.proofs.Crates.lra_parse_expressions.Turning.{list_grown, list_start, list_turn}
 use Rattle.lra_parse.proofs.Headed.{file_exit, end_exit, file_gives}
 use Rattle.lra_parse.proofs.functions.read_file.Goals as goal
 

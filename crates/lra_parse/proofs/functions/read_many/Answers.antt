@@ -1,7 +1,7 @@
 -- Goals of `read_many`: parameters with commas between them.
 use Rattle.std.proofs.{Common.arith, lemmas.Result.err_from_is_err_and}
 use Rattle.lra_parser_spec.specs.Files.{parameter_at}
-use Rattle.lra_parse_expressions.proofs.Called.{many_start, many_turn, many_exit, many_gives}
+use Rattle.lra_parse.proofs.Crates.lra_parse_expressions.Called.{many_start, many_turn, many_exit, many_gives}
 use Rattle.lra_parse.proofs.functions.read_many.Goals as goal
 
 pub many-init : goal.many-init

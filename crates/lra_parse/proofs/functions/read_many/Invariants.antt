@@ -1,6 +1,6 @@
 use Rattle.std.proofs.Common.{length, ◌≤◌}
 use Rattle.lra_parser_spec.specs.Files.{parameter_at}
-use Rattle.lra_parse_expressions.proofs.Called.{ManyLeft}
+use Rattle.lra_parse.proofs.Crates.lra_parse_expressions.Called.{ManyLeft}
 use Rattle.lra_parse.proofs.functions.read_many.Given as goal
 
 abbrev pub invariant-many : goal.invariant-many

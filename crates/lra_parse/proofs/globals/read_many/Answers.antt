@@ -3,7 +3,7 @@ use Rattle.std.proofs.{Common.List, Common.[], Common.refl, Common.sym, Common.a
 use Rattle.lra_syntax.specs.declared.tokens.Mark.TheVariants as mark
 use Rattle.lra_syntax.specs.{Trees.GlobalTree, Views.global_view}
 use Rattle.lra_parser_spec.specs.{Expressions.after_mark, Files.global_rest, Files.global_at, Files.globals_of, Reading.list_step, Tests.is_mark}
-use Rattle.lra_parse_expressions.proofs.Turning.{turns_start, turn_off, list_grown, comma_turn, comma_exit, from_gives, from_exit}
+use Rattle.lra_parse.proofs.Crates.lra_parse_expressions.Turning.{turns_start, turn_off, list_grown, comma_turn, comma_exit, from_gives, from_exit}
 use Rattle.lra_parse.proofs.globals.read_many.Goals as goal
 
 pub globals-init : goal.globals-init

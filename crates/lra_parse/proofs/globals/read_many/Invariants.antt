@@ -2,7 +2,7 @@ use Rattle.std.proofs.Common.{length, ◌≤◌, map}
 use Rattle.lra_syntax.specs.declared.tokens.Mark.TheVariants as mark
 use Rattle.lra_syntax.specs.Views.{global_view}
 use Rattle.lra_parser_spec.specs.{Expressions.after_mark, Files.global_at, Reading.list_step, Reading.list_of, Tests.is_mark}
-use Rattle.lra_parse_expressions.proofs.Turning.{Left}
+use Rattle.lra_parse.proofs.Crates.lra_parse_expressions.Turning.{Left}
 use Rattle.lra_parse.proofs.globals.read_many.Given as goal
 
 abbrev pub invariant-globals : goal.invariant-globals

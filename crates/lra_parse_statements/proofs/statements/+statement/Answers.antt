@@ -1,7 +1,7 @@
 -- Goals of the functions that call each other around `statement`: `finish`, `read_block`, `read_braces`, `read_branch`,
 -- `read_item`, `read_stated`.
 use Rattle.std.proofs.{Common.List, Common.Bor, Common.subst, Common.Ok, Common.sym, Common.ap, Common.◌∙◌, Common.◌-◌, Common.arith, Common.refl, Common.map, lemmas.Result.err_from_is_err_and}
-use Rattle.lra_base.specs.declared.refusals.Place.{Place}
+use Rattle.lra_parse_statements.specs.Crates.lra_base.declared.refusals.Place.{Place}
 use Rattle.lra_syntax.specs.Views.{block_view, stmt_view, case_view, cases_of, cases_view}
 use Rattle.lra_syntax.specs.{Trees.StmtTree, Trees.ItemsTree, declared.tokens.Token.Token, declared.trees.Block.Block}
 use Rattle.lra_syntax.specs.declared.tokens.Mark.TheVariants as mark

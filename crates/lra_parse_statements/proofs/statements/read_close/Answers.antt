@@ -1,6 +1,6 @@
 -- Goals of `read_close`: the block of these items, whose brace comes next.
 use Rattle.std.proofs.Common.{Ok, sym, ap, map, ◌∙◌}
-use Rattle.lra_base.specs.declared.refusals.Place.{Place}
+use Rattle.lra_parse_statements.specs.Crates.lra_base.declared.refusals.Place.{Place}
 use Rattle.lra_syntax.specs.{Trees.ItemsTree, Views.item_view, Views.items_of}
 use Rattle.lra_parse_statements.proofs.Stated.{close_gives, body_view}
 use Rattle.lra_parse_statements.proofs.statements.read_close.Goals as goal

@@ -1,6 +1,6 @@
 -- Goals of `pass_along`: one leaf more is passed, and the last.
 use Rattle.std.proofs.{Common.rules, Common.◌≡◌, Common.◌∷◌, Common.map, Common.ap, Common.◌∙◌, lemmas.List.nil_from_length}
-use Rattle.lra_domain.specs.Interference.{no_interference}
+use Rattle.lra_pass_results.specs.Crates.lra_domain.Interference.{no_interference}
 use Rattle.lra_operations.specs.{Tree.seq, TreeViews.node_view, TreeViews.row}
 use Rattle.lra_pass_results.specs.TreeForms.{leaf_view}
 use Rattle.lra_pass_results.proofs.{FlatRows.first_leaf, FlatRows.flat_ends, FlatRows.flat_next, PassRows.row_first, PassRows.row_last}

@@ -1,5 +1,5 @@
 use Rattle.std.proofs.Common.{map, length}
-use Rattle.lra_domain.specs.Interference.{no_interference}
+use Rattle.lra_pass_results.specs.Crates.lra_domain.Interference.{no_interference}
 use Rattle.lra_operations.specs.TreeViews.{node_view, row}
 use Rattle.lra_pass_results.specs.Flat.{AllLeaves}
 use Rattle.lra_pass_results.proofs.FlatRows.{FlatLoop}

@@ -2,10 +2,8 @@
 use Rattle.std.proofs.Common.{◌≡◌, ap, sym, subst, ◌∙◌}
 use Rattle.std.specs.Prelude.{option_map, IfOk}
 use Rattle.lra_operations.specs.TreeViews.{node_view}
-use Rattle.lra_program.specs.ProgramViews.{cond_view}
-use Rattle.lra_systems.specs.LinearSystems.{LinearSystem}
-use Rattle.lra_linear_spec.specs.declared.ConKind.{ConKind}
-use Rattle.lra_analysis_spec.specs.{GuardThresholds.guard_thresholds, Thresholds.loop_thresholds, Thresholds.threshold_rows}
+use Rattle.lra_pass_results.specs.Crates.{lra_analysis_spec.GuardThresholds.guard_thresholds, lra_analysis_spec.Thresholds.loop_thresholds, lra_analysis_spec.Thresholds.threshold_rows}
+use Rattle.lra_pass_results.specs.Crates.{lra_linear_spec.declared.ConKind.ConKind, lra_program.ProgramViews.cond_view, lra_systems.LinearSystems.LinearSystem}
 use Rattle.lra_pass_results.proofs.GivenLoops.{rows_by_condition, rows_by_thresholds}
 use Rattle.lra_pass_results.proofs.heads.rows_of.Goals as goal
 

@@ -1,8 +1,7 @@
 -- Goals of `pass_act`: the value changes.
 use Rattle.std.proofs.{Common.[], Common.map, Common.sym, lemmas.List.append-nil}
-use Rattle.lra_domain.specs.Interference.{no_interference}
+use Rattle.lra_pass_results.specs.Crates.{lra_analysis_spec.Pass.noted, lra_domain.Interference.no_interference}
 use Rattle.lra_operations.specs.{Tree.act, TreeViews.op_view}
-use Rattle.lra_analysis_spec.specs.Pass.{noted}
 use Rattle.lra_pass_results.specs.Outcome.{entry_view}
 use Rattle.lra_pass_results.proofs.LeafSteps.{flagged_so, goes_further}
 use Rattle.lra_pass_results.proofs.leaves.pass_act.Goals as goal

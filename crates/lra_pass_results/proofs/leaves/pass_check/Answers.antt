@@ -1,10 +1,9 @@
 -- Goals of `pass_check`: both sides of the condition.
 use Rattle.std.proofs.Common.{[], ◌∷◌, refl, subst, true, false}
-use Rattle.lra_domain.specs.{Interference.no_interference, declared.Exactness.Exactness}
-use Rattle.lra_program.specs.ProgramViews.{cond_view}
+use Rattle.lra_pass_results.specs.Crates.{lra_analysis_spec.MovesOf.guard, lra_analysis_spec.Operations.lossy_operations, lra_analysis_spec.Pass.failing, lra_analysis_spec.Pass.noted}
+use Rattle.lra_pass_results.specs.Crates.{lra_domain.Interference.no_interference, lra_domain.declared.Exactness.Exactness, lra_program.ProgramViews.cond_view}
 use Rattle.lra_transfer.specs.Splits.{SplitsBy}
-use Rattle.lra_analysis_spec.specs.{MovesOf.guard, Operations.lossy_operations, Pass.failing, Pass.noted}
-use Rattle.lra_analysis_spec.proofs.Takes.{takes_made}
+use Rattle.lra_pass_results.proofs.Crates.lra_analysis_spec.Takes.{takes_made}
 use Rattle.lra_operations.specs.Tree.{check}
 use Rattle.lra_pass_results.proofs.LeafSteps.{entry_more, flagged_so, flagged_twice, goes_further}
 use Rattle.lra_pass_results.proofs.leaves.pass_check.Goals as goal

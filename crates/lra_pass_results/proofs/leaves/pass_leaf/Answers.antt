@@ -1,5 +1,5 @@
 -- Goals of `pass_leaf`: nothing is found before it.
-use Rattle.lra_domain.specs.Interference.{no_interference}
+use Rattle.lra_pass_results.specs.Crates.lra_domain.Interference.{no_interference}
 use Rattle.lra_pass_results.specs.TreeForms.{leaf_view}
 use Rattle.lra_pass_results.proofs.LeafSteps.{passed_alone}
 use Rattle.lra_pass_results.proofs.leaves.pass_leaf.Goals as goal

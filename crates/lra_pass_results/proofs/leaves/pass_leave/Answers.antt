@@ -1,5 +1,5 @@
 -- Goals of `pass_leave`: a jump.
-use Rattle.lra_domain.specs.Interference.{no_interference}
+use Rattle.lra_pass_results.specs.Crates.lra_domain.Interference.{no_interference}
 use Rattle.lra_operations.specs.TreeViews.{exit_view}
 use Rattle.lra_pass_results.proofs.LeafSteps.{jumps_further}
 use Rattle.lra_pass_results.proofs.leaves.pass_leave.Goals as goal

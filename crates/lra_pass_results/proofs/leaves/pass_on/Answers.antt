@@ -1,6 +1,6 @@
 -- Goals of `pass_on`: a tree with none in it is followed.
 use Rattle.std.proofs.Common.{ap}
-use Rattle.lra_domain.specs.Interference.{no_interference}
+use Rattle.lra_pass_results.specs.Crates.lra_domain.Interference.{no_interference}
 use Rattle.lra_pass_results.specs.TreeForms.{leaf_view}
 use Rattle.lra_pass_results.proofs.LeafSteps.{followed_given, goes_nowhere}
 use Rattle.lra_pass_results.proofs.leaves.pass_on.Goals as goal

@@ -1,7 +1,6 @@
 -- Goals of `pass_point`: the value is found after what was found before it.
 use Rattle.std.proofs.Common.{[], ◌∷◌, ap, refl}
-use Rattle.lra_domain.specs.Interference.{no_interference}
-use Rattle.lra_analysis_spec.specs.Pass.{value}
+use Rattle.lra_pass_results.specs.Crates.{lra_analysis_spec.Pass.value, lra_domain.Interference.no_interference}
 use Rattle.lra_operations.specs.Tree.{point}
 use Rattle.lra_pass_results.proofs.LeafSteps.{entry_more, goes_further}
 use Rattle.lra_pass_results.proofs.leaves.pass_point.Goals as goal

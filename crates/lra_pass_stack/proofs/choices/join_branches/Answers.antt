@@ -1,6 +1,6 @@
 -- Goals of `join_branches`: both branches of a choice, whose ends are joined at this point.
 use Rattle.std.proofs.Common.{sym, ap, ◌∙◌}
-use Rattle.lra_analysis_spec.specs.Pass.{in_turn}
+use Rattle.lra_pass_stack.specs.Crates.lra_analysis_spec.Pass.{in_turn}
 use Rattle.lra_pass_results.specs.Outcome.{outcome_view}
 use Rattle.lra_pass_stack.proofs.choices.join_branches.Goals as goal
 

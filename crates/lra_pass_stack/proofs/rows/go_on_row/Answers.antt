@@ -1,6 +1,6 @@
 -- Goals of `go_on_row`: after what the tree under way found, the next one is.
 use Rattle.std.proofs.Common.{◌≤◌, sym, subst}
-use Rattle.lra_analysis_spec.specs.Plan.{Plan}
+use Rattle.lra_pass_stack.specs.Crates.lra_analysis_spec.Plan.{Plan}
 use Rattle.lra_pass_stack.proofs.{OpenFrames.row_followed, RowLeaves.row_way, RowLeaves.row_falls}
 use Rattle.lra_pass_stack.proofs.rows.go_on_row.Goals as goal
 

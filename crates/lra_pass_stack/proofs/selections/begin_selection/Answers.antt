@@ -1,8 +1,7 @@
 -- Goals of `begin_selection`: what is seen of the value, and what no label matches.
 use Rattle.std.proofs.Common.{◌≡◌, ◌∙◌, ap, arith, map, refl}
 use Rattle.lra_operations.specs.TreeViews.{arm_view, arms_of}
-use Rattle.lra_program.specs.ProgramViews.{expr_view}
-use Rattle.lra_analysis_spec.specs.Linearization.{linearized}
+use Rattle.lra_pass_stack.specs.Crates.{lra_analysis_spec.Linearization.linearized, lra_program.ProgramViews.expr_view}
 use Rattle.lra_pass_stack.specs.declared.stack.Selecting.{Selecting}
 use Rattle.lra_pass_stack.proofs.SelectFrames.{begun_selecting, seen_wide, selection_begins}
 use Rattle.lra_pass_stack.proofs.selections.begin_selection.Goals as goal

@@ -1,9 +1,8 @@
 -- Goals of `enter_at`: what comes in at the label.
 use Rattle.std.proofs.{Common.◌≡◌, Common.◌∙◌, Common.ap, lemmas.Result.IfOk-weaker}
-use Rattle.lra_domain.specs.declared.Exactness.TheVariants.{Exact}
-use Rattle.lra_analysis_spec.specs.{MovesOf.number_moves, Operations.lossy_operations, Pass.Enters}
+use Rattle.lra_pass_stack.specs.Crates.{lra_analysis_spec.MovesOf.number_moves, lra_analysis_spec.Operations.lossy_operations, lra_analysis_spec.Pass.Enters}
+use Rattle.lra_pass_stack.specs.Crates.{lra_domain.declared.Exactness.TheVariants.Exact, lra_transfer.Changes.Does, lra_transfer.declared.splits.Kept.Kept}
 use Rattle.std.specs.Prelude.{true}
-use Rattle.lra_transfer.specs.{Changes.Does, declared.splits.Kept.Kept}
 use Rattle.lra_pass_stack.proofs.SelectFrames.{case_entered, default_entered}
 use Rattle.lra_pass_stack.proofs.selections.enter_at.Goals as goal
 

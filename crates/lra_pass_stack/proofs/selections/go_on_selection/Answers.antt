@@ -1,7 +1,7 @@
 -- Goals of `go_on_selection`: what the tree of an arm gave comes after what was found before it, and runs on.
 use Rattle.std.proofs.Common.{◌≤◌, map, sym, subst}
 use Rattle.lra_operations.specs.TreeViews.{arm_view, arms_of}
-use Rattle.lra_analysis_spec.specs.Plan.{Plan}
+use Rattle.lra_pass_stack.specs.Crates.lra_analysis_spec.Plan.{Plan}
 use Rattle.lra_pass_stack.proofs.SelectFrames.{arms_way, followed_on}
 use Rattle.lra_pass_stack.proofs.selections.go_on_selection.Goals as goal
 

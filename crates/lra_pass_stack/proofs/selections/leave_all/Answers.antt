@@ -1,6 +1,6 @@
 -- Goals of `leave_all`: what is left of the value where no label names what is seen.
 use Rattle.std.proofs.{Common.rules, Common.◌≡◌, Common.◌∷◌, Common.◌≤◌, Common.ℕ, Common.sym, Common.subst, lemmas.List.nil_from_length}
-use Rattle.lra_analysis_spec.specs.{Linearization.LinearizedFits, LiveLimit.most_live}
+use Rattle.lra_pass_stack.specs.Crates.{lra_analysis_spec.Linearization.LinearizedFits, lra_analysis_spec.LiveLimit.most_live}
 use Rattle.lra_pass_stack.proofs.SelectFrames.{none_starts, none_next, none_ends}
 use Rattle.lra_pass_stack.proofs.selections.leave_all.Goals as goal
 

@@ -1,7 +1,8 @@
 -- Goals of `match_none`: what is left of a copy of the value where no label names what is seen.
 use Rattle.std.proofs.Common.{◌≤◌, ◌∙◌, ap, map, subst, sym}
 use Rattle.lra_operations.specs.{Tree.entries_of, TreeViews.arm_view, TreeViews.arms_of}
-use Rattle.lra_analysis_spec.specs.{Linearization.LinearizedFits, Linearization.linearized, LiveLimit.most_live, Operations.lossy_operations, Pass.MatchesNone}
+use Rattle.lra_pass_stack.specs.Crates.lra_analysis_spec.Linearization.{LinearizedFits, linearized}
+use Rattle.lra_pass_stack.specs.Crates.{lra_analysis_spec.LiveLimit.most_live, lra_analysis_spec.Operations.lossy_operations, lra_analysis_spec.Pass.MatchesNone}
 use Rattle.lra_pass_stack.proofs.selections.match_none.Goals as goal
 
 pub leave_all-requires-clause-few : goal.leave_all-requires-clause-few

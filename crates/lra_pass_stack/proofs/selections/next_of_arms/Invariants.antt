@@ -1,5 +1,5 @@
 use Rattle.std.proofs.Common.{ℕ, ◌≤◌, length}
-use Rattle.lra_analysis_spec.specs.Plan.{Plan}
+use Rattle.lra_pass_stack.specs.Crates.lra_analysis_spec.Plan.{Plan}
 use Rattle.lra_pass_results.specs.Steps.{arms_steps}
 use Rattle.lra_pass_stack.proofs.SelectFrames.{OwesArms}
 use Rattle.lra_pass_stack.proofs.selections.next_of_arms.Given as goal

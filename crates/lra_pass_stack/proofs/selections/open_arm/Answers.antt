@@ -1,6 +1,6 @@
 -- Goals of `open_arm`: the tree before the arms that are left is next.
 use Rattle.std.proofs.Common.{◌+◌, ℕ, ap, subst, sym}
-use Rattle.lra_analysis_spec.specs.{Operations.lossy_operations, Pass.RunsFrom, Plan.Plan}
+use Rattle.lra_pass_stack.specs.Crates.{lra_analysis_spec.Operations.lossy_operations, lra_analysis_spec.Pass.RunsFrom, lra_analysis_spec.Plan.Plan}
 use Rattle.lra_pass_stack.specs.{Stack.RunHas, StepsLeft.most_rounds, StepsLeft.tree_steps, declared.stack.SelectFrame.SelectFrame}
 use Rattle.lra_pass_results.specs.Steps.{arms_steps}
 use Rattle.lra_pass_stack.proofs.SelectFrames.{arm_leads}

@@ -1,7 +1,7 @@
 -- Goals of `open_selection`: first comes the value of no match, then the labels before the first tree.
 use Rattle.std.proofs.Common.{◌≤◌, map, refl, sym, subst}
 use Rattle.lra_operations.specs.TreeViews.{arm_view, arms_of}
-use Rattle.lra_analysis_spec.specs.{LiveLimit.most_live, Plan.Plan}
+use Rattle.lra_pass_stack.specs.Crates.{lra_analysis_spec.LiveLimit.most_live, lra_analysis_spec.Plan.Plan}
 use Rattle.lra_pass_stack.proofs.SelectFrames.{arms_way}
 use Rattle.lra_pass_stack.proofs.selections.open_selection.Goals as goal
 

@@ -1,6 +1,6 @@
 -- Goals of `both_of`: what stands in the table stays there.
 use Rattle.std.proofs.Common.{◌∙◌, ap, Some}
-use Rattle.lra_domain.specs.Moves.{first_then}
+use Rattle.lra_path_disjuncts.specs.Crates.lra_domain.Moves.{first_then}
 use Rattle.lra_path_disjuncts.specs.Tables.{moves_at}
 use Rattle.lra_path_disjuncts.proofs.{GuardSteps.grows_on, GuardSteps.still_at, GuardSteps.still_in, GuardSteps.there_at, GuardSteps.join_has, TableSteps.within}
 use Rattle.lra_path_disjuncts.proofs.conditions.both_of.Goals as goal

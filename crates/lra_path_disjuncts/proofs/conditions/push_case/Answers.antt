@@ -1,6 +1,5 @@
 -- Goals of `push_case`: the end stands where it stood.
-use Rattle.lra_domain.specs.Changes.{actions_of}
-use Rattle.lra_analysis_spec.specs.MovesOf.{in_turn}
+use Rattle.lra_path_disjuncts.specs.Crates.{lra_analysis_spec.MovesOf.in_turn, lra_domain.Changes.actions_of}
 use Rattle.lra_path_disjuncts.proofs.{GuardSteps.still_in, GuardSteps.case_has, TableSteps.within}
 use Rattle.lra_path_disjuncts.proofs.conditions.push_case.Goals as goal
 

@@ -1,6 +1,6 @@
 -- Goals of `push_cases`: the end stands in the table, and then both cases.
-use Rattle.lra_domain.specs.{Actions.remove_last, Changes.action_of, Changes.actions_of, Moves.make, Moves.first_then}
-use Rattle.lra_analysis_spec.specs.MovesOf.{first_case, in_turn, second_case}
+use Rattle.lra_path_disjuncts.specs.Crates.lra_analysis_spec.MovesOf.{first_case, in_turn, second_case}
+use Rattle.lra_path_disjuncts.specs.Crates.{lra_domain.Actions.remove_last, lra_domain.Changes.action_of, lra_domain.Changes.actions_of, lra_domain.Moves.make, lra_domain.Moves.first_then}
 use Rattle.lra_path_disjuncts.specs.Tables.{moves_at}
 use Rattle.lra_path_disjuncts.proofs.{GuardSteps.cases_have, GuardSteps.grows_on, GuardSteps.grows_to, TableSteps.within}
 use Rattle.lra_path_disjuncts.proofs.conditions.push_cases.Goals as goal

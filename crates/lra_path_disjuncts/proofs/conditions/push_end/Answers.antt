@@ -1,5 +1,5 @@
 -- Goals of `push_end`: both stand in the table.
-use Rattle.lra_domain.specs.{Actions.remove_last, Changes.action_of, Moves.make}
+use Rattle.lra_path_disjuncts.specs.Crates.{lra_domain.Actions.remove_last, lra_domain.Changes.action_of, lra_domain.Moves.make}
 use Rattle.lra_path_disjuncts.proofs.{GuardSteps.both_has, GuardSteps.grows_to, GuardSteps.grows_on, TableSteps.within}
 use Rattle.lra_path_disjuncts.proofs.conditions.push_end.Goals as goal
 

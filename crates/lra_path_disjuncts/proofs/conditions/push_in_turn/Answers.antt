@@ -1,5 +1,5 @@
 -- Goals of `push_in_turn`: one change more is made.
-use Rattle.lra_domain.specs.{Changes.action_of, Changes.actions_of, Moves.make}
+use Rattle.lra_path_disjuncts.specs.Crates.{lra_domain.Changes.action_of, lra_domain.Changes.actions_of, lra_domain.Moves.make}
 use Rattle.lra_path_disjuncts.proofs.{GuardSteps.turned_in, TableSteps.within}
 use Rattle.lra_path_disjuncts.proofs.conditions.push_in_turn.Goals as goal
 

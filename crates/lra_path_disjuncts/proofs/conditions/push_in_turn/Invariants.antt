@@ -1,5 +1,5 @@
 use Rattle.std.proofs.Common.{length}
-use Rattle.lra_domain.specs.Changes.{actions_of}
+use Rattle.lra_path_disjuncts.specs.Crates.lra_domain.Changes.{actions_of}
 use Rattle.lra_path_disjuncts.specs.{Conditions.IsTurned, Tables.Grows, Tables.IsTable}
 use Rattle.lra_path_disjuncts.proofs.conditions.push_in_turn.Given as goal
 

@@ -1,6 +1,6 @@
 -- Goals of `write_next`, by what the moves at the place are made of.
 use Rattle.std.proofs.{Common.◌∙◌, Common.ap, Common.length, Common.refl, lemmas.Option.slice_get_read}
-use Rattle.lra_domain.specs.Changes.{action_of}
+use Rattle.lra_path_disjuncts.specs.Crates.lra_domain.Changes.{action_of}
 use Rattle.lra_path_disjuncts.specs.{TableDisjuncts.all_done, Tables.all_moves, Tables.made_of, Tables.moves_at}
 use Rattle.lra_path_disjuncts.proofs.SideLists.{chooses, chooses_fall, divides, falls_by, falls_on, makes, splits, splits_fall, stays}
 use Rattle.lra_path_disjuncts.proofs.TableSteps.{opened, past_stays}

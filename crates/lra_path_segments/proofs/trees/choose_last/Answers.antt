@@ -1,5 +1,5 @@
 -- The goal of `choose_last`: the last two are the branches of a choice.
-use Rattle.lra_program.specs.ProgramViews.{cond_view}
+use Rattle.lra_path_segments.specs.Crates.lra_program.ProgramViews.{cond_view}
 use Rattle.lra_path_segments.specs.{Tasks.stack, TreeSegmentViews.seen, TreeSegments.chosen_segments}
 use Rattle.lra_path_segments.proofs.TaskSteps.{two_used}
 use Rattle.lra_path_segments.proofs.trees.choose_last.Goals as goal

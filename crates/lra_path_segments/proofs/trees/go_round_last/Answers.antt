@@ -1,5 +1,5 @@
 -- The goal of `go_round_last`: the last is the body of a loop.
-use Rattle.lra_program.specs.ProgramViews.{cond_view}
+use Rattle.lra_path_segments.specs.Crates.lra_program.ProgramViews.{cond_view}
 use Rattle.lra_path_segments.specs.{Tasks.stack, TreeSegmentViews.seen, TreeSegments.looped}
 use Rattle.lra_path_segments.proofs.TaskSteps.{one_used}
 use Rattle.lra_path_segments.proofs.trees.go_round_last.Goals as goal

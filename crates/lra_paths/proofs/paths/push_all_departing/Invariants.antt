@@ -1,6 +1,6 @@
 use Rattle.std.proofs.Common.{take}
 use Rattle.lra_paths.specs.Sources.{Adds, all_departing}
-use Rattle.lra_path_segments.specs.TreeSegmentViews.{seen}
+use Rattle.lra_paths.specs.Crates.lra_path_segments.TreeSegmentViews.{seen}
 use Rattle.lra_path_disjuncts.specs.Tables.{moves_at}
 use Rattle.lra_paths.proofs.paths.push_all_departing.Given as goal
 

@@ -1,6 +1,6 @@
 -- Goals of `push_source_way`: what is done before stands where it was, and the segment's moves come after all others.
 use Rattle.std.proofs.Common.{map}
-use Rattle.lra_path_segments.specs.TreeSegmentViews.{move_view}
+use Rattle.lra_paths.specs.Crates.lra_path_segments.TreeSegmentViews.{move_view}
 use Rattle.lra_path_disjuncts.specs.SegmentMoves.{segment_moves}
 use Rattle.lra_path_disjuncts.proofs.{GuardSteps.still_in, TableSteps.within}
 use Rattle.lra_paths.proofs.DepartureSteps.{adds_one}

@@ -1,6 +1,6 @@
 -- Goals of `of_cone`: the polyhedron of the constraints that were added to the cone after the positivity row,
 -- and of further ones.
-use Rattle.lra_systems.specs.LinearSystems.{constraints}
+use Rattle.lra_poly.specs.Crates.lra_systems.LinearSystems.{constraints}
 use Rattle.lra_poly.proofs.MetRows.{tried_of}
 use Rattle.lra_poly.proofs.poly.of_cone.Goals as goal
 

@@ -1,6 +1,6 @@
 -- Goals of `of_pair`: the polyhedron of the pair.
 use Rattle.std.proofs.Common.{subst, sym}
-use Rattle.lra_bits.specs.Matrix.{Matrix}
+use Rattle.lra_poly.specs.Crates.lra_bits.Matrix.{Matrix}
 use Rattle.lra_poly.proofs.RepresentableLemmas.{AreKept, taken_over}
 use Rattle.lra_poly.proofs.poly.of_pair.Goals as goal
 

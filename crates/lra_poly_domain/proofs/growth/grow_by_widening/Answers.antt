@@ -2,7 +2,7 @@
 use Rattle.std.proofs.Common.{rules, ◌≡◌}
 use Rattle.lra_domain.specs.declared.Exactness.TheVariants as degree
 use Rattle.lra_linear_spec.specs.Kinds.{is_equality}
-use Rattle.lra_systems.specs.LinearSystems.{constraints}
+use Rattle.lra_poly_domain.specs.Crates.lra_systems.LinearSystems.{constraints}
 use Rattle.lra_poly_widening.proofs.WideningLemmas.{seen_columns}
 use Rattle.lra_poly_domain.proofs.GrowthLemmas.{grown_by_widening, grown_up}
 use Rattle.lra_poly_domain.proofs.growth.grow_by_widening.Goals as goal

@@ -2,7 +2,7 @@
 use Rattle.std.proofs.Common.{ap, length, sym, ◌∙◌}
 use Rattle.std.specs.List.{list_any}
 use Rattle.lra_linear_spec.specs.Kinds.{is_equality}
-use Rattle.lra_systems.specs.LinearSystems.{generators}
+use Rattle.lra_poly_domain.specs.Crates.lra_systems.LinearSystems.{generators}
 use Rattle.lra_poly_domain.specs.Growth.{row_passes}
 use Rattle.lra_poly_domain.proofs.ListLemmas.{any_given}
 use Rattle.lra_poly_domain.proofs.lists.some_passes.Goals as goal

@@ -1,5 +1,5 @@
 -- Goals of `some_row_passes`: whether the product of one of the rows with one of the generators does.
-use Rattle.lra_systems.specs.LinearSystems.{generators}
+use Rattle.lra_poly_domain.specs.Crates.lra_systems.LinearSystems.{generators}
 use Rattle.lra_poly_widening.proofs.TruthLists.{none_among}
 use Rattle.lra_poly_domain.specs.Growth.{row_passes}
 use Rattle.lra_poly_domain.proofs.lists.some_row_passes.Goals as goal

@@ -1,5 +1,5 @@
 use Rattle.std.proofs.Common.{◌≡◌, ℕ, ℤ, ◌<◌, false, length, slice_index_or, List}
-use Rattle.lra_systems.specs.LinearSystems.{generators}
+use Rattle.lra_poly_domain.specs.Crates.lra_systems.LinearSystems.{generators}
 use Rattle.lra_poly_domain.specs.Growth.{row_passes}
 use Rattle.lra_poly_domain.proofs.lists.some_row_passes.Given as goal
 

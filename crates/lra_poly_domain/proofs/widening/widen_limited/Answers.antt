@@ -1,6 +1,6 @@
 -- Goals of `widen_limited`: the limited widening by a polyhedron that the first lies in.
 use Rattle.lra_domain.specs.declared.Mode.TheVariants.{Limited}
-use Rattle.lra_systems.specs.LinearSystems.{constraints}
+use Rattle.lra_poly_domain.specs.Crates.lra_systems.LinearSystems.{constraints}
 use Rattle.lra_poly_domain.proofs.GrowthLemmas.{is_widening, never_refused}
 use Rattle.lra_poly_domain.proofs.widening.widen_limited.Goals as goal
 

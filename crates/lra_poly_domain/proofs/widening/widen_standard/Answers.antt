@@ -1,7 +1,7 @@
 -- Goals of `widen_standard`: the standard widening by a polyhedron that the first lies in.
 use Rattle.lra_domain.specs.declared.Mode.TheVariants.{Widen}
 use Rattle.lra_linear_spec.specs.Kinds.{is_equality}
-use Rattle.lra_systems.specs.LinearSystems.{constraints}
+use Rattle.lra_poly_domain.specs.Crates.lra_systems.LinearSystems.{constraints}
 use Rattle.lra_poly_widening.proofs.WideningLemmas.{seen_columns}
 use Rattle.lra_poly_domain.proofs.GrowthLemmas.{is_widening, never_refused}
 use Rattle.lra_poly_domain.proofs.widening.widen_standard.Goals as goal

@@ -1,7 +1,8 @@
 -- Goals of `convert_image`: the image, where the generators are converted.
 use Rattle.std.proofs.Common.{arith, inl, inr, suc, subst, List}
-use Rattle.lra_linear_spec.specs.OperationStrain.{FormingPasses, ImageStrains, mapped}
-use Rattle.lra_linear_spec.specs.{CheckedArithmetic.checked_product, Descriptions.Con, Descriptions.LinearRow, SetOperations.Forget, SetOperations.Image}
+use Rattle.lra_poly_images.specs.Crates.lra_linear_spec.CheckedArithmetic.{checked_product}
+use Rattle.lra_poly_images.specs.Crates.lra_linear_spec.OperationStrain.{FormingPasses, ImageStrains, mapped}
+use Rattle.lra_poly_images.specs.Crates.{lra_linear_spec.Descriptions.Con, lra_linear_spec.Descriptions.LinearRow, lra_linear_spec.SetOperations.Forget, lra_linear_spec.SetOperations.Image}
 use Rattle.lra_poly_images.proofs.{AssignedSets.image_forgets, AssignedSets.image_taken, GivenUp.forgotten_for_image}
 use Rattle.lra_poly.proofs.TakenGenerators.{Takes, taken_becomes, taken_inside}
 use Rattle.lra_poly_images.proofs.images.convert_image.Goals as goal

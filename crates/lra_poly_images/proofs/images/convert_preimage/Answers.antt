@@ -1,8 +1,8 @@
 -- Goals of `convert_preimage`: the preimage, where the constraints are converted.
 use Rattle.std.proofs.Common.{◌≡◌, ◌∙◌, suc, subst, List}
 use Rattle.std.specs.{List.Contains, Prelude.IfNone, Prelude.IfSome}
-use Rattle.lra_linear_spec.specs.{CheckedArithmetic.checked_substitution, Descriptions.LinearRow, OperationStrain.FormingPasses, OperationStrain.substituted_rows}
-use Rattle.lra_systems.specs.LinearSystems.{constraints}
+use Rattle.lra_poly_images.specs.Crates.lra_linear_spec.OperationStrain.{FormingPasses, substituted_rows}
+use Rattle.lra_poly_images.specs.Crates.{lra_linear_spec.CheckedArithmetic.checked_substitution, lra_linear_spec.Descriptions.LinearRow, lra_systems.LinearSystems.constraints}
 use Rattle.lra_poly_images.proofs.{KeptLists.of_formed, SubstitutedSets.assignment_of, SubstitutedSets.preimage_becomes}
 use Rattle.lra_poly_images.proofs.images.convert_preimage.Goals as goal
 

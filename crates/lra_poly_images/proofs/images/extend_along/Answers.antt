@@ -1,5 +1,5 @@
 -- Goals of `extend_along`: the polyhedron with anything as coordinate x, by the lists at hand.
-use Rattle.lra_systems.specs.LinearSystems.{generators}
+use Rattle.lra_poly_images.specs.Crates.lra_systems.LinearSystems.{generators}
 use Rattle.lra_poly_images.proofs.ForgetLemmas.{forget_extended}
 use Rattle.lra_poly_images.proofs.images.extend_along.Goals as goal
 

@@ -1,5 +1,5 @@
 -- Goals of `find_image`: the image by what is at hand.
-use Rattle.lra_linear_forms.specs.Form.{form_row}
+use Rattle.lra_poly_images.specs.Crates.lra_linear_forms.Form.{form_row}
 use Rattle.lra_poly_images.proofs.{BackImages.image_made, KeptLists.stays_for}
 use Rattle.lra_poly_images.proofs.images.find_image.Goals as goal
 

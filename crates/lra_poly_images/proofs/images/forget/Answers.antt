@@ -1,6 +1,6 @@
 -- Goals of `forget`: lets the coordinate x be anything.
 use Rattle.std.proofs.Common.{suc}
-use Rattle.lra_linear_spec.specs.{Descriptions.Con, OperationStrain.ForgetStrains, SetOperations.Forget}
+use Rattle.lra_poly_images.specs.Crates.{lra_linear_spec.Descriptions.Con, lra_linear_spec.OperationStrain.ForgetStrains, lra_linear_spec.SetOperations.Forget}
 use Rattle.lra_poly.proofs.PolyLemmas.{exactly}
 use Rattle.lra_poly_images.proofs.images.forget.Goals as goal
 

@@ -1,6 +1,6 @@
 -- Goals of `forget_and_set`: the image by a form without the coordinate x, which is anything, and then it is the form.
 use Rattle.std.proofs.Common.{ap, suc}
-use Rattle.lra_linear_forms.specs.Form.{form_row}
+use Rattle.lra_poly_images.specs.Crates.lra_linear_forms.Form.{form_row}
 use Rattle.lra_poly_images.proofs.SolvedImages.{image_solved}
 use Rattle.lra_poly_images.proofs.images.forget_and_set.Goals as goal
 

@@ -1,6 +1,7 @@
 -- Goals of `forget_anew`: lets the coordinate x be anything, where the generators are converted from nothing.
 use Rattle.std.proofs.Common.{◌++◌, ◌∷◌, [], suc}
-use Rattle.lra_linear_spec.specs.{Descriptions.Con, Descriptions.line, OperationStrain.ForgetStrains, OperationStrain.unit_row, SetOperations.Forget}
+use Rattle.lra_poly_images.specs.Crates.lra_linear_spec.OperationStrain.{ForgetStrains, unit_row}
+use Rattle.lra_poly_images.specs.Crates.{lra_linear_spec.Descriptions.Con, lra_linear_spec.Descriptions.line, lra_linear_spec.SetOperations.Forget}
 use Rattle.lra_poly_images.proofs.ForgetLemmas.{forget_takes}
 use Rattle.lra_poly.proofs.{TakenGenerators.taken_becomes, UnitedLists.tried_as}
 use Rattle.lra_poly_images.proofs.images.forget_anew.Goals as goal

@@ -1,11 +1,9 @@
 -- Goals of `image`: gives the coordinate x the form's value.
 use Rattle.std.proofs.Common.{suc, subst, List, ℤ}
-use Rattle.lra_linear_spec.specs.{Descriptions.Con, OperationStrain.ImageStrains, SetOperations.Image}
-use Rattle.lra_linear_forms.specs.Form.{form_row}
+use Rattle.lra_poly_images.specs.Crates.{lra_linear_forms.Form.form_row, lra_linear_spec.Descriptions.Con, lra_linear_spec.OperationStrain.ImageStrains, lra_linear_spec.SetOperations.Image}
 use Rattle.lra_poly.specs.Outcomes.{Becomes}
 use Rattle.lra_poly.proofs.PolyLemmas.{exactly}
-use Rattle.lra_poly_images.proofs.GivenUp.{flagged_anyway}
-use Rattle.lra_poly_images.proofs.BackImages.{row_width}
+use Rattle.lra_poly_images.proofs.{BackImages.row_width, GivenUp.flagged_anyway}
 use Rattle.lra_poly_images.proofs.images.image.Goals as goal
 
 pub convert_image-requires-clause-form : goal.convert_image-requires-clause-form

@@ -1,9 +1,8 @@
 -- Goals of `preimage`: becomes the set of the points that are brought into it when the coordinate x is given the
 -- form's value.
 use Rattle.std.proofs.Common.{suc, subst, List, ℤ}
-use Rattle.lra_linear_spec.specs.{Descriptions.Con, OperationStrain.PreimageStrains, SetOperations.Preimage}
+use Rattle.lra_poly_images.specs.Crates.{lra_linear_forms.Form.form_row, lra_linear_spec.Descriptions.Con, lra_linear_spec.OperationStrain.PreimageStrains, lra_linear_spec.SetOperations.Preimage}
 use Rattle.lra_poly.specs.Outcomes.{Becomes}
-use Rattle.lra_linear_forms.specs.Form.{form_row}
 use Rattle.lra_poly.proofs.PolyLemmas.{exactly}
 use Rattle.lra_poly_images.proofs.GivenUp.{flagged_anyway}
 use Rattle.lra_poly_images.proofs.{BackImages.preimage_made, BackImages.row_width, KeptLists.stays_back_for}

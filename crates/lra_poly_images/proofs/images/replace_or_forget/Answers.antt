@@ -1,8 +1,7 @@
 -- Goals of `replace_or_forget`: becomes the polyhedron of generators that give no more than what some value of the
 -- coordinate x brings into it; if that is flagged, the coordinate x is forgotten.
 use Rattle.std.proofs.Common.{refl, rules, suc, sym, subst}
-use Rattle.lra_linear_spec.specs.{Polyhedra.Polyhedron, Strain.Loss}
-use Rattle.lra_systems.specs.LinearSystems.{generators}
+use Rattle.lra_poly_images.specs.Crates.{lra_linear_spec.Polyhedra.Polyhedron, lra_linear_spec.Strain.Loss, lra_systems.LinearSystems.generators}
 use Rattle.lra_poly.specs.Outcomes.{IsOfGenerators}
 use Rattle.lra_poly.proofs.MetRows.{never}
 use Rattle.lra_poly_images.specs.Forgetting.{IsForgetResult}

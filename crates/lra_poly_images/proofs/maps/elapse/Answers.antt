@@ -1,7 +1,7 @@
 -- Goals of `elapse`: the time-elapse of two that have a point each.
-use Rattle.lra_linear_spec.specs.{Descriptions.Con, OperationStrain.TimeElapseStrains, SetOperations.TimeElapse}
-use Rattle.lra_systems.specs.LinearSystems.{generators}
-use Rattle.lra_duality.proofs.PolyhedronLemmas.{with_point}
+use Rattle.lra_poly_images.specs.Crates.lra_linear_spec.OperationStrain.{TimeElapseStrains}
+use Rattle.lra_poly_images.specs.Crates.{lra_linear_spec.Descriptions.Con, lra_linear_spec.SetOperations.TimeElapse, lra_systems.LinearSystems.generators}
+use Rattle.lra_poly_images.proofs.Crates.lra_duality.PolyhedronLemmas.{with_point}
 use Rattle.lra_poly.proofs.PolyLemmas.{exactly}
 use Rattle.lra_poly_images.proofs.ElapsedSets.{elapse_extended}
 use Rattle.lra_poly_images.proofs.maps.elapse.Goals as goal

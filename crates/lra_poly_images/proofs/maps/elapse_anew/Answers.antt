@@ -1,9 +1,8 @@
 -- Goals of `elapse_anew`: the time-elapse of two that have a point each, where the generators are converted from nothing.
 use Rattle.std.proofs.Common.{◌≡◌, ◌∙◌, ◌++◌, subst, ℕ}
-use Rattle.lra_linear_spec.specs.OperationStrain.{as_directions}
-use Rattle.lra_systems.specs.LinearSystems.{generators}
+use Rattle.lra_poly_images.specs.Crates.{lra_linear_spec.OperationStrain.as_directions, lra_systems.LinearSystems.generators}
 use Rattle.lra_poly.specs.Outcomes.{IsOfGenerators}
-use Rattle.lra_duality.proofs.PolyhedronLemmas.{with_point}
+use Rattle.lra_poly_images.proofs.Crates.lra_duality.PolyhedronLemmas.{with_point}
 use Rattle.lra_poly_images.proofs.ElapsedSets.{elapse_becomes, list_is}
 use Rattle.lra_poly.proofs.UnitedLists.{tried_as}
 use Rattle.lra_poly_images.proofs.maps.elapse_anew.Goals as goal

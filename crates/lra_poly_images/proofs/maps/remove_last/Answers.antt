@@ -1,6 +1,7 @@
 -- Goals of `remove_last`: takes away the last k dimensions.
 use Rattle.std.proofs.Common.{◌-◌, ap, ℕ}
-use Rattle.lra_linear_spec.specs.{Descriptions.Con, OperationStrain.RemoveLastStrains, OperationStrain.shortened, SetOperations.RemoveLast}
+use Rattle.lra_poly_images.specs.Crates.lra_linear_spec.OperationStrain.{RemoveLastStrains, shortened}
+use Rattle.lra_poly_images.specs.Crates.{lra_linear_spec.Descriptions.Con, lra_linear_spec.SetOperations.RemoveLast}
 use Rattle.lra_poly.proofs.{TakenGenerators.taken_becomes, UnitedLists.tried_as}
 use Rattle.lra_poly_images.proofs.ShortenedSets.{remove_takes}
 use Rattle.lra_poly_images.proofs.maps.remove_last.Goals as goal

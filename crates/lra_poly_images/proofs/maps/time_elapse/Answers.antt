@@ -1,6 +1,6 @@
 -- Goals of `time_elapse`: lets time elapse.
 use Rattle.std.proofs.Common.{inl, refl}
-use Rattle.lra_linear_spec.specs.{Descriptions.Con, OperationStrain.TimeElapseStrains, SetOperations.TimeElapse}
+use Rattle.lra_poly_images.specs.Crates.{lra_linear_spec.Descriptions.Con, lra_linear_spec.OperationStrain.TimeElapseStrains, lra_linear_spec.SetOperations.TimeElapse}
 use Rattle.lra_poly.proofs.PolyLemmas.{exactly}
 use Rattle.lra_poly_images.proofs.ElapsedSets.{elapse_copied, elapse_nothing}
 use Rattle.lra_poly_images.proofs.maps.time_elapse.Goals as goal

@@ -3,7 +3,7 @@
 use Rattle.std.proofs.Common.{inl, inr, refl, suc}
 use Rattle.lra_poly_images.proofs.{BackImages.back_of, BackImages.preimage_if_moved, KeptLists.stays_back_passed}
 use Rattle.lra_mapped_systems.proofs.TakenBack.{taken_forth}
-use Rattle.lra_description_pair.proofs.PairLosses.{if_none}
+use Rattle.lra_poly_images.proofs.Crates.lra_description_pair.PairLosses.{if_none}
 use Rattle.lra_poly_images.proofs.moved.move_back.Goals as goal
 
 pub move_lists_in_range-requires-clause-back : goal.move_lists_in_range-requires-clause-back

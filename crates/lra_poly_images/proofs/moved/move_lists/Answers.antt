@@ -1,7 +1,7 @@
 -- Goals of `move_lists`: the image under the assignment of the form to the column, which the other form takes back.
 use Rattle.std.proofs.{Common.subst, Common.sym, lemmas.Result.err_from_is_err_and}
-use Rattle.lra_linear_spec.specs.{Descriptions.Con, Polyhedra.IsPolyhedronOf, SetOperations.Image}
-use Rattle.lra_systems.specs.LinearSystems.{constraints, generators}
+use Rattle.lra_poly_images.specs.Crates.lra_systems.LinearSystems.{constraints, generators}
+use Rattle.lra_poly_images.specs.Crates.{lra_linear_spec.Descriptions.Con, lra_linear_spec.Polyhedra.IsPolyhedronOf, lra_linear_spec.SetOperations.Image}
 use Rattle.lra_poly_images.proofs.{KeptLists.generators_pass, KeptLists.rows_pass, MovedPolyhedra.image_limit, MovedPolyhedra.is_moving, MovedPolyhedra.moved_image}
 use Rattle.lra_poly_images.proofs.moved.move_lists.Goals as goal
 

@@ -1,6 +1,6 @@
 -- Goals of `extent_of`: the values of the coordinate.
 use Rattle.std.proofs.Common.{◌∙◌, ap, ℕ}
-use Rattle.lra_linear_forms.specs.Form.{form_row}
+use Rattle.lra_poly_queries.specs.Crates.lra_linear_forms.Form.{form_row}
 use Rattle.lra_poly_queries.specs.Boxed.{coordinate_form}
 use Rattle.lra_poly_queries.proofs.BoxLemmas.{greatest_fits, least_fits}
 use Rattle.lra_poly_queries.proofs.boxes.extent_of.Goals as goal

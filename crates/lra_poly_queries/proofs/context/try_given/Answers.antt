@@ -1,6 +1,6 @@
 -- Goals of `try_given`: whether the constraint is given, or what was lost as it was tried.
 use Rattle.std.proofs.Common.{◌∙◌, ap, sym, true≢false}
-use Rattle.lra_linear_spec.specs.Kinds.{is_equality}
+use Rattle.lra_poly_queries.specs.Crates.lra_linear_spec.Kinds.{is_equality}
 use Rattle.lra_systems.specs.LinearSystems.{constraints}
 use Rattle.lra_poly_queries.proofs.TriedRows.{around_given, trial_given, trial_needed, trial_passes}
 use Rattle.lra_poly_queries.proofs.context.try_given.Goals as goal

@@ -1,6 +1,6 @@
 -- Goals of `concatenate`: the polyhedron of both, side by side.
 use Rattle.std.proofs.Common.{◌+◌, ◌∙◌, ap, arith, length}
-use Rattle.lra_linear_spec.specs.Descriptions.{Con}
+use Rattle.lra_poly_queries.specs.Crates.lra_linear_spec.Descriptions.{Con}
 use Rattle.lra_poly_queries.specs.Joined.{Concatenated, concatenated}
 use Rattle.lra_poly_queries.proofs.{JoinedSets.joined_takes, TakenRows.rows_becomes}
 use Rattle.lra_poly_queries.proofs.joining.concatenate.Goals as goal

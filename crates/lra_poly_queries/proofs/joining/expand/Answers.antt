@@ -1,6 +1,6 @@
 -- Goals of `expand`: the points with a twin of a coordinate.
 use Rattle.std.proofs.Common.{◌+◌, ◌∙◌, ap, arith, length}
-use Rattle.lra_linear_spec.specs.Descriptions.{Con}
+use Rattle.lra_poly_queries.specs.Crates.lra_linear_spec.Descriptions.{Con}
 use Rattle.lra_poly_queries.specs.Expanded.{Expanded, expanded}
 use Rattle.lra_poly_queries.proofs.{ExpandedSets.expanded_takes, ExpandedSets.twin_length, TakenRows.rows_becomes}
 use Rattle.lra_poly_queries.proofs.joining.expand.Goals as goal

@@ -1,6 +1,6 @@
 -- Goals of `extend_with`: the points with one further coordinate that meet the constraint.
 use Rattle.std.proofs.Common.{◌+◌, ◌∙◌, ap, arith, length}
-use Rattle.lra_linear_spec.specs.{Descriptions.Con, Descriptions.LinearRow, Kinds.is_equality}
+use Rattle.lra_poly_queries.specs.Crates.{lra_linear_spec.Descriptions.Con, lra_linear_spec.Descriptions.LinearRow, lra_linear_spec.Kinds.is_equality}
 use Rattle.lra_poly_queries.specs.Related.{Extended, extended}
 use Rattle.lra_poly_queries.proofs.{RelatedSets.extended_takes, TakenRows.rows_becomes}
 use Rattle.lra_poly_queries.proofs.joining.extend_with.Goals as goal

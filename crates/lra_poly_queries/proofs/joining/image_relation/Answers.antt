@@ -1,6 +1,6 @@
 -- Goals of `image_relation`: the points with any value that stands to the old point as stated.
 use Rattle.std.proofs.Common.{◌∙◌, ap, ℕ}
-use Rattle.lra_linear_spec.specs.{Descriptions.LinearRow, Kinds.is_equality}
+use Rattle.lra_poly_queries.specs.Crates.{lra_linear_spec.Descriptions.LinearRow, lra_linear_spec.Kinds.is_equality}
 use Rattle.lra_poly_queries.specs.Related.{replaced}
 use Rattle.lra_poly_queries.proofs.RelatedSets.{related_becomes}
 use Rattle.lra_poly_queries.proofs.joining.image_relation.Goals as goal

@@ -1,6 +1,6 @@
 -- Goals of `push_moved`: the constraints, then those of the list along these dimensions.
 use Rattle.std.proofs.Common.{◌∙◌, ap, arith, length, suc, sym}
-use Rattle.lra_linear_spec.specs.declared.ConKind.TheVariants.{Ge}
+use Rattle.lra_poly_queries.specs.Crates.lra_linear_spec.declared.ConKind.TheVariants.{Ge}
 use Rattle.lra_systems.specs.LinearSystems.{constraints}
 use Rattle.lra_poly_queries.proofs.{JoinedSets.all_moved, JoinedSets.one_moved, MovedSets.chosen_width, TightenedRows.one_counted}
 use Rattle.lra_poly_queries.proofs.joining.push_moved.Goals as goal

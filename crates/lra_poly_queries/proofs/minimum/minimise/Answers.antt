@@ -1,7 +1,7 @@
 -- Goals of `minimise`: with its sign turned, the greatest value of the form's opposite.
 use Rattle.std.proofs.{Common.rules, Common.FitsSigned, Common.ap, Common.neg_ℤ, Common.◌∙◌, lemmas.Int.to_z-of_z}
 use Rattle.std.specs.Int.{w128}
-use Rattle.lra_linear_forms.specs.Form.{form_row}
+use Rattle.lra_poly_queries.specs.Crates.lra_linear_forms.Form.{form_row}
 use Rattle.lra_poly_queries.proofs.MinimumLemmas.{least_place, least_value, unbounded_below}
 use Rattle.lra_poly_queries.proofs.minimum.minimise.Goals as goal
 

@@ -1,7 +1,7 @@
 -- Goals of `choose`: the row with the columns of these dimensions.
 use Rattle.std.proofs.{Common.rules, Common.◌≡◌, Common.◌++◌, Common.◌∷◌, Common.[], Common.FitsSigned, Common.subst, Common.sym, lemmas.Int.to_z-of_z, lemmas.List.Elements.All-push}
 use Rattle.std.specs.{Int.w128, List.All}
-use Rattle.lra_linear_spec.specs.Range.{InRange}
+use Rattle.lra_poly_queries.specs.Crates.lra_linear_spec.Range.{InRange}
 use Rattle.lra_poly_queries.proofs.MovedSets.{one_chosen}
 use Rattle.lra_poly_queries.proofs.moving.choose.Goals as goal
 

@@ -1,6 +1,6 @@
 use Rattle.std.proofs.Common.{◌≡◌, take}
 use Rattle.std.specs.List.{All}
-use Rattle.lra_linear_spec.specs.Range.{InRange}
+use Rattle.lra_poly_queries.specs.Crates.lra_linear_spec.Range.{InRange}
 use Rattle.lra_poly_queries.specs.Moved.{chosen}
 use Rattle.lra_poly_queries.proofs.moving.choose.Given as goal
 

@@ -1,6 +1,6 @@
 -- Goals of `map_dims`: the polyhedron with these dimensions, in turn.
 use Rattle.std.proofs.Common.{length}
-use Rattle.lra_linear_spec.specs.Descriptions.{Con}
+use Rattle.lra_poly_queries.specs.Crates.lra_linear_spec.Descriptions.{Con}
 use Rattle.lra_poly.proofs.TakenGenerators.{taken_becomes}
 use Rattle.lra_poly_queries.specs.Moved.{MapDimsStrains, Moved, moved}
 use Rattle.lra_poly_queries.proofs.MovedSets.{moved_takes}

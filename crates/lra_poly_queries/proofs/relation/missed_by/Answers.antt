@@ -1,8 +1,8 @@
 -- Goals of `missed_by`: which signs the form misses with each of the generators.
 use Rattle.std.proofs.{Common.◌≡◌, Common.◌∙◌, Common.◌∷◌, Common.[], Common.ap, Common.length, Common.sym, Common.List, lemmas.Result.err_from_is_err_and}
-use Rattle.lra_linear_spec.specs.{Descriptions.LinearRow, Descriptions.inequality, Kinds.is_line, OperationStrain.ProductsPass, declared.GenKind.TheVariants.Point}
-use Rattle.lra_duality.specs.Maxima.{StaysInRange}
-use Rattle.lra_duality.proofs.InclusionLemmas.{seen_generators}
+use Rattle.lra_poly_queries.specs.Crates.{lra_duality.Maxima.StaysInRange, lra_linear_spec.Descriptions.LinearRow, lra_linear_spec.Descriptions.inequality, lra_linear_spec.Kinds.is_line}
+use Rattle.lra_poly_queries.specs.Crates.{lra_linear_spec.OperationStrain.ProductsPass, lra_linear_spec.declared.GenKind.TheVariants.Point}
+use Rattle.lra_poly_queries.proofs.Crates.lra_duality.InclusionLemmas.{seen_generators}
 use Rattle.lra_systems.proofs.FirstMembers.{one_more}
 use Rattle.lra_poly_queries.proofs.MissedLists.{one_missed_more, one_passes}
 use Rattle.lra_poly_queries.proofs.relation.missed_by.Goals as goal

@@ -1,6 +1,5 @@
 use Rattle.std.specs.List.{All}
-use Rattle.lra_linear_spec.specs.Kinds.{is_line}
-use Rattle.lra_duality.specs.Maxima.{StaysInRange}
+use Rattle.lra_poly_queries.specs.Crates.{lra_duality.Maxima.StaysInRange, lra_linear_spec.Kinds.is_line}
 use Rattle.lra_systems.proofs.FirstMembers.{front}
 use Rattle.lra_poly_queries.specs.Relations.{AreMissed}
 use Rattle.lra_poly_queries.proofs.relation.missed_by.Given as goal

@@ -1,6 +1,6 @@
 -- Goals of `relate`: how the constraint stands to the polyhedron.
 use Rattle.std.proofs.Common.{List, subst}
-use Rattle.lra_linear_spec.specs.{Descriptions.LinearRow, Kinds.is_equality}
+use Rattle.lra_poly_queries.specs.Crates.{lra_linear_spec.Descriptions.LinearRow, lra_linear_spec.Kinds.is_equality}
 use Rattle.lra_poly_queries.specs.Relations.{AreMissed}
 use Rattle.lra_poly_queries.proofs.RelationLemmas.{related}
 use Rattle.lra_poly_queries.proofs.relation.relate.Goals as goal

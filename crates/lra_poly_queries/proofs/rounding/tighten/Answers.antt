@@ -1,6 +1,6 @@
 -- Goals of `tighten`: the constraints, each rounded to whole points.
 use Rattle.std.proofs.Common.{◌∙◌, ap, arith, length, sym}
-use Rattle.lra_linear_spec.specs.declared.ConKind.TheVariants.{Ge}
+use Rattle.lra_poly_queries.specs.Crates.lra_linear_spec.declared.ConKind.TheVariants.{Ge}
 use Rattle.lra_systems.specs.LinearSystems.{constraints}
 use Rattle.lra_poly_queries.proofs.TightenedRows.{all_tightened, one_counted, one_tightened, tightened_stores, tightened_within}
 use Rattle.lra_poly_queries.proofs.rounding.tighten.Goals as goal

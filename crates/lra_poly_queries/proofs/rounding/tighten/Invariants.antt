@@ -1,5 +1,5 @@
 use Rattle.std.proofs.Common.{◌≡◌, length, take}
-use Rattle.lra_linear_spec.specs.Kinds.{is_equality}
+use Rattle.lra_poly_queries.specs.Crates.lra_linear_spec.Kinds.{is_equality}
 use Rattle.lra_systems.specs.LinearSystems.{constraints, rows_by_kind}
 use Rattle.lra_poly_queries.specs.Tightened.{AreTightened}
 use Rattle.lra_poly_queries.proofs.rounding.tighten.Given as goal

@@ -2,7 +2,7 @@
 use Rattle.std.proofs.Common.{rules, arith, FitsSigned, ap, get_or, pos, ◌∙◌, ◌<ℤ◌, ℤ, ◌∷◌, ◌-◌, map, int_div, take, drop, length}
 use Rattle.std.proofs.lemmas.Int.{ints, to_z-of_z}
 use Rattle.std.specs.Int.{int_rem_euclid, w128}
-use Rattle.lra_linear_spec.specs.Kinds.{is_equality}
+use Rattle.lra_poly_queries.specs.Crates.lra_linear_spec.Kinds.{is_equality}
 use Rattle.lra_poly_queries.proofs.TightenedExits.{exact_else, falsity_width, rest_in_range, row_nowhere, row_rounded, row_tight}
 use Rattle.lra_poly_queries.proofs.rounding.tighten_row.Goals as goal
 

@@ -1,6 +1,6 @@
 -- Goals of `dimension`: the dimensions of the space less the equalities.
 use Rattle.std.proofs.Common.{◌≡◌, ◌≤◌, ◌-◌, ◌∙◌, false, true, sym, ap, subst}
-use Rattle.lra_linear_spec.specs.{Descriptions.Con, Points.IsEmptySet}
+use Rattle.lra_poly_queries.specs.Crates.{lra_linear_spec.Descriptions.Con, lra_linear_spec.Points.IsEmptySet}
 use Rattle.lra_poly_queries.proofs.DimensionLemmas.{at_most_dims, dimension_told}
 use Rattle.lra_poly_queries.proofs.shape.dimension.Goals as goal
 

@@ -1,5 +1,5 @@
 use Rattle.std.proofs.Common.{◌≡◌, ◌++◌}
-use Rattle.lra_linear_spec.specs.Kinds.{is_equality}
+use Rattle.lra_poly_widening.specs.Crates.lra_linear_spec.Kinds.{is_equality}
 use Rattle.lra_systems.proofs.FirstMembers.{front}
 use Rattle.lra_systems.specs.LinearSystems.{constraints}
 use Rattle.lra_poly_widening.specs.Rank.{kept_thresholds}

@@ -1,7 +1,8 @@
 -- Goals of `given_loss`: the loss of the first given constraint that isn't known to fail and a product of which
 -- passes the range.
 use Rattle.std.proofs.Common.{arith, ap, sym, subst, ◌∙◌, ◌≡◌, ◌+◌, ◌++◌, length, List}
-use Rattle.lra_linear_spec.specs.{Descriptions.LinearRow, Kinds.is_equality, OperationStrain.valid_on, declared.ConKind.TheVariants.Ge}
+use Rattle.lra_poly_widening.specs.Crates.lra_linear_spec.Kinds.{is_equality}
+use Rattle.lra_poly_widening.specs.Crates.{lra_linear_spec.Descriptions.LinearRow, lra_linear_spec.OperationStrain.valid_on, lra_linear_spec.declared.ConKind.TheVariants.Ge}
 use Rattle.lra_systems.proofs.FirstMembers.{front, member}
 use Rattle.lra_systems.specs.LinearSystems.{constraints}
 use Rattle.lra_poly_widening.specs.{Rank.kept_thresholds, Validity.IsValidity}

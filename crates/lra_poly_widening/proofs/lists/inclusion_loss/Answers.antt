@@ -1,7 +1,7 @@
 -- Goals of `inclusion_loss`: the loss of the constraint of the second, at the place, whose product with the
 -- generator of the first passes.
 use Rattle.std.proofs.Common.{arith, rules, ap, suc, sym, ◌∙◌, ◌<◌, length}
-use Rattle.lra_linear_spec.specs.declared.ConKind.TheVariants.{Ge}
+use Rattle.lra_poly_widening.specs.Crates.lra_linear_spec.declared.ConKind.TheVariants.{Ge}
 use Rattle.lra_poly_widening.proofs.Places.{never_ok, pair_passes, wide_pair, width_at}
 use Rattle.lra_poly_widening.proofs.lists.inclusion_loss.Goals as goal
 

@@ -1,6 +1,6 @@
 -- Goals of `is_tight`: whether the row is tight on the polyhedron, whose constraints saturate these generators.
 use Rattle.std.proofs.Common.{ap, ◌∙◌}
-use Rattle.lra_duality.specs.Saturations.{saturated}
+use Rattle.lra_poly_widening.specs.Crates.lra_duality.Saturations.{saturated}
 use Rattle.lra_poly_widening.proofs.TightLists.{bits_widths, class_widths, tight_by_values}
 use Rattle.lra_poly_widening.proofs.lists.is_tight.Goals as goal
 

@@ -1,6 +1,6 @@
 -- Goals of `push_copy`: puts a copy of the row after the others.
 use Rattle.std.proofs.Common.{refl, ap, sym, ◌∙◌, length}
-use Rattle.lra_duality.proofs.JoinedLists.{row_added}
+use Rattle.lra_poly_widening.proofs.Crates.lra_duality.JoinedLists.{row_added}
 use Rattle.lra_poly_widening.proofs.lists.push_copy.Goals as goal
 
 pub returns-clause-rows : goal.returns-clause-rows

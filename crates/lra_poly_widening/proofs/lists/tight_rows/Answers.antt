@@ -1,10 +1,10 @@
 -- Goals of `tight_rows`: the constraints of the second that are tight on the first.
 use Rattle.std.proofs.Common.{arith, ap, sym, ◌∙◌, ◌≡◌, ◌+◌, [], length, map, suc, List}
 use Rattle.std.specs.List.{filter}
-use Rattle.lra_linear_spec.specs.{Descriptions.LinearRow, Kinds.is_equality, Widening.is_tight, declared.ConKind.TheVariants.Ge}
+use Rattle.lra_poly_widening.specs.Crates.{lra_duality.Saturations.saturated, lra_linear_spec.Descriptions.LinearRow, lra_linear_spec.Kinds.is_equality, lra_linear_spec.Widening.is_tight}
+use Rattle.lra_poly_widening.specs.Crates.{lra_linear_spec.declared.ConKind.TheVariants.Ge}
 use Rattle.lra_systems.proofs.FirstMembers.{front, member}
 use Rattle.lra_systems.specs.LinearSystems.{constraints}
-use Rattle.lra_duality.specs.Saturations.{saturated}
 use Rattle.lra_poly_widening.proofs.Loops.{front_seen, front_step, kept_step}
 use Rattle.lra_poly_widening.proofs.lists.tight_rows.Goals as goal
 

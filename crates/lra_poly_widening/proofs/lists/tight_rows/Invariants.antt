@@ -1,6 +1,6 @@
 use Rattle.std.proofs.Common.{◌≡◌, ◌++◌, []}
 use Rattle.std.specs.List.{filter}
-use Rattle.lra_linear_spec.specs.{Kinds.is_equality, Widening.is_tight}
+use Rattle.lra_poly_widening.specs.Crates.{lra_linear_spec.Kinds.is_equality, lra_linear_spec.Widening.is_tight}
 use Rattle.lra_systems.proofs.FirstMembers.{front}
 use Rattle.lra_systems.specs.LinearSystems.{constraints}
 use Rattle.lra_poly_widening.proofs.lists.tight_rows.Given as goal

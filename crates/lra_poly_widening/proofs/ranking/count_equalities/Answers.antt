@@ -1,7 +1,7 @@
 -- Goals of `count_equalities`: how many equalities are among the constraints.
 use Rattle.std.proofs.{Common.arith, Common.ap, Common.◌∙◌, Common.◌<◌, Common.◌+◌, Common.[], Common.get_or, Common.length, Common.refl, lemmas.List.get_or_default}
 use Rattle.std.specs.List.{filter}
-use Rattle.lra_linear_spec.specs.{Descriptions.LinearRow, Kinds.is_equality, declared.ConKind.TheVariants.Ge}
+use Rattle.lra_poly_widening.specs.Crates.{lra_linear_spec.Descriptions.LinearRow, lra_linear_spec.Kinds.is_equality, lra_linear_spec.declared.ConKind.TheVariants.Ge}
 use Rattle.lra_systems.proofs.FirstMembers.{front, member}
 use Rattle.lra_poly_widening.proofs.Loops.{count_few, count_step, front_seen, front_step}
 use Rattle.lra_poly_widening.proofs.ranking.count_equalities.Goals as goal

@@ -1,6 +1,6 @@
 use Rattle.std.proofs.Common.{◌≡◌, ◌≤◌, length}
 use Rattle.std.specs.List.{filter}
-use Rattle.lra_linear_spec.specs.{Descriptions.LinearRow, Kinds.is_equality}
+use Rattle.lra_poly_widening.specs.Crates.{lra_linear_spec.Descriptions.LinearRow, lra_linear_spec.Kinds.is_equality}
 use Rattle.lra_systems.proofs.FirstMembers.{front}
 use Rattle.lra_poly_widening.proofs.ranking.count_equalities.Given as goal
 

@@ -2,12 +2,11 @@
 use Rattle.std.proofs.Common.{arith, ap, map, refl, subst, sym, ◌∙◌, ◌≡◌, ◌+◌, ◌<◌, [], get_or, length, take, List, ℕ}
 use Rattle.std.proofs.lemmas.List.{get_or_default, length-map, take_all}
 use Rattle.std.specs.{List.filter, Prelude.slice_index_or}
-use Rattle.lra_bits.specs.Matrix.{Matrix}
-use Rattle.lra_linear_spec.specs.{Descriptions.LinearRow, Kinds.is_equality, declared.ConKind.TheVariants.Ge}
+use Rattle.lra_poly_widening.specs.Crates.lra_linear_spec.Kinds.{is_equality}
+use Rattle.lra_poly_widening.specs.Crates.{lra_bits.Matrix.Matrix, lra_duality.Saturations.saturated, lra_linear_spec.Descriptions.LinearRow, lra_linear_spec.declared.ConKind.TheVariants.Ge}
 use Rattle.lra_systems.proofs.FirstMembers.{member}
 use Rattle.lra_systems.specs.LinearSystems.{constraints, rows_by_kind}
-use Rattle.lra_duality.proofs.SaturationLemmas.{given_length}
-use Rattle.lra_duality.specs.Saturations.{saturated}
+use Rattle.lra_poly_widening.proofs.Crates.lra_duality.SaturationLemmas.{given_length}
 use Rattle.lra_poly_widening.specs.Rank.{held_thresholds, is_free}
 use Rattle.lra_poly_widening.proofs.{AlikeLemmas.bits_at, AlikeLemmas.free_by_bits, AlikeLemmas.row_more, Loops.count_few, Loops.count_step}
 use Rattle.lra_poly_widening.proofs.ranking.count_free.Goals as goal

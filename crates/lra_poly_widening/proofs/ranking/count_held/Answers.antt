@@ -1,6 +1,6 @@
 -- Goals of `count_held`: how many of the given constraints hold on it with each product in the range.
 use Rattle.std.proofs.Common.{ap, sym, ◌∙◌, ◌≡◌, ◌+◌, length}
-use Rattle.lra_linear_spec.specs.{Kinds.is_equality, declared.ConKind.TheVariants.Ge}
+use Rattle.lra_poly_widening.specs.Crates.{lra_linear_spec.Kinds.is_equality, lra_linear_spec.declared.ConKind.TheVariants.Ge}
 use Rattle.lra_systems.proofs.FirstMembers.{front, member}
 use Rattle.lra_poly_widening.specs.Rank.{holds_in_range}
 use Rattle.lra_poly_widening.proofs.Loops.{count_few, count_step, front_step}

@@ -1,6 +1,6 @@
 -- Goals of `holds_where`: whether the constraint holds in the range, and saturates the generators where the bits say so.
 use Rattle.std.proofs.Common.{ap, map, ◌∙◌, List}
-use Rattle.lra_linear_spec.specs.{Descriptions.LinearRow, Kinds.is_equality}
+use Rattle.lra_poly_widening.specs.Crates.{lra_linear_spec.Descriptions.LinearRow, lra_linear_spec.Kinds.is_equality}
 use Rattle.lra_poly_widening.specs.Saturated.{same_values, vanishes}
 use Rattle.lra_poly_widening.proofs.AlikeLemmas.{holds_elsewhere, holds_there}
 use Rattle.lra_poly_widening.proofs.ranking.holds_where.Goals as goal

@@ -1,10 +1,9 @@
 -- Goals of `one_holds_where`: whether one of the given constraints holds and saturates what the bits say.
 use Rattle.std.proofs.Common.{ap, sym, ◌∙◌, ◌≡◌, ◌+◌, length}
 use Rattle.std.specs.Prelude.{◌&&◌}
-use Rattle.lra_linear_spec.specs.{Kinds.is_equality, declared.ConKind.TheVariants.Ge}
+use Rattle.lra_poly_widening.specs.Crates.{lra_duality.Saturations.saturated, lra_linear_spec.Kinds.is_equality, lra_linear_spec.declared.ConKind.TheVariants.Ge}
 use Rattle.lra_systems.proofs.FirstMembers.{front, member}
 use Rattle.lra_systems.specs.LinearSystems.{constraints}
-use Rattle.lra_duality.specs.Saturations.{saturated}
 use Rattle.lra_poly_widening.specs.{Rank.holds_in_range, Saturated.same_values}
 use Rattle.lra_poly_widening.proofs.{AlikeLemmas.none_more, Counting.any_from, Loops.front_step, Places.row_among}
 use Rattle.lra_poly_widening.proofs.ranking.one_holds_where.Goals as goal

@@ -1,7 +1,6 @@
 use Rattle.std.proofs.Common.{◌≡◌, false}
 use Rattle.std.specs.{List.list_any, Prelude.◌&&◌}
-use Rattle.lra_linear_spec.specs.Kinds.{is_equality}
-use Rattle.lra_duality.specs.Saturations.{saturated}
+use Rattle.lra_poly_widening.specs.Crates.{lra_duality.Saturations.saturated, lra_linear_spec.Kinds.is_equality}
 use Rattle.lra_systems.proofs.FirstMembers.{front}
 use Rattle.lra_poly_widening.specs.{Rank.holds_in_range, Saturated.same_values}
 use Rattle.lra_poly_widening.proofs.ranking.one_holds_where.Given as goal

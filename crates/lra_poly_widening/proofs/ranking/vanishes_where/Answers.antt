@@ -1,9 +1,8 @@
 -- Goals of `vanishes_where`: whether the products of the row with the generators vanish exactly where the bits say so.
 use Rattle.std.proofs.Common.{arith, ap, subst, sym, ◌∙◌, ◌≡◌, ◌≢◌, ◌<◌, [], get_or, length, map, false, true, Bool, List, ℕ, ℤ}
 use Rattle.std.proofs.lemmas.List.{get_or_default}
-use Rattle.lra_bits.specs.TruthValues.{value_at}
-use Rattle.lra_linear_spec.specs.{Descriptions.LinearRow, Kinds.is_line}
-use Rattle.lra_duality.proofs.{InclusionLemmas.seen_generators, SaturationLemmas.given_length}
+use Rattle.lra_poly_widening.specs.Crates.{lra_bits.TruthValues.value_at, lra_linear_spec.Descriptions.LinearRow, lra_linear_spec.Kinds.is_line}
+use Rattle.lra_poly_widening.proofs.Crates.{lra_duality.InclusionLemmas.seen_generators, lra_duality.SaturationLemmas.given_length}
 use Rattle.lra_poly_widening.specs.Saturated.{same_values, vanishes}
 use Rattle.lra_poly_widening.proofs.AlikeLemmas.{agree_all, differ_at, unequal}
 use Rattle.lra_poly_widening.proofs.ranking.vanishes_where.Goals as goal

@@ -1,5 +1,5 @@
 use Rattle.std.proofs.Common.{◌≡◌, ℕ, ◌<◌, [], get_or}
-use Rattle.lra_bits.specs.TruthValues.{value_at}
+use Rattle.lra_poly_widening.specs.Crates.lra_bits.TruthValues.{value_at}
 use Rattle.lra_poly_widening.specs.Saturated.{vanishes}
 use Rattle.lra_poly_widening.proofs.ranking.vanishes_where.Given as goal
 

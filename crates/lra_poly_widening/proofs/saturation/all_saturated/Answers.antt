@@ -1,6 +1,6 @@
 -- Goals of `all_saturated`: which of the generators each of the constraints saturates.
 use Rattle.std.proofs.Common.{arith}
-use Rattle.lra_linear_spec.specs.Kinds.{is_equality}
+use Rattle.lra_poly_widening.specs.Crates.lra_linear_spec.Kinds.{is_equality}
 use Rattle.lra_systems.specs.LinearSystems.{generators}
 use Rattle.lra_poly_widening.proofs.TightLists.{all_rows_saturate}
 use Rattle.lra_poly_widening.proofs.saturation.all_saturated.Goals as goal

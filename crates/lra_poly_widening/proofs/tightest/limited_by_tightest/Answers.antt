@@ -1,7 +1,7 @@
 -- Goals of `limited_by_tightest`: the limited widening, for which the tightest of the given constraints alone are
 -- added.
 use Rattle.std.proofs.Common.{ap, ◌∙◌}
-use Rattle.lra_linear_spec.specs.Kinds.{is_equality}
+use Rattle.lra_poly_widening.specs.Crates.lra_linear_spec.Kinds.{is_equality}
 use Rattle.lra_systems.specs.LinearSystems.{constraints}
 use Rattle.lra_poly_widening.specs.Tightest.{tightest}
 use Rattle.lra_poly_widening.proofs.TightestLemmas.{kept_exact, lost_becomes, tightest_becomes, tightest_falls}

@@ -1,7 +1,7 @@
 -- Goals of `tightest`: of the constraints those than which none of the others is tighter.
 use Rattle.std.proofs.Common.{arith, ap, sym, not, ◌∙◌, ◌≡◌, ◌+◌, [], length, suc}
 use Rattle.std.specs.List.{filter}
-use Rattle.lra_linear_spec.specs.{Kinds.is_equality, declared.ConKind.TheVariants.Ge}
+use Rattle.lra_poly_widening.specs.Crates.{lra_linear_spec.Kinds.is_equality, lra_linear_spec.declared.ConKind.TheVariants.Ge}
 use Rattle.lra_systems.proofs.FirstMembers.{front, member}
 use Rattle.lra_systems.specs.LinearSystems.{constraints}
 use Rattle.lra_poly_widening.specs.Tightest.{is_loose}

@@ -1,5 +1,5 @@
 -- Goals of `holds_in_range`: whether it holds with each of the generators, and each product stays in the range.
-use Rattle.lra_linear_spec.specs.{Descriptions.LinearRow, Kinds.is_equality}
+use Rattle.lra_poly_widening.specs.Crates.{lra_linear_spec.Descriptions.LinearRow, lra_linear_spec.Kinds.is_equality}
 use Rattle.lra_poly_widening.specs.declared.validity.Validity.TheVariants.{Fails, Holds, Wide}
 use Rattle.lra_poly_widening.proofs.Validities.{fails_said, holds_said, seen_validity, wide_said}
 use Rattle.lra_poly_widening.proofs.validity.holds_in_range.Goals as goal

@@ -1,10 +1,10 @@
 -- Goals of `validity_of`: whether the constraint holds with each of the generators.
 use Rattle.std.proofs.{Common.rules, Common.arith, Common.refl, Common.FitsSigned, Common.◌≡◌, Common.◌∙◌, Common.ap, Common.sym, Common.length, Common.List, Common.Err, lemmas.Int.to_z-of_z}
 use Rattle.std.specs.{Int.w128, List.All, List.Contains}
-use Rattle.lra_linear_spec.specs.{CheckedArithmetic.checked_product, Descriptions.LinearRow, Kinds.is_equality, Kinds.is_line, declared.GenKind.TheVariants.Point}
-use Rattle.lra_duality.specs.Inclusions.{Satisfies, Violates}
+use Rattle.lra_poly_widening.specs.Crates.{lra_duality.Inclusions.Satisfies, lra_duality.Inclusions.Violates, lra_linear_spec.CheckedArithmetic.checked_product, lra_linear_spec.Descriptions.LinearRow}
+use Rattle.lra_poly_widening.specs.Crates.{lra_linear_spec.Kinds.is_equality, lra_linear_spec.Kinds.is_line, lra_linear_spec.declared.GenKind.TheVariants.Point}
 use Rattle.lra_systems.proofs.FirstMembers.{member, first_at, one_more, all_gone_through, ok_of}
-use Rattle.lra_duality.proofs.InclusionLemmas.{has_member, seen_generators}
+use Rattle.lra_poly_widening.proofs.Crates.lra_duality.InclusionLemmas.{has_member, seen_generators}
 use Rattle.lra_poly_widening.proofs.validity.validity_of.Goals as goal
 
 pub returns-then-not-accepts : goal.returns-then-not-accepts

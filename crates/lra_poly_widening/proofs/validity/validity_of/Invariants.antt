@@ -1,6 +1,5 @@
 use Rattle.std.specs.List.{All}
-use Rattle.lra_linear_spec.specs.Kinds.{is_equality, is_line}
-use Rattle.lra_duality.specs.Inclusions.{Satisfies}
+use Rattle.lra_poly_widening.specs.Crates.{lra_duality.Inclusions.Satisfies, lra_linear_spec.Kinds.is_equality, lra_linear_spec.Kinds.is_line}
 use Rattle.lra_systems.proofs.FirstMembers.{front}
 use Rattle.lra_poly_widening.proofs.validity.validity_of.Given as goal
 

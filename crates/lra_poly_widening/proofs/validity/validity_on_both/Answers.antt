@@ -1,5 +1,5 @@
 -- Goals of `validity_on_both`: whether it holds with each generator of the first, then of the second.
-use Rattle.lra_linear_spec.specs.{Descriptions.LinearRow, Kinds.is_equality}
+use Rattle.lra_poly_widening.specs.Crates.{lra_linear_spec.Descriptions.LinearRow, lra_linear_spec.Kinds.is_equality}
 use Rattle.lra_poly_widening.specs.declared.validity.Validity.TheVariants.{Fails, Holds, Wide}
 use Rattle.lra_poly_widening.proofs.Validities.{both_hold, first_fails, first_wide, seen_validity}
 use Rattle.lra_poly_widening.proofs.validity.validity_on_both.Goals as goal

@@ -1,5 +1,5 @@
 -- Goals of `limited`: the standard widening met with each given constraint that is valid on both.
-use Rattle.lra_linear_spec.specs.Kinds.{is_equality}
+use Rattle.lra_poly_widening.specs.Crates.lra_linear_spec.Kinds.{is_equality}
 use Rattle.lra_systems.specs.LinearSystems.{constraints}
 use Rattle.lra_poly_widening.proofs.WideningLemmas.{limited_falls, seen_columns}
 use Rattle.lra_poly_widening.proofs.widening.limited.Goals as goal

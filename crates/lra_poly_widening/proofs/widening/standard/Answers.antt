@@ -1,7 +1,7 @@
 -- Goals of `standard`: the standard widening of P by Q, which P lies in.
 use Rattle.lra_systems.specs.LinearSystems.{constraints}
 use Rattle.std.proofs.Common.{List, subst}
-use Rattle.lra_linear_spec.specs.Descriptions.{LinearRow}
+use Rattle.lra_poly_widening.specs.Crates.lra_linear_spec.Descriptions.{LinearRow}
 use Rattle.lra_poly_widening.specs.StayingRows.{StaysOrIsGivenUp}
 use Rattle.lra_poly_widening.proofs.WideningLemmas.{standard_becomes, standard_falls}
 use Rattle.lra_poly_widening.proofs.widening.standard.Goals as goal

@@ -1,6 +1,6 @@
 -- Goals of `widen_limited_by`: the widening of the first by the second, limited by the given constraints.
 use Rattle.std.proofs.Common.{subst, refl, inl, inr, ℕ, []}
-use Rattle.lra_linear_spec.specs.{Descriptions.Con, Polyhedra.IsPolyhedronOf}
+use Rattle.lra_poly_widening.specs.Crates.{lra_linear_spec.Descriptions.Con, lra_linear_spec.Polyhedra.IsPolyhedronOf}
 use Rattle.lra_systems.specs.LinearSystems.{constraints}
 use Rattle.lra_poly_widening.proofs.{StayingLemmas.staying, WideningLemmas.wide_inside, WideningLemmas.widened_empty, WideningLemmas.widened_wide, WideningLemmas.yes_inside}
 use Rattle.lra_poly_widening.proofs.widening.widen_limited_by.Goals as goal

@@ -1,6 +1,6 @@
 -- Goals of `widen_within`: the widening of a polyhedron with a point by one that it lies in.
 use Rattle.std.proofs.Common.{ap, ◌∙◌, ◌++◌}
-use Rattle.lra_linear_spec.specs.Kinds.{is_equality}
+use Rattle.lra_poly_widening.specs.Crates.lra_linear_spec.Kinds.{is_equality}
 use Rattle.lra_systems.specs.LinearSystems.{constraints}
 use Rattle.lra_poly_widening.specs.Rank.{kept_thresholds}
 use Rattle.lra_poly_widening.proofs.{StayingLemmas.of_staying, WideningLemmas.not_exact, WideningLemmas.seen_columns, WideningLemmas.widened_made, WideningLemmas.widened_passed}

@@ -1,6 +1,6 @@
 -- The calls so far, and then those of the functions that are left, are those of all.
 use Rattle.std.proofs.Common.{◌≡◌, ◌++◌, map, drop}
-use Rattle.lra_program.specs.ProgramViews.{function_view}
+use Rattle.lra_recursion.specs.Crates.lra_program.ProgramViews.{function_view}
 use Rattle.lra_scopes.specs.Calls.{functions_at}
 use Rattle.lra_recursion.specs.Calls.{calls_behind}
 use Rattle.lra_recursion.proofs.calls.find_calls.Given as goal

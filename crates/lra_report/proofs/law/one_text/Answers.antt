@@ -1,6 +1,6 @@
 -- Goals of `one_text`: two reports of one program under one list of options that have the same text are the same
 -- report.
-use Rattle.lra_syntax.specs.Grammar.{Spells}
+use Rattle.lra_report.specs.Crates.lra_syntax.Grammar.{Spells}
 use Rattle.lra_report.specs.View.{report_of}
 use Rattle.lra_report.proofs.{OneText.one_report, SourceTexts.one_accepted, SourceTexts.one_source}
 use Rattle.lra_report.proofs.law.one_text.Goals as goal

@@ -1,14 +1,12 @@
 -- Goals of `list`: the report of what an analysis found in a source, whose points are numbered from 0 here.
 use Rattle.std.proofs.Common.{List, map, ◌++◌, refl, subst}
 use Rattle.std.specs.List.{flat_map}
-use Rattle.lra_operations.specs.TreeViews.{site_view}
+use Rattle.lra_report_build.specs.Crates.lra_program.Sites.{Site, sites_of}
+use Rattle.lra_report_build.specs.Crates.{lra_base.AccessVerdicts.reported_view, lra_operations.TreeViews.site_view, lra_program.Assertions.assertions_from, lra_resolution_spec.Resolve.resolve}
 use Rattle.lra_syntax.specs.{Labels.Labelled, Labels.labels_of, Views.tree_view}
-use Rattle.lra_resolution_spec.specs.Resolve.{resolve}
-use Rattle.lra_program.specs.{Assertions.assertions_from, Sites.Site, Sites.sites_of}
 use Rattle.lra_report.specs.Listing.{fits_asked, subjects_of, accesses_at, accesses_from}
 use Rattle.lra_report.specs.{View.verdict_of, View.report_of, declared.verdict_kinds.VerdictKind.TheVariants.Assertion, declared.verdict_kinds.VerdictKind.TheVariants.Fit}
 use Rattle.lra_report_build.specs.AnalysisResults.{AreFitting, AreAccessVerdicts, AreVerdicts, access_verdicts_at, verdict_at}
-use Rattle.lra_base.specs.AccessVerdicts.{reported_view}
 use Rattle.lra_report_build.proofs.Reports.{fitting_there, inside_there, lists_by_parts, verdicts_there}
 use Rattle.lra_report_build.proofs.Verdicts.{all_told, are_fitting, are_inside, are_judged, judged_append}
 use Rattle.lra_report_build.proofs.listing.list.Goals as goal

@@ -1,6 +1,6 @@
 -- So far the points of the first sites are there, with the first states.
 use Rattle.std.proofs.Common.{◌≡◌, length, map, take, vec_len, Vec, Global}
-use Rattle.lra_operations.specs.TreeViews.{site_view}
+use Rattle.lra_report_build.specs.Crates.lra_operations.TreeViews.{site_view}
 use Rattle.lra_row_text.specs.Part.{Part}
 use Rattle.lra_report.specs.{Listing.AreListed, View.point_report_of}
 use Rattle.lra_report_build.specs.AnalysisResults.{state_of}

@@ -1,9 +1,8 @@
 -- Goals of `list_verdicts`: all verdicts, as a report lists them.
 use Rattle.std.proofs.Common.{◌∙◌, map, ap, ◌++◌, append_assoc}
 use Rattle.std.specs.List.{flat_map}
-use Rattle.lra_operations.specs.TreeViews.{site_view}
+use Rattle.lra_report_build.specs.Crates.{lra_base.AccessVerdicts.reported_view, lra_operations.TreeViews.site_view}
 use Rattle.lra_report.specs.{View.verdict_of, declared.verdict_kinds.VerdictKind.TheVariants.Assertion, declared.verdict_kinds.VerdictKind.TheVariants.Fit}
-use Rattle.lra_base.specs.AccessVerdicts.{reported_view}
 use Rattle.lra_report_build.specs.{AnalysisResults.access_verdicts_at, AnalysisResults.verdict_at}
 use Rattle.lra_report_build.proofs.Verdicts.{added_to_none}
 use Rattle.lra_report_build.proofs.listing.list_verdicts.Goals as goal

@@ -1,7 +1,6 @@
 -- Goals of `push_accesses`: the verdicts on all accesses.
 use Rattle.std.proofs.Common.{◌∙◌, ◌<◌, ◌++◌, ℕ, Vec, Global, Bool, ap, arith, length, map, subst, sym}
-use Rattle.lra_base.specs.declared.refusals.Place.{Place}
-use Rattle.lra_operations.specs.TreeViews.{site_view}
+use Rattle.lra_report_build.specs.Crates.{lra_base.declared.refusals.Place.Place, lra_operations.TreeViews.site_view}
 use Rattle.lra_report.specs.View.{verdict_of}
 use Rattle.lra_report_build.specs.AnalysisResults.{access_verdicts}
 use Rattle.lra_report_build.proofs.Verdicts.{points_more, told_at}

@@ -1,6 +1,6 @@
 -- Goals of `push_told`: the verdicts on the accesses of a point.
 use Rattle.std.proofs.{Common.◌∙◌, Common.ap, Common.map, lemmas.List.get_or_default, lemmas.List.map-append}
-use Rattle.lra_operations.specs.TreeViews.{site_view}
+use Rattle.lra_report_build.specs.Crates.lra_operations.TreeViews.{site_view}
 use Rattle.lra_report.specs.View.{verdict_of}
 use Rattle.lra_report_build.proofs.Verdicts.{told_all_of, told_more}
 use Rattle.lra_report_build.proofs.listing.push_told.Goals as goal

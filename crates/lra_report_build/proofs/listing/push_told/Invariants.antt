@@ -1,6 +1,6 @@
 -- The verdicts so far and those on what is left are all.
 use Rattle.std.proofs.Common.{◌≡◌, ◌++◌, map, drop}
-use Rattle.lra_operations.specs.TreeViews.{site_view}
+use Rattle.lra_report_build.specs.Crates.lra_operations.TreeViews.{site_view}
 use Rattle.lra_report.specs.View.{verdict_of}
 use Rattle.lra_report_build.specs.AnalysisResults.{access_verdicts}
 use Rattle.lra_report_build.proofs.listing.push_told.Given as goal

@@ -1,6 +1,6 @@
 -- So far the first verdicts are added.
 use Rattle.std.proofs.Common.{◌≡◌, ◌++◌, map, take}
-use Rattle.lra_operations.specs.TreeViews.{site_view}
+use Rattle.lra_report_build.specs.Crates.lra_operations.TreeViews.{site_view}
 use Rattle.lra_report.specs.View.{verdict_of}
 use Rattle.lra_report_build.specs.AnalysisResults.{verdict_at}
 use Rattle.lra_report_build.proofs.listing.push_verdicts.Given as goal

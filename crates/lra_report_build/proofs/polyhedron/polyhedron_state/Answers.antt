@@ -2,8 +2,7 @@
 use Rattle.std.proofs.Common.{◌≡◌, ◌∙◌, ◌<◌, ℤ, suc, List, [], ◌∷◌, ◌++◌, length, sym, ap, subst, arith}
 use Rattle.std.proofs.lemmas.Grind.{common_steps}
 use Rattle.std.specs.List.{All}
-use Rattle.lra_linear_spec.specs.{Range.InRange, declared.ConKind.ConKind, declared.GenKind.GenKind}
-use Rattle.lra_systems.specs.LinearSystems.{LinearSystem}
+use Rattle.lra_report_build.specs.Crates.{lra_linear_spec.Range.InRange, lra_linear_spec.declared.ConKind.ConKind, lra_linear_spec.declared.GenKind.GenKind, lra_systems.LinearSystems.LinearSystem}
 use Rattle.lra_row_text.specs.{Lists.shown_rows, Lists.shown_generators, Part.Part}
 use Rattle.lra_report_build.specs.Polyhedra.{shown_polyhedron, polyhedron_of}
 use Rattle.lra_report_build.proofs.{CanonicalLemmas.shown_canonical, PolyhedronShown.none_shown, PolyhedronShown.some_shown, PolyhedronShown.told_so, PolyhedronShown.spelled_so}

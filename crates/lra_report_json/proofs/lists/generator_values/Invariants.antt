@@ -1,6 +1,6 @@
 use Rattle.std.proofs.Common.{◌≡◌, ◌++◌, drop, map}
 use Rattle.serde_json.specs.{Data.string, View.view}
-use Rattle.lra_systems.specs.LinearSystems.{FitKinds}
+use Rattle.lra_report_json.specs.Crates.lra_systems.LinearSystems.{FitKinds}
 use Rattle.lra_row_text.specs.{Lists.shown_generators, Texts.generator_text}
 use Rattle.lra_report_json.proofs.lists.generator_values.Given as goal
 

@@ -1,7 +1,7 @@
 -- Goals of `add_global`.
 use Rattle.std.proofs.Common.{List, ◌∷◌}
 use Rattle.lra_syntax.specs.{Trees.GlobalTree, Views.global_view}
-use Rattle.lra_resolution_spec.specs.NameFaults.{globals_faults}
+use Rattle.lra_resolve.specs.Crates.lra_resolution_spec.NameFaults.{globals_faults}
 use Rattle.lra_scopes.proofs.Loops.{memory_told_all}
 use Rattle.lra_resolve.proofs.functions.add_global.Goals as goal
 

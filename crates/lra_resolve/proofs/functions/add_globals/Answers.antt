@@ -1,7 +1,7 @@
 -- Goals of `add_globals`.
 use Rattle.std.proofs.Common.{map}
 use Rattle.lra_syntax.specs.Views.{global_view}
-use Rattle.lra_resolution_spec.specs.NameFaults.{globals_faults}
+use Rattle.lra_resolve.specs.Crates.lra_resolution_spec.NameFaults.{globals_faults}
 use Rattle.lra_scopes.proofs.FirstFaults.{exit_tells, rest_tells}
 use Rattle.lra_resolve.proofs.functions.add_globals.Goals as goal
 

@@ -2,7 +2,8 @@
 use Rattle.std.proofs.Common.{◌≡◌, ◌∷◌, ◌++◌, map, take, drop}
 use Rattle.std.specs.List.{flat_map}
 use Rattle.lra_syntax.specs.{Trees.GlobalTree, Views.global_view}
-use Rattle.lra_resolution_spec.specs.{NameFaults.globals_faults, NameFaults.global_names, Resolve.variables_by, Resolve.arrays_by, Scope.global_entry}
+use Rattle.lra_resolve.specs.Crates.lra_resolution_spec.NameFaults.{globals_faults, global_names}
+use Rattle.lra_resolve.specs.Crates.{lra_resolution_spec.Resolve.variables_by, lra_resolution_spec.Resolve.arrays_by, lra_resolution_spec.Scope.global_entry}
 use Rattle.lra_resolve.proofs.functions.add_globals.Given as goal
 
 abbrev pub invariant-globals : goal.invariant-globals

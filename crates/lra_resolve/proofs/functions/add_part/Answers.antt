@@ -1,7 +1,7 @@
 -- Goals of `add_part`.
 use Rattle.std.proofs.Common.{List, ◌∷◌}
 use Rattle.lra_syntax.specs.{Trees.ExternalTree, Views.external_view}
-use Rattle.lra_resolution_spec.specs.NameFaults.{parts_faults}
+use Rattle.lra_resolve.specs.Crates.lra_resolution_spec.NameFaults.{parts_faults}
 use Rattle.lra_scopes.specs.Calls.{functions_at}
 use Rattle.lra_scopes.proofs.FirstFaults.{exit_tells_all}
 use Rattle.lra_resolve.proofs.functions.add_part.Goals as goal

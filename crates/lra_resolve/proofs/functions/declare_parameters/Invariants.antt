@@ -1,7 +1,7 @@
 -- The first parameters are declared; the faults of those that are left are those of all.
 use Rattle.std.proofs.Common.{◌≡◌, [], map, take, drop}
 use Rattle.lra_syntax.specs.declared.trees.Parameter.{Parameter}
-use Rattle.lra_resolution_spec.specs.{NameFaults.parameters_faults, Scope.names_in, Scope.function_scope}
+use Rattle.lra_resolve.specs.Crates.{lra_resolution_spec.NameFaults.parameters_faults, lra_resolution_spec.Scope.names_in, lra_resolution_spec.Scope.function_scope}
 use Rattle.lra_resolve.proofs.functions.declare_parameters.Given as goal
 
 abbrev pub invariant-parameters : goal.invariant-parameters

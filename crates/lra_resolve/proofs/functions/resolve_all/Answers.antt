@@ -2,7 +2,8 @@
 use Rattle.std.proofs.Common.{List, [], ◌++◌, ◌+◌, map, drop, sym, ap, ◌∙◌, append-nil}
 use Rattle.lra_syntax.specs.{Functions.functions_in, Trees.ExternalTree, Views.external_view, declared.trees.ExternalDeclaration.ExternalDeclaration}
 use Rattle.lra_program.specs.ProgramViews.{function_view}
-use Rattle.lra_resolution_spec.specs.{NameFaults.parts_faults, Resolve.globals_in, Resolve.arrays_in, Resolve.resolve_parts}
+use Rattle.lra_resolve.specs.Crates.lra_resolution_spec.NameFaults.{parts_faults}
+use Rattle.lra_resolve.specs.Crates.lra_resolution_spec.Resolve.{globals_in, arrays_in, resolve_parts}
 use Rattle.lra_scopes.specs.Calls.{functions_at}
 use Rattle.lra_resolve_simple.specs.Labelling.{labels_of_functions}
 use Rattle.lra_scopes.proofs.{FirstFaults.exit_tells, FirstFaults.rest_tells, Loops.parts_step, Loops.parts_end}

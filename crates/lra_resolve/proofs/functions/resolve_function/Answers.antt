@@ -2,7 +2,8 @@
 use Rattle.std.proofs.Common.{List, ◌+◌, ◌++◌, ap, ap₂, arith, map, refl, ◌∙◌, ℕ}
 use Rattle.lra_base.specs.declared.refusals.Place.{Place}
 use Rattle.lra_syntax.specs.{Labels.Labelled, Labels.items_labels, Views.function_view as tree_function_view, declared.trees.Parameter.Parameter}
-use Rattle.lra_resolution_spec.specs.{NameFaults.function_faults, Resolve.items_count, Resolve.resolve_items, Scope.Scope, Scope.function_scope}
+use Rattle.lra_resolve.specs.Crates.lra_resolution_spec.Resolve.{items_count, resolve_items}
+use Rattle.lra_resolve.specs.Crates.{lra_resolution_spec.NameFaults.function_faults, lra_resolution_spec.Scope.Scope, lra_resolution_spec.Scope.function_scope}
 use Rattle.lra_scopes.specs.Calls.{functions_at}
 use Rattle.lra_scopes.proofs.Loops.{both_clean, first_told, second_told, wanting_told}
 use Rattle.lra_resolve_simple.proofs.StatementLaws.{block_end}

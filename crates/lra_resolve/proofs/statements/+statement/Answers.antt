@@ -6,7 +6,8 @@ use Rattle.lra_syntax.specs.Views.{items_of, item_view, block_view, cond_view, s
 use Rattle.lra_syntax.specs.{Labels.plain_label, Trees.ItemsTree, Trees.StmtTree, declared.trees.BlockItem.BlockItem, declared.trees.CaseItem.CaseItem, declared.trees.Stmt.Stmt}
 use Rattle.lra_program.specs.ProgramViews.{item_view as program_item_view, stmt_view as program_stmt_view, expr_view as program_expr_view, case_view as program_case_view, cases_of as program_cases_of}
 use Rattle.lra_program.specs.{declared.program.BlockItem.BlockItem as ProgramItem, declared.program.CaseItem.CaseItem as ProgramCase}
-use Rattle.lra_resolution_spec.specs.{NameFaults.Around, NameFaults.items_faults, Resolve.resolve_stmt, Resolve.resolve_items, Resolve.items_count}
+use Rattle.lra_resolve.specs.Crates.lra_resolution_spec.NameFaults.{Around, items_faults}
+use Rattle.lra_resolve.specs.Crates.lra_resolution_spec.Resolve.{resolve_stmt, resolve_items, items_count}
 use Rattle.lra_scopes.specs.Calls.{functions_at}
 use Rattle.lra_resolve_simple.specs.{Labelling.Adds, LoopHeads.rounds_view, LoopHeads.loop_around, Statements.around_of, Statements.followed, Statements.switch_of}
 use Rattle.lra_scopes.proofs.FirstFaults.{tells_front, tells_behind, exit_tells, rest_tells}

@@ -4,7 +4,7 @@ use Rattle.std.proofs.Common.{◌≡◌, ℕ, ◌+◌, ◌*◌, max, map, drop, 
 use Rattle.lra_syntax.specs.{Views.items_of, Views.item_view, Views.cases_of, Views.case_view, declared.trees.Stmt.Stmt}
 use Rattle.lra_syntax.proofs.{trees.Block.TheLaws.the_size as block_size, trees.Cases.TheLaws.the_size as cases_size, trees.Stmt.TheLaws.the_size}
 use Rattle.lra_program.specs.ProgramViews.{item_view as program_item_view}
-use Rattle.lra_resolution_spec.specs.{NameFaults.items_faults, Resolve.resolve_items, Resolve.items_count}
+use Rattle.lra_resolve.specs.Crates.{lra_resolution_spec.NameFaults.items_faults, lra_resolution_spec.Resolve.resolve_items, lra_resolution_spec.Resolve.items_count}
 use Rattle.lra_scopes.specs.{Calls.functions_at, Scopes.Extends}
 use Rattle.lra_resolve_simple.specs.Statements.{around_of, followed}
 use Rattle.lra_resolve_simple.proofs.LabellingLaws.{LeadsOn}

@@ -1,7 +1,7 @@
 -- No function of the parts so far has the name; there are so many of them.
 use Rattle.std.proofs.Common.{◌≡◌, ◌≤◌, ◌+◌, drop}
 use Rattle.lra_syntax.specs.Functions.{function_named}
-use Rattle.lra_resolution_spec.specs.Resolve.{function_place}
+use Rattle.lra_resolve.specs.Crates.lra_resolution_spec.Resolve.{function_place}
 use Rattle.lra_scopes.specs.Calls.{functions_at}
 use Rattle.lra_resolve.proofs.threads.find_alone.Given as goal
 

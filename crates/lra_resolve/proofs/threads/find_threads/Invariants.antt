@@ -1,6 +1,6 @@
 -- The places of the threads so far, and of those from the next one on.
 use Rattle.std.proofs.Common.{◌≡◌, ◌+◌, ◌-◌, ◌++◌, length}
-use Rattle.lra_resolution_spec.specs.Threads.{greatest_threads, thread_places_from}
+use Rattle.lra_resolve.specs.Crates.lra_resolution_spec.Threads.{greatest_threads, thread_places_from}
 use Rattle.lra_scopes.specs.Calls.{functions_at}
 use Rattle.lra_resolve.proofs.threads.find_threads.Given as goal
 

@@ -2,7 +2,7 @@
 -- missing.
 use Rattle.std.proofs.Common.{◌≡◌, ◌<◌, ◌≤◌, List, ap, sym, ◌∙◌, subst}
 use Rattle.lra_syntax.specs.{Functions.functions_of, Views.tree_view, declared.trees.ExternalDeclaration.ExternalDeclaration}
-use Rattle.lra_resolution_spec.specs.Threads.{greatest_threads, thread_places_from, thread_faults}
+use Rattle.lra_resolve.specs.Crates.lra_resolution_spec.Threads.{greatest_threads, thread_places_from, thread_faults}
 use Rattle.lra_scopes.specs.{Calls.functions_at, Outcome.StopsAtFirstFault}
 use Rattle.lra_resolve.proofs.ThreadLaws.{few_told, two_clean}
 use Rattle.lra_resolve.proofs.threads.resolve_threads.Goals as goal

@@ -2,7 +2,8 @@
 use Rattle.std.proofs.{Common.List, Common.◌∷◌, Common.◌+◌, Common.map, Common.drop, Common.subst, Common.sym, Common.ap, Common.◌∙◌, Common.arith, lemmas.List.take_all}
 use Rattle.lra_syntax.specs.{Trees.DeclaratorTree, Views.declarator_view, declared.trees.Declarator.Declarator}
 use Rattle.lra_program.specs.{Program.BlockItems, ProgramViews.item_view}
-use Rattle.lra_resolution_spec.specs.{NameFaults.declarators_faults, Resolve.resolve_declarators, Scope.Scope, Scope.with_declarators}
+use Rattle.lra_resolve_simple.specs.Crates.lra_resolution_spec.Scope.{Scope, with_declarators}
+use Rattle.lra_resolve_simple.specs.Crates.{lra_resolution_spec.NameFaults.declarators_faults, lra_resolution_spec.Resolve.resolve_declarators}
 use Rattle.lra_scopes.specs.Calls.{functions_at}
 use Rattle.lra_resolve_simple.specs.{Labelling.Declares, Statements.followed}
 use Rattle.lra_scopes.proofs.{FirstFaults.exit_tells, FirstFaults.rest_tells, Loops.parts_step, Loops.parts_end}

@@ -2,7 +2,7 @@
 use Rattle.std.proofs.Common.{◌≡◌, ◌+◌, ◌∷◌, suc, map, take, drop}
 use Rattle.lra_program.specs.{Program.BlockItems, ProgramViews.item_view}
 use Rattle.lra_syntax.specs.Views.{declarator_view}
-use Rattle.lra_resolution_spec.specs.{NameFaults.declarators_faults, Resolve.resolve_declarators, Scope.with_declarators}
+use Rattle.lra_resolve_simple.specs.Crates.{lra_resolution_spec.NameFaults.declarators_faults, lra_resolution_spec.Resolve.resolve_declarators, lra_resolution_spec.Scope.with_declarators}
 use Rattle.lra_scopes.specs.Calls.{functions_at}
 use Rattle.lra_resolve_simple.specs.{Labelling.Declares, Statements.followed}
 use Rattle.lra_resolve_simple.proofs.declarations.add_declaration.Given as goal

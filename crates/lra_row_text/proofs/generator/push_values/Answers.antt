@@ -1,6 +1,6 @@
 -- Goals of `push_values`: appends the values of the variables.
 use Rattle.std.proofs.Common.{arith, string_bytes, nat_abs, ap, ◌∙◌, ◌++◌, codes}
-use Rattle.lra_linear_spec.specs.Vectors.{entry}
+use Rattle.lra_row_text.specs.Crates.lra_linear_spec.Vectors.{entry}
 use Rattle.lra_row_text.specs.Texts.{value_text}
 use Rattle.lra_row_text.proofs.Values.{value_step, values_end}
 use Rattle.lra_row_text.proofs.generator.push_values.Goals as goal

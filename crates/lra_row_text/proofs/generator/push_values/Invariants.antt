@@ -1,5 +1,5 @@
 use Rattle.std.proofs.Common.{◌≡◌, ◌+◌, ◌++◌, drop, map, nat_abs, string_bytes}
-use Rattle.lra_linear_spec.specs.Vectors.{entry}
+use Rattle.lra_row_text.specs.Crates.lra_linear_spec.Vectors.{entry}
 use Rattle.lra_row_text.specs.Texts.{value_text, values_text}
 use Rattle.lra_row_text.proofs.generator.push_values.Given as goal
 

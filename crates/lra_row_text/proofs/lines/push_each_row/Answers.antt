@@ -1,6 +1,6 @@
 -- Goals of `push_each_row`: appends the lines of all rows.
 use Rattle.std.proofs.Common.{arith, get_or}
-use Rattle.lra_linear_spec.specs.declared.ConKind.TheVariants as con
+use Rattle.lra_row_text.specs.Crates.lra_linear_spec.declared.ConKind.TheVariants as con
 use Rattle.lra_row_text.proofs.Lists.{drop_front, drop_at, row_step, rows_end}
 use Rattle.lra_row_text.specs.{Lines.row_line, Shown.report_row}
 use Rattle.lra_row_text.proofs.lines.push_each_row.Goals as goal

@@ -1,6 +1,6 @@
 -- Goals of `push_generators`: appends the lines of the generators.
 use Rattle.std.proofs.Common.{arith, get_or}
-use Rattle.lra_linear_spec.specs.declared.GenKind.TheVariants as gen
+use Rattle.lra_row_text.specs.Crates.lra_linear_spec.declared.GenKind.TheVariants as gen
 use Rattle.lra_row_text.proofs.Lists.{drop_front, drop_at, row_step, rows_end, first_fits, further_fit}
 use Rattle.lra_row_text.specs.{Lines.generator_line, Shown.report_generator}
 use Rattle.lra_row_text.proofs.lines.push_generators.Goals as goal

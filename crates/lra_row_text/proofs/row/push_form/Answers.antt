@@ -1,6 +1,6 @@
 -- Goals of `push_form`: appends the terms of the coefficients.
 use Rattle.std.proofs.Common.{refl, ◌+◌, arith, string_bytes, ap, ◌∙◌, ◌++◌, ◌∷◌, []}
-use Rattle.lra_linear_spec.specs.Vectors.{entry}
+use Rattle.lra_row_text.specs.Crates.lra_linear_spec.Vectors.{entry}
 use Rattle.lra_row_text.specs.{Shown.rest_text, Texts.negated_if}
 use Rattle.lra_row_text.proofs.Terms.{term_step, terms_end}
 use Rattle.lra_row_text.proofs.row.push_form.Goals as goal

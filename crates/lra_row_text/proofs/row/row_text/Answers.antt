@@ -1,7 +1,7 @@
 -- Goals of `row_text`.
 use Rattle.std.proofs.{Common.◌≡◌, Common.ap, Common.ap₂, Common.sym, Common.◌∙◌, Common.arith, Common.rules, Common.string_bytes, Common.FitsSigned, lemmas.Int.to_z-of_z}
 use Rattle.std.specs.Int.{w128, cast_signed}
-use Rattle.lra_linear_spec.specs.{Vectors.entry, declared.ConKind.ConKind}
+use Rattle.lra_row_text.specs.Crates.{lra_linear_spec.Vectors.entry, lra_linear_spec.declared.ConKind.ConKind}
 use Rattle.lra_row_text.specs.Texts.{relation_text}
 use Rattle.lra_row_text.proofs.RowTexts.{no_entry, pieces_make}
 use Rattle.lra_row_text.proofs.row.row_text.Goals.{in-Eq-default, in-Ge-true, in-Ge-false, then-width-gt0, else-width-gt0}

@@ -1,6 +1,6 @@
 -- Goals of `push_plain_rows`: appends the rows, each on a line.
 use Rattle.std.proofs.Common.{arith, get_or}
-use Rattle.lra_linear_spec.specs.declared.ConKind.TheVariants as con
+use Rattle.lra_row_text.specs.Crates.lra_linear_spec.declared.ConKind.TheVariants as con
 use Rattle.lra_row_text.proofs.Lists.{drop_front, drop_at, row_step, rows_end}
 use Rattle.lra_row_text.specs.{Shown.report_row, Whole.plain_row}
 use Rattle.lra_row_text.proofs.whole.push_plain_rows.Goals as goal

@@ -2,7 +2,7 @@
 use Rattle.std.proofs.Common.{rules, ◌≡◌, ℕ, Bor, List, [], ◌∷◌, ◌++◌, get_or, refl, sym, FitsSigned}
 use Rattle.std.proofs.{lemmas.Int.to_z-of_z, lemmas.List.Elements.All-append, lemmas.List.Elements.All-cons, lemmas.List.Elements.All-nil}
 use Rattle.std.specs.Int.{w128}
-use Rattle.lra_linear_spec.specs.Range.{InRange}
+use Rattle.lra_script.specs.Crates.lra_linear_spec.Range.{InRange}
 use Rattle.lra_script.specs.ScriptText.{number_of}
 use Rattle.lra_script.proofs.AllOf.{all_later}
 use Rattle.lra_script.proofs.numbers.numbers_of.Goals as goal

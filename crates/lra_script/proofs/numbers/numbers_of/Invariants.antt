@@ -1,6 +1,6 @@
 use Rattle.std.proofs.Common.{◌≡◌, drop}
 use Rattle.std.specs.List.{All}
-use Rattle.lra_linear_spec.specs.Range.{InRange}
+use Rattle.lra_script.specs.Crates.lra_linear_spec.Range.{InRange}
 use Rattle.lra_script.specs.{LineForms.all_of, ScriptText.number_of, Views.texts}
 use Rattle.lra_script.proofs.AllOf.{onto}
 use Rattle.lra_script.proofs.numbers.numbers_of.Given as goal

@@ -1,5 +1,5 @@
 use Rattle.std.specs.List.{All}
-use Rattle.lra_linear_spec.specs.Range.{InRange}
+use Rattle.lra_tests_cones.specs.Crates.lra_linear_spec.Range.{InRange}
 use Rattle.lra_tests_cones.proofs.cone.row_of.Given as goal
 
 abbrev pub invariant-loop-number : goal.invariant-loop-number

@@ -1,7 +1,7 @@
 -- Goals of `accesses_nothing`.
 use Rattle.std.proofs.{Common.◌≡◌, Common.◌∙◌, Common.length, Common.map, Common.ap, Common.arith, lemmas.Grind.common_steps}
 use Rattle.lra_operations.specs.TreeViews.{node_view}
-use Rattle.lra_operations_list.specs.TreeOperations.{op_at_point_view}
+use Rattle.lra_tests_operations.specs.Crates.lra_operations_list.TreeOperations.{op_at_point_view}
 use Rattle.lra_tests_operations.proofs.Silent.{silent_more, silent_tree, none_listed}
 use Rattle.lra_tests_operations.proofs.listings.accesses_nothing.Goals as goal
 

@@ -1,6 +1,5 @@
 -- Goals of `writes_report`.
-use Rattle.lra_syntax.specs.Views.{tree_view}
-use Rattle.lra_program.specs.ProgramViews.{program_view}
+use Rattle.lra_tests_operations.specs.Crates.{lra_program.ProgramViews.program_view, lra_syntax.Views.tree_view}
 use Rattle.lra_operations.specs.TreeViews.{node_view}
 use Rattle.lra_tests_operations.proofs.{Given.graph_there, Given.sites_there, Silent.silent_trees}
 use Rattle.lra_tests_operations.proofs.listings.writes_report.Goals as goal

@@ -1,6 +1,5 @@
 -- Goals of `program_of`: the program of such a tree, and the table of its labels.
-use Rattle.lra_syntax.specs.Views.{tree_view}
-use Rattle.lra_program.specs.ProgramViews.{program_view}
+use Rattle.lra_tests_operations.specs.Crates.{lra_program.ProgramViews.program_view, lra_syntax.Views.tree_view}
 use Rattle.lra_tests_operations.proofs.Reading.{resolved_well}
 use Rattle.lra_tests_operations.proofs.sources.program_of.Goals as goal
 

@@ -1,8 +1,7 @@
 -- Goals of `tree_of`: the tree of a source.
 use Rattle.std.proofs.Common.{sym, subst}
-use Rattle.lra_syntax.specs.Views.{tree_view}
-use Rattle.lra_parser_spec.specs.Files.{EndsOnce}
-use Rattle.lra_parser_spec.proofs.Ended.{lexed_end}
+use Rattle.lra_tests_operations.specs.Crates.{lra_parser_spec.Files.EndsOnce, lra_syntax.Views.tree_view}
+use Rattle.lra_tests_operations.proofs.Crates.lra_parser_spec.Ended.{lexed_end}
 use Rattle.lra_tests_operations.proofs.Reading.{read_small}
 use Rattle.lra_tests_operations.proofs.sources.tree_of.Goals as goal
 

@@ -1,7 +1,7 @@
 -- Goals of `instrument_tree`: what is next, in the places that are open, becomes the whole tree.
 use Rattle.std.proofs.Common.{◌∙◌, ap, subst}
 use Rattle.lra_operations.specs.TreeViews.{node_view}
-use Rattle.lra_analysis_spec.specs.Instrumented.{instrumented}
+use Rattle.lra_threads_instrument.specs.Crates.lra_analysis_spec.Instrumented.{instrumented}
 use Rattle.lra_threads_instrument.specs.{Instrumented.all_around, StepsLeft.InstrumentStepReaches}
 use Rattle.lra_threads_instrument.proofs.trees.instrument_tree.Goals as goal
 

@@ -1,6 +1,6 @@
 use Rattle.std.proofs.Common.{◌≡◌, ◌+◌}
 use Rattle.lra_operations.specs.TreeViews.{node_view}
-use Rattle.lra_analysis_spec.specs.Instrumented.{instrumented}
+use Rattle.lra_threads_instrument.specs.Crates.lra_analysis_spec.Instrumented.{instrumented}
 use Rattle.lra_threads_instrument.specs.{Instrumented.all_around, Instrumented.standing, StepsLeft.all_left, StepsLeft.next_left}
 use Rattle.lra_threads_instrument.proofs.trees.instrument_tree.Given as goal
 

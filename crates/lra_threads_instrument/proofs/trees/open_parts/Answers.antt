@@ -3,7 +3,7 @@ use Rattle.std.proofs.Common.{◌∙◌, ap, sym, arith, refl}
 use Rattle.lra_operations.specs.{Parts.whole_of, Sizes.whole_size, TreeViews.node_view, declared.tree.Node.Node}
 use Rattle.lra_operations.specs.declared.tree.Node.TheVariants as at
 use Rattle.lra_operations.specs.declared.tree.Parts.TheVariants as parts
-use Rattle.lra_analysis_spec.specs.Instrumented.{instrumented}
+use Rattle.lra_threads_instrument.specs.Crates.lra_analysis_spec.Instrumented.{instrumented}
 use Rattle.lra_threads_instrument.specs.Instrumented.{around}
 use Rattle.lra_threads_instrument.specs.declared.stack.InstrumentFrame.TheVariants.{First, Body, Catch}
 use Rattle.lra_threads_instrument.proofs.{OpenFrames.leaf_leads, OpenFrames.parts_lead, OpenFrames.select_leads, PartViews.view_of}

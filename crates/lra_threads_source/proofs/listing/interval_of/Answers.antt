@@ -1,8 +1,7 @@
 -- Goals of `interval_of`: the interval of a global in a row.
 use Rattle.std.proofs.Common.{◌≡◌, ◌≤◌, ◌<◌, ℕ, zero, suc, [], ◌∷◌, length, get_or, refl, arith}
 use Rattle.std.specs.Prelude.{Option, None}
-use Rattle.lra_box.specs.declared.interval.Interval.{Interval}
-use Rattle.lra_threads_fixpoint.specs.{Interference.interval_at, Intervals.IntervalRow}
+use Rattle.lra_threads_source.specs.Crates.{lra_box.declared.interval.Interval.Interval, lra_threads_fixpoint.Interference.interval_at, lra_threads_fixpoint.Intervals.IntervalRow}
 use Rattle.lra_threads_source.proofs.listing.interval_of.Goals as goal
 
 past_row : (row : IntervalRow) (x : ℕ) → length row ≤ x → None ≡ interval_at x row

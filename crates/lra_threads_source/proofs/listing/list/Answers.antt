@@ -1,8 +1,6 @@
 -- Goals of `list`: the report of all threads.
 use Rattle.std.proofs.Common.{◌∙◌, ℕ, List, ap}
-use Rattle.lra_syntax.specs.Views.{tree_view}
-use Rattle.lra_resolution_spec.specs.LiveNames.{globals_named}
-use Rattle.lra_threads_fixpoint.specs.Intervals.{IntervalTable}
+use Rattle.lra_threads_source.specs.Crates.{lra_resolution_spec.LiveNames.globals_named, lra_syntax.Views.tree_view, lra_threads_fixpoint.Intervals.IntervalTable}
 use Rattle.lra_threads_source.specs.Listed.{one_by_one, reported_writes}
 use Rattle.lra_threads_source.proofs.PointNumbers.{flag_number}
 use Rattle.lra_threads_source.proofs.listing.list.Goals as goal

@@ -1,6 +1,6 @@
 -- Goals of `list_threads`: the points of all threads.
 use Rattle.std.proofs.{Common.length, Common.map, Common.refl, lemmas.Option.slice_get_read}
-use Rattle.lra_syntax.specs.Views.{tree_view}
+use Rattle.lra_threads_source.specs.Crates.lra_syntax.Views.{tree_view}
 use Rattle.lra_report.specs.View.{point_report_of}
 use Rattle.lra_threads_source.proofs.Pushing.{shows_more}
 use Rattle.lra_threads_source.proofs.listing.list_threads.Goals as goal

@@ -1,6 +1,6 @@
 -- The verdicts so far and those on the threads that are left are all.
 use Rattle.std.proofs.Common.{◌≡◌, ◌++◌, map, drop}
-use Rattle.lra_syntax.specs.Views.{tree_view}
+use Rattle.lra_threads_source.specs.Crates.lra_syntax.Views.{tree_view}
 use Rattle.lra_report.specs.View.{verdict_of}
 use Rattle.lra_threads_source.specs.Listed.{accesses_alone, one_by_one, reported_verdicts}
 use Rattle.lra_threads_source.proofs.listing.push_accesses.Given as goal

@@ -1,10 +1,9 @@
 -- Goals of `push_assertions`: what is judged of the assertions of one thread more.
 use Rattle.std.proofs.Common.{◌∙◌, ◌++◌, ℕ, suc, Bool, List, length, map, refl, ap, append-nil, arith}
 use Rattle.std.proofs.lemmas.Option.{slice_get_read}
-use Rattle.lra_syntax.specs.{Labels.labels_of, Views.tree_view}
+use Rattle.lra_threads_source.specs.Crates.{lra_report_build.AnalysisResults.verdict_at, lra_syntax.Labels.labels_of, lra_syntax.Views.tree_view}
 use Rattle.lra_report.specs.Report as report
 use Rattle.lra_report.specs.{View.verdict_of, declared.verdict_kinds.VerdictKind.TheVariants.Assertion}
-use Rattle.lra_report_build.specs.AnalysisResults.{verdict_at}
 use Rattle.lra_threads_source.specs.Listed.{assertions_alone, points_before, thread_sites, verdict_in_thread, reported_verdicts}
 use Rattle.lra_threads_source.proofs.InTurn.{turn_more}
 use Rattle.lra_threads_source.proofs.listing.push_assertions.Goals as goal

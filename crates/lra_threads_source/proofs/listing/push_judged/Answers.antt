@@ -1,8 +1,7 @@
 -- Goals of `push_judged`: what is judged of one thread more.
 use Rattle.std.proofs.{Common.◌≡◌, Common.◌∙◌, Common.◌++◌, Common.ℕ, Common.suc, Common.length, Common.map, Common.refl, Common.sym, Common.ap, Common.subst, lemmas.Option.slice_get_read}
 use Rattle.std.specs.List.{AllByRecursion}
-use Rattle.lra_syntax.specs.Views.{tree_view}
-use Rattle.lra_operations.specs.{TreeViews.site_view, declared.tree.InlinedProgram.InlinedProgram}
+use Rattle.lra_threads_source.specs.Crates.{lra_operations.TreeViews.site_view, lra_operations.declared.tree.InlinedProgram.InlinedProgram, lra_syntax.Views.tree_view}
 use Rattle.lra_report.specs.Report as report
 use Rattle.lra_report.specs.View.{verdict_of}
 use Rattle.lra_threads_source.specs.{Listed.points_before, Listed.verdict_in_thread, Stages.CanFollow, Stages.judged_alone, Stages.points_in}

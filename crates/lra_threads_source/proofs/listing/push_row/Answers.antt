@@ -2,8 +2,7 @@
 use Rattle.std.proofs.Common.{◌∙◌, ◌<◌, ◌++◌, ℕ, List, map, string_bytes, sym, ap, ap₂, subst}
 use Rattle.std.proofs.lemmas.List.{get_or-map, length-map}
 use Rattle.std.specs.Prelude.{Option}
-use Rattle.lra_box.specs.declared.interval.Interval.{Interval}
-use Rattle.lra_threads_fixpoint.specs.Interference.{interval_at}
+use Rattle.lra_threads_source.specs.Crates.{lra_box.declared.interval.Interval.Interval, lra_threads_fixpoint.Interference.interval_at}
 use Rattle.lra_threads_source.specs.{Listed.reported_write, ThreadsView.writes_of}
 use Rattle.lra_threads_source.proofs.InTurn.{turn_more}
 use Rattle.lra_threads_source.proofs.listing.push_row.Goals as goal

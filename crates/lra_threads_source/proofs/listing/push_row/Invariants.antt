@@ -1,6 +1,6 @@
 -- What is written so far and what is left are all.
 use Rattle.std.proofs.Common.{◌≡◌, ◌++◌, ℕ, suc, map, drop, string_bytes}
-use Rattle.lra_threads_fixpoint.specs.Interference.{interval_at}
+use Rattle.lra_threads_source.specs.Crates.lra_threads_fixpoint.Interference.{interval_at}
 use Rattle.lra_threads_source.specs.{Listed.one_by_one, Listed.reported_write, Listed.reported_writes, ThreadsView.writes_of}
 use Rattle.lra_threads_source.proofs.listing.push_row.Given as goal
 

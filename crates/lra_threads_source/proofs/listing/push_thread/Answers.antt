@@ -1,7 +1,6 @@
 -- Goals of `push_thread`: the points of one thread more.
 use Rattle.std.proofs.{Common.◌∙◌, Common.length, Common.map, Common.refl, Common.sym, Common.ap, Common.arith, lemmas.List.length-map, lemmas.Option.slice_get_read}
-use Rattle.lra_syntax.specs.Views.{tree_view}
-use Rattle.lra_operations.specs.{TreeViews.site_view, declared.tree.InlinedProgram.InlinedProgram}
+use Rattle.lra_threads_source.specs.Crates.{lra_operations.TreeViews.site_view, lra_operations.declared.tree.InlinedProgram.InlinedProgram, lra_syntax.Views.tree_view}
 use Rattle.lra_report.specs.Report as report
 use Rattle.lra_report.specs.View.{point_report_of}
 use Rattle.lra_threads_analysis.specs.Found.{sites_in, thread_values}

@@ -1,7 +1,7 @@
 -- Goals of `open_graphs`: one graph more is instrumented.
 use Rattle.std.proofs.{Common.◌++◌, Common.◌∷◌, Common.[], Common.List, Common.sym, Common.subst, lemmas.List.Elements.AllZip-push}
 use Rattle.std.specs.List.{AllZip}
-use Rattle.lra_operations.specs.declared.tree.InlinedProgram.{InlinedProgram}
+use Rattle.lra_threads_source.specs.Crates.lra_operations.declared.tree.InlinedProgram.{InlinedProgram}
 use Rattle.lra_threads_source.specs.Stages.{IsInstrumented}
 use Rattle.lra_threads_source.proofs.threads_report.open_graphs.Goals as goal
 

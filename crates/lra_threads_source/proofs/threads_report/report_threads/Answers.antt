@@ -1,11 +1,8 @@
 -- Goals of `report_threads`: what rounds find of the threads of what was read.
 use Rattle.std.proofs.Common.{◌≡◌, ℕ, List, length, sym, subst}
 use Rattle.std.specs.List.{AllZip}
-use Rattle.lra_syntax.specs.Views.{tree_view}
-use Rattle.lra_program.specs.declared.program.GlobalVariable.{GlobalVariable}
-use Rattle.lra_operations.specs.declared.tree.InlinedProgram.{InlinedProgram}
-use Rattle.lra_front_end.specs.declared.threads_front.AcceptedThreads.{AcceptedThreads}
-use Rattle.lra_threads_fixpoint.specs.Found.{fixpoint_view}
+use Rattle.lra_threads_source.specs.Crates.{lra_front_end.declared.threads_front.AcceptedThreads.AcceptedThreads, lra_operations.declared.tree.InlinedProgram.InlinedProgram}
+use Rattle.lra_threads_source.specs.Crates.{lra_program.declared.program.GlobalVariable.GlobalVariable, lra_syntax.Views.tree_view, lra_threads_fixpoint.Found.fixpoint_view}
 use Rattle.lra_threads_source.specs.{Stages.AreThreadsInstrumented, Stages.IsInstrumented, Stages.IsReadOf, ThreadsView.threads_report_of}
 use Rattle.lra_threads_source.proofs.Answered.{answered, flag_handed, found_handed, globals_seen, graphs_handed, ready}
 use Rattle.lra_threads_source.proofs.threads_report.report_threads.Goals as goal

@@ -1,6 +1,6 @@
 -- Goals of the functions that call each other around `change_in_turn`: `returns`.
 use Rattle.std.proofs.{Common.◌≡◌, Common.◌∷◌, Common.ap, Common.arith, lemmas.Grind.common_steps}
-use Rattle.lra_domain.specs.Changes.{action_of, actions_of}
+use Rattle.lra_transfer.specs.Crates.lra_domain.Changes.{action_of, actions_of}
 use Rattle.lra_transfer.proofs.ChangeSteps.{done_one, turn_more}
 use Rattle.lra_transfer.proofs.cases.+change_in_turn.Goals as goal
 

@@ -1,6 +1,6 @@
 -- Goals of `change_in_case`: it begins so, then comes the change, then the two variables go.
 use Rattle.std.proofs.Common.{◌≡◌, ◌+◌, ℕ, sym, ap, subst, ◌∙◌, arith}
-use Rattle.lra_domain.specs.{Actions.remove_last, Actions.dims_after, Changes.CanBeMade, Changes.action_of, Changes.actions_of}
+use Rattle.lra_transfer.specs.Crates.{lra_domain.Actions.remove_last, lra_domain.Actions.dims_after, lra_domain.Changes.CanBeMade, lra_domain.Changes.action_of, lra_domain.Changes.actions_of}
 use Rattle.lra_transfer.proofs.ChangeSteps.{done_one, case_made}
 use Rattle.lra_transfer.proofs.cases.change_in_case.Goals as goal
 

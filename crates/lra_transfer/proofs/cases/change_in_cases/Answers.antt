@@ -1,6 +1,6 @@
 -- Goals of `change_in_cases`: the change in both cases, joined in order.
 use Rattle.std.proofs.Common.{sym, ◌∙◌}
-use Rattle.lra_domain.specs.Changes.{action_of}
+use Rattle.lra_transfer.specs.Crates.lra_domain.Changes.{action_of}
 use Rattle.lra_transfer.proofs.ChangeSteps.{cases_made}
 use Rattle.lra_transfer.proofs.cases.change_in_cases.Goals as goal
 

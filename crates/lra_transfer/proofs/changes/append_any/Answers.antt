@@ -1,6 +1,6 @@
 -- Goals of `append_any`: a new variable of this type, with any value.
 use Rattle.std.proofs.Common.{◌≡◌, ◌+◌, suc, ◌∙◌, arith}
-use Rattle.lra_domain.specs.{Actions.embed, Moves.make}
+use Rattle.lra_transfer.specs.Crates.{lra_domain.Actions.embed, lra_domain.Moves.make}
 use Rattle.lra_transfer.proofs.ChangeSteps.{done_one, held_as}
 use Rattle.lra_transfer.proofs.changes.append_any.Goals as goal
 

@@ -1,7 +1,7 @@
 -- Goals of `give`: the target's variable gets the expression's value.
 use Rattle.std.proofs.Common.{refl}
 use Rattle.lra_program.specs.{ProgramViews.expr_view, declared.receivers.Cell.TheVariants.Variable, declared.receivers.Cell.TheVariants.Waiting}
-use Rattle.lra_analysis_spec.specs.{Linearization.linearized, MovesOf.set_to}
+use Rattle.lra_transfer.specs.Crates.{lra_analysis_spec.Linearization.linearized, lra_analysis_spec.MovesOf.set_to}
 use Rattle.lra_transfer.proofs.ChangeSteps.{variable_below, cell_as, done_none, held_as}
 use Rattle.lra_transfer.proofs.changes.give.Goals as goal
 

@@ -1,8 +1,7 @@
 -- Goals of `give_any_value`: the target's variable gets any value of its type.
 use Rattle.std.proofs.Common.{refl}
-use Rattle.lra_domain.specs.{Actions.forget, Moves.make}
+use Rattle.lra_transfer.specs.Crates.{lra_analysis_spec.declared.linearization.Linearized.TheVariants.Unseen, lra_domain.Actions.forget, lra_domain.Moves.make}
 use Rattle.lra_program.specs.declared.receivers.Cell.TheVariants.{Variable, Waiting}
-use Rattle.lra_analysis_spec.specs.declared.linearization.Linearized.TheVariants.{Unseen}
 use Rattle.lra_transfer.proofs.ChangeSteps.{variable_below, cell_as, done_none, done_one, held_as}
 use Rattle.lra_transfer.proofs.changes.give_any_value.Goals as goal
 

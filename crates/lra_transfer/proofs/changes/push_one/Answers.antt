@@ -1,6 +1,6 @@
 -- Goals of `push_one`: a new variable of its parameter's type, with the value of an argument.
 use Rattle.std.proofs.Common.{◌≡◌, ◌+◌, suc, ◌∙◌, arith}
-use Rattle.lra_analysis_spec.specs.{Linearization.linearized, MovesOf.append_set}
+use Rattle.lra_transfer.specs.Crates.{lra_analysis_spec.Linearization.linearized, lra_analysis_spec.MovesOf.append_set}
 use Rattle.lra_program.specs.ProgramViews.{expr_view}
 use Rattle.lra_transfer.proofs.ChangeSteps.{done_append, held_as}
 use Rattle.lra_transfer.proofs.changes.push_one.Goals as goal

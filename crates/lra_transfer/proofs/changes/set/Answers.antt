@@ -1,7 +1,7 @@
 -- Goals of `set`: the variable at the place gets the expression's value, as far as it is seen.
 use Rattle.std.proofs.Common.{◌≡◌, ℕ, sym, ap, ◌∙◌}
 use Rattle.lra_program.specs.ProgramViews.{expr_view}
-use Rattle.lra_analysis_spec.specs.{Linearization.linearized, declared.linearization.Linearized.TheVariants.Divided}
+use Rattle.lra_transfer.specs.Crates.{lra_analysis_spec.Linearization.linearized, lra_analysis_spec.declared.linearization.Linearized.TheVariants.Divided}
 use Rattle.lra_transfer.proofs.ChangeSteps.{set_as, seen_width, seen_divides}
 use Rattle.lra_transfer.proofs.changes.set.Goals as goal
 

@@ -1,8 +1,7 @@
 -- Goals of `filter_comparison`: what a comparison leaves of the value.
 use Rattle.std.proofs.Common.{◌≡◌, sym, ap, ◌∙◌, ℕ}
 use Rattle.lra_program.specs.ProgramViews.{expr_view}
-use Rattle.lra_base.specs.OperatorViews.{comparison_view}
-use Rattle.lra_analysis_spec.specs.{Linearization.linearized_difference, MovesOf.comparison_moves}
+use Rattle.lra_transfer.specs.Crates.{lra_analysis_spec.Linearization.linearized_difference, lra_analysis_spec.MovesOf.comparison_moves, lra_base.OperatorViews.comparison_view}
 use Rattle.lra_transfer.proofs.{ChangeSteps.difference_fits, SideSteps.leaves_as}
 use Rattle.lra_transfer.proofs.comparisons.filter_comparison.Goals as goal
 

@@ -1,8 +1,8 @@
 -- Goals of `leave_difference`: what a comparison leaves of the value; all of it where nothing is seen of the difference.
 use Rattle.std.proofs.Common.{refl}
-use Rattle.lra_base.specs.OperatorViews.{comparison_view}
-use Rattle.lra_analysis_spec.specs.{MovesOf.split_moves, MovesOf.comparison_moves, Operations.lossy_operations}
-use Rattle.lra_analysis_spec.proofs.Takes.{stay_takes}
+use Rattle.lra_transfer.specs.Crates.lra_analysis_spec.MovesOf.{split_moves, comparison_moves}
+use Rattle.lra_transfer.specs.Crates.{lra_analysis_spec.Operations.lossy_operations, lra_base.OperatorViews.comparison_view}
+use Rattle.lra_transfer.proofs.Crates.lra_analysis_spec.Takes.{stay_takes}
 use Rattle.lra_transfer.proofs.{CompareSteps.split_as, SideSteps.leaves_as}
 use Rattle.lra_transfer.proofs.comparisons.leave_difference.Goals as goal
 

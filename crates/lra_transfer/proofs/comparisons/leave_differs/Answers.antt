@@ -1,9 +1,8 @@
 -- Goals of `leave_differs`: what `<` or `>` leaves of the value.
 use Rattle.std.proofs.Common.{refl, sym, ◌∙◌}
-use Rattle.lra_base.specs.Operators.{below, above}
-use Rattle.lra_domain.specs.Abstraction.{worse}
-use Rattle.lra_analysis_spec.specs.{MovesOf.linearized_moves, Operations.lossy_operations}
-use Rattle.lra_analysis_spec.proofs.Takes.{join_takes}
+use Rattle.lra_transfer.specs.Crates.lra_analysis_spec.Operations.{lossy_operations}
+use Rattle.lra_transfer.specs.Crates.{lra_analysis_spec.MovesOf.linearized_moves, lra_base.Operators.below, lra_base.Operators.above, lra_domain.Abstraction.worse}
+use Rattle.lra_transfer.proofs.Crates.lra_analysis_spec.Takes.{join_takes}
 use Rattle.lra_transfer.proofs.comparisons.leave_differs.Goals as goal
 
 pub returns-clause-leaves : goal.returns-clause-leaves

@@ -1,8 +1,7 @@
 -- Goals of `leave_divided`: what the test leaves in both cases of the division.
 use Rattle.std.proofs.Common.{◌≡◌, None, Some, refl, sym, ◌∙◌}
-use Rattle.lra_base.specs.OperatorViews.{comparison_view}
-use Rattle.lra_analysis_spec.specs.{Linear.comparison_test, Operations.lossy_operations}
-use Rattle.lra_analysis_spec.proofs.Takes.{stay_takes}
+use Rattle.lra_transfer.specs.Crates.{lra_analysis_spec.Linear.comparison_test, lra_analysis_spec.Operations.lossy_operations, lra_base.OperatorViews.comparison_view}
+use Rattle.lra_transfer.proofs.Crates.lra_analysis_spec.Takes.{stay_takes}
 use Rattle.lra_transfer.proofs.ChangeSteps.{test_stays}
 use Rattle.lra_transfer.proofs.comparisons.leave_divided.Goals as goal
 

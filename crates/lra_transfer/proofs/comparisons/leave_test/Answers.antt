@@ -1,7 +1,7 @@
 -- Goals of `leave_test`: what the comparison's test leaves of the value, by what is seen of its difference.
 use Rattle.std.proofs.Common.{refl}
-use Rattle.lra_analysis_spec.specs.Operations.{lossy_operations}
-use Rattle.lra_analysis_spec.proofs.Takes.{stay_takes}
+use Rattle.lra_transfer.specs.Crates.lra_analysis_spec.Operations.{lossy_operations}
+use Rattle.lra_transfer.proofs.Crates.lra_analysis_spec.Takes.{stay_takes}
 use Rattle.lra_transfer.proofs.comparisons.leave_test.Goals as goal
 
 pub leave_linear-requires-clause-width : goal.leave_linear-requires-clause-width

@@ -1,9 +1,9 @@
 -- Goals of the functions that call each other around `filter_condition`: `filter_condition`, `leave_all`, `leave_any`, `leave_in_turn`, `leave_either`.
 use Rattle.std.proofs.Common.{rules, arith, ◌≤◌, length, map, Bool, true, false, sym, ap, ◌∙◌}
 use Rattle.std.specs.Prelude.{not}
-use Rattle.lra_base.specs.{OperatorViews.comparison_view, Operators.Comparison}
+use Rattle.lra_transfer.specs.Crates.lra_analysis_spec.MovesOf.{comparison_moves, guard}
+use Rattle.lra_transfer.specs.Crates.{lra_analysis_spec.Linearization.linearized_difference, lra_base.OperatorViews.comparison_view, lra_base.Operators.Comparison}
 use Rattle.lra_program.specs.{Program.nonzero, ProgramViews.all_of, ProgramViews.any_of, ProgramViews.cond_view, ProgramViews.expr_view}
-use Rattle.lra_analysis_spec.specs.{Linearization.linearized_difference, MovesOf.comparison_moves, MovesOf.guard}
 use Rattle.lra_linearize.specs.Conditions.{in_turn_of, either_of}
 use Rattle.lra_linearize.proofs.{CondSizes.size_in, CondSteps.all_true, CondSteps.any_false, CondSteps.all_false, CondSteps.any_true}
 use Rattle.lra_transfer.proofs.ChainSteps.{turned_on, turned_all, either_all, size_among}

@@ -1,6 +1,6 @@
 -- Goals of `append_global`: a new variable, with the global's first value.
 use Rattle.std.proofs.Common.{◌≡◌, ◌+◌, suc, ◌∙◌, arith}
-use Rattle.lra_analysis_spec.specs.{Linear.constant_form, MovesOf.append_set, declared.linearization.Linearized.TheVariants.Linear}
+use Rattle.lra_transfer.specs.Crates.{lra_analysis_spec.Linear.constant_form, lra_analysis_spec.MovesOf.append_set, lra_analysis_spec.declared.linearization.Linearized.TheVariants.Linear}
 use Rattle.lra_transfer.proofs.{ChangeSteps.held_as, GlobalSteps.constant_wide, GlobalSteps.appended}
 use Rattle.lra_transfer.proofs.globals.append_global.Goals as goal
 

@@ -1,11 +1,9 @@
 -- Goals of `take_all_dead`: the paths along which nothing goes, in order.
 use Rattle.std.proofs.Common.{◌+◌, ◌∷◌, ◌∙◌, List, ap, sym, drop, arith, Some}
 use Rattle.std.specs.Borrow.{Bor}
-use Rattle.lra_domain.specs.declared.changes.Change.{Change}
-use Rattle.lra_systems.specs.LinearSystems.{constraints}
+use Rattle.lra_verify.specs.Crates.lra_path_disjuncts.TableDisjuncts.{all_done, lists_done}
+use Rattle.lra_verify.specs.Crates.{lra_certificate_spec.Lines.judged_in_turn, lra_certificate_spec.Lines.left_at, lra_domain.declared.changes.Change.Change, lra_systems.LinearSystems.constraints}
 use Rattle.lra_verify.specs.EdgeViews.{dead_by}
-use Rattle.lra_path_disjuncts.specs.TableDisjuncts.{all_done, lists_done}
-use Rattle.lra_certificate_spec.specs.Lines.{judged_in_turn, left_at}
 use Rattle.lra_certificate_lines.proofs.ShowSteps.{turn_more, turn_fault, turn_done}
 use Rattle.lra_verify.proofs.EdgeSteps.{lists_next, lists_end}
 use Rattle.lra_verify.proofs.edges.take_all_dead.Goals as goal

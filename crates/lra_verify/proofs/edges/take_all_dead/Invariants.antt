@@ -1,8 +1,6 @@
 use Rattle.std.proofs.Common.{◌≡◌, ◌≤◌, length, drop, Some}
-use Rattle.lra_systems.specs.LinearSystems.{constraints}
-use Rattle.lra_path_disjuncts.specs.TableDisjuncts.{lists_done}
+use Rattle.lra_verify.specs.Crates.{lra_certificate_spec.Lines.judged_in_turn, lra_certificate_spec.Lines.left_at, lra_path_disjuncts.TableDisjuncts.lists_done, lra_systems.LinearSystems.constraints}
 use Rattle.lra_verify.specs.EdgeViews.{dead_by}
-use Rattle.lra_certificate_spec.specs.Lines.{judged_in_turn, left_at}
 use Rattle.lra_verify.proofs.edges.take_all_dead.Given as goal
 
 abbrev pub invariant-loop-path : goal.invariant-loop-path

@@ -1,7 +1,6 @@
 -- Goals of `take_path`: a path, after its own line.
 use Rattle.std.proofs.Common.{◌∙◌}
-use Rattle.lra_path_disjuncts.specs.TableDisjuncts.{all_done}
-use Rattle.lra_certificate_spec.specs.Lines.{left_at}
+use Rattle.lra_verify.specs.Crates.{lra_certificate_spec.Lines.left_at, lra_path_disjuncts.TableDisjuncts.all_done}
 use Rattle.lra_certificate_lines.specs.PathCheckViews.{target_rows, lines_by}
 use Rattle.lra_verify.specs.EdgeViews.{path_of}
 use Rattle.lra_certificate_lines.proofs.ShowSteps.{told_as}

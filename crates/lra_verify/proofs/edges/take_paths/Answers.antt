@@ -1,10 +1,9 @@
 -- Goals of `take_paths`: the paths, in order.
 use Rattle.std.proofs.Common.{◌+◌, ◌∷◌, ◌∙◌, List, ap, sym, drop, arith}
 use Rattle.std.specs.Borrow.{Bor}
-use Rattle.lra_domain.specs.declared.changes.Change.{Change}
+use Rattle.lra_verify.specs.Crates.lra_certificate_spec.Lines.{judged_in_turn, left_at}
+use Rattle.lra_verify.specs.Crates.{lra_domain.declared.changes.Change.Change, lra_path_disjuncts.TableDisjuncts.all_done, lra_path_disjuncts.TableDisjuncts.lists_done}
 use Rattle.lra_verify.specs.EdgeViews.{path_of}
-use Rattle.lra_path_disjuncts.specs.TableDisjuncts.{all_done, lists_done}
-use Rattle.lra_certificate_spec.specs.Lines.{judged_in_turn, left_at}
 use Rattle.lra_certificate_lines.proofs.ShowSteps.{turn_more, turn_fault, turn_done}
 use Rattle.lra_verify.proofs.EdgeSteps.{lists_next, lists_end}
 use Rattle.lra_verify.proofs.edges.take_paths.Goals as goal

@@ -1,7 +1,6 @@
 use Rattle.std.proofs.Common.{◌≡◌, ◌≤◌, length, drop}
-use Rattle.lra_path_disjuncts.specs.TableDisjuncts.{lists_done}
+use Rattle.lra_verify.specs.Crates.{lra_certificate_spec.Lines.judged_in_turn, lra_certificate_spec.Lines.left_at, lra_path_disjuncts.TableDisjuncts.lists_done}
 use Rattle.lra_verify.specs.EdgeViews.{path_of}
-use Rattle.lra_certificate_spec.specs.Lines.{judged_in_turn, left_at}
 use Rattle.lra_verify.proofs.edges.take_paths.Given as goal
 
 abbrev pub invariant-loop-path : goal.invariant-loop-path

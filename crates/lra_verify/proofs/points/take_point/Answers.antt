@@ -1,6 +1,6 @@
 -- Goals of `take_point`: what is said of a point.
 use Rattle.std.proofs.Common.{◌∙◌}
-use Rattle.lra_certificate_spec.proofs.WritePoints.{point_clean, empty_clean}
+use Rattle.lra_verify.proofs.Crates.lra_certificate_spec.WritePoints.{point_clean, empty_clean}
 use Rattle.lra_verify.proofs.points.take_point.Goals as goal
 
 pub after_text-requires-clause-text : goal.after_text-requires-clause-text

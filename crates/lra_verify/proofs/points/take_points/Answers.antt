@@ -1,9 +1,7 @@
 -- Goals of `take_points`: what is said of each point, in order.
 use Rattle.std.proofs.Common.{◌≡◌, ◌++◌, ◌∷◌, ◌+◌, [], ℕ, List, Option, Some, length, map, drop, ap, sym, ◌∙◌, subst, arith, length-append, IfSome}
-use Rattle.lra_linear_spec.specs.declared.ConKind.{ConKind}
-use Rattle.lra_systems.specs.LinearSystems.{LinearSystem}
+use Rattle.lra_verify.specs.Crates.{lra_certificate_spec.Judged.judged_states, lra_certificate_spec.Lines.left_at, lra_linear_spec.declared.ConKind.ConKind, lra_systems.LinearSystems.LinearSystem}
 use Rattle.lra_operations.specs.TreeViews.{site_view}
-use Rattle.lra_certificate_spec.specs.{Judged.judged_states, Lines.left_at}
 use Rattle.lra_verify.specs.PointViews.{HaveDims, state_view}
 use Rattle.lra_certificate_lines.proofs.Told.{states_after}
 use Rattle.lra_verify.proofs.PointSteps.{dims_pushed, site_at, points_more}

@@ -1,9 +1,9 @@
 -- Goals of `take_rows`: the rows of a point with so many variables.
 use Rattle.std.proofs.Common.{◌≡◌, arith, Some, ap, sym, ◌∙◌}
 use Rattle.std.specs.Prelude.{option_map}
-use Rattle.lra_script.specs.Views.{constraint_of}
-use Rattle.lra_certificate_spec.specs.{Judged.row_in, Judged.judged_rows, Lines.line_number_at, Lines.pieces_at}
-use Rattle.lra_multipliers.proofs.ListedKinds.{kinds_pushed}
+use Rattle.lra_verify.specs.Crates.lra_certificate_spec.Lines.{line_number_at, pieces_at}
+use Rattle.lra_verify.specs.Crates.{lra_certificate_spec.Judged.row_in, lra_certificate_spec.Judged.judged_rows, lra_script.Views.constraint_of}
+use Rattle.lra_verify.proofs.Crates.lra_multipliers.ListedKinds.{kinds_pushed}
 use Rattle.lra_certificate_lines.proofs.Told.{rows_more_by}
 use Rattle.lra_verify.proofs.points.take_rows.Goals as goal
 

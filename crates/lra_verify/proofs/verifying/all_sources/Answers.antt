@@ -4,7 +4,7 @@ use Rattle.std.proofs.lemmas.List.Elements.{All-append, All-cons, All-nil}
 use Rattle.std.specs.List.{All}
 use Rattle.lra_operations.specs.TreeViews.{site_view}
 use Rattle.lra_paths.specs.{Paths.actions_between_in, declared.sources.Source.Source}
-use Rattle.lra_path_disjuncts.specs.Tables.{IsTable}
+use Rattle.lra_verify.specs.Crates.lra_path_disjuncts.Tables.{IsTable}
 use Rattle.lra_verify.specs.EdgeViews.{actions_out_of}
 use Rattle.lra_verify.proofs.VerifySteps.{leads_pushed}
 use Rattle.lra_verify.proofs.verifying.all_sources.Goals as goal

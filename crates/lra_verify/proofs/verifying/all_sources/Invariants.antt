@@ -2,8 +2,7 @@ use Rattle.std.proofs.Common.{◌≡◌, ◌≤◌, ◌<◌, ◌+◌, ℕ, lengt
 use Rattle.std.specs.List.{All}
 use Rattle.lra_operations.specs.{Tree.Node, TreeViews.site_view}
 use Rattle.lra_paths.specs.Paths.{actions_between_in}
-use Rattle.lra_path_segments.specs.{Segments.Goal, TreeSegmentViews.seen, TreeSegments.AreSegmentsOf}
-use Rattle.lra_path_disjuncts.specs.Tables.{IsTable}
+use Rattle.lra_verify.specs.Crates.{lra_path_disjuncts.Tables.IsTable, lra_path_segments.Segments.Goal, lra_path_segments.TreeSegmentViews.seen, lra_path_segments.TreeSegments.AreSegmentsOf}
 use Rattle.lra_verify.specs.EdgeViews.{actions_out_of}
 use Rattle.lra_verify.proofs.verifying.all_sources.Given as goal
 

@@ -1,9 +1,8 @@
 -- Goals of `take_lines`: all lines after the source.
 use Rattle.std.proofs.Common.{◌≡◌, List, Option, Ok, map, sym, subst}
-use Rattle.lra_linear_spec.specs.declared.ConKind.{ConKind}
-use Rattle.lra_systems.specs.LinearSystems.{LinearSystem}
+use Rattle.lra_verify.specs.Crates.lra_certificate_spec.Judged.{judged, judged_states}
+use Rattle.lra_verify.specs.Crates.{lra_certificate_spec.Lines.left_at, lra_linear_spec.declared.ConKind.ConKind, lra_systems.LinearSystems.LinearSystem}
 use Rattle.lra_operations.specs.TreeViews.{site_view}
-use Rattle.lra_certificate_spec.specs.{Judged.judged, Judged.judged_states, Lines.left_at}
 use Rattle.lra_verify.specs.{EdgeViews.rest_by, PointViews.state_view, declared.annotated.AnnotatedProgram.AnnotatedProgram}
 use Rattle.lra_certificate_lines.proofs.ShowSteps.{told_as}
 use Rattle.lra_verify.proofs.VerifySteps.{ways_ready, lines_are_judged}

@@ -1,6 +1,6 @@
 -- Goals of `next`: the next value of the point.
 use Rattle.std.proofs.{Common.◌<◌, Common.◌≤◌, Common.◌^◌, Common.None, Common.Option, Common.arith, Common.get_or, Common.length, Common.subst, Common.sym, Common.◌∙◌, lemmas.Option.slice_get-get_or}
-use Rattle.lra_analysis_spec.specs.Pass.{RunsFrom}
+use Rattle.lra_back.specs.Crates.lra_analysis_spec.Pass.{RunsFrom}
 use Rattle.lra_paths.specs.declared.sources.Source.{Source}
 use Rattle.lra_back.specs.{BackwardCalls.IfThereHas, BackwardCalls.paths_at, BackwardCalls.task_view, Operations.lossy_back_operations, Preconditions.PreOfAllPoints, Rounds.seed_at}
 use Rattle.lra_back.proofs.{BackSteps.heads_fit, BackSteps.seed_has, JoinSteps.next_value, PathSteps.read_at}

@@ -2,7 +2,7 @@
 use Rattle.std.proofs.Common.{rules, ◌≡◌, ℕ, List, ap, ◌∙◌, Option, Some, string_bytes, bytes_eq}
 use Rattle.std.proofs.{Math.Path.fun_ext, lemmas.Map.Text.btree_map_updates_text}
 use Rattle.std.specs.{BTreeMap.get_by_text, Map.update}
-use Rattle.lra_linear_spec.specs.Polyhedra.{Polyhedron}
+use Rattle.lra_calc.specs.Crates.lra_linear_spec.Polyhedra.{Polyhedron}
 use Rattle.lra_calc.specs.Script as script
 use Rattle.lra_calc.specs.Views.{session_of, made_of}
 use Rattle.lra_calc.proofs.SessionLemmas.{fit_with}

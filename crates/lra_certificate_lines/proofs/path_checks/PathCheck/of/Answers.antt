@@ -1,7 +1,6 @@
 -- Goals of `of`: a path from a source with rows, as its lines are judged.
 use Rattle.std.proofs.Common.{suc}
-use Rattle.lra_systems.specs.LinearSystems.{constraints}
-use Rattle.lra_path_disjuncts.specs.TableDisjuncts.{all_done}
+use Rattle.lra_certificate_lines.specs.Crates.{lra_path_disjuncts.TableDisjuncts.all_done, lra_systems.LinearSystems.constraints}
 use Rattle.lra_certificate_lines.specs.SymbolicViews.{symbolic_view}
 use Rattle.lra_certificate_lines.proofs.TrackSteps.{grounds_made, premises_counted}
 use Rattle.lra_certificate_lines.proofs.path_checks.PathCheck.of.Goals as goal

@@ -1,7 +1,6 @@
 -- Goals of `show_rows`: the claims of the rows, in order.
 use Rattle.std.proofs.{Common.◌+◌, Common.drop, Common.arith, lemmas.List.drop_all}
-use Rattle.lra_linear_spec.specs.{Descriptions.LinearRow, Kinds.is_equality}
-use Rattle.lra_systems.specs.LinearSystems.{constraints}
+use Rattle.lra_certificate_lines.specs.Crates.{lra_linear_spec.Descriptions.LinearRow, lra_linear_spec.Kinds.is_equality, lra_systems.LinearSystems.constraints}
 use Rattle.lra_certificate_spec.specs.Lines.{judged_in_turn, left_at}
 use Rattle.lra_certificate_lines.specs.PathCheckViews.{row_by}
 use Rattle.lra_certificate_lines.proofs.{ShowSteps.turn_more, ShowSteps.turn_fault, ShowSteps.turn_done, ShowSteps.constraint_from, TrackSteps.constraints_few}

@@ -1,5 +1,5 @@
 use Rattle.std.proofs.Common.{◌≡◌, ◌≤◌, length, drop}
-use Rattle.lra_systems.specs.LinearSystems.{constraints}
+use Rattle.lra_certificate_lines.specs.Crates.lra_systems.LinearSystems.{constraints}
 use Rattle.lra_certificate_spec.specs.Lines.{judged_in_turn, left_at}
 use Rattle.lra_certificate_lines.specs.PathCheckViews.{row_by}
 use Rattle.lra_certificate_lines.proofs.path_checks.PathCheck.show_rows.Given as goal

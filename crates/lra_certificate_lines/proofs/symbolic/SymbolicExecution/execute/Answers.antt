@@ -1,9 +1,8 @@
 -- Goals of `execute`: what a path does to so many variables.
 use Rattle.std.proofs.Common.{◌≡◌, ◌+◌, ◌∙◌, List, ℕ, arith, ap, sym, subst, drop}
-use Rattle.lra_domain.specs.{Actions.Action, Changes.action_of}
+use Rattle.lra_certificate_lines.specs.Crates.{lra_domain.Actions.Action, lra_domain.Changes.action_of, lra_path_disjuncts.TableDisjuncts.all_done}
 use Rattle.lra_multipliers.specs.Symbols.{SymbolicState, executed_path, executed, width_of}
 use Rattle.lra_certificate_lines.specs.SymbolicViews.{symbolic_view, HasWidth}
-use Rattle.lra_path_disjuncts.specs.TableDisjuncts.{all_done}
 use Rattle.lra_certificate_lines.proofs.WalkChanges.{path_next, path_done, walk_begun, along_on, along_passes, free_next}
 use Rattle.lra_certificate_lines.proofs.symbolic.SymbolicExecution.execute.Goals as goal
 

@@ -1,7 +1,7 @@
 use Rattle.std.proofs.Common.{◌≡◌, ◌≤◌, ◌+◌, drop}
 use Rattle.lra_multipliers.specs.Symbols.{new_symbols, executed_path, executed, width_of}
 use Rattle.lra_certificate_lines.specs.SymbolicViews.{symbolic_view, HasWidth}
-use Rattle.lra_path_disjuncts.specs.TableDisjuncts.{all_done}
+use Rattle.lra_certificate_lines.specs.Crates.lra_path_disjuncts.TableDisjuncts.{all_done}
 use Rattle.lra_certificate_lines.proofs.symbolic.SymbolicExecution.execute.Given as goal
 
 abbrev pub invariant-loop-change : goal.invariant-loop-change

@@ -1,7 +1,7 @@
 -- Goals of `start`: a path at its source.
 use Rattle.std.proofs.Common.{◌≡◌, ◌∙◌, ◌++◌, List, ℤ, ap, sym, subst, arith, length}
 use Rattle.std.specs.List.{All}
-use Rattle.lra_linear_spec.specs.declared.ConKind.{ConKind}
+use Rattle.lra_certificate_lines.specs.Crates.lra_linear_spec.declared.ConKind.{ConKind}
 use Rattle.lra_multipliers.specs.Symbols.{symbols}
 use Rattle.lra_certificate_lines.proofs.WalkChanges.{symbols_wide}
 use Rattle.lra_certificate_lines.proofs.symbolic.SymbolicExecution.start.Goals as goal

@@ -1,7 +1,7 @@
 -- Goals of `take_change`: one change more.
 use Rattle.std.proofs.Common.{◌∙◌, List, ℤ, ap, suc, refl, Result, Ok}
-use Rattle.lra_linear_spec.specs.{CheckedArithmetic.and_then, Kinds.is_equality, declared.Excess.Excess}
-use Rattle.lra_domain.specs.{Changes.action_of, declared.changes.Change.Change}
+use Rattle.lra_certificate_lines.specs.Crates.{lra_domain.Changes.action_of, lra_domain.declared.changes.Change.Change, lra_linear_spec.CheckedArithmetic.and_then, lra_linear_spec.Kinds.is_equality}
+use Rattle.lra_certificate_lines.specs.Crates.{lra_linear_spec.declared.Excess.Excess}
 use Rattle.lra_multipliers.specs.Symbols.{tests_too, executed_action}
 use Rattle.lra_certificate_lines.specs.SymbolicViews.{symbolic_view}
 use Rattle.lra_certificate_lines.proofs.WalkChanges.{test_made}

@@ -1,6 +1,6 @@
 -- Goals of `Cone::add_row`: takes a row in.
 use Rattle.std.proofs.Common.{sym, ◌∙◌, ap, subst, map, length, suc, ◌≡◌, List, ℤ, Some}
-use Rattle.lra_linear_spec.specs.{Kinds.is_equality, Vectors.product}
+use Rattle.lra_cone.specs.Crates.{lra_linear_spec.Kinds.is_equality, lra_linear_spec.Vectors.product}
 use Rattle.lra_double_description.specs.Steps.{IsLastAcross}
 use Rattle.lra_systems.specs.LinearSystems.{constraints}
 use Rattle.lra_cone.specs.Cones.{ConeContent}

@@ -2,8 +2,7 @@
 use Rattle.std.proofs.Common.{sym, ◌∙◌, ap, length, subst, ◌≡◌, List, ℤ, pos, map, suc}
 use Rattle.std.proofs.{lemmas.List.length-map, lemmas.List.Elements.All-contains, lemmas.Result.err_from_is_err_and}
 use Rattle.std.specs.List.{All, Contains}
-use Rattle.lra_bits.specs.Matrix.{Matrix}
-use Rattle.lra_linear_spec.specs.{Descriptions.LinearRow, Kinds.is_equality, Vectors.product}
+use Rattle.lra_cone.specs.Crates.{lra_bits.Matrix.Matrix, lra_linear_spec.Descriptions.LinearRow, lra_linear_spec.Kinds.is_equality, lra_linear_spec.Vectors.product}
 use Rattle.lra_systems.specs.LinearSystems.{constraints}
 use Rattle.lra_cone.specs.{Cones.ConeContent, Cones.IsCone, Cones.cone_saturation, Cones.saturation_rows, Strains.IsConeError}
 use Rattle.lra_double_description.specs.{Pairs.IsCut, Strains.IsCutError, Thirds.FewHaveThird}

@@ -2,8 +2,8 @@
 use Rattle.std.proofs.Common.{arith, refl, sym, ◌∙◌, ap, length, subst, ◌≡◌, ◌++◌, ◌∷◌, List, ℤ, [], pos, map, suc, Bool, cond}
 use Rattle.std.proofs.{lemmas.Grind.common_steps, lemmas.List.length-map, lemmas.List.Elements.All-contains}
 use Rattle.std.specs.{List.All, List.Contains, Prelude.IsOk}
-use Rattle.lra_bits.specs.Matrix.{Matrix, unmarked}
-use Rattle.lra_linear_spec.specs.{ConeStrain.IsIntersection, Cones.all_rows, Descriptions.LinearRow, Kinds.is_equality, Vectors.product, declared.ConKind.ConKind}
+use Rattle.lra_cone.specs.Crates.{lra_bits.Matrix.Matrix, lra_bits.Matrix.unmarked, lra_linear_spec.ConeStrain.IsIntersection, lra_linear_spec.Cones.all_rows, lra_linear_spec.Descriptions.LinearRow}
+use Rattle.lra_cone.specs.Crates.{lra_linear_spec.Kinds.is_equality, lra_linear_spec.Vectors.product, lra_linear_spec.declared.ConKind.ConKind}
 use Rattle.lra_systems.specs.LinearSystems.{constraints, rows_by_kind}
 use Rattle.lra_cone.specs.Cones.{ConeContent, IsCone, IsTakenIn, cone_saturation}
 use Rattle.lra_double_description.specs.Pairs.{IsCut}

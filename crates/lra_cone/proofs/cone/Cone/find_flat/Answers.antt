@@ -3,7 +3,7 @@ use Rattle.std.proofs.Common.{sym, ◌∙◌, ap, length, subst, get_or, ◌<◌
 use Rattle.std.proofs.{lemmas.Int.to_z-of_z, lemmas.List.Elements.Contains-get_or, lemmas.Result.err_from_is_err_and}
 use Rattle.std.specs.Int.{w128}
 use Rattle.lra_systems.specs.LinearSystems.{constraints}
-use Rattle.lra_linear_spec.specs.Kinds.{is_equality}
+use Rattle.lra_cone.specs.Crates.lra_linear_spec.Kinds.{is_equality}
 use Rattle.lra_cone.specs.{Cones.ConeContent, Flat.AreFlat, Flat.IsFlatError}
 use Rattle.lra_double_description.specs.Steps.{IsTurned, AreFlatLines, AreFlatRays, flat_matrix}
 use Rattle.lra_cone.proofs.FlatCones.{flat_lines_told, flat_rays_told}

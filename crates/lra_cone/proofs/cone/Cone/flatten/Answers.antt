@@ -2,7 +2,8 @@
 -- isn't 0.
 use Rattle.std.proofs.Common.{arith, sym, ◌∙◌, ap, length, subst, ◌<◌, ◌≤◌, ◌≡◌, ◌++◌, ◌∷◌, List, ℤ, [], map, suc}
 use Rattle.std.proofs.{lemmas.Grind.common_steps, lemmas.List.length-map, lemmas.Result.err_from_is_err_and}
-use Rattle.lra_linear_spec.specs.{ConeStrain.row_limit, Descriptions.LinearRow, Kinds.is_equality, Vectors.product, declared.ConKind.ConKind}
+use Rattle.lra_cone.specs.Crates.lra_linear_spec.Kinds.{is_equality}
+use Rattle.lra_cone.specs.Crates.{lra_linear_spec.ConeStrain.row_limit, lra_linear_spec.Descriptions.LinearRow, lra_linear_spec.Vectors.product, lra_linear_spec.declared.ConKind.ConKind}
 use Rattle.lra_systems.specs.LinearSystems.{constraints, rows_by_kind}
 use Rattle.lra_cone.specs.{Cones.ConeContent, Cones.IsCone, Cones.IsTakenIn, Cones.cone_saturation, Flat.AreFlat}
 use Rattle.lra_cone.proofs.{FlatCones.flat_error, Stepped.flatten_case, Stepped.too_many_rays, Stepped.cone_again, Stepped.cone_of, Stepped.line_met, Stepped.line_canonical, Stepped.line_matrix}

@@ -1,6 +1,6 @@
 -- Goals of `Cone::whole`: all vectors of n + 1 columns.
 use Rattle.std.proofs.Common.{arith, sym, ◌∙◌, ap, subst, List, [], ℤ, length}
-use Rattle.lra_linear_spec.specs.{Descriptions.LinearRow, Kinds.is_equality}
+use Rattle.lra_cone.specs.Crates.{lra_linear_spec.Descriptions.LinearRow, lra_linear_spec.Kinds.is_equality}
 use Rattle.lra_systems.specs.LinearSystems.{constraints, rows_by_kind}
 use Rattle.lra_cone.specs.Cones.{IsCone, cone_saturation}
 use Rattle.lra_cone.proofs.WholeSpace.{columns_start, columns_step, columns_end, whole_cone, whole_made}

@@ -1,5 +1,5 @@
 use Rattle.std.proofs.Common.{◌≡◌, ◌++◌, ◌+◌, ◌-◌, map}
-use Rattle.lra_linear_spec.specs.OperationStrain.{unit_row}
+use Rattle.lra_cone.specs.Crates.lra_linear_spec.OperationStrain.{unit_row}
 use Rattle.lra_cone.specs.Cones.{columns_from, unit_lines}
 use Rattle.lra_cone.proofs.cone.Cone.whole.Given as goal
 

@@ -1,6 +1,6 @@
 -- Goals of `Conversion::take_row`: takes a row in, or leaves it out where it exceeds a limit of the cone.
 use Rattle.std.proofs.Common.{length, ◌∙◌, ap, sym, subst}
-use Rattle.lra_linear_spec.specs.{Descriptions.LinearRow, Kinds.is_equality}
+use Rattle.lra_cone.specs.Crates.{lra_linear_spec.Descriptions.LinearRow, lra_linear_spec.Kinds.is_equality}
 use Rattle.lra_systems.specs.LinearSystems.{constraints}
 use Rattle.lra_cone.specs.Strains.{IsConeError}
 use Rattle.lra_cone.proofs.RowsTaken.{conversion_more, conversion_left_out}

@@ -1,8 +1,8 @@
 -- Goals of `Parts::push`: puts a row, tight where the values say, to its part.
 use Rattle.lra_description_pair.proofs.TightRows.{part_tight, part_loose, not_both}
 use Rattle.std.proofs.Common.{ap, arith, length, sym, ◌∙◌}
-use Rattle.lra_bits.specs.Matrix.{Matrix}
-use Rattle.lra_bits.proofs.AllTrue.{each_true, none_false}
+use Rattle.lra_description_pair.specs.Crates.lra_bits.Matrix.{Matrix}
+use Rattle.lra_description_pair.proofs.Crates.lra_bits.AllTrue.{each_true, none_false}
 use Rattle.lra_description_pair.proofs.own.Parts.push.Goals as goal
 
 pub returns-in_ok-push-clause-parts : goal.returns-in_ok-push-clause-parts

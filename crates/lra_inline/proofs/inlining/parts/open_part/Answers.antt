@@ -1,8 +1,7 @@
 -- Goals of `open_part`: the first step into whichever part it is.
-use Rattle.std.proofs.Common.{map}
+use Rattle.std.proofs.{Common.map, lemmas.Result.IfOk-weaker}
 use Rattle.lra_program.specs.ProgramViews.{item_view, items_of, program_view}
 use Rattle.lra_inline_steps.specs.Inlining.{points_in}
-use Rattle.std.proofs.lemmas.Result.{IfOk-weaker}
 use Rattle.lra_inline_steps.proofs.{FirstSteps.rounds_open, ItemRows.items_begin, Stopping.limit_through}
 use Rattle.lra_inline.proofs.inlining.parts.open_part.Goals as goal
 

@@ -1,10 +1,9 @@
 -- Goals of `build`: a program that is written out with no points before it has its own tree and its own points.
 use Rattle.std.proofs.Common.{◌≡◌, List, map, length, Some, None, ap, subst}
-use Rattle.lra_syntax.specs.Labels.{Labelled}
-use Rattle.lra_resolution_spec.specs.Refuse.{limit_fault}
+use Rattle.lra_inline.specs.Crates.{lra_resolution_spec.Refuse.limit_fault, lra_syntax.Labels.Labelled}
 use Rattle.lra_program.specs.{ProgramViews.program_view, Sites.events_of}
 use Rattle.lra_operations.specs.TreeViews.{node_view, site_view}
-use Rattle.lra_inline_sound.proofs.{Agreement.trees_agree, CheckedOperations.trees_agree_on_accesses, DistinctSites.distinct_sites}
+use Rattle.lra_inline.proofs.Crates.{lra_inline_sound.Agreement.trees_agree, lra_inline_sound.CheckedOperations.trees_agree_on_accesses, lra_inline_sound.DistinctSites.distinct_sites}
 use Rattle.lra_inline_steps.specs.Limits.{add_points, stopped, refusal_of}
 use Rattle.lra_inline_steps.proofs.Stopping.{err_stopped}
 use Rattle.lra_inline.proofs.Totals.{made_sites, made_few, made_within, made_refused}

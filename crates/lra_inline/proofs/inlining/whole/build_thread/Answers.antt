@@ -1,7 +1,6 @@
 -- Goals of `build_thread`: the program's points after others, and its own tree.
 use Rattle.std.proofs.{Common.◌≡◌, Common.◌++◌, Common.List, Common.map, Common.length, Common.Some, Common.None, Common.sym, Common.◌∙◌, Common.arith, lemmas.Option.none-some}
-use Rattle.lra_syntax.specs.Labels.{Labelled}
-use Rattle.lra_resolution_spec.specs.Refuse.{limit_fault}
+use Rattle.lra_inline.specs.Crates.{lra_resolution_spec.Refuse.limit_fault, lra_syntax.Labels.Labelled}
 use Rattle.lra_program.specs.{ProgramViews.program_view, Sites.events_of, Sites.sites_of}
 use Rattle.lra_operations.specs.{Agree.IsInlinedTree, TreeViews.node_view, TreeViews.site_view}
 use Rattle.lra_inline_steps.specs.Limits.{add_points, stopped, refusal_of}

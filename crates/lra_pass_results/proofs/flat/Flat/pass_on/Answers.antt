@@ -1,6 +1,6 @@
 -- Goals of `pass_on`: a tree that is passed where it stands is followed.
 use Rattle.std.proofs.Common.{ap}
-use Rattle.lra_domain.specs.Interference.{no_interference}
+use Rattle.lra_pass_results.specs.Crates.lra_domain.Interference.{no_interference}
 use Rattle.lra_pass_results.specs.Flat.{flat_view}
 use Rattle.lra_pass_results.proofs.LeafSteps.{followed_given}
 use Rattle.lra_pass_results.proofs.flat.Flat.pass_on.Goals as goal

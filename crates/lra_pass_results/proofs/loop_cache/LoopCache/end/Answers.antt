@@ -1,7 +1,7 @@
 -- Goals of `LoopCache::end`: the loop of this point is left.
 use Rattle.std.proofs.Common.{sym, subst, arith}
 use Rattle.std.specs.List.{All}
-use Rattle.lra_analysis_spec.specs.Pass.{PassResult}
+use Rattle.lra_pass_results.specs.Crates.lra_analysis_spec.Pass.{PassResult}
 use Rattle.lra_pass_results.specs.{LoopCache.IsRecalled, Outcome.IsKept}
 use Rattle.lra_pass_results.proofs.loop_cache.LoopCache.end.Goals as goal
 

@@ -1,6 +1,6 @@
 -- Goals of `follow_with`: after nothing comes the outcome itself.
 use Rattle.std.proofs.Common.{refl, sym, ap}
-use Rattle.lra_analysis_spec.specs.Pass.{in_turn}
+use Rattle.lra_pass_results.specs.Crates.lra_analysis_spec.Pass.{in_turn}
 use Rattle.lra_pass_results.specs.Outcome.{ended}
 use Rattle.lra_pass_results.proofs.outcome.PassFindings.follow_with.Goals as goal
 

@@ -2,7 +2,7 @@
 use Rattle.std.proofs.Common.{refl, ap, ◌∙◌}
 use Rattle.lra_operations.specs.TreeViews.{node_view}
 use Rattle.lra_pass_results.specs.Steps.{node_steps}
-use Rattle.lra_linearize.proofs.TreeViews.{act_view, aside_view, check_view, empty_view, leave_view, point_view}
+use Rattle.lra_pass_results.proofs.Crates.lra_linearize.TreeViews.{act_view, aside_view, check_view, empty_view, leave_view, point_view}
 use Rattle.lra_pass_results.proofs.PassSteps.{aside_steps, empty_steps, point_steps, act_steps, check_steps, leave_steps, seq_shown, seq_taken, choose_shown, choose_taken, iterate_shown}
 use Rattle.lra_pass_results.proofs.PassSteps.{iterate_taken, catch_shown, catch_taken, select_shown, select_taken}
 use Rattle.lra_pass_results.proofs.tree_forms.TreeForm.of.Goals as goal

@@ -1,6 +1,6 @@
 -- Goals of `has_too_many`: few to the goals of all segments are few to each goal.
 use Rattle.std.proofs.Common.{arith}
-use Rattle.lra_path_segments.specs.declared.segments.Goal.TheVariants.{ComesTo}
+use Rattle.lra_paths.specs.Crates.lra_path_segments.declared.segments.Goal.TheVariants.{ComesTo}
 use Rattle.lra_paths.proofs.SourceSteps.{few_at_end, few_next, under}
 use Rattle.lra_paths.proofs.sources.Source.has_too_many.Goals as goal
 

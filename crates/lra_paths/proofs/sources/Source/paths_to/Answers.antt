@@ -2,7 +2,7 @@
 use Rattle.std.proofs.Common.{◌≤◌, length, subst, sym}
 use Rattle.lra_path_disjuncts.specs.Disjuncts.{greatest_paths}
 use Rattle.lra_paths.specs.Sources.{to_goal}
-use Rattle.lra_path_segments.specs.{TreeSegmentViews.goal_view, declared.segments.Goal.TheVariants.ComesTo}
+use Rattle.lra_paths.specs.Crates.{lra_path_segments.TreeSegmentViews.goal_view, lra_path_segments.declared.segments.Goal.TheVariants.ComesTo}
 use Rattle.lra_paths.proofs.SourceSteps.{few_at}
 use Rattle.lra_paths.proofs.sources.Source.paths_to.Goals as goal
 

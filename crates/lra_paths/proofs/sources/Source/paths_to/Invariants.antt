@@ -1,6 +1,6 @@
 use Rattle.std.proofs.Common.{◌≡◌, take}
 use Rattle.lra_paths.specs.Sources.{to_goal}
-use Rattle.lra_path_segments.specs.TreeSegmentViews.{goal_view}
+use Rattle.lra_paths.specs.Crates.lra_path_segments.TreeSegmentViews.{goal_view}
 use Rattle.lra_path_disjuncts.specs.TableDisjuncts.{lists_done}
 use Rattle.lra_paths.proofs.sources.Source.paths_to.Given as goal
 

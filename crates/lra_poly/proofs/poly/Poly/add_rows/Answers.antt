@@ -1,7 +1,6 @@
 -- Goals of `Poly::add_rows`: takes these constraints in.
 use Rattle.std.proofs.Common.{refl, subst, sym, ◌++◌, inl, inr}
-use Rattle.lra_linear_spec.specs.{Descriptions.Con, OperationStrain.FromRowsStrains, Polyhedra.Polyhedron}
-use Rattle.lra_systems.specs.LinearSystems.{constraints}
+use Rattle.lra_poly.specs.Crates.{lra_linear_spec.Descriptions.Con, lra_linear_spec.OperationStrain.FromRowsStrains, lra_linear_spec.Polyhedra.Polyhedron, lra_systems.LinearSystems.constraints}
 use Rattle.lra_poly.specs.Outcomes.{IsOfRows}
 use Rattle.lra_poly.proofs.MetRows.{never, settled_exact, settled_made, settled_old}
 use Rattle.lra_poly.proofs.PolyLemmas.{exactly, exact_inside, made_inside, old_inside, meet_inside, met_exact, stays_flagged}

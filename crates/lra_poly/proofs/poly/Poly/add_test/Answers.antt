@@ -1,7 +1,6 @@
 -- Goals of `Poly::add_test`: keeps the points that pass the test.
 use Rattle.std.proofs.Common.{◌≡◌, ◌++◌, ◌∷◌, [], List, ap, subst, sym}
-use Rattle.lra_linear_spec.specs.Descriptions.{LinearRow}
-use Rattle.lra_systems.specs.LinearSystems.{constraints}
+use Rattle.lra_poly.specs.Crates.{lra_linear_spec.Descriptions.LinearRow, lra_systems.LinearSystems.constraints}
 use Rattle.lra_duality.specs.Rows.{test_row}
 use Rattle.lra_poly.specs.Restricted.{IsRestricted, IsSeenWithin}
 use Rattle.lra_poly.proofs.PolyLemmas.{test_becomes}

@@ -1,6 +1,6 @@
 -- Goals of `Poly::empty`: no point, in n dimensions.
 use Rattle.lra_description_pair.proofs.{ConstraintLists.nothing_is, PairLists.empty_lists}
-use Rattle.lra_systems.specs.LinearSystems.{constraints}
+use Rattle.lra_poly.specs.Crates.lra_systems.LinearSystems.{constraints}
 use Rattle.lra_duality.proofs.PolyhedronLemmas.{falsity_is_empty}
 use Rattle.lra_poly.proofs.poly.Poly.empty.Goals as goal
 

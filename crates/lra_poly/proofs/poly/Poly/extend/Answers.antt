@@ -1,9 +1,9 @@
 -- Goals of `Poly::extend`: the polyhedron of its generators and of these, which are added after them, by the lists at
 -- hand.
 use Rattle.std.proofs.Common.{ap, subst, sym}
-use Rattle.lra_linear_spec.specs.{Descriptions.AreGenerators, Polyhedra.IsPolyhedron, Polyhedra.Polyhedron}
-use Rattle.lra_systems.specs.LinearSystems.{constraints, generators}
-use Rattle.lra_systems.proofs.Generators.{fitting_are_generators}
+use Rattle.lra_poly.specs.Crates.lra_linear_spec.Polyhedra.{IsPolyhedron, Polyhedron}
+use Rattle.lra_poly.specs.Crates.{lra_linear_spec.Descriptions.AreGenerators, lra_systems.LinearSystems.constraints, lra_systems.LinearSystems.generators}
+use Rattle.lra_poly.proofs.Crates.lra_systems.Generators.{fitting_are_generators}
 use Rattle.lra_poly.proofs.{PolyLemmas.some_more, UnitedLists.no_cone, UnitedLists.strains_behind}
 use Rattle.lra_description_pair.proofs.PairLosses.{if_none}
 use Rattle.lra_poly.proofs.poly.Poly.extend.Goals as goal

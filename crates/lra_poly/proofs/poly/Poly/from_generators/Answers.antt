@@ -1,6 +1,5 @@
 -- Goals of `Poly::from_generators`: the polyhedron of the generators.
-use Rattle.lra_linear_spec.specs.{Descriptions.Gen, OperationStrain.FromGeneratorsStrains}
-use Rattle.lra_systems.specs.LinearSystems.{generators}
+use Rattle.lra_poly.specs.Crates.{lra_linear_spec.Descriptions.Gen, lra_linear_spec.OperationStrain.FromGeneratorsStrains, lra_systems.LinearSystems.generators}
 use Rattle.lra_poly.proofs.{PolyLemmas.becomes_told, UnitedLists.tried_points}
 use Rattle.lra_poly.proofs.poly.Poly.from_generators.Goals as goal
 

@@ -1,7 +1,7 @@
 -- Goals of `Poly::from_rows`: the polyhedron of the constraints.
 use Rattle.std.proofs.Common.{[]}
-use Rattle.lra_linear_spec.specs.{Descriptions.Con, OperationStrain.FromRowsStrains, OperationStrain.with_positivity}
-use Rattle.lra_systems.specs.LinearSystems.{constraints}
+use Rattle.lra_poly.specs.Crates.lra_linear_spec.OperationStrain.{FromRowsStrains, with_positivity}
+use Rattle.lra_poly.specs.Crates.{lra_linear_spec.Descriptions.Con, lra_systems.LinearSystems.constraints}
 use Rattle.lra_poly.proofs.{MetRows.tried_of, PolyLemmas.becomes_told}
 use Rattle.lra_poly.proofs.poly.Poly.from_rows.Goals as goal
 

@@ -1,7 +1,7 @@
 -- Goals of `Poly::hull`: becomes the hull with the other.
 use Rattle.std.proofs.Common.{◌≡◌, ◌++◌, List, ap, refl, subst}
-use Rattle.lra_linear_spec.specs.{Descriptions.Con, Descriptions.LinearRow, OperationStrain.HullStrains, SetOperations.Union, SetOperations.Hull}
-use Rattle.lra_systems.specs.LinearSystems.{generators}
+use Rattle.lra_poly.specs.Crates.lra_linear_spec.Descriptions.{Con, LinearRow}
+use Rattle.lra_poly.specs.Crates.{lra_linear_spec.OperationStrain.HullStrains, lra_linear_spec.SetOperations.Union, lra_linear_spec.SetOperations.Hull, lra_systems.LinearSystems.generators}
 use Rattle.lra_poly.specs.{Outcomes.IfFlagged, United.UnitesAnew}
 use Rattle.lra_poly.proofs.{MetRows.never, PolyLemmas.exactly, PolyLemmas.hull_becomes, PolyLemmas.hull_inside}
 use Rattle.lra_poly.proofs.poly.Poly.hull.Goals as goal

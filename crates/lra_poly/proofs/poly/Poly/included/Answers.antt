@@ -1,6 +1,5 @@
 -- Goals of `Poly::included`: whether each point is in the other.
-use Rattle.lra_linear_spec.specs.Polyhedra.{Polyhedron}
-use Rattle.lra_systems.specs.LinearSystems.{constraints, generators}
+use Rattle.lra_poly.specs.Crates.{lra_linear_spec.Polyhedra.Polyhedron, lra_systems.LinearSystems.constraints, lra_systems.LinearSystems.generators}
 use Rattle.lra_duality.proofs.InclusionLemmas.{inclusion_tells}
 use Rattle.lra_poly.proofs.poly.Poly.included.Goals as goal
 

@@ -1,7 +1,6 @@
 -- Goals of `Poly::is_empty`: whether it has no point.
 use Rattle.std.proofs.Common.{refl}
-use Rattle.lra_linear_spec.specs.Polyhedra.{Polyhedron}
-use Rattle.lra_systems.specs.LinearSystems.{constraints, generators}
+use Rattle.lra_poly.specs.Crates.{lra_linear_spec.Polyhedra.Polyhedron, lra_systems.LinearSystems.constraints, lra_systems.LinearSystems.generators}
 use Rattle.lra_poly.proofs.PolyLemmas.{emptiness}
 use Rattle.lra_poly.proofs.poly.Poly.is_empty.Goals as goal
 

@@ -1,8 +1,6 @@
 -- Goals of `Poly::maximise`: the greatest value of the form, and the first point that has it; or why there is none.
 use Rattle.std.proofs.Common.{◌≡◌, ◌∙◌, ap, length, refl, suc, sym}
-use Rattle.lra_linear_spec.specs.Polyhedra.{Polyhedron}
-use Rattle.lra_systems.specs.LinearSystems.{constraints, generators}
-use Rattle.lra_linear_forms.specs.Form.{form_row}
+use Rattle.lra_poly.specs.Crates.{lra_linear_forms.Form.form_row, lra_linear_spec.Polyhedra.Polyhedron, lra_systems.LinearSystems.constraints, lra_systems.LinearSystems.generators}
 use Rattle.lra_duality.proofs.GreatestValues.{maximum_tells, starts_with_point}
 use Rattle.lra_poly.proofs.poly.Poly.maximise.Goals as goal
 

@@ -1,9 +1,8 @@
 -- Goals of `Poly::maximise_opposite`: the greatest value of the form's opposite.
 use Rattle.std.proofs.Common.{◌≡◌, ◌∙◌, ap, length, refl, suc, sym}
-use Rattle.lra_linear_spec.specs.{Polyhedra.Polyhedron, Vectors.negated}
-use Rattle.lra_linear_spec.proofs.Products.{negated_length}
-use Rattle.lra_systems.specs.LinearSystems.{constraints, generators}
-use Rattle.lra_linear_forms.specs.Form.{form_row}
+use Rattle.lra_poly.specs.Crates.lra_systems.LinearSystems.{constraints, generators}
+use Rattle.lra_poly.specs.Crates.{lra_linear_forms.Form.form_row, lra_linear_spec.Polyhedra.Polyhedron, lra_linear_spec.Vectors.negated}
+use Rattle.lra_poly.proofs.Crates.lra_linear_spec.Products.{negated_length}
 use Rattle.lra_duality.proofs.GreatestValues.{maximum_tells, starts_with_point}
 use Rattle.lra_poly.proofs.poly.Poly.maximise_opposite.Goals as goal
 

@@ -1,7 +1,6 @@
 -- Goals of `Poly::meet`: becomes the meet with the other.
 use Rattle.std.proofs.Common.{◌≡◌, ◌++◌, List, ap, subst, sym}
-use Rattle.lra_linear_spec.specs.Descriptions.{LinearRow}
-use Rattle.lra_systems.specs.LinearSystems.{constraints}
+use Rattle.lra_poly.specs.Crates.{lra_linear_spec.Descriptions.LinearRow, lra_systems.LinearSystems.constraints}
 use Rattle.lra_poly.specs.Restricted.{IsRestricted, IsSeenWithin}
 use Rattle.lra_poly.proofs.PolyLemmas.{meet_becomes}
 use Rattle.lra_poly.proofs.poly.Poly.meet.Goals as goal

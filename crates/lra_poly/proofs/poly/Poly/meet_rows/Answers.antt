@@ -1,7 +1,6 @@
 -- Goals of `Poly::meet_rows`: the same, where these are added after those, by the lists at hand.
 use Rattle.std.proofs.Common.{◌∙◌, ap, sym}
-use Rattle.lra_linear_spec.specs.Polyhedra.{Polyhedron}
-use Rattle.lra_systems.specs.LinearSystems.{constraints, generators}
+use Rattle.lra_poly.specs.Crates.{lra_linear_spec.Polyhedra.Polyhedron, lra_systems.LinearSystems.constraints, lra_systems.LinearSystems.generators}
 use Rattle.lra_poly.specs.Restricted.{IsMetWith}
 use Rattle.lra_poly.proofs.{MetRows.met_anew, MetRows.met_becomes, MetRows.met_onward, PolyLemmas.kept_positive}
 use Rattle.lra_poly.proofs.poly.Poly.meet_rows.Goals as goal

@@ -1,7 +1,6 @@
 -- Goals of `Poly::meet_rows_anew`: the polyhedron of the constraints and of these, converted from nothing.
 use Rattle.std.proofs.Common.{◌≡◌, ◌++◌, ◌∙◌, ap, List, [], ℕ, subst}
-use Rattle.lra_linear_spec.specs.{Descriptions.LinearRow, OperationStrain.with_positivity, Polyhedra.Polyhedron}
-use Rattle.lra_systems.specs.LinearSystems.{constraints}
+use Rattle.lra_poly.specs.Crates.{lra_linear_spec.Descriptions.LinearRow, lra_linear_spec.OperationStrain.with_positivity, lra_linear_spec.Polyhedra.Polyhedron, lra_systems.LinearSystems.constraints}
 use Rattle.lra_poly.specs.Restricted.{IsTried}
 use Rattle.lra_poly.proofs.poly.Poly.meet_rows_anew.Goals as goal
 

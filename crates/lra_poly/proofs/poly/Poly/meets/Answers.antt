@@ -1,7 +1,6 @@
 -- Goals of `Poly::meets`: whether it is known that each point meets each of the constraints.
 use Rattle.std.proofs.Common.{◌↔◌, IsTrue, subst, true, false}
-use Rattle.lra_linear_spec.specs.Polyhedra.{Polyhedron}
-use Rattle.lra_systems.specs.LinearSystems.{constraints, generators}
+use Rattle.lra_poly.specs.Crates.{lra_linear_spec.Polyhedra.Polyhedron, lra_systems.LinearSystems.constraints, lra_systems.LinearSystems.generators}
 use Rattle.lra_duality.specs.declared.inclusion.Inclusion.TheVariants.{No, Wide}
 use Rattle.lra_duality.proofs.InclusionLemmas.{yes_within}
 use Rattle.lra_poly.specs.Restricted.{IsSeenWithin}

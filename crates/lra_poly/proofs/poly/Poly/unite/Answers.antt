@@ -1,7 +1,6 @@
 -- Goals of `Poly::unite`: the polyhedron of its generators and of these.
 use Rattle.std.proofs.Common.{◌++◌}
-use Rattle.lra_linear_spec.specs.{Descriptions.Gen, OperationStrain.FromGeneratorsStrains}
-use Rattle.lra_systems.specs.LinearSystems.{generators}
+use Rattle.lra_poly.specs.Crates.{lra_linear_spec.Descriptions.Gen, lra_linear_spec.OperationStrain.FromGeneratorsStrains, lra_systems.LinearSystems.generators}
 use Rattle.lra_poly.proofs.{PolyLemmas.exactly, UnitedLists.unites_anew}
 use Rattle.lra_poly.proofs.poly.Poly.unite.Goals as goal
 

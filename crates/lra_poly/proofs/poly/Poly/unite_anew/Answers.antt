@@ -1,7 +1,6 @@
 -- Goals of `Poly::unite_anew`: the polyhedron of its generators and of these, converted from nothing.
 use Rattle.std.proofs.Common.{◌≡◌, ◌++◌, ◌∙◌, List, ℕ, ap, refl, subst}
-use Rattle.lra_linear_spec.specs.{Descriptions.LinearRow, Polyhedra.Polyhedron}
-use Rattle.lra_systems.specs.LinearSystems.{generators}
+use Rattle.lra_poly.specs.Crates.{lra_linear_spec.Descriptions.LinearRow, lra_linear_spec.Polyhedra.Polyhedron, lra_systems.LinearSystems.generators}
 use Rattle.lra_poly.specs.{Outcomes.IfFlagged, Outcomes.IsOfGenerators, United.AreTriedPoints}
 use Rattle.lra_poly.proofs.PolyLemmas.{joined_seen}
 use Rattle.lra_poly.proofs.poly.Poly.unite_anew.Goals as goal

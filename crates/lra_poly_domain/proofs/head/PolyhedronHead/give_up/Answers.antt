@@ -1,6 +1,6 @@
 -- Goals of `PolyhedronHead::give_up`: what it becomes where it isn't decided whether next lies in its value.
 use Rattle.lra_linear_spec.specs.Kinds.{is_equality}
-use Rattle.lra_systems.specs.LinearSystems.{constraints}
+use Rattle.lra_poly_domain.specs.Crates.lra_systems.LinearSystems.{constraints}
 use Rattle.lra_poly_widening.proofs.WideningLemmas.{seen_columns}
 use Rattle.lra_poly_domain.specs.Growth.{head}
 use Rattle.lra_poly_domain.proofs.GrowthLemmas.{grew_wide, wide_lower}

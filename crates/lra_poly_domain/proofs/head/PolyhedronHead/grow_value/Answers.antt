@@ -1,5 +1,5 @@
 -- Goals of `PolyhedronHead::grow_value`: what it becomes by next, which isn't in its value.
-use Rattle.lra_systems.specs.LinearSystems.{constraints}
+use Rattle.lra_poly_domain.specs.Crates.lra_systems.LinearSystems.{constraints}
 use Rattle.lra_poly_domain.specs.Growth.{head}
 use Rattle.lra_poly_domain.proofs.GrowthLemmas.{grew, grew_lower}
 use Rattle.lra_poly_domain.proofs.head.PolyhedronHead.grow_value.Goals as goal

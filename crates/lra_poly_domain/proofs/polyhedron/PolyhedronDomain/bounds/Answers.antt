@@ -1,7 +1,7 @@
 -- Goals of `PolyhedronDomain::bounds`: the least and the greatest value, rounded inwards.
 use Rattle.std.proofs.Common.{◌≡◌, ◌∙◌, ℤ, neg_ℤ, Option, ap, subst, sym}
 use Rattle.std.specs.Prelude.{option_map}
-use Rattle.lra_linear_forms.specs.Form.{Form}
+use Rattle.lra_poly_domain.specs.Crates.lra_linear_forms.Form.{Form}
 use Rattle.lra_linear_spec.specs.Polyhedra.{Polyhedron}
 use Rattle.lra_duality.specs.declared.maximum.Maximum.{Maximum}
 use Rattle.lra_poly_domain.specs.Bounded.{PolyhedronBounded, rounded_down}

@@ -3,7 +3,7 @@ use Rattle.std.proofs.Common.{◌≡◌, ◌∙◌, ◌∷◌, ◌++◌, [], Lis
 use Rattle.lra_domain.specs.Parts.{SomePartHolds}
 use Rattle.lra_linear_spec.specs.declared.ConKind.{ConKind}
 use Rattle.lra_poly_domain.specs.Content.{PolyhedronGamma, polyhedron_parts}
-use Rattle.lra_systems.specs.LinearSystems.{LinearSystem}
+use Rattle.lra_poly_domain.specs.Crates.lra_systems.LinearSystems.{LinearSystem}
 use Rattle.lra_poly_domain.proofs.PartLemmas.{no_parts, parts_hold, some_parts}
 use Rattle.lra_poly_domain.proofs.polyhedron.PolyhedronDomain.parts.Goals as goal
 

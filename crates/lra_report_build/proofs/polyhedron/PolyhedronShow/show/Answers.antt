@@ -1,6 +1,6 @@
 -- Goals of `PolyhedronShow::show`.
 use Rattle.std.proofs.Common.{◌∙◌, sym, subst}
-use Rattle.lra_linear_spec.specs.{Polyhedra.IsPolyhedron, Representable.IsRepresentable}
+use Rattle.lra_report_build.specs.Crates.{lra_linear_spec.Polyhedra.IsPolyhedron, lra_linear_spec.Representable.IsRepresentable}
 use Rattle.lra_report_build.proofs.PolyhedronParts.{lists_are, state_canonical, state_is, state_told}
 use Rattle.lra_report_build.proofs.polyhedron.PolyhedronShow.show.Goals as goal
 

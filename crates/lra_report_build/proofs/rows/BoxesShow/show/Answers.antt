@@ -1,6 +1,5 @@
 -- Goals of `BoxesShow::show`.
-use Rattle.lra_options.specs.declared.options.Domain.TheVariants.{Box}
-use Rattle.lra_box.specs.Abstraction.{box_abstraction}
+use Rattle.lra_report_build.specs.Crates.{lra_box.Abstraction.box_abstraction, lra_options.declared.options.Domain.TheVariants.Box}
 use Rattle.lra_report_build.proofs.{BoxShown.boxes_are_shown, RowsSpelled.told, RowsSpelled.spelled}
 use Rattle.lra_report_build.proofs.rows.BoxesShow.show.Goals as goal
 

@@ -1,5 +1,5 @@
 -- Goals of `OctagonShow::show`.
-use Rattle.lra_options.specs.declared.options.Domain.TheVariants.{Oct}
+use Rattle.lra_report_build.specs.Crates.lra_options.declared.options.Domain.TheVariants.{Oct}
 use Rattle.lra_octagon.specs.Abstraction.{octagon_abstraction}
 use Rattle.lra_report_build.proofs.{OctShown.octagons_are_shown, RowsSpelled.told, RowsSpelled.spelled}
 use Rattle.lra_report_build.proofs.rows.OctagonShow.show.Goals as goal

@@ -1,6 +1,6 @@
 -- Goals of `analyse`: the graph is ready, and so is what the iteration leaves; what both find is found of the thread.
 use Rattle.std.proofs.{Common.get_or, Common.None, lemmas.Option.slice_get-get_or}
-use Rattle.lra_operations.specs.{CheckedOperations.accessing_ops, TreeViews.node_view}
+use Rattle.lra_threads_analysis.specs.Crates.{lra_operations.CheckedOperations.accessing_ops, lra_operations.TreeViews.node_view}
 use Rattle.lra_threads_analysis.proofs.ReadyValues.{all_below, few_dims}
 use Rattle.lra_threads_analysis.proofs.graphs.InlinedThreadsThreads.analyse.Goals as goal
 

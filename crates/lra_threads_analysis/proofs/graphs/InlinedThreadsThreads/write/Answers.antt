@@ -1,7 +1,6 @@
 -- Goals of `write`: note by note.
 use Rattle.std.proofs.Common.{◌∙◌, List, ap, length, map, refl}
-use Rattle.lra_box.specs.Content.{BoxContent}
-use Rattle.lra_fixpoint.specs.declared.tables.Note.{Note}
+use Rattle.lra_threads_analysis.specs.Crates.{lra_box.Content.BoxContent, lra_fixpoint.declared.tables.Note.Note}
 use Rattle.lra_threads_fixpoint.specs.Interference.{written_by}
 use Rattle.lra_threads_analysis.specs.Found.{write_in}
 use Rattle.lra_threads_analysis.proofs.WrittenRows.{none_taken, taken_next, taken_last}

@@ -1,10 +1,8 @@
 -- Goals of `take_denial`: the paths from a source to where an assertion is false.
 use Rattle.std.proofs.{Common.Some, Common.length, Common.ap, Common.sym, Common.◌∙◌, Common.refl, Common.arith, lemmas.Option.slice_get_read}
-use Rattle.lra_systems.specs.LinearSystems.{constraints}
-use Rattle.lra_path_segments.specs.Segments.{violates}
+use Rattle.lra_verify.specs.Crates.lra_certificate_spec.Lines.{judged_in_turn, left_at}
+use Rattle.lra_verify.specs.Crates.{lra_path_disjuncts.TableDisjuncts.lists_done, lra_path_segments.Segments.violates, lra_systems.LinearSystems.constraints}
 use Rattle.lra_paths.specs.{Sources.to_goal, declared.sources.Source.Source}
-use Rattle.lra_path_disjuncts.specs.TableDisjuncts.{lists_done}
-use Rattle.lra_certificate_spec.specs.Lines.{judged_in_turn, left_at}
 use Rattle.lra_verify.specs.EdgeViews.{dead_by, violation_by}
 use Rattle.lra_certificate_lines.proofs.ShowSteps.{told_as}
 use Rattle.lra_verify.proofs.EdgeSteps.{denial_none, denial_same}

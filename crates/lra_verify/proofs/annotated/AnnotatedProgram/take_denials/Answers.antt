@@ -2,7 +2,7 @@
 use Rattle.std.proofs.Common.{◌+◌, ◌-◌, length, arith}
 use Rattle.std.specs.List.{range_with_len}
 use Rattle.lra_verify.specs.EdgeViews.{violation_by, violations_by}
-use Rattle.lra_certificate_spec.specs.Lines.{left_at}
+use Rattle.lra_verify.specs.Crates.lra_certificate_spec.Lines.{left_at}
 use Rattle.lra_certificate_lines.proofs.ShowSteps.{turn_more, turn_fault, turn_done}
 use Rattle.lra_verify.proofs.EdgeSteps.{numbers_next, numbers_end}
 use Rattle.lra_verify.proofs.annotated.AnnotatedProgram.take_denials.Goals as goal

@@ -1,7 +1,7 @@
 -- Goals of `take_listed`: how many assertions are listed.
 use Rattle.std.proofs.Common.{◌+◌, map, drop, arith}
 use Rattle.lra_operations.specs.TreeViews.{site_view}
-use Rattle.lra_certificate_spec.specs.Lines.{left_at}
+use Rattle.lra_verify.specs.Crates.lra_certificate_spec.Lines.{left_at}
 use Rattle.lra_verify.specs.EdgeViews.{violations_by, listed_by, sites_in}
 use Rattle.lra_verify.proofs.{ListedSteps.none_after, ListedSteps.listed_more, ListedSteps.listed_fault, ListedSteps.listed_done, PointSteps.sites_next, PointSteps.sites_end}
 use Rattle.lra_verify.proofs.annotated.AnnotatedProgram.take_listed.Goals as goal

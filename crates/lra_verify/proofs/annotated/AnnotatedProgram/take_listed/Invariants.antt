@@ -1,7 +1,7 @@
 use Rattle.std.proofs.Common.{◌≡◌, ◌≤◌, length, map, drop}
 use Rattle.lra_operations.specs.TreeViews.{site_view}
 use Rattle.lra_verify.specs.EdgeViews.{violations_by, listed_by, sites_in}
-use Rattle.lra_certificate_spec.specs.Lines.{left_at}
+use Rattle.lra_verify.specs.Crates.lra_certificate_spec.Lines.{left_at}
 use Rattle.lra_verify.proofs.ListedSteps.{listed_after}
 use Rattle.lra_verify.proofs.annotated.AnnotatedProgram.take_listed.Given as goal
 

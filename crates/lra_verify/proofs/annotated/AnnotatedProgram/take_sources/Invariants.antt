@@ -1,7 +1,7 @@
 use Rattle.std.proofs.Common.{◌≡◌, ◌≤◌, ◌-◌, length}
 use Rattle.std.specs.List.{range_with_len}
 use Rattle.lra_verify.specs.EdgeViews.{source_by, sources_by}
-use Rattle.lra_certificate_spec.specs.Lines.{judged_in_turn, left_at}
+use Rattle.lra_verify.specs.Crates.lra_certificate_spec.Lines.{judged_in_turn, left_at}
 use Rattle.lra_verify.proofs.annotated.AnnotatedProgram.take_sources.Given as goal
 
 abbrev pub invariant-loop-source : goal.invariant-loop-source

@@ -1,9 +1,7 @@
 -- Goals of `take_way`: the paths from a source to a point.
 use Rattle.std.proofs.{Common.length, Common.ap, Common.sym, Common.◌∙◌, Common.refl, Common.arith, lemmas.Option.slice_get_read}
-use Rattle.lra_path_segments.specs.Segments.{comes_to}
+use Rattle.lra_verify.specs.Crates.{lra_certificate_spec.Lines.judged_in_turn, lra_certificate_spec.Lines.left_at, lra_path_disjuncts.TableDisjuncts.lists_done, lra_path_segments.Segments.comes_to}
 use Rattle.lra_paths.specs.{Sources.to_goal, declared.sources.Source.Source}
-use Rattle.lra_path_disjuncts.specs.TableDisjuncts.{lists_done}
-use Rattle.lra_certificate_spec.specs.Lines.{judged_in_turn, left_at}
 use Rattle.lra_verify.specs.{EdgeViews.path_of, EdgeViews.paths_to_by, declared.edges.Edge.Edge}
 use Rattle.lra_certificate_lines.proofs.ShowSteps.{told_as}
 use Rattle.lra_verify.proofs.EdgeSteps.{way_same}

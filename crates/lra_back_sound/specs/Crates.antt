@@ -1,0 +1,15 @@
+-- The crates below, by name: for the files here, and for the crates above.
+pub use Rattle.lra_back.specs as lra_back
+pub use Rattle.lra_fixpoint.specs as lra_fixpoint
+pub use Rattle.lra_fixpoint.specs.Crates.lra_analysis_spec
+pub use Rattle.lra_fixpoint.specs.Crates.lra_base
+pub use Rattle.lra_back.specs.Crates.lra_domain
+pub use Rattle.lra_back.specs.Crates.lra_linear_forms
+pub use Rattle.lra_back.specs.Crates.lra_linear_spec
+pub use Rattle.lra_back.specs.Crates.lra_operations
+pub use Rattle.lra_fixpoint.specs.Crates.lra_pass_results
+pub use Rattle.lra_back.specs.Crates.lra_path_disjuncts
+pub use Rattle.lra_back.specs.Crates.lra_path_segments
+pub use Rattle.lra_back.specs.Crates.lra_paths
+pub use Rattle.lra_back.specs.Crates.lra_program
+pub use Rattle.lra_fixpoint.specs.Crates.lra_transfer

@@ -1,0 +1,3 @@
+-- The crates below, by name: for the files here, and for the crates above.
+pub use Rattle.lra_poly_widening.proofs.Crates.lra_duality
+pub use Rattle.lra_systems.proofs.Crates.lra_linear_spec

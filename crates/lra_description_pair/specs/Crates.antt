@@ -1,0 +1,8 @@
+-- The crates below, by name: for the files here, and for the crates above.
+pub use Rattle.lra_descriptions.specs as lra_descriptions
+pub use Rattle.lra_descriptions.specs.Crates.lra_bits
+pub use Rattle.lra_descriptions.specs.Crates.lra_canonical
+pub use Rattle.lra_cone.specs.Crates.lra_double_description
+pub use Rattle.lra_descriptions.specs.Crates.lra_linear_spec
+pub use Rattle.lra_descriptions.specs.Crates.lra_row
+pub use Rattle.lra_descriptions.specs.Crates.lra_systems

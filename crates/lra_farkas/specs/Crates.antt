@@ -1,0 +1,5 @@
+-- The crates below, by name: for the files here, and for the crates above.
+pub use Rattle.lra_multipliers.specs as lra_multipliers
+pub use Rattle.lra_systems.specs as lra_systems
+pub use Rattle.lra_multipliers.specs.Crates.lra_linear_forms
+pub use Rattle.lra_systems.specs.Crates.lra_linear_spec

@@ -1,0 +1,8 @@
+-- The crates below, by name: for the files here, and for the crates above.
+pub use Rattle.lra_analysis_spec.specs.Crates.lra_base
+pub use Rattle.lra_analysis_spec.specs.Crates.lra_domain
+pub use Rattle.lra_analysis_spec.specs.Crates.lra_linear_forms
+pub use Rattle.lra_analysis_spec.specs.Crates.lra_linear_spec
+pub use Rattle.lra_analysis_spec.specs.Crates.lra_operations
+pub use Rattle.lra_analysis_spec.specs.Crates.lra_options
+pub use Rattle.lra_analysis_spec.specs.Crates.lra_program

@@ -1,0 +1,5 @@
+-- The crates below, by name: for the files here, and for the crates above.
+pub use Rattle.lra_analysis_spec.proofs as lra_analysis_spec
+pub use Rattle.lra_inline_sound.proofs as lra_inline_sound
+pub use Rattle.lra_analysis_spec.proofs.Crates.lra_linear_spec
+pub use Rattle.lra_inline_sound.proofs.Crates.lra_operations

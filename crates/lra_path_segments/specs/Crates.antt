@@ -1,0 +1,3 @@
+-- The crates below, by name: for the files here, and for the crates above.
+pub use Rattle.lra_operations.specs.Crates.lra_base
+pub use Rattle.lra_operations.specs.Crates.lra_program

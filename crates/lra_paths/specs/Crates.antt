@@ -1,0 +1,10 @@
+-- The crates below, by name: for the files here, and for the crates above.
+pub use Rattle.lra_path_disjuncts.specs as lra_path_disjuncts
+pub use Rattle.lra_operations.specs as lra_operations
+pub use Rattle.lra_path_disjuncts.specs.Crates.lra_analysis_spec
+pub use Rattle.lra_operations.specs.Crates.lra_base
+pub use Rattle.lra_path_disjuncts.specs.Crates.lra_domain
+pub use Rattle.lra_path_disjuncts.specs.Crates.lra_linear_spec
+pub use Rattle.lra_path_disjuncts.specs.Crates.lra_path_segments
+pub use Rattle.lra_operations.specs.Crates.lra_program
+pub use Rattle.lra_path_disjuncts.specs.Crates.lra_resolution_spec

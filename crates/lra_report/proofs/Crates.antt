@@ -1,0 +1,4 @@
+-- The crates below, by name: for the files here, and for the crates above.
+pub use Rattle.lra_row.proofs.Crates.lra_linear_spec
+pub use Rattle.lra_resolution_spec.proofs.Crates.lra_program
+pub use Rattle.lra_resolution_spec.proofs.Crates.lra_syntax

@@ -1,0 +1,4 @@
+-- The crates below, by name: for the files here, and for the crates above.
+pub use Rattle.lra_program.specs as lra_program
+pub use Rattle.lra_syntax.specs as lra_syntax
+pub use Rattle.lra_program.specs.Crates.lra_base

@@ -1,0 +1,3 @@
+-- The crates below, by name: for the files here, and for the crates above.
+pub use Rattle.lra_row.specs as lra_row
+pub use Rattle.lra_linear_spec.specs as lra_linear_spec

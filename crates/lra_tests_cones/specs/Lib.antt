@@ -1,0 +1,2 @@
+-- The crates below
+pub mod Crates
