@@ -1,7 +1,7 @@
 -- Lists of rows of one kind, at a point.
 use Rattle.std.proofs.Common.{List, [], ◌∷◌, ◌++◌, length, replicate, ◌↔◌, ℤ}
 use Rattle.guzhtarel.specs.Crates.{lra_linear_spec.Descriptions.LinearRow, lra_linear_spec.Descriptions.Con, lra_linear_spec.Kinds.is_equality, lra_linear_spec.declared.ConKind.ConKind}
-use Rattle.guzhtarel.proofs.Crates.lra_linear_spec.Descriptions.{con_none, con_cons, con_head, con_tail}
+use Rattle.lra_linear_spec.proofs.Descriptions.{con_none, con_cons, con_head, con_tail}
 use Rattle.lra_systems.specs.LinearSystems.{rows_by_kind}
 use Rattle.guzhtarel.specs.Entries.{AllHold}
 

@@ -5,10 +5,10 @@ use Rattle.std.specs.List.{Contains}
 use Rattle.lra_duality.specs.Crates.lra_linear_spec.Descriptions.{Con, LinearRow, inequality, rows_as, system_of}
 use Rattle.lra_duality.specs.Crates.lra_linear_spec.Polyhedra.{Polyhedron, IsPolyhedron, HasPoint, falsity}
 use Rattle.lra_duality.specs.Crates.{lra_linear_spec.Cones.both_ways, lra_linear_spec.Points.IsPoint, lra_linear_spec.Points.IsEmptySet, lra_linear_spec.Vectors.entry}
-use Rattle.lra_duality.proofs.Crates.lra_linear_spec.Descriptions.{generated_gen, system_from}
-use Rattle.lra_duality.proofs.Crates.lra_linear_spec.Membership.{contains_head, contains_none, each_one}
-use Rattle.lra_duality.proofs.Crates.{lra_linear_spec.Combinations.generated_row, lra_linear_spec.Lines.in_lines, lra_linear_spec.Lines.zeros_length, lra_linear_spec.OneSpelling.falsity_never}
-use Rattle.lra_duality.proofs.Crates.{lra_linear_spec.OneSpelling.given_from, lra_linear_spec.Polyhedra.con_gen, lra_linear_spec.Products.negated_length, lra_linear_spec.SetOperations.has_vertex}
+use Rattle.lra_linear_spec.proofs.Descriptions.{generated_gen, system_from}
+use Rattle.lra_linear_spec.proofs.Membership.{contains_head, contains_none, each_one}
+use Rattle.lra_linear_spec.proofs.{Combinations.generated_row, Lines.in_lines, Lines.zeros_length, OneSpelling.falsity_never}
+use Rattle.lra_linear_spec.proofs.{OneSpelling.given_from, Polyhedra.con_gen, Products.negated_length, SetOperations.has_vertex}
 
 -- ---- without a point
 pub falsity_is_empty : (n : ℕ) (rows : List LinearRow) → rows ≡ inequality (falsity n) ∷ [] → IsEmptySet n (Con rows)

@@ -7,7 +7,7 @@ use Rattle.lra_linear_spec.specs.declared.Excess as E
 use Rattle.lra_linear_spec.specs.OperationStrain.{ProductsPass, valid_on}
 use Rattle.lra_linear_spec.specs.{CheckedArithmetic.checked_product, Descriptions.LinearRow, Polyhedra.Polyhedron, Widening.holds_with, Widening.is_valid}
 use Rattle.lra_poly_widening.specs.Rank.{fits, holds_in_range, kept_thresholds}
-use Rattle.lra_poly_widening.proofs.Counting.{any_said}
+use Rattle.lra_poly_widening.proofs.SomeMember.{any_said}
 use Rattle.lra_poly_domain.specs.Growth.{row_passes, some_passes}
 
 -- ---- where none passes

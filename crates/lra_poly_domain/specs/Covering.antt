@@ -13,7 +13,7 @@ use Rattle.lra_linear_spec.proofs.Signs.{between_opposites, times_positive}
 use Rattle.lra_linear_spec.proofs.{Membership.contains_none, Products.negated_dot, Products.product_none, Ring.ring}
 use Rattle.lra_linear_spec.proofs.{Ring.v, Ring.⊖, Ring.◌⊕◌, Ring.◌⊗◌, SetOperations.has_vertex}
 use Rattle.lra_duality.proofs.PolyhedronLemmas.{none_where_empty}
-use Rattle.lra_poly_widening.proofs.Counting.{any_said}
+use Rattle.lra_poly_widening.proofs.SomeMember.{any_said}
 use Rattle.lra_domain.specs.Actions.{Within}
 use Rattle.lra_poly_domain.specs.Content.{PolyhedronLeq, PolyhedronGamma, is_absurd, is_negative, listed}
 use Rattle.lra_poly_domain.specs.{Content.polyhedron_parts, Sets.IsJoin}

@@ -6,7 +6,7 @@ use Rattle.std.specs.{List.Contains, List.filter, List.list_any, Prelude.◌&&�
 use Rattle.lra_poly_widening.specs.Crates.lra_linear_spec.Widening.{holds_with, is_tight_as, is_valid}
 use Rattle.lra_poly_widening.specs.Crates.{lra_linear_spec.CheckedArithmetic.checked_product, lra_linear_spec.Descriptions.LinearRow, lra_linear_spec.Descriptions.rows_as}
 use Rattle.lra_poly_widening.specs.Crates.{lra_linear_spec.Polyhedra.HasPoint, lra_linear_spec.Polyhedra.Polyhedron, lra_linear_spec.RowOrder.Ascends, lra_linear_spec.RowOrder.inequality_cmp}
-use Rattle.lra_poly_widening.proofs.Crates.lra_linear_spec.Membership.{NoRepeat, contains_cases, contains_head, contains_none, contains_tail, filter_from, filter_has, list_all_at, list_all_from}
+use Rattle.lra_poly_widening.proofs.Crates.lra_linear_spec.Membership.{NoRepeat, contains_cases, contains_none, filter_from, filter_has, list_all_at, list_all_from}
 use Rattle.lra_poly_widening.proofs.Crates.lra_linear_spec.RowOrder.{inequality_cmp_total, never_both}
 use Rattle.lra_poly_widening.proofs.Crates.{lra_cone.Cutting.no_repeat_filter, lra_linear_spec.OneSpelling.given_from}
 use Rattle.lra_poly_widening.specs.Rank.{fits, free, held_thresholds, holds_in_range, is_free, kept_thresholds}
@@ -120,11 +120,3 @@ any_from {A = A} t (y ∷ xs) x k e = elim (contains_cases y x xs k) [
   | inl q ↦ or_left (t y) (list_any t xs) (ap t q ∙ e)
   | inr d ↦ or_right (t y) (list_any t xs) (any_from t xs x d e)
 ]
-
-pub any_said : {A : Type 0} (t : A → Bool) (xs : List A) → list_any t xs ≡ true → (x : A) × Contains xs x × (t x ≡ true)
-any_said t [] e = cc
-any_said {A = A} t (y ∷ xs) e = by_test (t y) refl e (λ h. any_said t xs h)
-  where
-    by_test : (b : Bool) → t y ≡ b → (b || list_any t xs) ≡ true → (list_any t xs ≡ true → (x : A) × Contains xs x × (t x ≡ true)) → (x : A) × Contains (y ∷ xs) x × (t x ≡ true)
-    by_test true q h rest = (y, contains_head y xs, q)
-    by_test false q h rest = let i = rest h in (i.0, contains_tail y i.0 xs i.1, i.2)

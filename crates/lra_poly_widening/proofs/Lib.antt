@@ -4,6 +4,7 @@ mod TightLists
 mod Dimension
 mod Faces
 pub mod Facets
+pub mod SomeMember
 pub mod Counting
 pub mod RankLaw
 mod Validities

@@ -16,7 +16,8 @@ use Rattle.lra_poly_widening.proofs.Crates.{lra_linear_spec.Lines.in_lines, lra_
 use Rattle.lra_poly_widening.proofs.Crates.{lra_linear_spec.Ring.mul_nonnegative, lra_linear_spec.Saturation.Beside, lra_linear_spec.SetOperations.has_vertex, lra_linear_spec.Signs.between_opposites}
 use Rattle.lra_poly_widening.proofs.Crates.{lra_linear_spec.Signs.divide_nonnegative, lra_linear_spec.Spans.spanned_row, lra_linear_spec.Widening.valid_decides}
 use Rattle.lra_poly_widening.specs.{Rank.Falls, Rank.equalities_from, Rank.free, Rank.held_thresholds, Rank.holds_in_range, Rank.kept_thresholds, Widenings.KeepsRows}
-use Rattle.lra_poly_widening.proofs.Counting.{IsFree, any_from, any_said, equalities_many, free_apart, free_has, free_said, holds_valid, kept_all, kept_at, kept_fewer, kept_held}
+use Rattle.lra_poly_widening.proofs.SomeMember.{any_said}
+use Rattle.lra_poly_widening.proofs.Counting.{IsFree, any_from, equalities_many, free_apart, free_has, free_said, holds_valid, kept_all, kept_at, kept_fewer, kept_held}
 use Rattle.lra_poly_widening.proofs.Faces.{IsFlat, beside_back, beside_product, beside_zero, con, equality_flat, facet_not_flat, flat_said, flat_spanned, gen, line_flat, lines_dot, same_face}
 use Rattle.lra_poly_widening.proofs.Faces.{spanned_dot, test_above, tight_as_back, tight_as_from, tight_as_said, true_multiple, within_above, within_flat, within_spans}
 use Rattle.lra_poly_widening.proofs.{Dimension.Matched, Dimension.few_rows, Dimension.no_longer, Dimension.smaller_span, Facets.beside_same, Facets.facet_row, Facets.no_pivot_first}

@@ -20,7 +20,7 @@ use Rattle.lra_poly.proofs.PolyLemmas.{becomes_same}
 use Rattle.lra_poly_widening.specs.Tightest.{TightestStrains, TightestTell, is_loose, is_lower, is_tighter, tightest}
 use Rattle.lra_poly_widening.specs.{Rank.Falls, Rank.kept_thresholds, Widenings.HaveColumns, Widenings.IsLimitedWidening, Widenings.PassesOnBoth}
 use Rattle.lra_poly_widening.proofs.WideningLemmas.{around_point, limited_empty, passes_widening}
-use Rattle.lra_poly_widening.proofs.{Counting.any_said, Counting.holds_valid, Counting.kept_at, RankLaw.rank_falls}
+use Rattle.lra_poly_widening.proofs.{SomeMember.any_said, Counting.holds_valid, Counting.kept_at, RankLaw.rank_falls}
 
 -- ---- lower rows
 less_said : (c d : ℤ) → int_lt c d ≡ true → c <ℤ d
