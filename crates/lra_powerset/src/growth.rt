@@ -169,8 +169,7 @@ pub fn become_one<D: BaseDomain>(
                 let head = D::start(alloc, &by, given)?;
                 return Ok(Some(head));
             }
-            let head = start_and_grow(alloc, given, parts, &by, mode)?;
-            Ok(head)
+            start_and_grow(alloc, given, parts, &by, mode)
         }
     }
 }
@@ -195,10 +194,7 @@ fn stays_with_all<D: BaseDomain>(
     };
     match D::grow(head, first, mode)? {
         Grown::Grew(_) => Ok(false),
-        Grown::Stable => {
-            let stays = stays_with_all(head, later, mode)?;
-            Ok(stays)
-        }
+        Grown::Stable => stays_with_all(head, later, mode),
     }
 }
 

@@ -233,8 +233,7 @@ impl<D: BaseDomain> PowerSetHead<D> {
     {
         let (parts, exactness) = self.parts(self.alloc)?;
         let lies = self.lies_in(parts.as_slice(), exactness, next);
-        let grown = self.join_told(parts, lies, next)?;
-        Ok(grown)
+        self.join_told(parts, lies, next)
     }
 
     // The head of its single part grows by next's parts, or nothing is known of it.
@@ -249,10 +248,7 @@ impl<D: BaseDomain> PowerSetHead<D> {
         ensures err { OnErr result (self.new ≡ self.old) }
     {
         match &mut self.held {
-            Held::One(one) => {
-                let grown = grow_one(self.alloc, one, next.items(), mode)?;
-                Ok(grown)
-            }
+            Held::One(one) => grow_one(self.alloc, one, next.items(), mode),
             Held::Many(_) => unreachable!(),
             Held::Whole(_) => unreachable!(),
         }
@@ -334,10 +330,7 @@ impl<D: BaseDomain> PowerSetHead<D> {
                 self.give_up()?;
                 Ok(Grown::Grew(Exactness::Flagged))
             }
-            Included::No => {
-                let grown = self.unite(next, mode)?;
-                Ok(grown)
-            }
+            Included::No => self.unite(next, mode),
         }
     }
 
@@ -353,14 +346,8 @@ impl<D: BaseDomain> PowerSetHead<D> {
     {
         match &self.held {
             Held::Whole(_) => Ok(Grown::Stable),
-            Held::One(_) => {
-                let grown = self.widen_one(next, mode)?;
-                Ok(grown)
-            }
-            Held::Many(_) => {
-                let grown = self.widen_many(next, mode)?;
-                Ok(grown)
-            }
+            Held::One(_) => self.widen_one(next, mode),
+            Held::Many(_) => self.widen_many(next, mode),
         }
     }
 
@@ -374,22 +361,10 @@ impl<D: BaseDomain> PowerSetHead<D> {
         ensures err { OnErr result (self.new ≡ self.old) }
     {
         match mode {
-            Mode::Join => {
-                let grown = self.join(next)?;
-                Ok(grown)
-            }
-            Mode::Widen => {
-                let grown = self.widen(next, Mode::Widen)?;
-                Ok(grown)
-            }
-            Mode::Limited => {
-                let grown = self.widen(next, Mode::Limited)?;
-                Ok(grown)
-            }
-            Mode::Tightest => {
-                let grown = self.widen(next, Mode::Tightest)?;
-                Ok(grown)
-            }
+            Mode::Join => self.join(next),
+            Mode::Widen => self.widen(next, Mode::Widen),
+            Mode::Limited => self.widen(next, Mode::Limited),
+            Mode::Tightest => self.widen(next, Mode::Tightest),
         }
     }
 

@@ -46,8 +46,7 @@ pub fn into_one<D: BaseDomain>(alloc: Global, parts: &[D]) -> Result<Vec<D>, All
     ensures { IfOk result (λ one. BecameOne D.abstraction parts.now one.items) }
 {
     let (whole, _) = merge(alloc, parts)?;
-    let one = list_alone(alloc, whole)?;
-    Ok(one)
+    list_alone(alloc, whole)
 }
 
 /// The last two parts become their join, in the last place.
@@ -120,10 +119,7 @@ fn settle_untried<D: BaseDomain>(
             let one = into_one(alloc, left.as_slice())?;
             Ok((one, Exactness::Flagged))
         }
-        Collapsing::Further => {
-            let settled = settle_untried(alloc, cap, Untried::Last, left)?;
-            Ok(settled)
-        }
+        Collapsing::Further => settle_untried(alloc, cap, Untried::Last, left),
     }
 }
 

@@ -99,8 +99,7 @@ pub fn list_alone<D: BaseDomain>(alloc: Global, part: D) -> Result<Vec<D>, Alloc
 pub fn copy_alone<D: BaseDomain>(alloc: Global, part: &D) -> Result<Vec<D>, AllocError>
     ensures { IfOk result (λ parts. parts.items ≡ part.now ∷ []) }
 {
-    let parts = list_alone(alloc, part.copy(alloc)?)?;
-    Ok(parts)
+    list_alone(alloc, part.copy(alloc)?)
 }
 
 /// The lowest of what the parts say of the form from below and the highest from above; nothing of no parts.
@@ -303,18 +302,15 @@ impl<D: BaseDomain> Domain for PowerSet<D> {
     }
 
     fn assign(&mut self, x: usize, e: &LinExpr) -> Result<Exactness, AllocError> {
-        let exactness = self.change_each(&BorrowedChange::Assign(x, e))?;
-        Ok(exactness)
+        self.change_each(&BorrowedChange::Assign(x, e))
     }
 
     fn forget(&mut self, x: usize) -> Result<Exactness, AllocError> {
-        let exactness = self.change_each(&BorrowedChange::Forget(x))?;
-        Ok(exactness)
+        self.change_each(&BorrowedChange::Forget(x))
     }
 
     fn test(&mut self, t: &Test) -> Result<Exactness, AllocError> {
-        let exactness = self.change_each(&BorrowedChange::Test(t))?;
-        Ok(exactness)
+        self.change_each(&BorrowedChange::Test(t))
     }
 
     /// The join: the other's parts are appended, and the list is reduced and kept within the cap.
@@ -326,13 +322,11 @@ impl<D: BaseDomain> Domain for PowerSet<D> {
     }
 
     fn embed(&mut self, k: usize) -> Result<Exactness, AllocError> {
-        let exactness = self.change_each(&BorrowedChange::Embed(k))?;
-        Ok(exactness)
+        self.change_each(&BorrowedChange::Embed(k))
     }
 
     fn remove_last(&mut self, k: usize) -> Result<Exactness, AllocError> {
-        let exactness = self.change_each(&BorrowedChange::RemoveLast(k))?;
-        Ok(exactness)
+        self.change_each(&BorrowedChange::RemoveLast(k))
     }
 
     fn parts(&self, alloc: Global) -> Result<Vec<ConSys>, AllocError> {
@@ -343,8 +337,7 @@ impl<D: BaseDomain> Domain for PowerSet<D> {
 
     /// A single part becomes a head of its own; otherwise the head has the parts.
     fn start(alloc: Global, first: &Self, given: &ConSys) -> Result<PowerSetHead<D>, AllocError> {
-        let head = PowerSetHead::start(alloc, first, given)?;
-        Ok(head)
+        PowerSetHead::start(alloc, first, given)
     }
 
     /// In joining it becomes the set's join with next. Otherwise a head that isn't one part becomes one, the join of

@@ -1,6 +1,6 @@
 -- Goals of `become_one`: the parts, not one, become one, which grows by next's; nothing if a join of parts or
 -- its growth exceeds a limit.
-use Rattle.std.proofs.{Common.◌≡◌, Common.◌<◌, Common.[], Common.length, Common.sym, Common.◌∙◌, Common.arith, lemmas.Grind.common_steps}
+use Rattle.std.proofs.{Common.◌≡◌, Common.◌<◌, Common.[], Common.length, Common.sym, Common.◌∙◌, Common.arith, lemmas.Grind.common_steps, lemmas.Result.IfOk-weaker}
 use Rattle.lra_powerset.specs.Laws.{fits_formed}
 use Rattle.lra_powerset.proofs.{AnswerLemmas.fits_dims, GrowthLemmas.head_of_some, GrowthLemmas.merges_some, GrowthLemmas.one_first, GrowthLemmas.one_more}
 use Rattle.lra_powerset.proofs.growth.become_one.Goals as goal
@@ -40,11 +40,11 @@ start_and_grow-requires-clause-by g c = (
   rw c.in-Some.is at c.in_ok-merge_exactly.ensures.formed,
 )
 
-pub returns-in_ok-head-in-Some-2-clause-becomes : goal.returns-in_ok-head-in-Some-2-clause-becomes
-returns-in_ok-head-in-Some-2-clause-becomes g c =
+pub returns-else-is_empty-clause-becomes : goal.returns-else-is_empty-clause-becomes
+returns-else-is_empty-clause-becomes g c =
     let some : 0 < length c.args.parts.now = grind (arith, common_steps) in
-    one_more g.D.Domain.abstraction g.met.D.Domain.laws g.met.D.BaseDomain.base_laws c.args.given.now c.args.parts.now c.args.next.now
-    c.args.mode c.in-Some.by c.in_ok-head-in-Some-2.head
+    IfOk-weaker c.start_and_grow.result _ _ (λ head grows. one_more g.D.Domain.abstraction g.met.D.Domain.laws g.met.D.BaseDomain.base_laws c.args.given.now c.args.parts.now c.args.next.now
+    c.args.mode c.in-Some.by head
     (fits_formed g.D.Domain.abstraction c.args.given.now.dims c.args.next.now c.requires.next) some
     (merges_some g.D.Domain.abstraction c.args.next.now c.in_ok-merge_exactly.field-0 c.in-Some.by c.in-Some.is
-    c.in_ok-merge_exactly.ensures.merges) c.in_ok-head-in-Some-2.ensures.grows
+    c.in_ok-merge_exactly.ensures.merges) grows) c.start_and_grow.ensures.grows

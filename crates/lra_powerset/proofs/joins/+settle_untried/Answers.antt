@@ -1,5 +1,5 @@
 -- Goals of the functions that call each other around `settle_untried`: `returns`, `settle_once`, `into_one`, `settle_untried`.
-use Rattle.std.proofs.Common.{◌<◌, length, arith, rules}
+use Rattle.std.proofs.{Common.◌<◌, Common.length, Common.arith, Common.rules, lemmas.Result.IfOk-weaker}
 use Rattle.lra_powerset.specs.Laws.{fits_formed}
 use Rattle.lra_powerset.proofs.AnswerLemmas.{fits_dims, further_fewer, further_fit, settled_further, settled_strained, strained_alike, strained_fit, strained_some}
 use Rattle.lra_powerset.proofs.{AntichainLemmas.further_apart, CollapseLemmas.settled_ends}
@@ -40,11 +40,12 @@ returns-in_ok-one-in-Strained g t c =
     λ n fit. settled_strained g.D.Domain.abstraction g.met.D.BaseDomain.base_laws n c.args.cap c.args.parts.items c.settle_once.new.parts.items c.in_ok-one-in-Strained.one.items c.requires.cap once
     one fit
 
-pub returns-in_ok-settled-in-Further : goal.returns-in_ok-settled-in-Further
-returns-in_ok-settled-in-Further g t c =
+pub returns-in-Further : goal.returns-in-Further
+returns-in-Further g t c =
     let once = rw c.in-Further.is at c.in_ok-exactness.ensures in
-    λ n fit. settled_further g.D.Domain.abstraction g.met.D.BaseDomain.base_laws n c.args.cap c.args.parts.items c.settle_once.new.parts.items c.in_ok-settled-in-Further.settled.1
-    c.in_ok-settled-in-Further.settled.0.items once (λ k. c.in_ok-settled-in-Further.ensures k) fit
+    IfOk-weaker c.settle_untried.result _ _ (λ settled is n fit. settled_further g.D.Domain.abstraction g.met.D.BaseDomain.base_laws n
+    c.args.cap c.args.parts.items c.settle_once.new.parts.items settled.1 settled.0.items once (λ k. is k) fit)
+    c.settle_untried.ensures
 
 pub settle_untried-requires : goal.settle_untried-requires
 settle_untried-requires g t c κs within =
