@@ -61,8 +61,7 @@ fn convert_reordered(alloc: Global, rows: &ConSys, order: Order) -> Result<Poly,
     ensures failure { IfErr result (HasNoPoint rows.now.dims (constraints rows.now)) }
 {
     let reordered = reorder(alloc, rows, order)?;
-    let made = convert(alloc, &reordered)?;
-    Ok(made)
+    convert(alloc, &reordered)
 }
 
 /// The polyhedron of the rows, which has a point, by the first of the other orders that doesn't exceed a limit.
@@ -106,8 +105,7 @@ fn first_multipliers(alloc: Global, all: &Poly) -> Result<Multipliers, AllocErro
     let (point, _kind) = all.generators().at(0);
     let (_, factors) = point.entries().split_at(2);
     let factors = Vec::from_slice(alloc, factors)?;
-    let made = Multipliers::new(alloc, point.get(0), point.get(1), factors)?;
-    Ok(made)
+    Multipliers::new(alloc, point.get(0), point.get(1), factors)
 }
 
 /// The first generator of the polyhedron of all multipliers that show the claim by the premises.
@@ -124,8 +122,7 @@ fn find_first(
 {
     let rows = list_rows(alloc, premises, claim)?;
     let all = convert_by_any(alloc, &rows)?;
-    let first = first_multipliers(alloc, &all)?;
-    Ok(first)
+    Ok(first_multipliers(alloc, &all)?)
 }
 
 /// The first multipliers that show the claim by the premises: the first generator of the polyhedron of all that do.

@@ -78,6 +78,5 @@ pub fn reorder(alloc: Global, rows: &ConSys, order: Order) -> Result<ConSys, All
 {
     let mut keyed = key_rows(alloc, rows, order)?;
     keyed.sort_by_key(|item| item.key)?;
-    let reordered = unkey_rows(alloc, rows.dims(), keyed.as_slice())?;
-    Ok(reordered)
+    unkey_rows(alloc, rows.dims(), keyed.as_slice())
 }

@@ -47,8 +47,7 @@ fn balance(alloc: Global, premises: &[Row], claim: &Row, column: usize) -> Resul
     numbers.push(opposite(claim.get(column)))?;
     numbers.push(one_at(column))?;
     push_column(&mut numbers, premises, column)?;
-    let row = Row::from_slice(alloc, numbers.as_slice())?;
-    Ok(row)
+    Row::from_slice(alloc, numbers.as_slice())
 }
 
 /// The equalities of all columns come last.

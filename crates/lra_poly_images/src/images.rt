@@ -46,8 +46,7 @@ fn extend_along(p: &Poly, x: usize) -> Result<Option<Poly>, AllocError>
 {
     let _canonical = p.rows(); // fact: p's lists are canonical
     let along = line_along(p.allocator(), p.dims(), x)?;
-    let made = p.extend(&along)?;
-    Ok(made)
+    p.extend(&along)
 }
 
 /// Lets the coordinate x be anything: becomes the set of the points that some value of x brings into it. If it is
@@ -66,10 +65,7 @@ pub fn forget(p: &mut Poly, x: usize) -> Result<Outcome, AllocError>
             *p = made;
             Ok(Outcome::Exact)
         }
-        None => {
-            let outcome = forget_anew(p, x)?;
-            Ok(outcome)
-        }
+        None => forget_anew(p, x),
     }
 }
 
@@ -147,10 +143,7 @@ fn forget_and_set(p: &Poly, x: usize, form: &LinExpr) -> Result<Option<Poly>, Al
         (IsPolyhedronOf p.now.dims (Image p.now.dims (suc x) (form_row form.now) (Con p.now.rows)))) }
 {
     match extend_along(p, x)? {
-        Some(free) => {
-            let made = meet_form(free, x, form)?;
-            Ok(made)
-        }
+        Some(free) => meet_form(free, x, form),
         None => Ok(None),
     }
 }
@@ -170,8 +163,7 @@ fn find_image(p: &Poly, x: usize, form: &LinExpr, row: &Row) -> Result<Option<Po
         Some(made) => Ok(Some(made)),
         None => {
             if row.get(x + 1) == 0 {
-                let made = forget_and_set(p, x, form)?;
-                Ok(made)
+                forget_and_set(p, x, form)
             } else {
                 Ok(None)
             }
@@ -190,10 +182,7 @@ fn convert_image(p: &mut Poly, x: usize, form: &Row) -> Result<Outcome, AllocErr
     ensures unchanged { OnErr result (p.new ≡ p.old) }
 {
     match assign_list(p.allocator(), p.generators(), x, form)? {
-        Ok(list) => {
-            let outcome = replace_or_forget(p, x, &list)?;
-            Ok(outcome)
-        }
+        Ok(list) => replace_or_forget(p, x, &list),
         Err(loss) => {
             give_up(p, x)?;
             Ok(Outcome::Flagged(loss))
@@ -221,10 +210,7 @@ pub fn image(p: &mut Poly, x: usize, form: &LinExpr) -> Result<Outcome, AllocErr
             *p = made;
             Ok(Outcome::Exact)
         }
-        None => {
-            let outcome = convert_image(p, x, &row)?;
-            Ok(outcome)
-        }
+        None => convert_image(p, x, &row),
     }
 }
 
@@ -273,9 +259,6 @@ pub fn preimage(p: &mut Poly, x: usize, form: &LinExpr) -> Result<Outcome, Alloc
             *p = made;
             Ok(Outcome::Exact)
         }
-        None => {
-            let outcome = convert_preimage(p, x, &row)?;
-            Ok(outcome)
-        }
+        None => convert_preimage(p, x, &row),
     }
 }

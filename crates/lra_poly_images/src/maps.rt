@@ -38,8 +38,7 @@ pub fn remove_last(p: &mut Poly, k: usize) -> Result<Outcome, AllocError>
     ensures unchanged { OnErr result (p.new ≡ p.old) }
 {
     let list = shorten(p.allocator(), p.generators(), p.dims() - k)?;
-    let outcome = replace(p, &list)?;
-    Ok(outcome)
+    replace(p, &list)
 }
 
 /// Adds k dimensions, the last ones, in which the coordinates may be anything: becomes the set of its points with any
@@ -53,8 +52,7 @@ pub fn embed(p: &mut Poly, k: usize) -> Result<Outcome, AllocError>
     ensures unchanged { OnErr result (p.new ≡ p.old) }
 {
     let list = embed_list(p.allocator(), p.generators(), k)?;
-    let outcome = replace(p, &list)?;
-    Ok(outcome)
+    replace(p, &list)
 }
 
 // The time-elapse of two that have a point each, where the generators are converted from nothing.
@@ -70,8 +68,7 @@ fn elapse_anew(p: &mut Poly, other: &Poly) -> Result<Outcome, AllocError>
     ensures unchanged { OnErr result (p.new ≡ p.old) }
 {
     let list = with_directions(p.allocator(), p.generators(), other.generators())?;
-    let outcome = replace(p, &list)?;
-    Ok(outcome)
+    replace(p, &list)
 }
 
 // The time-elapse of two that have a point each.
@@ -93,10 +90,7 @@ fn elapse(p: &mut Poly, other: &Poly) -> Result<Outcome, AllocError>
             *p = made;
             Ok(Outcome::Exact)
         }
-        None => {
-            let outcome = elapse_anew(p, other)?;
-            Ok(outcome)
-        }
+        None => elapse_anew(p, other),
     }
 }
 
@@ -123,6 +117,5 @@ pub fn time_elapse(p: &mut Poly, other: &Poly) -> Result<Outcome, AllocError>
         *p = other.copy()?;
         return Ok(Outcome::Exact);
     }
-    let outcome = elapse(p, other)?;
-    Ok(outcome)
+    elapse(p, other)
 }

@@ -29,8 +29,7 @@ fn move_lists(p: &Poly, column: usize, form: &Row, back: &Row) -> Result<Poly, R
     }
     let rows = substitute_canonically(alloc, p.rows(), column, back)?;
     let by_generators = assign_canonically(alloc, p.generators(), column, form)?;
-    let image = Poly::from_canonical(alloc, rows, by_generators)?;
-    Ok(image)
+    Ok(Poly::from_canonical(alloc, rows, by_generators)?)
 }
 
 // The image by both lists, moved; none if a number passes the range.
@@ -68,10 +67,7 @@ pub fn move_forward(p: &Poly, column: usize, form: &Row) -> Result<Option<Poly>,
         return Ok(None);
     }
     match invert(p.allocator(), form, column)? {
-        Some(back) => {
-            let image = move_lists_in_range(p, column, form, &back)?;
-            Ok(image)
-        }
+        Some(back) => move_lists_in_range(p, column, form, &back),
         None => Ok(None),
     }
 }
@@ -90,10 +86,7 @@ pub fn move_back(p: &Poly, column: usize, form: &Row) -> Result<Option<Poly>, Al
         return Ok(None);
     }
     match invert(p.allocator(), form, column)? {
-        Some(back) => {
-            let preimage = move_lists_in_range(p, column, &back, form)?;
-            Ok(preimage)
-        }
+        Some(back) => move_lists_in_range(p, column, &back, form),
         None => Ok(None),
     }
 }

@@ -37,8 +37,7 @@ pub fn universe(alloc: Global, n: usize) -> Result<Poly, AllocError>
     if n >= TOO_MANY_DIMENSIONS {
         return Err(AllocError);
     }
-    let all = Poly::universe(alloc, n)?;
-    Ok(all)
+    Poly::universe(alloc, n)
 }
 
 // Puts a copy of the row after the others.
@@ -136,8 +135,7 @@ fn product_loss(alloc: Global, row: &Row, kind: ConKind, excess: Excess) -> Resu
     }) }
 {
     let nothing = no_rows(alloc, 0)?;
-    let loss = Loss::new(alloc, &nothing, row, kind, Cause::Excess(excess))?;
-    Ok(loss)
+    Loss::new(alloc, &nothing, row, kind, Cause::Excess(excess))
 }
 
 /// The loss of the first given constraint that isn't known to fail and a product of which passes the range.
@@ -180,9 +178,6 @@ pub fn inclusion_loss(
     let broken = &rows[row];
     match broken.dot(&columns[generator]) {
         Ok(_) => unreachable!(),
-        Err(excess) => {
-            let loss = product_loss(alloc, broken, kinds[row], excess)?;
-            Ok(loss)
-        }
+        Err(excess) => product_loss(alloc, broken, kinds[row], excess),
     }
 }

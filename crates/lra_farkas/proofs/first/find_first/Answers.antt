@@ -15,4 +15,4 @@ returns-in_err-all-clause-failure c =
 pub returns-clause-first : goal.returns-clause-first
 returns-clause-first c =
     are_first c.in_ok-rows.rows.dims (constraints c.in_ok-rows.rows) c.in_ok-all.all (constraints c.args.premises.now) c.args.claim.now
-    (multipliers_view c.in_ok-first.first) c.in_ok-all.ensures.is c.in_ok-rows.ensures.dims c.in_ok-rows.ensures.rows c.in_ok-first.ensures.first
+    (multipliers_view c.in_ok-first_multipliers.field-0) c.in_ok-all.ensures.is c.in_ok-rows.ensures.dims c.in_ok-rows.ensures.rows c.in_ok-first_multipliers.ensures.first

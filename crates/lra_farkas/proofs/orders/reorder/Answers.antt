@@ -1,5 +1,6 @@
 -- Goals of `reorder`: the same rows in another order.
 use Rattle.std.proofs.Common.{◌∙◌}
+use Rattle.std.proofs.lemmas.Result.{IfOk-weaker}
 use Rattle.lra_systems.specs.LinearSystems.{constraints}
 use Rattle.lra_farkas.proofs.KeyedRows.{sorted_widths, sorted_rows}
 use Rattle.lra_farkas.proofs.orders.reorder.Goals as goal
@@ -10,9 +11,9 @@ unkey_rows-requires-clause-widths c =
     c.as_slice.ensures.value c.in_ok-sort_by_key.ensures.permutation c.in_ok-keyed.ensures.widths
 
 pub returns-clause-dims : goal.returns-clause-dims
-returns-clause-dims c = c.in_ok-reordered.ensures.dims ∙ c.dims.ensures
+returns-clause-dims c = IfOk-weaker c.unkey_rows.result _ _ (λ reordered is. is ∙ c.dims.ensures) c.unkey_rows.ensures.dims
 
 pub returns-clause-same : goal.returns-clause-same
 returns-clause-same c =
-    sorted_rows (constraints c.args.rows.now) (constraints c.in_ok-reordered.reordered) c.in_ok-keyed.keyed.items c.sort_by_key.new.self.items
-    c.as_slice.result.now c.in_ok-keyed.ensures.rows c.in_ok-sort_by_key.ensures.permutation c.as_slice.ensures.value c.in_ok-reordered.ensures.rows
+    IfOk-weaker c.unkey_rows.result _ _ (λ reordered. sorted_rows (constraints c.args.rows.now) (constraints reordered) c.in_ok-keyed.keyed.items c.sort_by_key.new.self.items
+    c.as_slice.result.now c.in_ok-keyed.ensures.rows c.in_ok-sort_by_key.ensures.permutation c.as_slice.ensures.value) c.unkey_rows.ensures.rows

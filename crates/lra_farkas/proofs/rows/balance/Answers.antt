@@ -2,6 +2,7 @@
 use Rattle.std.proofs.Common.{rules, ◌≡◌, ◌++◌, ◌∷◌, [], ℤ, neg_ℤ, List, FitsSigned, refl, ap, sym, ◌∙◌, subst}
 use Rattle.std.proofs.{lemmas.Int.to_z-of_z, lemmas.List.Elements.All-cons, lemmas.List.Elements.All-nil}
 use Rattle.std.specs.{Int.w128, List.All}
+use Rattle.std.proofs.lemmas.Result.{IfOk-weaker}
 use Rattle.lra_farkas.specs.Crates.lra_linear_spec.Range.{InRange}
 use Rattle.lra_farkas.proofs.ListedRows.{balance_made}
 use Rattle.lra_farkas.proofs.rows.balance.Goals as goal
@@ -29,6 +30,6 @@ returns c =
     let pushed : c.push.new.self.items ≡ c.new-numbers.result.items ++ z ∷ [] = simp to_z-of_z at c.in_ok-push.ensures.items in
     let e1 : c.push.new.self.items ≡ z ∷ [] = pushed ∙ ap (λ (x : List ℤ). x ++ z ∷ []) c.new-numbers.ensures.items in
     let e2 : c.push-2.new.self.items ≡ c.push.new.self.items ++ one ∷ [] = simp to_z-of_z at c.in_ok-push-2.ensures.items in
-    balance_made c.push.new.self.items c.push-2.new.self.items c.push_column.new.numbers.items c.in_ok-row.row c.args.premises.now c.args.claim.now
-    c.args.column z one e1 e2 c.in_ok-push_column.ensures.numbers (c.in_ok-row.ensures ∙ c.as_slice.ensures.value)
-    (turned ∙ ap neg_ℤ c.get.ensures.entry) c.one_at.ensures.value
+    IfOk-weaker c.from_slice.result _ _ (λ row is. balance_made c.push.new.self.items c.push-2.new.self.items c.push_column.new.numbers.items row c.args.premises.now c.args.claim.now
+    c.args.column z one e1 e2 c.in_ok-push_column.ensures.numbers (is ∙ c.as_slice.ensures.value)
+    (turned ∙ ap neg_ℤ c.get.ensures.entry) c.one_at.ensures.value) c.from_slice.ensures

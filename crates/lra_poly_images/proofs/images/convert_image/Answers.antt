@@ -1,5 +1,6 @@
 -- Goals of `convert_image`: the image, where the generators are converted.
 use Rattle.std.proofs.Common.{arith, inl, inr, suc, subst, List}
+use Rattle.std.proofs.lemmas.Result.{IfOk-weaker}
 use Rattle.lra_poly_images.specs.Crates.lra_linear_spec.CheckedArithmetic.{checked_product}
 use Rattle.lra_poly_images.specs.Crates.lra_linear_spec.OperationStrain.{FormingPasses, ImageStrains, mapped}
 use Rattle.lra_poly_images.specs.Crates.{lra_linear_spec.Descriptions.Con, lra_linear_spec.Descriptions.LinearRow, lra_linear_spec.SetOperations.Forget, lra_linear_spec.SetOperations.Image}
@@ -20,8 +21,8 @@ replace_or_forget-requires-clause-within c =
     taken_inside p.dims image (mapped k row p.generators) c.in-Ok.list (Forget p.dims k (Con p.rows)) takes
     (image_forgets p.dims k row (Con p.rows) (omega arith))
 
-pub returns-in_ok-outcome-in-Ok-clause-becomes : goal.returns-in_ok-outcome-in-Ok-clause-becomes
-returns-in_ok-outcome-in-Ok-clause-becomes c =
+pub returns-in-Ok-clause-becomes : goal.returns-in-Ok-clause-becomes
+returns-in-Ok-clause-becomes c =
     let p = c.args.p.now in
     let k = suc c.args.x in
     let row = c.args.form.now in
@@ -30,8 +31,8 @@ returns-in_ok-outcome-in-Ok-clause-becomes c =
     image_taken p c.generators.result.now c.in-Ok.list c.args.x row c.in_ok-list.field-0
     c.generators.ensures.canonical c.requires.column c.generators.ensures.dims c.generators.ensures.generators
     c.in-Ok.is c.in_ok-list.ensures.dims c.in_ok-list.ensures.generators in
-    taken_becomes p.dims image (mapped k row p.generators) c.in-Ok.list (ImageStrains k row p) c.replace_or_forget.new.p
-    c.in_ok-outcome-in-Ok.outcome takes (λ loss s. inr s) c.in_ok-outcome-in-Ok.ensures.becomes
+    IfOk-weaker c.replace_or_forget.result _ _ (λ outcome. taken_becomes p.dims image (mapped k row p.generators) c.in-Ok.list (ImageStrains k row p) c.replace_or_forget.new.p
+    outcome takes (λ loss s. inr s)) c.replace_or_forget.ensures.becomes
 
 pub returns-in_ok-give_up-in-Err-clause-becomes : goal.returns-in_ok-give_up-in-Err-clause-becomes
 returns-in_ok-give_up-in-Err-clause-becomes c =

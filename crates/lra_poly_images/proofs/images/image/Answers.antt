@@ -1,5 +1,6 @@
 -- Goals of `image`: gives the coordinate x the form's value.
 use Rattle.std.proofs.Common.{suc, subst, List, ℤ}
+use Rattle.std.proofs.lemmas.Result.{IfOk-weaker}
 use Rattle.lra_poly_images.specs.Crates.{lra_linear_forms.Form.form_row, lra_linear_spec.Descriptions.Con, lra_linear_spec.OperationStrain.ImageStrains, lra_linear_spec.SetOperations.Image}
 use Rattle.lra_poly.specs.Outcomes.{Becomes}
 use Rattle.lra_poly.proofs.PolyLemmas.{exactly}
@@ -22,10 +23,10 @@ pub returns-clause-becomes : goal.returns-clause-becomes
 returns-clause-becomes c =
     let p = c.args.p.now in
     let k = suc c.args.x in
-    subst (λ (f : List ℤ). Becomes p.dims (Image p.dims k f (Con p.rows)) (ImageStrains k f p) c.convert_image.new.p c.in_ok-outcome-in-None.outcome)
-    c.in_ok-row.ensures c.in_ok-outcome-in-None.ensures.becomes
+    IfOk-weaker c.convert_image.result _ _ (λ outcome. subst (λ (f : List ℤ). Becomes p.dims (Image p.dims k f (Con p.rows)) (ImageStrains k f p) c.convert_image.new.p outcome)
+    c.in_ok-row.ensures) c.convert_image.ensures.becomes
 
 pub returns-clause-stays : goal.returns-clause-stays
 returns-clause-stays c =
     let stays = rw c.in-None.is at c.in_ok-made.ensures.none in
-    flagged_anyway _ c.in_ok-outcome-in-None.outcome stays
+    IfOk-weaker c.convert_image.result _ _ (λ outcome _. flagged_anyway _ outcome stays) c.convert_image.ensures.becomes

@@ -1,6 +1,7 @@
 -- Goals of `preimage`: becomes the set of the points that are brought into it when the coordinate x is given the
 -- form's value.
 use Rattle.std.proofs.Common.{suc, subst, List, ℤ}
+use Rattle.std.proofs.lemmas.Result.{IfOk-weaker}
 use Rattle.lra_poly_images.specs.Crates.{lra_linear_forms.Form.form_row, lra_linear_spec.Descriptions.Con, lra_linear_spec.OperationStrain.PreimageStrains, lra_linear_spec.SetOperations.Preimage}
 use Rattle.lra_poly.specs.Outcomes.{Becomes}
 use Rattle.lra_poly.proofs.PolyLemmas.{exactly}
@@ -29,15 +30,16 @@ pub returns-clause-becomes : goal.returns-clause-becomes
 returns-clause-becomes c =
     let p = c.args.p.now in
     let k = suc c.args.x in
-    subst (λ (f : List ℤ). Becomes p.dims (Preimage k f (Con p.rows)) (PreimageStrains k f p) c.convert_preimage.new.p c.in_ok-outcome-in-None.outcome)
-    c.in_ok-row.ensures c.in_ok-outcome-in-None.ensures.becomes
+    IfOk-weaker c.convert_preimage.result _ _ (λ outcome. subst (λ (f : List ℤ). Becomes p.dims (Preimage k f (Con p.rows)) (PreimageStrains k f p) c.convert_preimage.new.p outcome)
+    c.in_ok-row.ensures) c.convert_preimage.ensures.becomes
 
 pub returns-clause-stays : goal.returns-clause-stays
 returns-clause-stays c =
     let stays = rw c.in-None.is at c.in_ok-made.ensures.none in
-    flagged_anyway _ c.in_ok-outcome-in-None.outcome (stays_back_for c.args.p.now c.args.x (form_row c.args.form.now) c.in_ok-row.row c.in_ok-row.ensures stays)
+    let of_form = stays_back_for c.args.p.now c.args.x (form_row c.args.form.now) c.in_ok-row.row c.in_ok-row.ensures stays in
+    IfOk-weaker c.convert_preimage.result _ _ (λ outcome _. flagged_anyway _ outcome of_form) c.convert_preimage.ensures.becomes
 
 pub returns-clause-formed : goal.returns-clause-formed
 returns-clause-formed c =
-    let formed = subst (λ (f : List ℤ). IsOfFormed (suc c.args.x) f c.args.p.now c.convert_preimage.new.p) c.in_ok-row.ensures c.in_ok-outcome-in-None.ensures.formed in
-    flagged_anyway _ c.in_ok-outcome-in-None.outcome formed
+    IfOk-weaker c.convert_preimage.result _ _ (λ outcome formed. flagged_anyway _ outcome
+    (subst (λ (f : List ℤ). IsOfFormed (suc c.args.x) f c.args.p.now c.convert_preimage.new.p) c.in_ok-row.ensures formed)) c.convert_preimage.ensures.formed

@@ -1,5 +1,6 @@
 -- Goals of `elapse_anew`: the time-elapse of two that have a point each, where the generators are converted from nothing.
 use Rattle.std.proofs.Common.{◌≡◌, ◌∙◌, ◌++◌, subst, ℕ}
+use Rattle.std.proofs.lemmas.Result.{IfOk-weaker}
 use Rattle.lra_poly_images.specs.Crates.{lra_linear_spec.OperationStrain.as_directions, lra_systems.LinearSystems.generators}
 use Rattle.lra_poly.specs.Outcomes.{IsOfGenerators}
 use Rattle.lra_poly_images.proofs.Crates.lra_duality.PolyhedronLemmas.{with_point}
@@ -17,10 +18,10 @@ returns-clause-becomes c =
     (generators c.generators-2.result.now) list c.in_ok-list.ensures.generators
     c.generators.ensures.generators c.generators-2.ensures.generators in
     let d : c.in_ok-list.list.dims ≡ p.dims = c.in_ok-list.ensures.dims ∙ c.generators.ensures.dims in
-    elapse_becomes p q c.replace.new.p list c.in_ok-outcome.outcome
+    IfOk-weaker c.replace.result _ _ (λ outcome becomes. elapse_becomes p q c.replace.new.p list outcome
     (with_point p c.generators.ensures.canonical c.requires.first)
     (with_point q c.generators-2.ensures.canonical c.requires.second)
-    c.requires.dims e (subst (λ (n : ℕ). IsOfGenerators n list c.replace.new.p c.in_ok-outcome.outcome) d c.in_ok-outcome.ensures.becomes)
+    c.requires.dims e (subst (λ (n : ℕ). IsOfGenerators n list c.replace.new.p outcome) d becomes)) c.replace.ensures.becomes
 
 pub returns-clause-tried : goal.returns-clause-tried
 returns-clause-tried c =
@@ -32,4 +33,4 @@ returns-clause-tried c =
     (generators c.generators-2.result.now) list c.in_ok-list.ensures.generators
     c.generators.ensures.generators c.generators-2.ensures.generators in
     let d : c.in_ok-list.list.dims ≡ p.dims = c.in_ok-list.ensures.dims ∙ c.generators.ensures.dims in
-    tried_as p.dims (p.generators ++ as_directions q.generators) c.in_ok-list.list c.replace.new.p c.in_ok-outcome.outcome d e c.in_ok-outcome.ensures.tried
+    IfOk-weaker c.replace.result _ _ (λ outcome. tried_as p.dims (p.generators ++ as_directions q.generators) c.in_ok-list.list c.replace.new.p outcome d e) c.replace.ensures.tried

@@ -47,7 +47,7 @@ returns-clause-image c =
     c.rows.ensures.canonical c.requires.some c.requires.above c.requires.back c.rows.ensures.dims c.rows.ensures.rows
     c.generators.ensures.dims c.generators.ensures.generators c.in_ok-rows.ensures.made
     c.in_ok-by_generators.ensures.made c.in_ok-rows.ensures.dims in
-    subst (IsPolyhedronOf p.dims (Image p.dims c.args.column c.args.form.now (Con p.rows))) (sym c.in_ok-image.ensures)
+    subst (IsPolyhedronOf p.dims (Image p.dims c.args.column c.args.form.now (Con p.rows))) (sym c.in_ok-from_canonical.ensures)
     (moved_image p c.args.column c.args.form.now c.args.back.now rows list m).0
 
 pub returns-in_err-rows-clause-excess : goal.returns-in_err-rows-clause-excess

@@ -1,6 +1,7 @@
 -- Goals of `inclusion_loss`: the loss of the constraint of the second, at the place, whose product with the
 -- generator of the first passes.
 use Rattle.std.proofs.Common.{arith, rules, ap, suc, sym, ◌∙◌, ◌<◌, length}
+use Rattle.std.proofs.lemmas.Result.{IfOk-weaker}
 use Rattle.lra_poly_widening.specs.Crates.lra_linear_spec.declared.ConKind.TheVariants.{Ge}
 use Rattle.lra_poly_widening.proofs.Places.{never_ok, pair_passes, wide_pair, width_at}
 use Rattle.lra_poly_widening.proofs.lists.inclusion_loss.Goals as goal
@@ -66,6 +67,6 @@ returns c =
     let w = wide_pair c.args.p.now c.args.q.now c.rows-list.result.now c.generators-generators.result.now c.rows-rows.result.now c.rows-columns.result.now c.kinds-kinds.result.now
     c.kinds-kinds-2.result.now c.args.generator c.args.row c.rows-list.ensures.rows c.generators-generators.ensures.generators c.rows-rows.ensures.rows c.kinds-kinds.ensures.kinds
     c.kinds-kinds.ensures.len c.rows-columns.ensures.rows c.kinds-kinds-2.ensures.kinds c.kinds-kinds-2.ensures.len c.requires.wide in
-    pair_passes c.args.p.now c.args.q.now c.rows-rows.result.now c.rows-columns.result.now c.kinds-kinds.result.now c.args.generator c.args.row c.index-rows-row.result c.index-columns-generator.result
+    IfOk-weaker c.product_loss.result _ _ (λ loss. pair_passes c.args.p.now c.args.q.now c.rows-rows.result.now c.rows-columns.result.now c.kinds-kinds.result.now c.args.generator c.args.row c.index-rows-row.result c.index-columns-generator.result
     Ge
-    c.in-Err.excess c.in_ok-loss-in-Err.loss w c.index-rows-row.is c.index-columns-generator.is c.in-Err.ensures.exact c.in_ok-loss-in-Err.ensures
+    c.in-Err.excess loss w c.index-rows-row.is c.index-columns-generator.is c.in-Err.ensures.exact) c.product_loss.ensures
