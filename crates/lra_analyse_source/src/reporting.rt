@@ -16,9 +16,10 @@ ghost use Rattle.lra_fixpoint.specs.Solved.{IsSolved};
 ghost use Rattle.lra_front_end.specs.Stages.{HasInlinedTree};
 ghost use Rattle.lra_analyse_source.specs.Stages.{IsReportOfTree, ReportsSolution};
 
-use lra_bounds_checks::{BoundsVerdicts, Node, OverflowVerdicts, judge, judge_accesses};
+use lra_bounds_checks::{BoundsVerdicts, OverflowVerdicts, judge, judge_accesses};
 use lra_fixpoint::{Plan, Solution, analyse};
 use lra_front_end::AcceptedSource;
+use lra_operations::Node;
 use lra_options::Options;
 use lra_poly_domain::Domain as AbstractDomain;
 use lra_report_build::{Findings, Outline, Report, Show, list, states_of};

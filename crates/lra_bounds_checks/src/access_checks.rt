@@ -18,8 +18,9 @@ ghost use Rattle.lra_overflow_checks.specs.Judged.{IsWide};
 use crate::bounds::outside;
 use crate::listing::{Access, accesses, push_accesses};
 use lra_domain::{Domain, Exactness, LinExpr, Test, worse};
+use lra_operations::Op;
 use lra_overflow_checks::{
-    Leaf, Op, OpRef, Question, Surroundings, Verdict, form_of_expression, judge_condition,
+    Leaf, OpRef, Question, Surroundings, Verdict, form_of_expression, judge_condition,
 };
 use lra_program::{Expr, Place};
 use std::alloc::{AllocError, Global};

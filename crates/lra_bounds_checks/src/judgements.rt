@@ -11,7 +11,8 @@ ghost use Rattle.lra_overflow_checks.specs.Judged.{AreBelow};
 
 use crate::access_checks::BoundsCheck;
 use lra_domain::Domain;
-use lra_overflow_checks::{Node, find};
+use lra_operations::Node;
+use lra_overflow_checks::find;
 use lra_program::Place;
 use std::alloc::{AllocError, Global};
 

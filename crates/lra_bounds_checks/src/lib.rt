@@ -12,4 +12,5 @@ pub use bounds::outside;
 pub use judgements::{BoundsVerdicts, judge_accesses};
 pub use listing::{Access, accesses, push_accesses};
 pub use lra_domain::ConKind;
-pub use lra_overflow_checks::{Node, OverflowVerdicts, judge, list_operations};
+pub use lra_operations::Node;
+pub use lra_overflow_checks::{OverflowVerdicts, judge, list_operations};

@@ -8,7 +8,8 @@ ghost use Rattle.lra_bounds_checks.specs.Crates.lra_operations.TreeViews.{op_vie
 ghost use Rattle.lra_bounds_checks.specs.Crates.lra_operations_list.TreeOperations.{op_ref_view};
 ghost use Rattle.lra_bounds_checks.specs.Listed.{access_view, operand_accesses, side_accesses};
 
-use lra_overflow_checks::{Op, OpRef};
+use lra_operations::Op;
+use lra_overflow_checks::OpRef;
 use lra_program::{Argument, Array, Cond, Element, Expr, Operation, Place};
 use std::alloc::{AllocError, Global};
 

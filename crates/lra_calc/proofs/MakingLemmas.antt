@@ -2,11 +2,11 @@
 use Rattle.std.proofs.Common.{◌≡◌, ◌<◌, ◌+◌, get_or, drop, ℕ, suc, ℤ, pos, Bool, true, false, cond, nat_eq, List, [], ◌∷◌, ◌++◌, length, map, refl, ap, sym, ◌∙◌, subst, arith, append_assoc, Option}
 use Rattle.std.proofs.{Common.Some, Common.None, lemmas.Bool.Decides.nat_tests, lemmas.List.Elements.All-nil, lemmas.List.Elements.All-cons}
 use Rattle.std.specs.List.{All}
+use Rattle.lra_calc.specs.Crates.lra_systems.LinearSystems.{LinearSystem, rows_by_kind, FitsKind, FitKinds}
 use Rattle.lra_calc.specs.Crates.{lra_linear_spec.Descriptions.LinearRow, lra_linear_spec.Kinds.is_line, lra_linear_spec.Points.PointSet, lra_linear_spec.Polyhedra.Polyhedron}
 use Rattle.lra_calc.specs.Crates.{lra_linear_spec.Representable.IsRepresentable, lra_linear_spec.Strain.Loss, lra_linear_spec.declared.GenKind.GenKind, lra_poly.Outcomes.Becomes}
 use Rattle.lra_calc.specs.Crates.{lra_poly.declared.outcome.Outcome.Outcome, lra_poly.declared.outcome.Outcome.TheVariants.Exact, lra_poly.declared.outcome.Outcome.TheVariants.Flagged}
 use Rattle.lra_calc.specs.Crates.lra_linear_spec.declared.GenKind.TheVariants as gen
-use Rattle.lra_systems.specs.LinearSystems.{LinearSystem, rows_by_kind, FitsKind, FitKinds}
 use Rattle.lra_script.specs.LineForms as form
 use Rattle.lra_script.specs.{Views.constraint_of, Views.generator_view, Views.IsDivided, declared.rows.Constraint.Constraint, declared.rows.Generator.Generator}
 use Rattle.lra_script.proofs.AllOf.{rest_at}

@@ -5,11 +5,10 @@ use Rattle.std.specs.List.{All}
 use Rattle.lra_calc.specs.Crates.lra_duality.Inclusions.{Satisfies, Violates, Passes, SatisfiesAll, ViolatesFirst, IsInclusion}
 use Rattle.lra_calc.specs.Crates.lra_duality.Maxima.{StaysInRange, PassesRange, Improves, DoesNotImprove, HasValue, IsAtMost, IsBelow, OfPoint, IsGreatest, IsMaximum}
 use Rattle.lra_calc.specs.Crates.{lra_duality.declared.inclusion.Inclusion.Inclusion, lra_duality.declared.maximum.Maximum.Maximum, lra_linear_spec.Descriptions.LinearRow}
-use Rattle.lra_calc.specs.Crates.{lra_linear_spec.LowestTerms.IsPrimitive, lra_linear_spec.Vectors.entry, lra_linear_spec.Vectors.product}
+use Rattle.lra_calc.specs.Crates.{lra_linear_spec.LowestTerms.IsPrimitive, lra_linear_spec.Vectors.entry, lra_linear_spec.Vectors.product, lra_systems.FirstPlaces.FirstAt}
 use Rattle.lra_calc.proofs.Crates.lra_linear_spec.Ring.{mul_nonnegative, ring, v, ⊖, ◌⊕◌, ◌⊗◌}
 use Rattle.lra_calc.proofs.Crates.lra_linear_spec.Signs.{cancel_same, divide_nonnegative, difference, in_order}
 use Rattle.lra_calc.proofs.Crates.{lra_duality.MaximumLemmas.never_both, lra_linear_spec.LowestTerms.same_multiple, lra_linear_spec.Membership.split_none}
-use Rattle.lra_systems.specs.FirstPlaces.{FirstAt}
 use Rattle.lra_calc.specs.Crates.lra_duality.declared.inclusion.Inclusion.TheVariants as inclusion
 use Rattle.lra_calc.specs.Crates.lra_duality.declared.maximum.Maximum.TheVariants as maximum
 use Rattle.lra_calc.specs.Views.{IsPlacedInclusion, IsPlacedMaximum}

@@ -4,12 +4,12 @@ use Rattle.std.proofs.Common.{append-nil, bytes_eq, Option, Some, None, Result, 
 use Rattle.std.proofs.{lemmas.Bool.Decides.nat_tests, lemmas.Int.ints, lemmas.List.take_rest, lemmas.List.Elements.All-nil, lemmas.List.Elements.All-cons, lemmas.Result.err_from_is_err_and}
 use Rattle.std.specs.{List.All, Map.update, Prelude.◌+◌, Prelude.IfSome, Prelude.option_map, Result.IsErrAnd}
 use Rattle.lra_calc.specs.Crates.lra_linear_spec.Descriptions.{LinearRow, Holds, HoldsWith, Con as points_of}
+use Rattle.lra_calc.specs.Crates.lra_systems.Membership.{HoldsInRange, DecidesMembership}
+use Rattle.lra_calc.specs.Crates.lra_systems.declared.membership.MembershipAnswer.TheVariants.{Yes, No, Wide}
 use Rattle.lra_calc.specs.Crates.{lra_linear_spec.CheckedArithmetic.checked_product, lra_linear_spec.Polyhedra.Polyhedron, lra_linear_spec.Vectors.product, lra_linear_spec.declared.Excess.Excess}
 use Rattle.lra_calc.proofs.Crates.lra_linear_spec.CheckedArithmetic.{checked_product_value}
 use Rattle.lra_calc.proofs.Crates.lra_linear_spec.Membership.{contains_none, contains_head, contains_tail, contains_cases}
-use Rattle.lra_systems.specs.declared.membership.MembershipAnswer as H
-use Rattle.lra_systems.specs.Membership.{HoldsInRange, DecidesMembership}
-use Rattle.lra_systems.specs.declared.membership.MembershipAnswer.TheVariants.{Yes, No, Wide}
+use Rattle.lra_calc.specs.Crates.lra_systems.declared.membership.MembershipAnswer as H
 use Rattle.lra_calc.specs.Script as script
 use Rattle.lra_script.specs.{LineForms.line_of, ScriptText.is_skipped, ScriptText.words}
 use Rattle.lra_calc.specs.{Views.answered, Views.fault_of, Views.session_of, Views.IsUnknown, Views.Gives, Views.StepsTo, Views.Ends, declared.refusal.CalcError.CalcError}

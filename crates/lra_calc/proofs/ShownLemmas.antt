@@ -2,11 +2,11 @@
 use Rattle.std.proofs.Common.{◌≡◌, ◌<◌, ◌-◌, ◌+◌, ℕ, zero, suc, ℤ, pos, negsuc, Bool, false, List, [], ◌∷◌, ◌++◌, length, get_or, map, refl, ap, sym, ◌∙◌, subst, arith, append_assoc, nat_eq, ◌<ℤ◌}
 use Rattle.std.proofs.lemmas.Int.{ints}
 use Rattle.std.specs.{Fmt.decimal, List.flat_map, Prelude.codes}
+use Rattle.lra_calc.specs.Crates.lra_systems.LinearSystems.{LinearSystem, rows_by_kind, constraints, generators, FitsKind, FitKinds}
 use Rattle.lra_calc.specs.Crates.{lra_linear_spec.Descriptions.LinearRow, lra_linear_spec.Descriptions.line, lra_linear_spec.Kinds.is_equality, lra_linear_spec.Kinds.is_line}
 use Rattle.lra_calc.specs.Crates.{lra_linear_spec.Polyhedra.Polyhedron, lra_linear_spec.Vectors.entry, lra_linear_spec.declared.ConKind.ConKind, lra_linear_spec.declared.GenKind.GenKind}
 use Rattle.lra_calc.specs.Crates.lra_linear_spec.declared.ConKind.TheVariants as con
 use Rattle.lra_calc.specs.Crates.lra_linear_spec.declared.GenKind.TheVariants as gen
-use Rattle.lra_systems.specs.LinearSystems.{LinearSystem, rows_by_kind, constraints, generators, FitsKind, FitKinds}
 use Rattle.lra_row_text.specs.ShownDescriptions.{generator_kind, shown_constraint, shown_generator}
 use Rattle.lra_row_text.specs.Texts.{text_line, rows_text, generators_text, generator_text}
 use Rattle.lra_row_text.specs.{Lines.generator_line, Lists.shown_rows, Lists.shown_generators, Part.ReportGenerator, Rows.ReportRow, Shown.report_row, Shown.report_generator}

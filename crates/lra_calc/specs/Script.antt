@@ -8,11 +8,11 @@ use Rattle.std.specs.{Fmt.decimal, List.All, Map.update, Prelude.Result, Prelude
 use Rattle.lra_calc.specs.Crates.lra_duality.Inclusions.{IsInclusion}
 use Rattle.lra_calc.specs.Crates.lra_linear_spec.CheckedArithmetic.{checked_product}
 use Rattle.lra_calc.specs.Crates.lra_linear_spec.Descriptions.{LinearRow, Con as points_of}
-use Rattle.lra_calc.specs.Crates.lra_linear_spec.Polyhedra.{Polyhedron}
+use Rattle.lra_calc.specs.Crates.lra_systems.Membership.{HoldsInRange, IsWide}
 use Rattle.lra_calc.specs.Crates.{lra_duality.Maxima.IsMaximum, lra_duality.declared.inclusion.Inclusion.Inclusion}
-use Rattle.lra_calc.specs.Crates.{lra_linear_spec.declared.Excess.Excess, lra_linear_spec.declared.GenKind.GenKind}
+use Rattle.lra_calc.specs.Crates.{lra_linear_spec.Polyhedra.Polyhedron, lra_linear_spec.declared.Excess.Excess}
+use Rattle.lra_calc.specs.Crates.{lra_linear_spec.declared.GenKind.GenKind, lra_systems.FirstPlaces.FirstAt}
 use Rattle.lra_calc.specs.Crates.lra_linear_spec.declared.GenKind.TheVariants as gen
-use Rattle.lra_systems.specs.{FirstPlaces.FirstAt, Membership.HoldsInRange, Membership.IsWide}
 use Rattle.lra_calc.specs.Crates.lra_duality.declared.inclusion.Inclusion.TheVariants as inclusion
 use Rattle.lra_base.specs.{Places.place_after, Places.greatest_length, declared.refusals.Place.Place}
 use Rattle.lra_row_text.specs.Texts.{text_line}

@@ -5,8 +5,8 @@ use Rattle.std.specs.{BTreeMap.get_by_text, declared.alloc.Global.Global}
 use Rattle.lra_calc.specs.Crates.{lra_duality.declared.inclusion.Inclusion.Inclusion}
 use Rattle.lra_calc.specs.Crates.{lra_duality.declared.maximum.Maximum.Maximum, lra_linear_spec.Polyhedra.Polyhedron}
 use Rattle.lra_calc.specs.Crates.{lra_poly.declared.outcome.Outcome.Outcome}
-use Rattle.lra_systems.specs.declared.membership.MembershipAnswer as H
-use Rattle.lra_systems.specs.declared.membership.MembershipAnswer.TheVariants as holds
+use Rattle.lra_calc.specs.Crates.lra_systems.declared.membership.MembershipAnswer as H
+use Rattle.lra_calc.specs.Crates.lra_systems.declared.membership.MembershipAnswer.TheVariants as holds
 use Rattle.lra_calc.specs.Crates.lra_poly.declared.outcome.Outcome.TheVariants as outcome
 use Rattle.lra_calc.specs.Crates.lra_duality.declared.inclusion.Inclusion.TheVariants as inclusion
 use Rattle.lra_calc.specs.Crates.lra_duality.declared.maximum.Maximum.TheVariants as maximum

@@ -3,7 +3,7 @@
 ghost use Rattle.std.specs.Prelude.{◌≡◌, ◌≤◌, ◌<◌, ◌<ℤ◌, ◌++◌, suc, length, codes, string_bytes, Ok, IfOk, OnOk, pos};
 ghost use Rattle.std.specs.Prelude.{ℕ, ℤ};
 ghost use Rattle.lra_row_text.specs.Texts.{text_line};
-ghost use Rattle.lra_systems.specs.LinearSystems.{constraints as constraints_of};
+ghost use Rattle.lra_calc.specs.Crates.lra_systems.LinearSystems.{constraints as constraints_of};
 ghost use Rattle.lra_calc.specs.Crates.{lra_duality.Inclusions.IsInclusion, lra_duality.Maxima.IsMaximum};
 ghost use Rattle.lra_script.specs.{LineForms.greatest_dims, Views.HasDivisor};
 ghost use Rattle.lra_calc.specs.ShownSets as shown;
@@ -13,7 +13,8 @@ ghost use Rattle.lra_calc.specs.Views.{answer_of, answered, IsPlacedInclusion, I
 use crate::making::form_of;
 use crate::showing::{fraction, generator_at, push_polyhedron};
 use lra_poly_widening::{Inclusion, Maximum, Poly};
-use lra_systems::{ConSys, MembershipAnswer};
+use lra_row_text::ConSys;
+use lra_script::MembershipAnswer;
 use std::alloc::{AllocError, Global};
 use std::fmt::Write;
 

@@ -2,9 +2,10 @@
 
 ghost use Rattle.std.specs.List.{All};
 ghost use Rattle.std.specs.Prelude.{◌≡◌, ◌≤◌, ◌<◌, ◌∷◌, suc, length, pos, map, None, IfOk, option_map};
+ghost use Rattle.lra_calc.specs.Crates.lra_systems.LinearSystems.{constraints as constraints_of};
+ghost use Rattle.lra_calc.specs.Crates.lra_systems.LinearSystems.{generators as generators_of, FitKinds};
 ghost use Rattle.lra_calc.specs.Crates.{lra_linear_forms.Form.form_row, lra_linear_spec.Kinds.is_line};
 ghost use Rattle.lra_calc.specs.Crates.{lra_linear_spec.Representable.IsRepresentable, lra_poly.Outcomes.Becomes};
-ghost use Rattle.lra_systems.specs.LinearSystems.{constraints as constraints_of, generators as generators_of, FitKinds};
 ghost use Rattle.lra_script.specs.LineForms.{greatest_dims, row_of_generator};
 ghost use Rattle.lra_script.specs.Views.{constraint_of, generator_view, IsDivided};
 ghost use Rattle.lra_calc.specs.MadeSets as sets;
@@ -14,8 +15,8 @@ ghost use Rattle.lra_calc.specs.Views.{fault_of, is_flagged};
 use crate::refusal::Fault;
 use lra_poly_images::{LinExpr, forget, image, preimage, time_elapse};
 use lra_poly_widening::{Outcome, Poly};
-use lra_script::{Combination, Constraint, Generator, Mapping};
-use lra_systems::{ConSys, GenKind, GenSys, Row};
+use lra_row_text::{ConSys, GenKind, GenSys};
+use lra_script::{Combination, Constraint, Generator, Mapping, Row};
 use std::alloc::{AllocError, Global};
 
 /// A polyhedron, and whether it is flagged: it may then be larger than what it was made of.

@@ -13,8 +13,8 @@ mod symbolic;
 
 pub use lines::{after_text, line_at, place_of, refuse, take_line};
 pub use lra_certificate_spec::{Constraint, read_source};
-pub use lra_multipliers::{Change, ConKind, ConSys, Multipliers};
-pub use lra_row::Row;
+pub use lra_multipliers::{Change, ConSys, Multipliers};
+pub use lra_row::{ConKind, Row};
 pub use numbers::numbers_behind;
 pub use path_checks::{PathCheck, PathFacts};
 pub use refusals::{LineFault, VerifyError, VerifyRefusal};

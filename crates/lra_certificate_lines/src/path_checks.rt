@@ -19,8 +19,8 @@ use crate::lines::line_at;
 use crate::multiplier_lines::{MultiplierLine, take_answer, take_multipliers};
 use crate::refusals::VerifyError;
 use crate::symbolic::{SymbolicExecution, compose};
-use lra_multipliers::{Answer, Change, ConKind, ConSys, Multipliers, check};
-use lra_row::{Row, RowError};
+use lra_multipliers::{Answer, Change, ConSys, Multipliers, check};
+use lra_row::{ConKind, Row, RowError};
 use std::alloc::{AllocError, Global};
 
 /// The premises of a path's lines, and the rows of the variables after it.

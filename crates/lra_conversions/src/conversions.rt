@@ -6,16 +6,17 @@ ghost use Rattle.lra_conversions.specs.Crates.lra_linear_spec.Descriptions.{Line
 ghost use Rattle.lra_conversions.specs.Crates.lra_linear_spec.OperationStrain.{with_positivity};
 ghost use Rattle.lra_conversions.specs.Crates.lra_linear_spec.Points.{IsWithin, SameSet};
 ghost use Rattle.lra_conversions.specs.Crates.lra_linear_spec.Strain.{Strains};
-ghost use Rattle.lra_systems.specs.Dimensions.{too_many_dimensions};
-ghost use Rattle.lra_systems.specs.LinearSystems.{constraints, generators, FitKinds};
+ghost use Rattle.lra_conversions.specs.Crates.lra_systems.Dimensions.{too_many_dimensions};
+ghost use Rattle.lra_conversions.specs.Crates.lra_systems.LinearSystems.{constraints, generators, FitKinds};
 ghost use Rattle.lra_descriptions.specs.ShownLists.{AreGeneratorsOf, AreConstraintsOf, dual_kind};
 ghost use Rattle.lra_cone.specs.{Cones.ConeContent, Conversions.AreTried, Conversions.IsConversion, Losses.IfLost};
 ghost use Rattle.lra_description_pair.specs.TakenPoints.{AreTaken};
 
-use lra_cone::{Cone, Conversion, Loss, positive_cone, take_rows};
+use lra_cone::{ConSys, Cone, Conversion, Loss, positive_cone, take_rows};
 use lra_description_pair::valid_list;
-use lra_descriptions::{dual_rows, generator_list, has_point, nothing};
-use lra_systems::{ConSys, GenSys, TOO_MANY_DIMENSIONS};
+use lra_descriptions::{
+    GenSys, TOO_MANY_DIMENSIONS, dual_rows, generator_list, has_point, nothing,
+};
 use std::alloc::{AllocError, Global};
 
 /// The rows kept, their points, rays and lines, and the rows left out. The positivity row is taken first, then the rows

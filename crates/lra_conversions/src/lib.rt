@@ -4,5 +4,4 @@
 mod conversions;
 
 pub use conversions::{constrain, generate};
-pub use lra_descriptions::nothing;
-pub use lra_systems::GenSys;
+pub use lra_descriptions::{GenSys, nothing};

@@ -22,7 +22,7 @@ mod threads_laws;
 
 pub use front::{AcceptedSource, read_source};
 pub use laws::{each_answer, one_answer, one_constants};
-pub use lra_base::{Refusal, SourceError};
+pub use lra_base::{GREATEST_LENGTH, Refusal, SourceError};
 pub use lra_lex::tokens;
 pub use lra_parse::parse;
 pub use lra_resolve::{Resolution, resolve};

@@ -15,3 +15,4 @@ mod spot;
 
 pub use constants::constants_of;
 pub use lexer::{one_reading, tokens};
+pub use lra_base::Refusal;

@@ -5,7 +5,8 @@ mod tree_operations;
 mod trees;
 
 pub use lra_linearize::{
-    Node, Op, apply_operator, form_of_expression, has_no_variable, less_by, multiple_of,
+    apply_operator, form_of_expression, has_no_variable, less_by, multiple_of,
 };
+pub use lra_operations::{Node, Op};
 pub use tree_operations::{OpRef, OpRefAtPoint};
 pub use trees::list_operations;

@@ -1,6 +1,8 @@
 //! What is done at a point.
 
-use lra_linearize::{Cond, Expr, NumberType, Op};
+use lra_linearize::NumberType;
+use lra_operations::Op;
+use lra_program::{Cond, Expr};
 
 /// A least change; in a call whose own variables begin at the place, a condition on which it depends how the run goes
 /// on, or the value that a `switch` looks for.

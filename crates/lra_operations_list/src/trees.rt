@@ -10,7 +10,8 @@ ghost use Rattle.lra_operations_list.specs.Due.{own_done, trees_of, IsOnWay, IsO
 ghost use Rattle.lra_operations_list.specs.TreeOperations.{op_ref_view, done_in, done_of, op_at_point_view};
 
 use crate::tree_operations::{OpRef, OpRefAtPoint};
-use lra_linearize::{Arm, Node, NumberType, Op};
+use lra_linearize::NumberType;
+use lra_operations::{Arm, Node, Op};
 use std::alloc::{AllocError, Global};
 
 /// The type of the variable that is new after a least change.

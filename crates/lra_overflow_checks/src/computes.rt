@@ -7,7 +7,7 @@ ghost use Rattle.lra_program.specs.{Overflow.op_computes, Program.type_of, Recei
 ghost use Rattle.lra_overflow_checks.specs.Crates.lra_operations.TreeViews.{op_view};
 ghost use Rattle.lra_overflow_checks.specs.Judged.{some_computes};
 
-use lra_operations_list::Op;
+use lra_operations::Op;
 use lra_program::{Argument, Cond, Expr, NumberType, Receiver};
 
 /// The type of an expression's value.

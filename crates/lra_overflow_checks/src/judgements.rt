@@ -10,7 +10,7 @@ ghost use Rattle.lra_overflow_checks.specs.Judged.{AreBelow};
 
 use crate::operations::OverflowCheck;
 use crate::questions::find;
-use lra_operations_list::Node;
+use lra_operations::Node;
 use lra_transfer::Domain;
 use std::alloc::{AllocError, Global};
 

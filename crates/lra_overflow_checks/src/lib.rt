@@ -12,6 +12,7 @@ mod questions;
 
 pub use conditions::{Leaf, Surroundings, judge_condition};
 pub use judgements::{OverflowVerdicts, judge};
-pub use lra_operations_list::{Node, Op, OpRef, form_of_expression, less_by, list_operations};
+pub use lra_operations::{Node, Op};
+pub use lra_operations_list::{OpRef, form_of_expression, less_by, list_operations};
 pub use lra_transfer::test_of;
 pub use questions::{Found, Question, Verdict, find};

@@ -15,7 +15,8 @@ use crate::expressions::{
     judge_arguments, judge_arguments_for, judge_element, judge_expression, judge_given,
 };
 use crate::questions::{Question, Verdict};
-use lra_operations_list::{Op, OpRef};
+use lra_operations::Op;
+use lra_operations_list::OpRef;
 use lra_program::{Expr, Receiver};
 use lra_transfer::{Domain, Exactness};
 use std::alloc::{AllocError, Global};

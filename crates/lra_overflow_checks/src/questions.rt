@@ -12,7 +12,8 @@ ghost use Rattle.lra_program.specs.Step.{Op as ProgramOp};
 ghost use Rattle.lra_operations_list.specs.TreeOperations.{op_ref_view, op_at_point_view};
 ghost use Rattle.lra_overflow_checks.specs.Judged.{AreBelow, Fills, IsAnswered, asked_by, findings_from};
 
-use lra_operations_list::{Node, Op, OpRef, OpRefAtPoint, list_operations};
+use lra_operations::{Node, Op};
+use lra_operations_list::{OpRef, OpRefAtPoint, list_operations};
 use lra_transfer::{Domain, Exactness, transfer_op, worse};
 use std::alloc::{AllocError, Global};
 

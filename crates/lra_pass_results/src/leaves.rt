@@ -13,7 +13,8 @@ ghost use Rattle.lra_pass_results.specs.{Dimensions.TreeFits, Flat.Follows, Tree
 use crate::outcome::{PassEntry, PassOutcome, note};
 use crate::plan::Plan;
 use crate::tree_forms::Leaf;
-use lra_operations::{Cond, Exit, Op};
+use lra_operations::{Exit, Op};
+use lra_program::Cond;
 use lra_transfer::{Domain, Exactness, Kept, split, transfer_op};
 use std::alloc::{AllocError, Global};
 

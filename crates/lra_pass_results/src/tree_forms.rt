@@ -4,7 +4,8 @@ ghost use Rattle.lra_pass_results.specs.Crates.lra_analysis_spec.Plan.{Plan};
 ghost use Rattle.lra_pass_results.specs.TreeForms.{IsTreeForm};
 
 use crate::plan::Plan;
-use lra_operations::{Arm, Cond, Exit, Expr, Node, Op, Probe};
+use lra_operations::{Arm, Exit, Node, Op, Probe};
+use lra_program::{Cond, Expr};
 
 /// A tree with no tree in it.
 #[derive(Clone, Copy)]

@@ -2,14 +2,14 @@
 use Rattle.std.proofs.Common.{◌≡◌, ◌<◌, ℕ, ℤ, Bool, true, false, List, [], ◌∷◌, ◌++◌, length, sym, ap, ◌∙◌, subst, arith, append-nil, append_assoc}
 use Rattle.std.specs.Prelude as outcome
 use Rattle.std.specs.Prelude.{IfOk}
-use Rattle.lra_base.specs.Operators.{Comparison, equal}
-use Rattle.lra_base.specs.{declared.case_labels.CaseLabel.CaseLabel, declared.case_labels.CaseLabel.TheVariants.Case, declared.case_labels.CaseLabel.TheVariants.Default}
-use Rattle.lra_program.specs.ProgramViews.{expr_view}
+use Rattle.lra_path_disjuncts.specs.Crates.lra_analysis_spec.Linearization.{linearized, subtracted}
 use Rattle.lra_path_disjuncts.specs.Crates.lra_analysis_spec.MovesOf.{comparison_as, comparison_moves, number_moves}
-use Rattle.lra_path_disjuncts.specs.Crates.lra_operations.declared.tree.Arm.TheVariants.{Entry, Tree}
-use Rattle.lra_path_disjuncts.specs.Crates.{lra_analysis_spec.Linear.constant_form, lra_analysis_spec.Linearization.linearized, lra_analysis_spec.Linearization.subtracted}
-use Rattle.lra_path_disjuncts.specs.Crates.{lra_analysis_spec.declared.linearization.Linearized.Linearized, lra_analysis_spec.declared.linearization.Linearized.TheVariants.Linear}
-use Rattle.lra_path_disjuncts.specs.Crates.{lra_domain.Moves.stay, lra_domain.Moves.first_then, lra_operations.declared.tree.Arm.Arm, lra_operations.declared.tree.Node.Node}
+use Rattle.lra_path_disjuncts.specs.Crates.lra_base.declared.case_labels.CaseLabel.TheVariants.{Case, Default}
+use Rattle.lra_path_disjuncts.specs.Crates.{lra_analysis_spec.Linear.constant_form, lra_analysis_spec.declared.linearization.Linearized.Linearized}
+use Rattle.lra_path_disjuncts.specs.Crates.{lra_analysis_spec.declared.linearization.Linearized.TheVariants.Linear, lra_base.Operators.Comparison, lra_base.Operators.equal}
+use Rattle.lra_path_disjuncts.specs.Crates.{lra_base.declared.case_labels.CaseLabel.CaseLabel, lra_domain.Moves.stay, lra_domain.Moves.first_then, lra_operations.declared.tree.Arm.Arm}
+use Rattle.lra_path_disjuncts.specs.Crates.{lra_operations.declared.tree.Arm.TheVariants.Entry, lra_operations.declared.tree.Arm.TheVariants.Tree, lra_operations.declared.tree.Node.Node}
+use Rattle.lra_program.specs.ProgramViews.{expr_view}
 use Rattle.lra_path_disjuncts.specs.{PassedLabels.ArePassed, PassedLabels.PutsLabel, StepMoves.label_moves, StepMoves.step_moves, StepMoves.unmatched_moves, Tables.Grows, Tables.Has, Tables.moves_at}
 use Rattle.lra_path_segments.specs.{Labels.label_at, Labels.labels_in, TreeSegmentViews.selection_view, declared.segments.Selection.Selection}
 use Rattle.lra_path_disjuncts.specs.declared.tables.MovesEntry as declared

@@ -3,9 +3,8 @@
 use Rattle.std.proofs.Common.{◌≡◌, ℕ, ℤ, List, [], ◌∷◌, length, Bool, true, false, Some, refl, sym, ap, subst, arith}
 use Rattle.std.proofs.{lemmas.Bool.or_parts, lemmas.Int.ints}
 use Rattle.std.specs.{List.list_any, Ordering.int_eq, Prelude.if◌then◌else◌}
-use Rattle.lra_base.specs.declared.case_labels.CaseLabel.TheVariants.{Case, Default}
-use Rattle.lra_base.specs.{CaseLabels.is_same_case, Operators.equal, declared.case_labels.CaseLabel.CaseLabel}
-use Rattle.lra_path_disjuncts.specs.Crates.{lra_analysis_spec.Linearization.linearized, lra_domain.Moves.MayLead}
+use Rattle.lra_path_disjuncts.specs.Crates.{lra_analysis_spec.Linearization.linearized, lra_base.CaseLabels.is_same_case, lra_base.Operators.equal, lra_base.declared.case_labels.CaseLabel.CaseLabel}
+use Rattle.lra_path_disjuncts.specs.Crates.{lra_base.declared.case_labels.CaseLabel.TheVariants.Case, lra_base.declared.case_labels.CaseLabel.TheVariants.Default, lra_domain.Moves.MayLead}
 use Rattle.lra_program.specs.{Program.Expr, Step.State, Step.environment_at, Value.value_of, Value.compares}
 use Rattle.lra_path_disjuncts.proofs.Crates.{lra_analysis_spec.CondKeeping.value_leads, lra_analysis_spec.Keeping.op_leads, lra_analysis_spec.Sound.unequal}
 use Rattle.lra_path_segments.specs.Segments.{SegmentStep, does, goes, RunsStep}

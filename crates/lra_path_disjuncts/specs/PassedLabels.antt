@@ -1,7 +1,7 @@
 -- Where the moves of a value that goes to none of a `switch`'s labels stand in a table.
 use Rattle.std.specs.Prelude.{◌≡◌, ℕ, List, ◌++◌}
-use Rattle.lra_base.specs.declared.case_labels.CaseLabel.{CaseLabel}
 use Rattle.lra_path_disjuncts.specs.Crates.lra_analysis_spec.declared.linearization.Linearized.{Linearized}
+use Rattle.lra_path_disjuncts.specs.Crates.lra_base.declared.case_labels.CaseLabel.{CaseLabel}
 use Rattle.lra_path_disjuncts.specs.Crates.lra_operations.declared.tree.Arm.{Arm}
 use Rattle.lra_path_disjuncts.specs.{StepMoves.unmatched_moves, Tables.Has, declared.tables.MovesEntry.MovesEntry}
 use Rattle.lra_path_segments.specs.Labels.{label_at, labels_in}

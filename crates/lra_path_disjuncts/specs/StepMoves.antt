@@ -1,12 +1,12 @@
 -- The moves of what is done on a segment: those of a least change; where a value goes to a label, it is that label's
 -- value, and where it goes to none, it is none of the labels'.
 use Rattle.std.specs.Prelude.{ℕ, List, [], ◌∷◌, true, false}
-use Rattle.lra_base.specs.declared.case_labels.CaseLabel.{CaseLabel}
-use Rattle.lra_base.specs.declared.case_labels.CaseLabel.TheVariants.{Case, Default}
 use Rattle.lra_path_disjuncts.specs.Crates.lra_analysis_spec.Linearization.{linearized}
 use Rattle.lra_path_disjuncts.specs.Crates.lra_analysis_spec.Live.{live_after_op}
 use Rattle.lra_path_disjuncts.specs.Crates.lra_analysis_spec.MovesOf.{moves_of, number_moves}
 use Rattle.lra_path_disjuncts.specs.Crates.lra_analysis_spec.declared.linearization.Linearized.{Linearized}
+use Rattle.lra_path_disjuncts.specs.Crates.lra_base.declared.case_labels.CaseLabel.{CaseLabel}
+use Rattle.lra_path_disjuncts.specs.Crates.lra_base.declared.case_labels.CaseLabel.TheVariants.{Case, Default}
 use Rattle.lra_path_disjuncts.specs.Crates.lra_domain.Moves.{Moves, stay, first_then}
 use Rattle.lra_path_segments.specs.Segments.{SegmentStep, does, goes}
 

@@ -2,7 +2,6 @@
 
 ghost use Rattle.std.specs.Prelude.{◌≡◌, ◌<◌, ◌^◌, ◌-◌, ◌+◌, pos, suc, length, map, replicate, slice_set, Some, IfOk};
 ghost use Rattle.std.specs.Prelude.{OnOk};
-ghost use Rattle.lra_base.specs.declared.number_types.NumberType.TheVariants.{Int};
 ghost use Rattle.lra_path_disjuncts.specs.Crates.lra_analysis_spec.Linear.{constant_form};
 ghost use Rattle.lra_path_disjuncts.specs.Crates.lra_analysis_spec.Linearization.{LinearizedFits, linearized};
 ghost use Rattle.lra_path_disjuncts.specs.Crates.lra_analysis_spec.Live.{live_after_op};
@@ -11,6 +10,7 @@ ghost use Rattle.lra_path_disjuncts.specs.Crates.lra_analysis_spec.MovesOf.{move
 ghost use Rattle.lra_path_disjuncts.specs.Crates.lra_analysis_spec.MovesOf.{above_least, below_greatest, within_type};
 ghost use Rattle.lra_path_disjuncts.specs.Crates.lra_analysis_spec.declared.linearization.Linearized.TheVariants.{Linear};
 ghost use Rattle.lra_path_disjuncts.specs.Crates.lra_analysis_spec.declared.linearization.Linearized.TheVariants.{Unseen};
+ghost use Rattle.lra_path_disjuncts.specs.Crates.lra_base.declared.number_types.NumberType.TheVariants.{Int};
 ghost use Rattle.lra_path_disjuncts.specs.Crates.lra_domain.Actions.{embed, test};
 ghost use Rattle.lra_path_disjuncts.specs.Crates.lra_domain.Moves.{first_then, make};
 ghost use Rattle.lra_path_disjuncts.specs.Crates.lra_linear_spec.declared.ConKind.TheVariants.{Ge};
@@ -24,8 +24,10 @@ use crate::conditions::{ConditionContext, push_cases};
 use crate::guards::push_guards;
 use crate::selections::push_selection;
 use crate::tables::{MovesEntry, push_first_then, push_make, push_stay};
-use lra_base::NumberType;
-use lra_linearize::{Change, ConKind, Linearized, Op, Test, constant_of, form_of_one, linearize};
+use lra_linearize::{
+    Change, ConKind, Linearized, NumberType, Test, constant_of, form_of_one, linearize,
+};
+use lra_operations::Op;
 use lra_path_segments::Move;
 use lra_program::{Argument, Cell, Cond, Expr, GlobalVariable, Target};
 use std::alloc::{AllocError, Global};

@@ -1,11 +1,11 @@
 //! The moves of a condition in a table: where it is true and where it is false, each of its comparisons taken once.
 
 ghost use Rattle.std.specs.Prelude.{◌≡◌, ◌<◌, ◌^◌, ◌-◌, length, map, true, false, IfOk, OnOk};
-ghost use Rattle.lra_base.specs.{OperatorViews.comparison_view, Operators.differs};
 ghost use Rattle.lra_path_disjuncts.specs.Crates.lra_analysis_spec.Linear.{comparison_test};
-ghost use Rattle.lra_path_disjuncts.specs.Crates.lra_domain.Actions.{remove_last};
+ghost use Rattle.lra_path_disjuncts.specs.Crates.lra_base.OperatorViews.{comparison_view};
 ghost use Rattle.lra_path_disjuncts.specs.Crates.lra_domain.Changes.{action_of, actions_of};
 ghost use Rattle.lra_path_disjuncts.specs.Crates.lra_domain.Moves.{make, first_then, join_of};
+ghost use Rattle.lra_path_disjuncts.specs.Crates.{lra_base.Operators.differs, lra_domain.Actions.remove_last};
 ghost use Rattle.lra_path_disjuncts.specs.Crates.lra_analysis_spec.MovesOf as moves;
 ghost use Rattle.lra_path_disjuncts.specs.Crates.lra_analysis_spec.Linearization.{Divides, LinearizedFits};
 ghost use Rattle.lra_path_disjuncts.specs.Crates.lra_analysis_spec.Linearization.{linearized_difference};
@@ -17,12 +17,11 @@ ghost use Rattle.lra_program.specs.Program.{compare, nonzero};
 ghost use Rattle.lra_program.specs.ProgramViews.{all_of, any_of, cond_view, expr_view};
 
 use crate::tables::{MovesEntry, push_first_then, push_join, push_make, push_stay};
-use lra_base::{Comparison, NumberType};
 use lra_linearize::{
-    Change, Division, Linearized, Test, first_case, linearize_difference, opposite_of, second_case,
-    test_of,
+    Change, Division, Linearized, NumberType, Test, first_case, linearize_difference, opposite_of,
+    second_case, test_of,
 };
-use lra_program::{Cond, Expr};
+use lra_program::{Comparison, Cond, Expr};
 use std::alloc::{AllocError, Global};
 
 /// In what moves are made: the allocator, how many variables live, and where those of the call begin.

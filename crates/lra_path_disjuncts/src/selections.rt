@@ -1,18 +1,19 @@
 //! The moves of a value that goes to a label of a `switch`, in a table.
 
 ghost use Rattle.std.specs.Prelude.{List, ◌∷◌, ◌<◌, ◌^◌, ◌-◌, length, IfOk, OnOk};
-ghost use Rattle.lra_base.specs.declared.case_labels.CaseLabel.{CaseLabel};
 ghost use Rattle.lra_path_disjuncts.specs.Crates.lra_analysis_spec.Linearization.{LinearizedFits};
 ghost use Rattle.lra_path_disjuncts.specs.Crates.lra_analysis_spec.MovesOf.{number_moves};
+ghost use Rattle.lra_path_disjuncts.specs.Crates.lra_base.declared.case_labels.CaseLabel.{CaseLabel};
 ghost use Rattle.lra_path_disjuncts.specs.StepMoves.{step_moves, unmatched_moves};
 ghost use Rattle.lra_path_disjuncts.specs.{PassedLabels.PutsLabel, Tables.Grows, Tables.Has, Tables.IsTable};
 ghost use Rattle.lra_path_segments.specs.{Labels.labels_in, TreeSegmentViews.selection_view};
 
 use crate::conditions::push_comparison;
 use crate::tables::{MovesEntry, push_first_then, push_stay};
-use lra_base::{CaseLabel, Comparison};
-use lra_linearize::{Arm, Linearized, comparison_where, linearize, subtract_number};
+use lra_linearize::{Linearized, comparison_where, linearize, subtract_number};
+use lra_operations::Arm;
 use lra_path_segments::Selection;
+use lra_program::{CaseLabel, Comparison};
 use std::alloc::{AllocError, Global};
 
 /// What is seen has this number or, where it is not wanted, another one.

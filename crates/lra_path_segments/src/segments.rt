@@ -10,7 +10,8 @@ ghost use Rattle.lra_path_segments.specs.TreeSegments.{all_joined, body_order, e
 ghost use Rattle.lra_path_segments.specs.TreeSegments.{tree_segment, segments_of_kind};
 ghost use Rattle.lra_path_segments.specs.{Segments.same_exit, TreeSegmentViews.tree_segment_view};
 
-use lra_operations::{Arm, CaseLabel, Cond, Exit, Expr, Op};
+use lra_operations::{Arm, Exit, Op};
+use lra_program::{CaseLabel, Cond, Expr};
 use std::alloc::{AllocError, Global};
 
 /// The value of a `switch` and its arms; the base is where the variables of its call begin.

@@ -20,7 +20,8 @@ use crate::segments::{
     Completion, End, Goal, Move, Selection, TreeSegment, catch_jumps, choose, enter_row, go_round,
     push_short, select, sequence,
 };
-use lra_operations::{Arm, CaseLabel, Cond, Exit, Node, any_default};
+use lra_operations::{Arm, Exit, Node, any_default};
+use lra_program::{CaseLabel, Cond};
 use std::alloc::{AllocError, Global};
 
 /// What is still to be done with the segments that are there, of which the last are the newest.

@@ -4,4 +4,5 @@ pub use Rattle.lra_poly.proofs.Crates.lra_description_pair
 pub use Rattle.lra_poly.proofs.Crates.lra_duality
 pub use Rattle.lra_domain.proofs.Crates.lra_linear_forms
 pub use Rattle.lra_systems.proofs.Crates.lra_linear_spec
+pub use Rattle.lra_systems.proofs.Crates.lra_row
 pub use Rattle.lra_systems.proofs.Crates.lra_linear_spec.Products.{entry_past}

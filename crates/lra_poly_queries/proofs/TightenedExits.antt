@@ -4,11 +4,10 @@ use Rattle.std.proofs.Common.{negsuc, ◌+ℤ◌, ◌*ℤ◌, ◌<ℤ◌, ◌≤
 use Rattle.std.proofs.{lemmas.Int.ints, lemmas.List.take_all, lemmas.List.Elements.All-cons, lemmas.List.Elements.All-tail}
 use Rattle.std.specs.{Int.int_div_euclid, Int.int_rem_euclid, List.All}
 use Rattle.lra_poly_queries.specs.Crates.{lra_linear_spec.Descriptions.equality, lra_linear_spec.Descriptions.inequality, lra_linear_spec.OperationStrain.unit_row, lra_linear_spec.Polyhedra.falsity}
-use Rattle.lra_poly_queries.specs.Crates.{lra_linear_spec.Range.InRange, lra_linear_spec.Vectors.negated, lra_linear_spec.Vectors.zeros}
+use Rattle.lra_poly_queries.specs.Crates.{lra_linear_spec.Range.InRange, lra_linear_spec.Vectors.negated, lra_linear_spec.Vectors.zeros, lra_row.Rows.IsRowGcd}
+use Rattle.lra_poly_queries.proofs.Crates.lra_row.Ratio.{euclid, rem_bounds}
+use Rattle.lra_poly_queries.proofs.Crates.lra_row.RowLemmas.{divided, divided_in_range, lowest_divided, lowest_same, divided_times}
 use Rattle.lra_poly_queries.proofs.Crates.{lra_linear_spec.Lines.zeros_length, lra_linear_spec.Ring.ring, lra_linear_spec.Ring.v, lra_linear_spec.Ring.◌⊕◌, lra_linear_spec.Ring.◌⊗◌}
-use Rattle.lra_row.specs.Rows.{IsRowGcd}
-use Rattle.lra_row.proofs.{Ratio.euclid, Ratio.rem_bounds, RowLemmas.divided, RowLemmas.divided_in_range, RowLemmas.lowest_divided, RowLemmas.lowest_same}
-use Rattle.lra_row.proofs.RowLemmas.{divided_times}
 use Rattle.lra_poly_queries.specs.Tightened.{IsTightened}
 use Rattle.lra_poly_queries.proofs.TightenedRows.{as_it_is, at_least_tightened, equality_tightened, no_store_tightened}
 

@@ -8,10 +8,8 @@ ghost use Rattle.lra_systems.specs.LinearSystems.{constraints};
 ghost use Rattle.lra_poly_queries.specs.Simplified.{IsSimplified, TellsRedundant};
 
 use crate::relation::relate;
-use lra_mapped_systems::Cause;
 use lra_poly::{Loss, Outcome, Poly};
-use lra_row::{Excess, Row};
-use lra_systems::{ConKind, ConSys, TOO_MANY_DIMENSIONS};
+use lra_systems::{Cause, ConKind, ConSys, Excess, Row, TOO_MANY_DIMENSIONS};
 use std::alloc::{AllocError, Global};
 
 // No constraint. Memory runs out from 2^62 dimensions on.

@@ -10,8 +10,7 @@ ghost use Rattle.lra_poly_queries.specs.{Expanded.ExpandStrains, Expanded.Expand
 
 use crate::moving::{choose, map_dims};
 use lra_poly::{Outcome, Poly};
-use lra_row::Row;
-use lra_systems::{ConKind, ConSys};
+use lra_systems::{ConKind, ConSys, Row};
 use std::alloc::{AllocError, Global};
 
 // One dimension as often as is asked, then the first ones in turn.

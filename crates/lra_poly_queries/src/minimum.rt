@@ -6,7 +6,7 @@ ghost use Rattle.lra_poly_queries.specs.Minima.{IsMinimum, LeastInRange, TellsMi
 
 use lra_domain::LinExpr;
 use lra_poly::{Maximum, Poly};
-use lra_row::opposite;
+use lra_systems::opposite;
 
 /// The least value of a form on a polyhedron, or why there is none. Places are those of generators, from 0.
 #[derive(Clone, Copy, Debug, PartialEq, Eq)]

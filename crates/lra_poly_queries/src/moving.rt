@@ -9,8 +9,7 @@ ghost use Rattle.lra_poly_queries.specs.Folded.{FoldStrains, Folded};
 ghost use Rattle.lra_poly_queries.specs.Moved.{MapDimsStrains, Moved, chosen, moved};
 
 use lra_poly::{Outcome, Poly};
-use lra_row::Row;
-use lra_systems::{GenSys, TOO_MANY_DIMENSIONS};
+use lra_systems::{GenSys, Row, TOO_MANY_DIMENSIONS};
 use std::alloc::{AllocError, Global};
 
 // The row's number along a dimension, 0 past the last one.

@@ -11,8 +11,7 @@ ghost use Rattle.lra_systems.specs.LinearSystems.{generators};
 ghost use Rattle.lra_poly_queries.specs.Relations.{AreMissed, IsRelation, MissesAt};
 
 use lra_poly::{Poly, accepts};
-use lra_row::{Excess, Row, opposite};
-use lra_systems::{ConKind, GenSys};
+use lra_systems::{ConKind, Excess, GenSys, Row, opposite};
 
 /// How a constraint stands to a polyhedron. Without a point all four are true.
 #[derive(Clone, Copy, Debug, PartialEq, Eq)]

@@ -2,15 +2,13 @@
 
 ghost use Rattle.std.specs.Prelude.{◌≡◌, ◌≢◌, ◌↔◌, ◌∷◌, ◌<◌, ◌<ℤ◌, ◌≤ℤ◌, List, ℤ, suc, pos, length, map, int_div, true};
 ghost use Rattle.std.specs.{Int.int_rem_euclid, List.All, Prelude.unsigned_abs, Prelude.IfOk, Prelude.IsTrue};
-ghost use Rattle.lra_poly_queries.specs.Crates.lra_linear_spec.Kinds.{is_equality};
-ghost use Rattle.lra_poly_queries.specs.Crates.{lra_linear_spec.Descriptions.Con, lra_linear_spec.Points.IsWithin};
-ghost use Rattle.lra_poly_queries.specs.Crates.{lra_linear_spec.Polyhedra.falsity, lra_linear_spec.Range.InRange};
-ghost use Rattle.lra_row.specs.Rows.{IsRowGcd};
+ghost use Rattle.lra_poly_queries.specs.Crates.{lra_linear_spec.Descriptions.Con, lra_linear_spec.Kinds.is_equality};
+ghost use Rattle.lra_poly_queries.specs.Crates.{lra_linear_spec.Points.IsWithin, lra_linear_spec.Polyhedra.falsity};
+ghost use Rattle.lra_poly_queries.specs.Crates.{lra_linear_spec.Range.InRange, lra_row.Rows.IsRowGcd};
 ghost use Rattle.lra_systems.specs.{Dimensions.too_many_dimensions, LinearSystems.constraints};
 ghost use Rattle.lra_poly_queries.specs.Tightened.{AreTightened, IsTightened};
 
-use lra_row::{Row, gcd};
-use lra_systems::{ConKind, ConSys, TOO_MANY_DIMENSIONS, unit};
+use lra_systems::{ConKind, ConSys, Row, TOO_MANY_DIMENSIONS, gcd, unit};
 use std::alloc::{AllocError, Global};
 
 // The greatest number that divides each of them, 0 where all are 0.

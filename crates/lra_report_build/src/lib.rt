@@ -16,9 +16,9 @@ pub use listing::{
     Findings, Outline, list, list_points, list_verdicts, names_of_globals, number_of,
 };
 pub use lra_octagon::{Boxes, Octagon};
-pub use lra_poly_domain::Row;
+pub use lra_options::DEFAULT_OPTIONS;
 pub use lra_powerset::PowerSet;
-pub use lra_report::Report;
+pub use lra_report::{Report, Row};
 pub use lra_row_text::Names;
 pub use show::Show;
 pub use states::states_of;

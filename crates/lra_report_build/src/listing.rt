@@ -21,14 +21,14 @@ ghost use Rattle.lra_report_build.specs.AnalysisResults.{reported_all, reported_
 ghost use Rattle.lra_report_build.specs.AnalysisResults.{access_verdicts_at, verdict_at, AreAccessVerdicts};
 ghost use Rattle.lra_report_build.specs.Views.{subject_view};
 
+use lra_options::Options;
 use lra_report::{
-    CallPlace, Labels, Options, Part, Point, PointReport, Report, Site, Verdict, VerdictKind,
+    CallPlace, Labels, Part, Place, Point, PointReport, Report, Site, Verdict, VerdictKind,
     names_at, path_text,
 };
 use lra_row_text::Names;
 use lra_syntax::{
-    ExternalDeclaration, Global as Variable, Identifier, Place, ScalarOrArray, TranslationUnit,
-    Word,
+    ExternalDeclaration, Global as Variable, Identifier, ScalarOrArray, TranslationUnit, Word,
 };
 use std::alloc::{AllocError, Global};
 

@@ -11,8 +11,8 @@ ghost use Rattle.lra_report_build.specs.Polyhedra.{shown_polyhedron, ShowsPolyhe
 
 use crate::show::Show;
 use lra_poly_domain::Polyhedron;
-use lra_report::{ConSys, Part};
-use lra_row_text::GenSys;
+use lra_report::Part;
+use lra_row_text::{ConSys, GenSys};
 use std::alloc::{AllocError, Global};
 
 /// The state of a polyhedron, given by its canonical lists: no part if there is no point, else one part that has

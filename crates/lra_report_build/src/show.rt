@@ -5,7 +5,7 @@ ghost use Rattle.lra_report_build.specs.Crates.lra_options.declared.options.Doma
 ghost use Rattle.lra_report.specs.{Report.Invariant, Spelled.IsSpelledPart};
 ghost use Rattle.lra_report_build.specs.{Canonical.IsCanonicalState, Shown.IsShown};
 
-use lra_poly_domain::Domain;
+use lra_octagon::Domain;
 use lra_report::Part;
 use std::alloc::{AllocError, Global};
 

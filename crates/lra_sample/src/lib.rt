@@ -11,5 +11,6 @@ mod source;
 mod summaries;
 
 pub use laws::samples_are_accepted;
+pub use lra_options::DEFAULT_OPTIONS;
 pub use source::program;
 pub use summaries::summary;

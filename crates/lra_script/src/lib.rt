@@ -9,6 +9,7 @@ mod recipes;
 mod rows;
 
 pub use lines::{Line, read_line};
+pub use lra_systems::{MembershipAnswer, Row};
 pub use numbers::number_of;
 pub use pieces::{is_skipped, raw_lines, without_return, words};
 pub use questions::Question;

@@ -2,11 +2,11 @@
 use Rattle.std.proofs.Common.{◌≡◌, ℕ, zero, suc, ◌<◌, ◌≤◌, List, [], ◌∷◌, length, map, Option, Some, None, Bool, cond, inl, inr, refl, sym, ap, ◌∙◌, subst, arith}
 use Rattle.std.proofs.{lemmas.List.length-map, lemmas.Option.none-some, lemmas.Option.slice_get-map, lemmas.Option.slice_get_cases, lemmas.Option.slice_get_within}
 use Rattle.std.specs.Prelude.{slice_get, option_map}
-use Rattle.lra_base.specs.declared.number_types.NumberType.{NumberType}
+use Rattle.lra_tests_analyses.specs.Crates.lra_base.declared.number_types.NumberType.{NumberType}
+use Rattle.lra_tests_analyses.specs.Crates.lra_fixpoint.Numbers.{one_if, values_in, checks_in, asserts_of, IsNumbered}
 use Rattle.lra_program.specs.{Program.Expr, Program.Cond, Receivers.variable_at, Sites.Site, Step.append, Step.store_value}
 use Rattle.lra_operations.specs.{Tree.Node, Tree.point, Tree.act, Tree.check, Tree.seq, Tree.choose, TreeViews.site_view}
 use Rattle.lra_operations.specs.declared.tree.Site as coded
-use Rattle.lra_tests_analyses.specs.Crates.lra_fixpoint.Numbers.{one_if, values_in, checks_in, asserts_of, IsNumbered}
 use Rattle.lra_tests_analyses.specs.Sample.{sample_asserts}
 use Rattle.lra_tests_analyses.proofs.Crates.lra_fixpoint.Counting.{one_other}
 

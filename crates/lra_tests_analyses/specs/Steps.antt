@@ -1,8 +1,9 @@
 -- The tree of `int x = input();`, of two operations at points of their own, and of its end, and the points of it: of
 -- `x = x + 1; x = x - 1;`, and of `assume(x >= 0 && x < 3 && a[x] > a[a[0]]); a[x] = a[3];` with an array a of 3.
 use Rattle.std.specs.Prelude.{ℕ, List, [], ◌∷◌, true, false}
-use Rattle.lra_base.specs.Operators.{Operator, plus, minus, above, at_least, below}
-use Rattle.lra_base.specs.{declared.number_types.NumberType.TheVariants.Int, declared.refusals.Place.Place}
+use Rattle.lra_tests_analyses.specs.Crates.lra_base.Operators.{Operator, plus, minus, above, at_least, below}
+use Rattle.lra_tests_analyses.specs.Crates.lra_base.declared.number_types.NumberType.TheVariants.{Int}
+use Rattle.lra_tests_analyses.specs.Crates.lra_base.declared.refusals.Place.{Place}
 use Rattle.lra_program.specs.Program.{local, literal, read, input, binary, element, Expr, Cond, compare, both_of}
 use Rattle.lra_program.specs.Step.{Op, append, store_value, store_element, test}
 use Rattle.lra_program.specs.{Receivers.variable_at, Sites.Site, declared.arrays.Array.Array}

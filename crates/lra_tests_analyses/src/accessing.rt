@@ -7,11 +7,10 @@ ghost use Rattle.lra_operations.specs.TreeViews.{node_view, op_view, site_view};
 ghost use Rattle.lra_tests_analyses.specs.Steps.{a, a_at, accesses_tree, is_inside, place, steps_sites, written};
 
 use crate::steps::{read_x, steps};
-use lra_base::{Comparison, NumberType, Place};
 use lra_bounds_checks::{BoundsVerdicts, judge_accesses};
 use lra_octagon::{Boxes, Domain, Octagon};
 use lra_operations::{InlinedProgram, Op};
-use lra_program::{Array, Cond, Element, Expr};
+use lra_program::{Array, Comparison, Cond, Element, Expr, NumberType, Place};
 use lra_threads_instrument::{Plan, analyse};
 use std::alloc::{AllocError, Global};
 

@@ -9,10 +9,9 @@ ghost use Rattle.lra_tests_analyses.specs.Crates.lra_fixpoint.Numbers.{IsNumbere
 ghost use Rattle.lra_tests_analyses.specs.Crates.lra_pass_results.Dimensions.{TreeFits};
 ghost use Rattle.lra_tests_analyses.specs.Sample.{sample_asserts};
 
-use lra_base::{Comparison, NumberType};
 use lra_octagon::{Boxes, Domain, Octagon};
 use lra_operations::{InlinedProgram, Node, Op, Path, Site};
-use lra_program::{Cond, Expr, Receiver, Slot, Variable};
+use lra_program::{Comparison, Cond, Expr, NumberType, Receiver, Slot, Variable};
 use lra_threads_instrument::{Plan, Solution, analyse};
 use std::alloc::{AllocError, Global};
 

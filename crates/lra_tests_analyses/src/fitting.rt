@@ -1,16 +1,15 @@
 //! What is judged to fit in `int x = input(); x = x + 1; x = x - 1;` and its end, by the values of its analyses.
 
 ghost use Rattle.std.specs.Prelude.{◌≡◌, [], map, false, IfOk};
-ghost use Rattle.lra_base.specs.OperatorViews.{operator_view};
+ghost use Rattle.lra_tests_analyses.specs.Crates.lra_base.OperatorViews.{operator_view};
 ghost use Rattle.lra_operations.specs.TreeViews.{node_view, op_view, site_view};
 ghost use Rattle.lra_tests_analyses.specs.Steps.{steps_tree, steps_sites, stepped};
 
 use crate::steps::{read_x, steps};
-use lra_base::{NumberType, Operator};
 use lra_bounds_checks::{OverflowVerdicts, judge};
 use lra_octagon::{Boxes, Domain, Octagon};
 use lra_operations::{InlinedProgram, Op};
-use lra_program::{Expr, Operation, Receiver};
+use lra_program::{Expr, NumberType, Operation, Operator, Receiver};
 use lra_threads_instrument::{Plan, analyse};
 use std::alloc::{AllocError, Global};
 

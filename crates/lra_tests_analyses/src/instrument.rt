@@ -1,9 +1,8 @@
 //! A small tree, instrumented.
 
-use lra_base::NumberType;
 use lra_operations::forms::put_in_turn;
 use lra_operations::{Node, Op, Probe};
-use lra_program::Receiver;
+use lra_program::{NumberType, Receiver};
 use lra_threads_instrument::instrument_tree;
 use std::alloc::{AllocError, Global};
 

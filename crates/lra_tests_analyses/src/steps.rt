@@ -5,10 +5,9 @@ ghost use Rattle.lra_operations.specs.TreeViews.{node_view, op_view, site_view};
 ghost use Rattle.lra_program.specs.ProgramViews.{expr_view};
 ghost use Rattle.lra_tests_analyses.specs.Steps.{acted, steps_sites, plain_site, tree_of, x};
 
-use lra_base::NumberType;
 use lra_operations::forms::{declare, put_in_turn, put_point};
 use lra_operations::{InlinedProgram, Node, Op, Path, Site};
-use lra_program::{Expr, Receiver, Slot, Variable};
+use lra_program::{Expr, NumberType, Receiver, Slot, Variable};
 use std::alloc::{AllocError, Global};
 
 /// The variable.

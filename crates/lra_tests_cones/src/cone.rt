@@ -1,9 +1,9 @@
 //! Worked cones.
 
 use lra_canonical::BitRow;
-use lra_cone::{ConKind, Cone, ConeError, Family, Member, Strained};
+use lra_cone::{Cone, ConeError, Family, Member, Strained};
 use lra_conversions::nothing;
-use lra_row::{Excess, Operation, Row};
+use lra_row::{ConKind, Excess, Operation, Row};
 use std::alloc::{AllocError, AllocFailed, Global};
 use std::process::Abort;
 

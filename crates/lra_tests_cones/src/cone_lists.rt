@@ -1,9 +1,9 @@
 //! Lists of constraints and the generators of their points.
 
 use crate::cone::{Unfit, row_of};
-use lra_cone::{Cause, ConKind, ConSys, Loss};
+use lra_cone::{ConSys, Loss};
 use lra_conversions::{GenSys, generate, nothing};
-use lra_row::{Excess, GenKind, Operation};
+use lra_row::{Cause, ConKind, Excess, GenKind, Operation};
 use std::alloc::{AllocError, Global};
 use std::process::Abort;
 

@@ -2,8 +2,8 @@
 
 use crate::cone::{Unfit, powers, row_of};
 use lra_canonical::{BitRow, SatMatrix};
-use lra_cone::{ConKind, Cone, ConeError};
-use lra_row::{Row, RowError};
+use lra_cone::{Cone, ConeError};
+use lra_row::{ConKind, Row, RowError};
 use std::alloc::Global;
 
 // Whether the third list is true wherever the first two are.

@@ -3,7 +3,8 @@
 ghost use Rattle.std.specs.{List.All, Prelude.◌≡◌, Prelude.◌<ℤ◌, Prelude.pos, Prelude.length};
 ghost use Rattle.lra_tests_rows.specs.Crates.{lra_linear_spec.Range.InRange, lra_linear_spec.Vectors.product};
 
-use lra_row::{Excess, Operation, Row, RowError, add, floor_div, gcd, mul, ratio_cmp};
+use lra_row::{Operation, Row, RowError, add, floor_div, gcd, mul, ratio_cmp};
+use lra_systems::Excess;
 use std::alloc::{AllocError, Global};
 use std::cmp::Ordering;
 use std::hash::{DefaultHasher, Hash, Hasher};

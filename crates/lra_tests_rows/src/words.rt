@@ -3,7 +3,8 @@
 ghost use Rattle.std.specs.{List.All, Prelude.◌≡◌, Prelude.length, Prelude.IfOk};
 ghost use Rattle.lra_tests_rows.specs.Crates.lra_linear_spec.Range.{InRange};
 
-use lra_row::{Excess, Operation, Row, RowError, gcd};
+use lra_row::{Operation, Row, RowError, gcd};
+use lra_systems::Excess;
 use std::alloc::{AllocError, Global};
 
 const MAX: i128 = i128::MAX;

@@ -1,7 +1,6 @@
 //! Copies of resolved expressions and conditions.
 
-use lra_base::{NumberType, Operator};
-use lra_program::{Cond, Expr, Operation, pair_arguments};
+use lra_program::{Cond, Expr, NumberType, Operation, Operator, pair_arguments};
 use std::test::Fail;
 
 /// Whether it is a literal of this type and value.

@@ -4,11 +4,10 @@ use Rattle.std.proofs.{Math.Seq.take-suc, lemmas.List.length-append, lemmas.List
 use Rattle.std.specs.{List.AllByRecursion, List.Contains, List.flat_map, List.sum_by, Prelude.All, Prelude.Err, Prelude.IfOk, Prelude.Ok, Prelude.Result, Prelude.Some, Prelude.slice_get}
 use Rattle.lra_threads_source.proofs.Crates.lra_linear_spec.Membership.{contains_head, contains_tail}
 use Rattle.lra_threads_source.specs.Crates.lra_report_build.AnalysisResults.{AreInvariants, access_verdicts_at, state_of, verdict_at}
-use Rattle.lra_threads_source.specs.Crates.lra_report_build.Shown.{AreShown, shown_state}
 use Rattle.lra_threads_source.specs.Crates.{lra_base.AccessVerdicts.reported_view, lra_box.Abstraction.box_abstraction, lra_box.Content.BoxContent, lra_fixpoint.Lives.AreWide}
-use Rattle.lra_threads_source.specs.Crates.{lra_operations.declared.tree.InlinedProgram.InlinedProgram, lra_program.Sites.Site, lra_report_build.declared.listing.Findings.Findings}
+use Rattle.lra_threads_source.specs.Crates.{lra_operations.declared.tree.InlinedProgram.InlinedProgram, lra_options.declared.options.Domain.TheVariants.Box, lra_program.Sites.Site}
+use Rattle.lra_threads_source.specs.Crates.{lra_report_build.Shown.AreShown, lra_report_build.Shown.shown_state, lra_report_build.declared.listing.Findings.Findings}
 use Rattle.lra_threads_source.specs.Crates.{lra_resolution_spec.LiveNames.globals_named, lra_syntax.Labels.Labelled, lra_syntax.Labels.labels_of, lra_syntax.Trees.FileTree}
-use Rattle.lra_options.specs.declared.options.Domain.TheVariants.{Box}
 use Rattle.lra_report.specs.Report.{Invariant, PointReport}
 use Rattle.lra_report.specs.{Listing.AreListed, Listing.HasWidth, declared.verdict_kinds.VerdictKind.TheVariants.Assertion, declared.verdict_kinds.VerdictKind.TheVariants.Fit}
 use Rattle.lra_analyse_source.proofs.Handing.{image_of}

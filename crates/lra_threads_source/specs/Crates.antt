@@ -8,6 +8,7 @@ pub use Rattle.lra_analyse_source.specs.Crates.lra_fixpoint
 pub use Rattle.lra_analyse_source.specs.Crates.lra_front_end
 pub use Rattle.lra_threads_analysis.specs.Crates.lra_interleavings
 pub use Rattle.lra_report.specs.Crates.lra_operations
+pub use Rattle.lra_report.specs.Crates.lra_options
 pub use Rattle.lra_threads_analysis.specs.Crates.lra_overflow_checks
 pub use Rattle.lra_analyse_source.specs.Crates.lra_pass_results
 pub use Rattle.lra_report.specs.Crates.lra_program

@@ -6,13 +6,13 @@ use Rattle.lra_threads_source.specs.Crates.lra_box.Abstraction.{box_abstraction}
 use Rattle.lra_threads_source.specs.Crates.lra_program.Sites.{Site, sites_of}
 use Rattle.lra_threads_source.specs.Crates.lra_report_build.AnalysisResults.{access_verdicts_at, state_of, verdict_at}
 use Rattle.lra_threads_source.specs.Crates.lra_report_build.Shown.{AreShown, shown_state}
-use Rattle.lra_threads_source.specs.Crates.lra_resolution_spec.LiveNames.{globals_named}
 use Rattle.lra_threads_source.specs.Crates.lra_resolution_spec.Threads.{thread_places, thread_program}
 use Rattle.lra_threads_source.specs.Crates.lra_threads_fixpoint.Intervals.{IntervalRow, IntervalTable}
 use Rattle.lra_threads_source.specs.Crates.lra_threads_fixpoint.Rounds.{ThreadsFixpoint}
-use Rattle.lra_threads_source.specs.Crates.{lra_box.declared.interval.Interval.Interval, lra_syntax.Labels.labels_of}
+use Rattle.lra_threads_source.specs.Crates.{lra_box.declared.interval.Interval.Interval}
+use Rattle.lra_threads_source.specs.Crates.{lra_options.declared.options.Domain.TheVariants.Box}
+use Rattle.lra_threads_source.specs.Crates.{lra_resolution_spec.LiveNames.globals_named, lra_syntax.Labels.labels_of}
 use Rattle.lra_threads_source.specs.Crates.{lra_syntax.Trees.FileTree, lra_threads_fixpoint.Interference.interval_at}
-use Rattle.lra_options.specs.declared.options.Domain.TheVariants.{Box}
 use Rattle.lra_report.specs.Report.{PointReport, Verdict}
 use Rattle.lra_report.specs.{Listing.AreListed, declared.verdict_kinds.VerdictKind.TheVariants.Assertion}
 use Rattle.lra_threads_analysis.specs.Found.{access_verdicts_of, thread_values, verdicts_of}

@@ -6,6 +6,7 @@ use Rattle.lra_threads_source.specs.Crates.lra_analysis_spec.Plan.{Plan, plan_of
 use Rattle.lra_threads_source.specs.Crates.lra_front_end.ThreadsClaims.{IsAcceptedThreads}
 use Rattle.lra_threads_source.specs.Crates.lra_interleavings.Interleavings.{AtThread, FailsThread, ThreadWritesValue}
 use Rattle.lra_threads_source.specs.Crates.lra_interleavings.Interleavings.{OutOfBoundsThread}
+use Rattle.lra_threads_source.specs.Crates.lra_options.OptionRows.{default_options}
 use Rattle.lra_threads_source.specs.Crates.lra_program.Program.{Function, Program}
 use Rattle.lra_threads_source.specs.Crates.lra_resolution_spec.Resolve.{resolved_functions}
 use Rattle.lra_threads_source.specs.Crates.lra_resolution_spec.Threads.{thread_places, thread_program}
@@ -13,11 +14,11 @@ use Rattle.lra_threads_source.specs.Crates.lra_threads_fixpoint.Flags.{ComesToSt
 use Rattle.lra_threads_source.specs.Crates.lra_threads_fixpoint.Rounds.{AllRounds, ThreadsFixpoint, joining_rounds}
 use Rattle.lra_threads_source.specs.Crates.{lra_box.Bounds.InInterval, lra_front_end.Stages.HasConstants}
 use Rattle.lra_threads_source.specs.Crates.{lra_operations.Agree.point_of, lra_operations.Tree.Node}
+use Rattle.lra_threads_source.specs.Crates.{lra_options.declared.options.Domain.TheVariants.Box}
+use Rattle.lra_threads_source.specs.Crates.{lra_options.declared.options.Options.Options}
 use Rattle.lra_threads_source.specs.Crates.{lra_program.ProgramViews.function_or, lra_program.Run.Point}
 use Rattle.lra_threads_source.specs.Crates.{lra_program.Sites.Site, lra_resolution_spec.LiveNames.globals_named}
 use Rattle.lra_threads_source.specs.Crates.{lra_syntax.Trees.FileTree, lra_threads_fixpoint.Intervals.empty_table}
-use Rattle.lra_options.specs.OptionRows.{default_options}
-use Rattle.lra_options.specs.{declared.options.Domain.TheVariants.Box, declared.options.Options.Options}
 use Rattle.lra_report.specs.Report.{PointReport, Verdict, InvariantHolds}
 use Rattle.lra_report.specs.declared.verdict_kinds.VerdictKind.{VerdictKind}
 use Rattle.lra_report.specs.declared.verdict_kinds.VerdictKind.TheVariants.{Assertion, Fit, Access}

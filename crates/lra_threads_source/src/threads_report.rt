@@ -10,8 +10,8 @@ ghost use Rattle.lra_threads_source.specs.{ThreadsReports.IsThreadsReportOf, Thr
 
 use crate::listing::{ThreadsOutline, list};
 use crate::text::ThreadsReport;
-use lra_analyse_source::{AcceptedThreads, Plan, SourceError, read_threads};
-use lra_options::{Domain, Options, default_options};
+use lra_analyse_source::{AcceptedThreads, Domain, Plan, SourceError, read_threads};
+use lra_report::{Options, default_options};
 use lra_threads_analysis::{InlinedProgram, analyse_threads, instrument_program, threads_hold};
 use std::alloc::{AllocError, Global};
 use std::mem;

@@ -14,8 +14,8 @@ ghost use Rattle.lra_transfer.specs.Changes.{Does, OpTransfersTo, CellFits, OpFi
 use crate::cases::assign_in_cases;
 use crate::conditions::filter_condition;
 use crate::types::hold_type;
-use lra_linearize::{Domain, Exactness, Linearized, Op, linearize, worse};
-use lra_program::{Argument, Cell, Expr, NumberType, Target};
+use lra_linearize::{Domain, Exactness, Linearized, NumberType, Op, linearize, worse};
+use lra_program::{Argument, Cell, Expr, Target};
 use std::alloc::{AllocError, Global};
 
 /// The variable at the place gets the expression's value, as far as it is seen: that of its form; that of a division,

@@ -12,8 +12,8 @@ ghost use Rattle.lra_transfer.specs.Splits.{AreJoinedBack, AllKeptHave, IsEither
 
 use crate::comparisons::{Surroundings, filter_comparison};
 use crate::splits::{Kept, divide, join_back};
-use lra_linearize::{Domain, Exactness, comparison_where};
-use lra_program::{Comparison, Cond, Expr, NumberType};
+use lra_linearize::{Domain, Exactness, NumberType, comparison_where};
+use lra_program::{Comparison, Cond, Expr};
 use std::alloc::{AllocError, Global};
 
 /// What `e != 0`, wanted true or false, leaves of the value.

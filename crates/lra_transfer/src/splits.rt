@@ -9,8 +9,8 @@ ghost use Rattle.lra_program.specs.ProgramViews.{all_of, any_of, expr_view, cond
 ghost use Rattle.lra_transfer.specs.Splits.{SplitsBy, AreJoinedTo, AreJoinedBack, AllKeptHave};
 
 use crate::comparisons::{Surroundings, filter_comparison};
-use lra_linearize::{Domain, Exactness, opposite_of, worse};
-use lra_program::{Comparison, Cond, Expr, NumberType};
+use lra_linearize::{Domain, Exactness, NumberType, opposite_of, worse};
+use lra_program::{Comparison, Cond, Expr};
 use std::alloc::{AllocError, Global};
 
 /// A value, with the exactness of what led to it.

@@ -7,8 +7,7 @@ ghost use Rattle.lra_transfer.specs.Crates.lra_base.declared.number_types.Number
 ghost use Rattle.lra_transfer.specs.Crates.lra_domain.Moves.{Moves};
 ghost use Rattle.lra_transfer.specs.Changes.{Does};
 
-use lra_linearize::{ConKind, Domain, Exactness, Test, form_of_one, worse};
-use lra_program::NumberType;
+use lra_linearize::{ConKind, Domain, Exactness, NumberType, Test, form_of_one, worse};
 use std::alloc::{AllocError, Global};
 
 /// What is left where the variable at the place lies within 32 bits, after what led to the value: `x + 2^31 >= 0`,

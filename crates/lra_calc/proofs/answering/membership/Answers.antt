@@ -3,7 +3,7 @@
 use Rattle.std.proofs.Common.{rules, ◌≡◌, ◌-◌, ℤ, pos, List, ◌∷◌, length, get_or, take, drop, subst, FitsSigned}
 use Rattle.std.proofs.lemmas.Int.{to_z-of_z}
 use Rattle.std.specs.Int.{w128}
-use Rattle.lra_systems.specs.LinearSystems.{constraints}
+use Rattle.lra_calc.specs.Crates.lra_systems.LinearSystems.{constraints}
 use Rattle.lra_calc.specs.Script as script
 use Rattle.lra_calc.specs.Views.{answered}
 use Rattle.lra_calc.proofs.SessionLemmas.{answer_is, point_is}

@@ -1,5 +1,5 @@
 use Rattle.std.proofs.Common.{◌≡◌, ◌++◌, drop, length, map}
-use Rattle.lra_systems.specs.LinearSystems.{constraints}
+use Rattle.lra_calc.specs.Crates.lra_systems.LinearSystems.{constraints}
 use Rattle.lra_script.specs.Views.{constraint_of}
 use Rattle.lra_calc.proofs.making.constraints_of_rows.Given as goal
 

@@ -1,5 +1,5 @@
 use Rattle.std.proofs.Common.{◌≡◌, ◌++◌, drop, length, map}
-use Rattle.lra_systems.specs.LinearSystems.{generators, FitKinds}
+use Rattle.lra_calc.specs.Crates.lra_systems.LinearSystems.{generators, FitKinds}
 use Rattle.lra_script.specs.{LineForms.row_of_generator, Views.generator_view}
 use Rattle.lra_calc.proofs.making.generators_of_written.Given as goal
 

@@ -1,8 +1,8 @@
 -- Goals of `limit`: the first set widened by the second, with those of the given constraints that are valid on
 -- both.
 use Rattle.std.proofs.Common.{List, map, subst, Ok}
-use Rattle.lra_calc.specs.Crates.{lra_linear_spec.Descriptions.LinearRow, lra_linear_spec.OperationStrain.LimitedStrains, lra_linear_spec.Widening.LimitedWidening}
-use Rattle.lra_systems.specs.LinearSystems.{constraints}
+use Rattle.lra_calc.specs.Crates.lra_linear_spec.Widening.{LimitedWidening}
+use Rattle.lra_calc.specs.Crates.{lra_linear_spec.Descriptions.LinearRow, lra_linear_spec.OperationStrain.LimitedStrains, lra_systems.LinearSystems.constraints}
 use Rattle.lra_script.specs.Views.{constraint_of}
 use Rattle.lra_calc.specs.{MadeSets.IsLimited, Script.Widens, Views.made_of}
 use Rattle.lra_calc.proofs.WidenLemmas.{made_widens, outside_widens, refusal_placed}

@@ -1,9 +1,8 @@
 -- Goals of `constrain`: the constraints of the generators, and the generators that were not added.
 use Rattle.std.proofs.Common.{◌≡◌, ◌∙◌, ap, refl, sym, subst, length, List, ℕ, ◌∷◌, []}
 use Rattle.std.specs.List.{Contains}
-use Rattle.lra_conversions.specs.Crates.lra_linear_spec.OperationStrain.{unit_row}
-use Rattle.lra_conversions.specs.Crates.{lra_linear_spec.Vectors.negated, lra_linear_spec.declared.GenKind.GenKind, lra_linear_spec.declared.GenKind.TheVariants.Point}
-use Rattle.lra_systems.specs.LinearSystems.{constraints}
+use Rattle.lra_conversions.specs.Crates.{lra_linear_spec.OperationStrain.unit_row, lra_linear_spec.Vectors.negated, lra_linear_spec.declared.GenKind.GenKind}
+use Rattle.lra_conversions.specs.Crates.{lra_linear_spec.declared.GenKind.TheVariants.Point, lra_systems.LinearSystems.constraints}
 use Rattle.lra_description_pair.proofs.{ConstraintLists.nothing_constrained, ConstraintLists.constrained, GeneratorPairs.taken}
 use Rattle.lra_cone.specs.Cones.{whole_space}
 use Rattle.lra_conversions.proofs.conversions.constrain.Goals as goal

@@ -1,9 +1,8 @@
 -- Goals of `generate`: the rows kept, their points, rays and lines, and the rows left out.
 use Rattle.std.proofs.Common.{◌∙◌, ap, sym, subst, suc, ℕ, List}
-use Rattle.lra_systems.specs.LinearSystems.{constraints, generators}
+use Rattle.lra_conversions.specs.Crates.{lra_linear_spec.Descriptions.LinearRow, lra_systems.LinearSystems.constraints, lra_systems.LinearSystems.generators}
 use Rattle.lra_description_pair.proofs.{GeneratorLists.generated, GeneratorLists.same_points, PairLosses.behind_positivity}
 use Rattle.lra_cone.proofs.Stepped.{lines_have_width, rays_have_width}
-use Rattle.lra_conversions.specs.Crates.lra_linear_spec.Descriptions.{LinearRow}
 use Rattle.lra_cone.specs.Conversions.{AreTried}
 use Rattle.lra_conversions.proofs.conversions.generate.Goals as goal
 

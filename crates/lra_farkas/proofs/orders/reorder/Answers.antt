@@ -1,6 +1,5 @@
 -- Goals of `reorder`: the same rows in another order.
-use Rattle.std.proofs.Common.{◌∙◌}
-use Rattle.std.proofs.lemmas.Result.{IfOk-weaker}
+use Rattle.std.proofs.{Common.◌∙◌, lemmas.Result.IfOk-weaker}
 use Rattle.lra_systems.specs.LinearSystems.{constraints}
 use Rattle.lra_farkas.proofs.KeyedRows.{sorted_widths, sorted_rows}
 use Rattle.lra_farkas.proofs.orders.reorder.Goals as goal

@@ -1,8 +1,8 @@
 -- Goals of `balance`: the equality of a column.
 use Rattle.std.proofs.Common.{rules, ◌≡◌, ◌++◌, ◌∷◌, [], ℤ, neg_ℤ, List, FitsSigned, refl, ap, sym, ◌∙◌, subst}
+use Rattle.std.proofs.lemmas.Result.{IfOk-weaker}
 use Rattle.std.proofs.{lemmas.Int.to_z-of_z, lemmas.List.Elements.All-cons, lemmas.List.Elements.All-nil}
 use Rattle.std.specs.{Int.w128, List.All}
-use Rattle.std.proofs.lemmas.Result.{IfOk-weaker}
 use Rattle.lra_farkas.specs.Crates.lra_linear_spec.Range.{InRange}
 use Rattle.lra_farkas.proofs.ListedRows.{balance_made}
 use Rattle.lra_farkas.proofs.rows.balance.Goals as goal

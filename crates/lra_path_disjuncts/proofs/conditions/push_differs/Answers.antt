@@ -1,6 +1,5 @@
 -- Goals of `push_differs`: both stand in the table.
-use Rattle.lra_base.specs.Operators.{below, above}
-use Rattle.lra_path_disjuncts.specs.Crates.lra_analysis_spec.MovesOf.{linearized_moves}
+use Rattle.lra_path_disjuncts.specs.Crates.{lra_analysis_spec.MovesOf.linearized_moves, lra_base.Operators.below, lra_base.Operators.above}
 use Rattle.lra_path_disjuncts.proofs.TableSteps.{within}
 use Rattle.lra_path_disjuncts.proofs.conditions.push_differs.Goals as goal
 

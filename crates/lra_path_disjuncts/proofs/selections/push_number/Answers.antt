@@ -2,7 +2,7 @@
 use Rattle.std.proofs.Common.{refl}
 use Rattle.lra_transfer.proofs.ChangeSteps.{number_fits}
 use Rattle.lra_path_disjuncts.proofs.LabelSteps.{number_has}
-use Rattle.lra_base.specs.OperatorViews.{comparison_view}
+use Rattle.lra_path_disjuncts.specs.Crates.lra_base.OperatorViews.{comparison_view}
 use Rattle.lra_path_disjuncts.proofs.selections.push_number.Goals as goal
 
 pub push_comparison-requires-clause-width : goal.push_comparison-requires-clause-width

@@ -1,6 +1,5 @@
 -- Goals of `convert_image`: the image, where the generators are converted.
-use Rattle.std.proofs.Common.{arith, inl, inr, suc, subst, List}
-use Rattle.std.proofs.lemmas.Result.{IfOk-weaker}
+use Rattle.std.proofs.{Common.arith, Common.inl, Common.inr, Common.suc, Common.subst, Common.List, lemmas.Result.IfOk-weaker}
 use Rattle.lra_poly_images.specs.Crates.lra_linear_spec.CheckedArithmetic.{checked_product}
 use Rattle.lra_poly_images.specs.Crates.lra_linear_spec.OperationStrain.{FormingPasses, ImageStrains, mapped}
 use Rattle.lra_poly_images.specs.Crates.{lra_linear_spec.Descriptions.Con, lra_linear_spec.Descriptions.LinearRow, lra_linear_spec.SetOperations.Forget, lra_linear_spec.SetOperations.Image}

@@ -1,6 +1,5 @@
 -- Goals of `forget_and_set`: the image by a form without the coordinate x, which is anything, and then it is the form.
-use Rattle.std.proofs.Common.{ap, suc}
-use Rattle.std.proofs.lemmas.Result.{IfOk-weaker}
+use Rattle.std.proofs.{Common.ap, Common.suc, lemmas.Result.IfOk-weaker}
 use Rattle.lra_poly_images.specs.Crates.lra_linear_forms.Form.{form_row}
 use Rattle.lra_poly_images.proofs.SolvedImages.{image_solved}
 use Rattle.lra_poly_images.proofs.images.forget_and_set.Goals as goal

@@ -1,6 +1,5 @@
 -- Goals of `image`: gives the coordinate x the form's value.
-use Rattle.std.proofs.Common.{suc, subst, List, ℤ}
-use Rattle.std.proofs.lemmas.Result.{IfOk-weaker}
+use Rattle.std.proofs.{Common.suc, Common.subst, Common.List, Common.ℤ, lemmas.Result.IfOk-weaker}
 use Rattle.lra_poly_images.specs.Crates.{lra_linear_forms.Form.form_row, lra_linear_spec.Descriptions.Con, lra_linear_spec.OperationStrain.ImageStrains, lra_linear_spec.SetOperations.Image}
 use Rattle.lra_poly.specs.Outcomes.{Becomes}
 use Rattle.lra_poly.proofs.PolyLemmas.{exactly}

@@ -1,7 +1,6 @@
 -- Goals of `preimage`: becomes the set of the points that are brought into it when the coordinate x is given the
 -- form's value.
-use Rattle.std.proofs.Common.{suc, subst, List, ℤ}
-use Rattle.std.proofs.lemmas.Result.{IfOk-weaker}
+use Rattle.std.proofs.{Common.suc, Common.subst, Common.List, Common.ℤ, lemmas.Result.IfOk-weaker}
 use Rattle.lra_poly_images.specs.Crates.{lra_linear_forms.Form.form_row, lra_linear_spec.Descriptions.Con, lra_linear_spec.OperationStrain.PreimageStrains, lra_linear_spec.SetOperations.Preimage}
 use Rattle.lra_poly.specs.Outcomes.{Becomes}
 use Rattle.lra_poly.proofs.PolyLemmas.{exactly}

@@ -1,6 +1,5 @@
 -- Goals of `embed`: adds k dimensions, the last ones, in which the coordinates may be anything.
-use Rattle.std.proofs.Common.{◌+◌}
-use Rattle.std.proofs.lemmas.Result.{IfOk-weaker}
+use Rattle.std.proofs.{Common.◌+◌, lemmas.Result.IfOk-weaker}
 use Rattle.lra_poly_images.specs.Crates.{lra_linear_spec.Descriptions.Con, lra_linear_spec.OperationStrain.EmbedStrains, lra_linear_spec.OperationStrain.embedded, lra_linear_spec.SetOperations.Embed}
 use Rattle.lra_poly_images.proofs.EmbeddedSets.{embed_takes}
 use Rattle.lra_poly.proofs.{TakenGenerators.taken_becomes, UnitedLists.tried_as}

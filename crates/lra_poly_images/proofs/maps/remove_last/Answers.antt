@@ -1,6 +1,5 @@
 -- Goals of `remove_last`: takes away the last k dimensions.
-use Rattle.std.proofs.Common.{◌-◌, ap, ℕ}
-use Rattle.std.proofs.lemmas.Result.{IfOk-weaker}
+use Rattle.std.proofs.{Common.◌-◌, Common.ap, Common.ℕ, lemmas.Result.IfOk-weaker}
 use Rattle.lra_poly_images.specs.Crates.lra_linear_spec.OperationStrain.{RemoveLastStrains, shortened}
 use Rattle.lra_poly_images.specs.Crates.{lra_linear_spec.Descriptions.Con, lra_linear_spec.SetOperations.RemoveLast}
 use Rattle.lra_poly.proofs.{TakenGenerators.taken_becomes, UnitedLists.tried_as}

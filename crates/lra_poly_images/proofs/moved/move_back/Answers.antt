@@ -1,7 +1,6 @@
 -- Goals of `move_back`: the preimage under the assignment of the form to the column, by both lists; none as
 -- with the image.
-use Rattle.std.proofs.Common.{inl, inr, refl, suc}
-use Rattle.std.proofs.lemmas.Result.{IfOk-weaker}
+use Rattle.std.proofs.{Common.inl, Common.inr, Common.refl, Common.suc, lemmas.Result.IfOk-weaker}
 use Rattle.lra_poly_images.proofs.{BackImages.back_of, BackImages.preimage_if_moved, KeptLists.stays_back_passed}
 use Rattle.lra_mapped_systems.proofs.TakenBack.{taken_forth}
 use Rattle.lra_poly_images.proofs.Crates.lra_description_pair.PairLosses.{if_none}

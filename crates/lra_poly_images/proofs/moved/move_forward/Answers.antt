@@ -1,6 +1,5 @@
 -- Goals of `move_forward`: the image under the assignment of the form to the column, by both lists.
-use Rattle.std.proofs.Common.{inl, inr, refl}
-use Rattle.std.proofs.lemmas.Result.{IfOk-weaker}
+use Rattle.std.proofs.{Common.inl, Common.inr, Common.refl, lemmas.Result.IfOk-weaker}
 use Rattle.lra_poly_images.proofs.{BackImages.back_of, KeptLists.stays_passed}
 use Rattle.lra_poly_images.proofs.Crates.lra_description_pair.PairLosses.{if_none}
 use Rattle.lra_poly_images.proofs.moved.move_forward.Goals as goal

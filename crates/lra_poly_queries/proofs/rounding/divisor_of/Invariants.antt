@@ -1,6 +1,6 @@
 use Rattle.std.proofs.Common.{ℕ, drop, pos, ◌≤ℤ◌, unsigned_abs}
 use Rattle.lra_poly_queries.specs.Crates.lra_linear_spec.Range.{InRange}
-use Rattle.lra_row.proofs.RowDivisors.{IsGcdWith}
+use Rattle.lra_poly_queries.proofs.Crates.lra_row.RowDivisors.{IsGcdWith}
 use Rattle.lra_poly_queries.proofs.rounding.divisor_of.Given as goal
 
 abbrev pub invariant-loop-number : goal.invariant-loop-number

@@ -1,6 +1,6 @@
 -- Goals of `judge_steps`: the tree fits the iteration, and its values what is judged.
 use Rattle.std.proofs.Common.{length, refl, arith, ◌<◌}
-use Rattle.lra_base.specs.Operators.{plus, minus}
+use Rattle.lra_tests_analyses.specs.Crates.lra_base.Operators.{plus, minus}
 use Rattle.lra_tests_analyses.specs.Steps.{stepped}
 use Rattle.lra_tests_analyses.proofs.StepsTree.{tree_fits, steps_numbered, as_many, steps_few, steps_below}
 use Rattle.lra_tests_analyses.proofs.fitting.judge_steps.Goals as goal

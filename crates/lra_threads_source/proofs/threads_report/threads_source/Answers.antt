@@ -1,8 +1,7 @@
 -- Goals of `threads_source`: what is found of the threads of a source.
 use Rattle.std.proofs.Common.{◌∙◌, ℕ, ℤ, List, ap₂, subst}
 use Rattle.std.specs.List.{AllZip}
-use Rattle.lra_threads_source.specs.Crates.{lra_analysis_spec.Plan.plan_of, lra_front_end.ThreadsStages.IsThreadInlined, lra_syntax.Views.tree_view}
-use Rattle.lra_options.specs.declared.options.Options.{Options}
+use Rattle.lra_threads_source.specs.Crates.{lra_analysis_spec.Plan.plan_of, lra_front_end.ThreadsStages.IsThreadInlined, lra_options.declared.options.Options.Options, lra_syntax.Views.tree_view}
 use Rattle.lra_threads_source.proofs.threads_report.threads_source.Goals as goal
 
 pub report_threads-requires-clause-planned : goal.report_threads-requires-clause-planned
