@@ -7,8 +7,9 @@ ghost use Rattle.lra_analysis_spec.specs.Linear.{difference_form, comparison_tes
 ghost use Rattle.lra_analysis_spec.specs.MovesOf.{comparison_as, opposite_comparison};
 
 use crate::forms::{constant_of, form_of_expression, multiple_of, sum_of_forms};
-use lra_analysis_spec::{ConKind, Expr, LinExpr, Test};
+use lra_analysis_spec::{ConKind, LinExpr, Test};
 use lra_base::Comparison;
+use lra_program::Expr;
 use std::alloc::{AllocError, Global};
 
 /// The form minus a number, where all its numbers have 64 bits.

@@ -9,8 +9,9 @@ ghost use Rattle.lra_analysis_spec.specs.Linear.{fitting, entrywise, combined_fo
 ghost use Rattle.lra_analysis_spec.specs.Linear.{operator_form, constant_form, form_of, live_form, variable_form};
 ghost use Rattle.lra_linearize.specs.Forms.{sum_or_difference, rest_form};
 
-use lra_analysis_spec::{Expr, LinExpr, Operation, Slot};
+use lra_analysis_spec::LinExpr;
 use lra_base::Operator;
+use lra_program::{Expr, Operation, Slot};
 use std::alloc::{AllocError, Global};
 
 /// The sum or the difference, where it has 64 bits.

@@ -11,8 +11,9 @@ ghost use Rattle.lra_analysis_spec.specs.Linear.{difference_form, comparison_tes
 ghost use Rattle.lra_linearize.specs.GuardThresholds.{HasMore};
 
 use crate::comparisons::{comparison_where, difference_of, test_of};
-use lra_analysis_spec::{ConKind, ConSys, Cond, Expr, LinExpr, Row};
+use lra_analysis_spec::{ConKind, ConSys, LinExpr, Row};
 use lra_base::{Comparison, NumberType};
+use lra_program::{Cond, Expr};
 use std::alloc::{AllocError, Global};
 
 /// The number times -1 comes last.

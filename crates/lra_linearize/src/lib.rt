@@ -17,8 +17,10 @@ pub use forms::{
 pub use guard_thresholds::guard_thresholds_of;
 pub use linearization::{linearize, linearize_difference, subtract_number};
 pub use lra_analysis_spec::{
-    Arm, Change, ConKind, ConSys, Cond, Division, Domain, Exactness, Expr, Grown, Interfere,
-    LinExpr, Linearized, Mode, Node, Op, Test, worse,
+    Change, ConKind, ConSys, Division, Domain, Exactness, Grown, Interfere, LinExpr, Linearized,
+    Mode, Test, worse,
 };
 pub use lra_base::NumberType;
+pub use lra_operations::{Arm, Node, Op};
+pub use lra_program::{Cond, Expr};
 pub use thresholds::thresholds_of;

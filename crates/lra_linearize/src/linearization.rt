@@ -12,8 +12,9 @@ ghost use Rattle.lra_analysis_spec.specs.Linearization.{subtracted, linearized_d
 ghost use Rattle.lra_analysis_spec.specs.declared.linearization.Linearized.TheVariants.{Linear, Divided};
 
 use crate::forms::{constant_of, form_of_chain, form_of_expression, has_no_variable, sum_of_forms};
-use lra_analysis_spec::{Division, Expr, LinExpr, Linearized, Operation};
+use lra_analysis_spec::{Division, LinExpr, Linearized};
 use lra_base::Operator;
+use lra_program::{Expr, Operation};
 use std::alloc::{AllocError, Global};
 
 /// The form over two variables more, with these coefficients of the two.

@@ -15,8 +15,10 @@ ghost use Rattle.lra_linearize.specs.{GuardThresholds.HasMore, Thresholds.HasTak
 use crate::comparisons::difference_of;
 use crate::forms::unit_form;
 use crate::guard_thresholds::push_negated;
-use lra_analysis_spec::{Arm, ConKind, ConSys, Cond, Expr, LinExpr, Node, Op, Row};
+use lra_analysis_spec::{ConKind, ConSys, LinExpr, Row};
 use lra_base::NumberType;
+use lra_operations::{Arm, Node, Op};
+use lra_program::{Cond, Expr};
 use std::alloc::{AllocError, Global};
 
 /// No row with a number of a greater magnitude is given.

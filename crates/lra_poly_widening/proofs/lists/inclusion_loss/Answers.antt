@@ -67,6 +67,7 @@ returns c =
     let w = wide_pair c.args.p.now c.args.q.now c.rows-list.result.now c.generators-generators.result.now c.rows-rows.result.now c.rows-columns.result.now c.kinds-kinds.result.now
     c.kinds-kinds-2.result.now c.args.generator c.args.row c.rows-list.ensures.rows c.generators-generators.ensures.generators c.rows-rows.ensures.rows c.kinds-kinds.ensures.kinds
     c.kinds-kinds.ensures.len c.rows-columns.ensures.rows c.kinds-kinds-2.ensures.kinds c.kinds-kinds-2.ensures.len c.requires.wide in
-    IfOk-weaker c.product_loss.result _ _ (λ loss. pair_passes c.args.p.now c.args.q.now c.rows-rows.result.now c.rows-columns.result.now c.kinds-kinds.result.now c.args.generator c.args.row c.index-rows-row.result c.index-columns-generator.result
+    IfOk-weaker c.product_loss.result _ _ (λ loss. pair_passes c.args.p.now c.args.q.now c.rows-rows.result.now c.rows-columns.result.now
+    c.kinds-kinds.result.now c.args.generator c.args.row c.index-rows-row.result c.index-columns-generator.result
     Ge
     c.in-Err.excess loss w c.index-rows-row.is c.index-columns-generator.is c.in-Err.ensures.exact) c.product_loss.ensures
