@@ -1,9 +1,9 @@
 -- What a pass with drops must guarantee: its values have all stores of the tree's runs.
 use Rattle.std.specs.{List.Contains, Prelude.◌≡◌, Prelude.ℕ, Prelude.ℤ, Prelude.List, Prelude.Some, Prelude.Bool}
-use Rattle.lra_analysis_spec.specs.Crates.{lra_base.Operators.equal, lra_base.declared.case_labels.CaseLabel.CaseLabel, lra_program.Program.Expr, lra_program.Step.State}
+use Rattle.lra_analysis_spec.specs.Crates.{lra_base.Operators.equal, lra_program.Program.Expr, lra_program.Step.State}
 use Rattle.lra_analysis_spec.specs.Crates.{lra_program.Step.environment_at, lra_program.Step.Op, lra_program.Step.run_op, lra_program.Value.value_of, lra_program.Value.compares}
 use Rattle.lra_domain.specs.{Abstraction.Abstraction, Actions.Within, Laws.Laws, declared.Exactness.Exactness, declared.Mode.Mode}
-use Rattle.lra_operations.specs.Tree.{Exit, normal, jump, Node, Completes, ReachesPoint, FailsAt, Arms, ArmsComplete, ArmsReachPoint, ArmsFail}
+use Rattle.lra_operations.specs.Tree.{Exit, normal, jump, Node, Completes, ReachesPoint, FailsAt}
 use Rattle.lra_analysis_spec.specs.{Operations.lossy_operations, Pass.value, Pass.failing, Pass.PassResult, Pass.OpTransfer, Pass.ValueIs, Pass.jumps_of}
 
 -- the list is a store of a value that is held, or of a head that is
@@ -43,10 +43,3 @@ pub record Covers {V H : Type 0} (m : Abstraction V H) (g : Node) (s : State) (r
   pub leaves : (k : Exit) (t : State) → Completes g s (jump k) t → SomeHas m (jumps_of k r) t.store
   pub comes : (p : ℕ) (t : State) → ReachesPoint g s p t → (w : V) × Contains r.entries (value p w) × Has m w t.store
   pub fails : (p : ℕ) → FailsAt g s p → (w : V) × (t : State) × Contains r.entries (failing p w) × Has m w t.store
-
--- the same of arms, by the label to which a value goes, and whether it was met
-pub record ArmsCover {V H : Type 0} (m : Abstraction V H) (l : CaseLabel) (met : Bool) (arms : Arms) (s : State) (r : PassResult V) : Type 0 where
-  pub ends : (t : State) → ArmsComplete l met arms s normal t → Has m r.normal t.store
-  pub leaves : (k : Exit) (t : State) → ArmsComplete l met arms s (jump k) t → SomeHas m (jumps_of k r) t.store
-  pub comes : (p : ℕ) (t : State) → ArmsReachPoint l met arms s p t → (w : V) × Contains r.entries (value p w) × Has m w t.store
-  pub fails : (p : ℕ) → ArmsFail l met arms s p → (w : V) × (t : State) × Contains r.entries (failing p w) × Has m w t.store

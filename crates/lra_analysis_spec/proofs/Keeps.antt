@@ -1,10 +1,9 @@
--- A pass with drops covers the runs of its tree: moves with drops keep each store to which they may lead.
-use Rattle.std.proofs.Common.{ℕ, ℤ, List, Option, sym, subst, inl, inr}
+-- Moves with drops keep each store to which they may lead.
+use Rattle.std.proofs.Common.{ℕ, ℤ, List, sym, subst, inl, inr}
 use Rattle.lra_domain.specs.{Abstraction.Abstraction, Laws.Laws, Moves.Moves, Moves.stay, Moves.make, Moves.first_then, Moves.join_of, Moves.MayLead, declared.Exactness.Exactness}
-use Rattle.lra_analysis_spec.specs.Crates.lra_program.Step.{State, environment_at}
-use Rattle.lra_operations.specs.Tree.{Node}
-use Rattle.lra_analysis_spec.specs.{Moves.AreMade, MovesOf.moves_of, MovesOf.value_moves, Operations.lossy_operations, Pass.PassResult, Pass.Pass, Plan.Plan}
-use Rattle.lra_analysis_spec.proofs.{CondKeeping.value_leads, Covers.ChangesKeep, Covers.ValuesKeep, Covers.Covers, Covers.Has, Covers.covered_has, Keeping.op_leads, Sound.covers}
+use Rattle.lra_analysis_spec.specs.Crates.lra_program.Step.{environment_at}
+use Rattle.lra_analysis_spec.specs.{Moves.AreMade, MovesOf.moves_of, MovesOf.value_moves, Operations.lossy_operations}
+use Rattle.lra_analysis_spec.proofs.{CondKeeping.value_leads, Covers.ChangesKeep, Covers.ValuesKeep, Covers.Has, Covers.covered_has, Keeping.op_leads}
 
 module _ (V H : Type 0) (m : Abstraction V H) (laws : Laws m) where
   pub moves_keep : (p : Moves) (v : V) (e : Exactness) (w : V) → AreMade (lossy_operations m) p v e w → (s t : List ℤ) → Has m v s → MayLead p s t → Has m w t
@@ -25,9 +24,3 @@ module _ (V H : Type 0) (m : Abstraction V H) (laws : Laws m) where
       moves_keep (value_moves (m.dims v) base wanted e z) v x w made s.store s.store h
       (subst (λ (n : ℕ). MayLead (value_moves n base wanted e z) s.store s.store) (laws.sized v s.store h.0 h.1)
       (value_leads (environment_at base s) e z wanted s.draws left y got is))
-
--- from one of its value's stores, a pass with drops covers the tree's runs
-pub pass_covers : {V H : Type 0} (m : Abstraction V H) → Laws m → (set : Plan) (g : Node) (f : Option ℕ) (v : V) (r : PassResult V) →
-    Pass V H (lossy_operations m) set g f v r
-    → (s : State) → Has m v s.store → Covers m g s r
-pass_covers {V} {H} m laws set g f v r pass s h = covers V H m laws (changes_keep V H m laws) (values_keep V H m laws) set g f v r pass s h

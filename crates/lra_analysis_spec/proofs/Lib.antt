@@ -9,8 +9,8 @@ pub mod CondKeeping
 pub mod Keeping
 -- The values of a derivation have all stores of the runs.
 pub mod Covers
-pub mod Sound
 pub mod Keeps
+pub mod Sound
 -- What is judged to fit doesn't stop a run by a number.
 pub mod FitsSound
 -- What is judged to be inside doesn't stray.

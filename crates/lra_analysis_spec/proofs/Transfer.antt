@@ -7,7 +7,7 @@ use Rattle.lra_domain.specs.{Abstraction.worse, Actions.Action, Moves.Moves, Mov
 use Rattle.lra_operations.specs.Tree.{Exit, broken, continued, returned, Node, empty, point, probe, act, check, seq, choose, iterate, catch, leave, select, Arms, no_arms, entry, arm, entries_of}
 use Rattle.lra_operations.specs.declared.probes.Probe.TheVariants.{InterferencePoint, RecordWrite}
 use Rattle.lra_analysis_spec.specs.Pass.{PassResult, noted, jumps, values_behind, jumps_caught, AreJoined, Filters, Transformer, LoopRoundFrom, LoopRoundFromHead, AscendingIteration}
-use Rattle.lra_analysis_spec.specs.Pass.{DescendingIteration, Absorption, nothing_absorbed, PassUnder, ArmsPassUnder, Pass, ValueIs, MatchesNone, Enters, JoinsRunning, ComesOut, RunsFrom}
+use Rattle.lra_analysis_spec.specs.Pass.{DescendingIteration, Absorption, PassUnder, ArmsPassUnder, ValueIs, MatchesNone, Enters, JoinsRunning, ComesOut, RunsFrom}
 use Rattle.lra_analysis_spec.specs.{Moves.AreMade, MovesOf.guard, MovesOf.value_moves, MovesOf.moves_of, Operations.Operations, Plan.Plan, Plan.Widening, Plan.mode_at, Thresholds.loop_thresholds}
 
 -- the answers that matter: with this exactness, with this flag
@@ -217,6 +217,3 @@ module _ (V H : Type 0) (a b : Operations V H) (Keeps : Exactness → Type 0) (F
           let j = arms_pass set q base e d v other arms s.flag (Some s.normal) t (subst (λ (z : PassResult V). Fine z.flag) is k) rest in
           let i = passes_among set g f w s j.0 one in
           (i.0, (w, s, t, runs_from (a.dims v) set.parts o w from, i.1, j.1, is))
-
-  pub passes : (set : Plan) (g : Node) (f : Option ℕ) (v : V) (r : PassResult V) → Fine r.flag → Pass V H a set g f v r → Fine f × Pass V H (aligned a b) set g f v r
-  passes = passes_among nothing_absorbed nothing_absorbed (λ v e w k h. h)

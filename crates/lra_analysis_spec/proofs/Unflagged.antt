@@ -5,10 +5,10 @@ use Rattle.lra_domain.specs.{Abstraction.Abstraction, Laws.Laws, declared.Exactn
 use Rattle.lra_domain.proofs.WorseLaws.{exact_parts}
 use Rattle.lra_analysis_spec.specs.Crates.lra_program.Program.{Program}
 use Rattle.lra_operations.specs.Tree.{Node}
-use Rattle.lra_analysis_spec.specs.UnderInterference.{absorbed, absorbed_exactly, absorbed_straining, ExactIterationUnder, LossyIterationUnder, StrainsUnder}
+use Rattle.lra_analysis_spec.specs.UnderInterference.{absorbed, absorbed_exactly, absorbed_straining, IterationUnder, ExactIterationUnder, LossyIterationUnder, StrainsUnder}
 use Rattle.lra_analysis_spec.specs.{Analysis.ExactIteration, Analysis.LossyIteration, Analysis.StrainsAtPoint, MovesOf.first_values, Operations.Operations, Operations.exact_operations}
-use Rattle.lra_analysis_spec.specs.{Operations.lossy_operations, Operations.straining_operations, Pass.PassResult, Pass.noted, Pass.nothing_absorbed, Pass.PassUnder, Pass.Pass, Plan.Plan}
-use Rattle.lra_analysis_spec.proofs.Transfer.{Matters, Transfers, made, passes, passes_among}
+use Rattle.lra_analysis_spec.specs.{Operations.lossy_operations, Operations.straining_operations, Pass.PassResult, Pass.noted, Pass.Absorption, Pass.nothing_absorbed, Plan.Plan}
+use Rattle.lra_analysis_spec.proofs.Transfer.{Matters, Transfers, aligned, made, passes_among}
 
 -- all exact, no flag
 exact_before : (q : ℕ) (e : Exactness) (f : Option ℕ) → noted q e f ≡ None → (e ≡ Exact) × (f ≡ None)
@@ -44,57 +44,6 @@ strained_ones m laws = record {
   void = λ n cap v is. is.0;
 }
 
--- a derivation without a flag is the written iteration
-pub unflagged_is_written : {V H : Type 0} (m : Abstraction V H) → Laws m → (set : Plan) (P : Program) (g : Node) (r : PassResult V) → LossyIteration m set P g r → r.flag ≡ None →
-    ExactIteration m set P g r
-unflagged_is_written {V} {H} m laws set P g r (none, first, e, universal, values, pass) is =
-    let p = passes V H (lossy_operations m) (exact_operations m) (λ e. e ≡ Exact) (λ f. f ≡ None) none_flagged (exact_ones m laws) set g (noted 0 e None) first
-    r is pass in
-    let k = exact_before 0 e None p.0 in (
-      none,
-      first,
-      e,
-      universal.0,
-      made V H (lossy_operations m) (exact_operations m) (λ e. e ≡ Exact) (λ f. f ≡ None) none_flagged (exact_ones m laws) (first_values 0 P.globals) none e first k.0 values,
-      p.1,
-    )
-
--- the first flagged operation exceeds a limit on the operands of the written iteration
-pub flagged_strains : {V H : Type 0} (m : Abstraction V H) → Laws m → (set : Plan) (P : Program) (g : Node) (r : PassResult V) (q : ℕ) → LossyIteration m set P g r → r.flag ≡ Some q →
-    StrainsAtPoint m set P g q
-flagged_strains {V} {H} m laws set P g r q (none, first, e, universal, values, pass) is =
-    let p = passes V H (lossy_operations m) (straining_operations m) (λ e. Unit {0}) (λ f. Unit {0}) any_matters (strained_ones m laws) set g (noted 0 e None)
-    first r tt pass in
-    let began = made V H (lossy_operations m) (straining_operations m) (λ e. Unit {0}) (λ f. Unit {0}) any_matters (strained_ones m laws) (first_values 0 P.globals) none e first tt values in
-    (r, (none, first, e, universal.0, began, p.1), is)
-
--- under interference, too
-pub unflagged_is_written_among : {V H : Type 0} (o : Interference V) (m : Abstraction V H) → Laws m → (set : Plan) (P : Program) (g : Node) (r : PassResult V)
-    → LossyIterationUnder o m set P g r → r.flag ≡ None → ExactIterationUnder o m set P g r
-unflagged_is_written_among {V} {H} o m laws set P g r (none, first, e, universal, values, pass) is =
-    let p = passes_among V H (lossy_operations m) (exact_operations m) (λ e. e ≡ Exact) (λ f. f ≡ None) none_flagged (exact_ones m laws) (absorbed o m)
-    (absorbed_exactly o)
-    (λ v e w k h. (k, h.0.exact k)) set g (noted 0 e None) first r is pass in
-    let k = exact_before 0 e None p.0 in (
-      none,
-      first,
-      e,
-      universal.0,
-      made V H (lossy_operations m) (exact_operations m) (λ e. e ≡ Exact) (λ f. f ≡ None) none_flagged (exact_ones m laws) (first_values 0 P.globals) none e first k.0 values,
-      p.1,
-    )
-
-pub flagged_strains_among : {V H : Type 0} (o : Interference V) (m : Abstraction V H) → Laws m →
-    (set : Plan) (P : Program) (g : Node) (r : PassResult V) (q : ℕ)
-    → LossyIterationUnder o m set P g r → r.flag ≡ Some q → StrainsUnder o m set P g q
-flagged_strains_among {V} {H} o m laws set P g r q (none, first, e, universal, values, pass) is =
-    let p = passes_among V H (lossy_operations m) (straining_operations m) (λ e. Unit {0}) (λ f. Unit {0}) any_matters (strained_ones m laws) (absorbed o m)
-    (absorbed_straining o)
-    (λ v e w k h. (h.0.exact, h.0.flagged)) set g (noted 0 e None) first r tt pass in
-    let began = made V H (lossy_operations m) (straining_operations m) (λ e. Unit {0}) (λ f. Unit {0}) any_matters (strained_ones m laws) (first_values 0 P.globals) none e first tt values in
-    (r, (none, first, e, universal.0, began, p.1), is)
-
--- without interference a pass is one of a program that runs alone
 pub same_ones : {V H : Type 0} (ops : Operations V H) → Transfers (λ e. Unit {0}) ops ops
 same_ones ops = record {
   changed = λ step v e w k h. h;
@@ -110,12 +59,48 @@ nothing_done : {V H : Type 0} (m : Abstraction V H) (v : V) (e : Exactness) (w :
 nothing_done m v Exact w h = (h.0.exact refl, refl)
 nothing_done m v Flagged w h = absurd (h.0.flagged refl)
 
-pub alone_among_nobody : {V H : Type 0} (m : Abstraction V H) (set : Plan) (g : Node) (f : Option ℕ) (v : V) (r : PassResult V)
-    → PassUnder V H (lossy_operations m) (absorbed no_interference m) set g f v r → Pass V H (lossy_operations m) set g f v r
-alone_among_nobody {V} {H} m set g f v r pass =
-    (passes_among V H (lossy_operations m) (lossy_operations m) (λ e. Unit {0}) (λ f. Unit {0}) any_matters (same_ones (lossy_operations m))
-    (absorbed no_interference m) nothing_absorbed
-    (λ v e w k h. nothing_done m v e w h) set g f v r tt pass).1
+-- from a derivation to an iteration by other operations and with other interference, if the answers that matter agree
+module _ {V H : Type 0} (m : Abstraction V H) (b : Operations V H) (Keeps : Exactness → Type 0) (Fine : Option ℕ → Type 0) (matters : Matters Keeps Fine)
+    (moves : Transfers Keeps (lossy_operations m) b) (begins : (n cap : ℕ) (v : V) → m.top n cap v × m.well_formed v → b.top n cap v)
+    (first second : Absorption V) (takes : (v : V) (e : Exactness) (w : V) → Keeps e → first v e w → second v e w) where
+  iterates : (set : Plan) (P : Program) (g : Node) (r : PassResult V) → Fine r.flag → IterationUnder (lossy_operations m) first set P g r
+      → IterationUnder (aligned (lossy_operations m) b) second set P g r
+  iterates set P g r fine (whole, globals, e, universal, values, pass) =
+      let p = passes_among V H (lossy_operations m) b Keeps Fine matters moves first second takes set g (noted 0 e None) globals r fine pass in
+      let k = matters.before 0 e None p.0 in
+      (whole, globals, e, begins 0 set.parts whole universal, made V H (lossy_operations m) b Keeps Fine matters moves (first_values 0 P.globals) whole e globals k.0 values, p.1)
 
+module _ {V H : Type 0} (m : Abstraction V H) (laws : Laws m) where
+  written : (first second : Absorption V) → ((v : V) (e : Exactness) (w : V) → e ≡ Exact → first v e w → second v e w) → (set : Plan) (P : Program) (g : Node)
+      (r : PassResult V) → IterationUnder (lossy_operations m) first set P g r → r.flag ≡ None → IterationUnder (exact_operations m) second set P g r
+  written first second takes set P g r derived is = iterates m (exact_operations m) (λ e. e ≡ Exact) (λ f. f ≡ None) none_flagged (exact_ones m laws)
+      (λ n cap v h. h.0) first second takes set P g r is derived
+
+  strained : (first second : Absorption V) → ((v : V) (e : Exactness) (w : V) → first v e w → second v e w) → (set : Plan) (P : Program) (g : Node)
+      (r : PassResult V) → IterationUnder (lossy_operations m) first set P g r → IterationUnder (straining_operations m) second set P g r
+  strained first second takes set P g r derived = iterates m (straining_operations m) (λ e. Unit {0}) (λ f. Unit {0}) any_matters (strained_ones m laws)
+      (λ n cap v h. h.0) first second (λ v e w k h. takes v e w h) set P g r tt derived
+
+  -- a derivation without a flag is the written iteration
+  pub unflagged_is_written : (set : Plan) (P : Program) (g : Node) (r : PassResult V) → LossyIteration m set P g r → r.flag ≡ None → ExactIteration m set P g r
+  unflagged_is_written = written nothing_absorbed nothing_absorbed (λ v e w k h. h)
+
+  -- the first flagged operation exceeds a limit on the operands of the written iteration
+  pub flagged_strains : (set : Plan) (P : Program) (g : Node) (r : PassResult V) (q : ℕ) → LossyIteration m set P g r → r.flag ≡ Some q → StrainsAtPoint m set P g q
+  flagged_strains set P g r q derived is = (r, strained nothing_absorbed nothing_absorbed (λ v e w h. h) set P g r derived, is)
+
+-- under interference, too
+pub unflagged_is_written_among : {V H : Type 0} (o : Interference V) (m : Abstraction V H) → Laws m → (set : Plan) (P : Program) (g : Node) (r : PassResult V)
+    → LossyIterationUnder o m set P g r → r.flag ≡ None → ExactIterationUnder o m set P g r
+unflagged_is_written_among o m laws = written m laws (absorbed o m) (absorbed_exactly o) (λ v e w k h. (k, h.0.exact k))
+
+pub flagged_strains_among : {V H : Type 0} (o : Interference V) (m : Abstraction V H) → Laws m →
+    (set : Plan) (P : Program) (g : Node) (r : PassResult V) (q : ℕ)
+    → LossyIterationUnder o m set P g r → r.flag ≡ Some q → StrainsUnder o m set P g q
+flagged_strains_among o m laws set P g r q derived is =
+    (r, strained m laws (absorbed o m) (absorbed_straining o) (λ v e w h. (h.0.exact, h.0.flagged)) set P g r derived, is)
+
+-- without interference a derivation is one of a program that runs alone
 pub derived_among_nobody : {V H : Type 0} (m : Abstraction V H) (set : Plan) (P : Program) (g : Node) (r : PassResult V) → LossyIterationUnder no_interference m set P g r → LossyIteration m set P g r
-derived_among_nobody m set P g r (none, first, e, universal, values, pass) = (none, first, e, universal, values, alone_among_nobody m set g (noted 0 e None) first r pass)
+derived_among_nobody m set P g r = iterates m (lossy_operations m) (λ e. Unit {0}) (λ f. Unit {0}) any_matters (same_ones (lossy_operations m))
+    (λ n cap v h. h) (absorbed no_interference m) nothing_absorbed (λ v e w k h. nothing_done m v e w h) set P g r tt

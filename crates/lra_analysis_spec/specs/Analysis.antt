@@ -1,19 +1,16 @@
 -- The iteration over a whole program, and what is reported of it. Points are numbered from 0 here; a report's numbers
 -- are one more.
-use Rattle.std.specs.Prelude.{◌≡◌, ◌↔◌, ◌<◌, ℕ, List, [], Option, None, Some, Bool, IsTrue, Contains, slice_get}
-use Rattle.lra_domain.specs.{Abstraction.Abstraction, declared.Exactness.Exactness}
+use Rattle.std.specs.Prelude.{◌≡◌, ◌↔◌, ◌<◌, ℕ, List, [], Option, Some, Bool, IsTrue, Contains, slice_get}
+use Rattle.lra_domain.specs.Abstraction.{Abstraction}
 use Rattle.lra_analysis_spec.specs.Crates.lra_program.Program.{Program}
 use Rattle.lra_operations.specs.Tree.{Node}
 use Rattle.lra_analysis_spec.specs.Operations.{Operations, exact_operations, lossy_operations, straining_operations}
-use Rattle.lra_analysis_spec.specs.Pass.{value, failing, PassResult, noted, Pass}
-use Rattle.lra_analysis_spec.specs.{Moves.AreMade, MovesOf.first_values, Plan.Plan}
+use Rattle.lra_analysis_spec.specs.Pass.{value, failing, PassResult, nothing_absorbed}
+use Rattle.lra_analysis_spec.specs.{Plan.Plan, UnderInterference.IterationUnder}
 
--- from the globals at their first values, which are set at the first point, through the program's tree
+-- where the program runs alone
 abbrev pub Iteration : {V H : Type 0} → Operations V H → Plan → Program → Node → PassResult V → Type 0
-Iteration {V} {H} ops set P g r =
-    (none first : V) × (e : Exactness) × ops.top 0 set.parts none ×
-    AreMade ops (first_values 0 P.globals) none e first
-    × Pass V H ops set g (noted 0 e None) first r
+Iteration ops = IterationUnder ops nothing_absorbed
 
 -- the written iteration
 abbrev pub ExactIteration : {V H : Type 0} → Abstraction V H → Plan → Program → Node → PassResult V → Type 0

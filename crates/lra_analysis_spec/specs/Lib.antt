@@ -11,9 +11,9 @@ pub mod MovesOf
 pub mod GuardThresholds
 pub mod Thresholds
 pub mod Pass
-pub mod Analysis
--- The iteration among others.
+-- Among others, and alone.
 pub mod UnderInterference
+pub mod Analysis
 pub mod Instrumented
 -- What can stop a run by a number.
 pub mod Judging

@@ -7,8 +7,8 @@ use Rattle.lra_fixpoint.specs.Crates.{lra_analysis_spec.Operations.lossy_operati
 use Rattle.lra_fixpoint.specs.Crates.{lra_analysis_spec.Plan.Plan, lra_domain.Abstraction.Abstraction, lra_domain.Laws.Laws, lra_domain.declared.Exactness.Exactness, lra_program.Program.Program}
 use Rattle.lra_fixpoint.specs.Crates.{lra_program.Run.begun, lra_program.Sites.Site, lra_program.Step.State, lra_program.WellFormed.AreGoodGlobals}
 use Rattle.lra_operations.specs.Tree.{Node, ReachesPoint, FailsAt}
-use Rattle.lra_fixpoint.proofs.Crates.lra_analysis_spec.Keeps.{moves_keep, pass_covers}
-use Rattle.lra_fixpoint.proofs.Crates.{lra_analysis_spec.Covers.Covers, lra_analysis_spec.Covers.Has, lra_analysis_spec.Keeping.first_lead}
+use Rattle.lra_fixpoint.proofs.Crates.{lra_analysis_spec.Covers.Covers, lra_analysis_spec.Covers.Has, lra_analysis_spec.Keeping.first_lead, lra_analysis_spec.Keeps.moves_keep}
+use Rattle.lra_interference_sound.proofs.SoundUnder.{pass_covers}
 use Rattle.lra_fixpoint.specs.{Counts.failing_at, Counts.AreCounted, Sound.HoldsInTree}
 use Rattle.lra_fixpoint.proofs.Counting.{one_failing, asserts_few}
 

@@ -11,7 +11,7 @@ use Rattle.lra_fixpoint.specs.Crates.{lra_program.Run.begun, lra_program.Sites.S
 use Rattle.lra_operations.specs.{Traces.to_point, Traces.to_failure, Tree.Node}
 use Rattle.lra_fixpoint.proofs.Crates.{lra_analysis_spec.Covers.Has, lra_analysis_spec.Keeping.first_lead, lra_analysis_spec.Keeps.moves_keep}
 use Rattle.lra_interference_sound.specs.CoversUnder.{MayBecome, stop, after_write, CoversUnder}
-use Rattle.lra_interference_sound.proofs.SoundUnder.{covers_among}
+use Rattle.lra_interference_sound.proofs.SoundUnder.{passes_cover}
 use Rattle.lra_fixpoint.specs.{Counts.failing_at, Counts.AreCounted, UnderInterference.begins, UnderInterference.RunsUnder, UnderInterference.WritesUnder, UnderInterference.HoldsUnder}
 use Rattle.lra_fixpoint.proofs.Counting.{one_failing, asserts_few}
 
@@ -25,8 +25,7 @@ module _ {V H : Type 0} (o : Interference V) (m : Abstraction V H) (laws : Laws 
       let all = laws.top_stores 0 set.parts whole universal.1 universal.0 [] refl in
       let has = moves_keep V H m laws (first_values 0 P.globals) whole e first done [] (begun P draws).store
       (universal.1, all) (first_lead P.globals good []) in
-      covers_among (λ (q : ℕ). q) (MayBecome o.rely) (length P.globals) o m laws
-      (λ s t becomes. becomes.store) set g (noted 0 e None) first r pass (begins P draws) has
+      passes_cover o m laws set (length P.globals) g (noted 0 e None) first r pass (begins P draws) has
 
   -- so values, notes and verdicts hold in them
   pub covered_among : (P : Program) (g : Node) (r : PassResult V) (T : List Site) (values : List V)

@@ -1,10 +1,11 @@
--- A pass among others covers the runs among them of the program's own tree, where each least change keeps its stores. At
--- a loop's head it has what others make of what comes there; that they may act on that once more isn't asked of it.
-use Rattle.std.proofs.Common.{◌≡◌, ◌∙◌, ◌≢◌, ◌<◌, inl, inr, ℕ, zero, suc, ◌-◌, ℤ, List, ◌∷◌, [], Option, None, Some, Bool, true, false, refl, subst, sym, ap}
-use Rattle.std.proofs.{lemmas.Bool.lt-ltb, lemmas.List.Elements.Contains-append_left, lemmas.List.Elements.Contains-append_right, lemmas.Option.same_Some}
+-- A pass covers the runs of the program's own tree: under interference over the tree that is instrumented for it, and alone
+-- over the tree itself. At a loop's head it has what others make of what comes there; that they may act on that once more
+-- isn't asked of it.
+use Rattle.std.proofs.Common.{◌≡◌, ◌∙◌, ◌≢◌, ◌<◌, inl, inr, ℕ, zero, suc, ◌-◌, ℤ, List, ◌∷◌, [], Option, None, Some, Bool, true, false, refl, subst, sym, ap, ap₂, arith}
+use Rattle.std.proofs.{lemmas.Bool.Decides.nat_tests, lemmas.Bool.lt-ltb, lemmas.List.Elements.Contains-append_left, lemmas.List.Elements.Contains-append_right, lemmas.Option.same_Some}
 use Rattle.std.specs.{List.Contains, List.list_any, Prelude.◌||◌, Prelude.◌⊎◌, Prelude.if◌then◌else◌, Prelude.nat_lt}
 use Rattle.lra_interference_sound.proofs.Crates.lra_linear_spec.Membership.{contains_head, contains_tail}
-use Rattle.lra_interference_sound.specs.Crates.lra_domain.Interference.{Interference, RelyClosure, none}
+use Rattle.lra_interference_sound.specs.Crates.lra_domain.Interference.{Interference, none}
 use Rattle.lra_interference_sound.specs.Crates.lra_operations.Traces.{Stop, by_jump, to_point, to_failure, to_end, StopsAtPoint, TrailRounds, Performs, Finds, VisitsAndTests, RunsUpTo}
 use Rattle.lra_interference_sound.specs.Crates.lra_operations.Tree.{Exit, Node, empty, point, probe, act, check, seq, choose, iterate, catch, leave, select, Arms, no_arms, entry, arm, entries_of}
 use Rattle.lra_interference_sound.specs.Crates.lra_operations.declared.probes.Probe.TheVariants.{InterferencePoint, RecordWrite}
@@ -12,20 +13,98 @@ use Rattle.lra_interference_sound.specs.Crates.lra_program.Step.{State, Op, run_
 use Rattle.lra_interference_sound.specs.Crates.{lra_base.CaseLabels.is_same_case, lra_base.declared.case_labels.CaseLabel.CaseLabel, lra_base.declared.case_labels.CaseLabel.TheVariants.Default}
 use Rattle.lra_interference_sound.specs.Crates.{lra_domain.Abstraction.Abstraction, lra_domain.Actions.Within, lra_domain.Laws.Laws, lra_domain.declared.Exactness.Exactness}
 use Rattle.lra_interference_sound.specs.Crates.{lra_linear_spec.declared.ConKind.ConKind, lra_operations.declared.probes.Probe.Probe, lra_program.Program.Expr, lra_program.Program.Cond}
-use Rattle.lra_interference_sound.specs.Crates.{lra_program.Traces.Trace, lra_program.WrittenVariables.written_variable, lra_systems.LinearSystems.LinearSystem}
+use Rattle.lra_interference_sound.specs.Crates.{lra_program.Traces.Trace, lra_program.Traces.NoChange, lra_program.WrittenVariables.written_variable, lra_systems.LinearSystems.LinearSystem}
 use Rattle.lra_analysis_spec.specs.Pass.{PassEntry, value, failing, recorded, PassResult, noted, goes_on, in_turn, jumps_caught, jumps, Filters, LoopRoundFrom, AscendingIteration, DescendingIteration}
-use Rattle.lra_analysis_spec.specs.{Instrumented.with_recording, Instrumented.instrumented, Instrumented.instrumented_arms, Operations.lossy_operations, Pass.Transformer, Pass.PassUnder}
+use Rattle.lra_analysis_spec.specs.{Instrumented.with_recording, Instrumented.instrumented, Instrumented.instrumented_arms, Operations.lossy_operations, Pass.Absorption, Pass.Transformer, Pass.PassUnder}
+use Rattle.lra_analysis_spec.specs.{Pass.nothing_absorbed, Pass.Pass, UnderInterference.LossyPass}
 use Rattle.lra_analysis_spec.specs.{Pass.ArmsPassUnder, Pass.MatchesNone, Pass.ComesOut, Plan.Plan, Plan.Widening, Plan.mode_at, UnderInterference.absorbed}
 use Rattle.lra_analysis_spec.proofs.Sound.{left_jump, right_jump, jump_there, behind_normal, jumps_same, behind_entries, behind_jump, joined_caught, enters_has, out_has, comes_running, comes_other}
-use Rattle.lra_analysis_spec.proofs.Sound.{Runs, Waits, with_interference, waits_on}
-use Rattle.lra_analysis_spec.proofs.{Covers.Has, Covers.HeadHas, Covers.covered_has, Covers.stays_has, Keeps.changes_keep, Keeps.values_keep}
+use Rattle.lra_analysis_spec.proofs.Sound.{Runs, Waits, enters_running, waits_on}
+use Rattle.lra_interference_sound.proofs.Crates.lra_operations.TraceLaws as trees
+use Rattle.lra_analysis_spec.proofs.{Covers.Covers, Covers.Has, Covers.HeadHas, Covers.covered_has, Covers.stays_has, Keeps.changes_keep}
 use Rattle.lra_interference_sound.specs.CoversUnder.{Moment, stop, after_write, Happens, ArmsHappen, Owes, CoversUnder, BodyCovers, ArmsCoverUnder, MayBecome, PassesCoverUnder}
 
+-- the tree that is passed ----------------------------------------------------------------------------------------------
+
+-- under interference others may act before this tree, and after it
+abbrev others_before : Bool → ℕ → Node → Node
+others_before false q g = g
+others_before true q g = seq (probe q InterferencePoint) g
+
+abbrev others_after : Bool → ℕ → Node → Node
+others_after false q g = g
+others_after true q g = seq g (probe q InterferencePoint)
+
+abbrev mutual
+  -- instrumented, if it is passed under interference; else others act nowhere
+  pub passed_tree : Bool → ℕ → Node → Node
+  passed_tree among n empty = empty
+  passed_tree among n (point q) = others_before among q (point q)
+  passed_tree among n (probe q what) = probe q what
+  passed_tree among n (act q op) = with_recording n q (written_variable op) (act q op)
+  passed_tree among n (check q base c) = check q base c
+  passed_tree among n (seq a b) = seq (passed_tree among n a) (passed_tree among n b)
+  passed_tree among n (choose q base c a b) = choose q base c (passed_tree among n a) (passed_tree among n b)
+  passed_tree among n (iterate q base c a) = others_before among q (iterate q base c (others_after among q (passed_tree among n a)))
+  passed_tree among n (catch q k a) = catch q k (passed_tree among n a)
+  passed_tree among n (leave live k) = leave live k
+  passed_tree among n (select q base e arms) = select q base e (passed_arms among n arms)
+
+  pub passed_arms : Bool → ℕ → Arms → Arms
+  passed_arms among n no_arms = no_arms
+  passed_arms among n (entry l arms) = entry l (passed_arms among n arms)
+  passed_arms among n (arm a arms) = arm (passed_tree among n a) (passed_arms among n arms)
+
+mutual
+  pub passed_among : (n : ℕ) (g : Node) → passed_tree true n g ≡ instrumented n g
+  passed_among n empty = refl
+  passed_among n (point q) = refl
+  passed_among n (probe q what) = refl
+  passed_among n (act q op) = refl
+  passed_among n (check q base c) = refl
+  passed_among n (seq a b) = ap₂ seq (passed_among n a) (passed_among n b)
+  passed_among n (choose q base c a b) = ap₂ (choose q base c) (passed_among n a) (passed_among n b)
+  passed_among n (iterate q base c a) = ap (λ g. others_before true q (iterate q base c (others_after true q g))) (passed_among n a)
+  passed_among n (catch q k a) = ap (catch q k) (passed_among n a)
+  passed_among n (leave live k) = refl
+  passed_among n (select q base e arms) = ap (select q base e) (arms_among n arms)
+
+  arms_among : (n : ℕ) (arms : Arms) → passed_arms true n arms ≡ instrumented_arms n arms
+  arms_among n no_arms = refl
+  arms_among n (entry l arms) = ap (entry l) (arms_among n arms)
+  arms_among n (arm a arms) = ap₂ arm (passed_among n a) (arms_among n arms)
+
+none_below : (x : ℕ) → nat_lt x 0 ≡ false
+none_below x = grind (arith, nat_tests)
+
+unrecorded : (q : ℕ) (to : Option ℕ) (g : Node) → with_recording 0 q to g ≡ g
+unrecorded q None g = refl
+unrecorded q (Some x) g = rw (none_below x) refl
+
+mutual
+  pub passed_alone : (g : Node) → passed_tree false 0 g ≡ g
+  passed_alone empty = refl
+  passed_alone (point q) = refl
+  passed_alone (probe q what) = refl
+  passed_alone (act q op) = unrecorded q (written_variable op) (act q op)
+  passed_alone (check q base c) = refl
+  passed_alone (seq a b) = ap₂ seq (passed_alone a) (passed_alone b)
+  passed_alone (choose q base c a b) = ap₂ (choose q base c) (passed_alone a) (passed_alone b)
+  passed_alone (iterate q base c a) = ap (iterate q base c) (passed_alone a)
+  passed_alone (catch q k a) = ap (catch q k) (passed_alone a)
+  passed_alone (leave live k) = refl
+  passed_alone (select q base e arms) = ap (select q base e) (arms_alone arms)
+
+  arms_alone : (arms : Arms) → passed_arms false 0 arms ≡ arms
+  arms_alone no_arms = refl
+  arms_alone (entry l arms) = ap (entry l) (arms_alone arms)
+  arms_alone (arm a arms) = ap₂ arm (passed_alone a) (arms_alone arms)
+
 -- labels are as they were
-same_entries : (n : ℕ) (arms : Arms) → entries_of (instrumented_arms n arms) ≡ entries_of arms
-same_entries n no_arms = refl
-same_entries n (entry l arms) = ap (λ ls. l ∷ ls) (same_entries n arms)
-same_entries n (arm g arms) = same_entries n arms
+same_entries : (among : Bool) (n : ℕ) (arms : Arms) → entries_of (passed_arms among n arms) ≡ entries_of arms
+same_entries among n no_arms = refl
+same_entries among n (entry l arms) = ap (λ ls. l ∷ ls) (same_entries among n arms)
+same_entries among n (arm g arms) = same_entries among n arms
 
 -- what runs meet, form by form -----------------------------------------------------------------------------------------
 
@@ -123,10 +202,16 @@ module _ {V H : Type 0} (m : Abstraction V H) (may : State → State → Type 0)
 
 -- the pass ------------------------------------------------------------------------------------------------------------
 
-module _ {A V H : Type 0} (name : ℕ → A) (may : State → State → Type 0) (n : ℕ) (o : Interference V) (m : Abstraction V H) (laws : Laws m)
-    (changes : (s t : State) → may s t → RelyClosure o.rely s.store t.store) (set : Plan) where
+-- what others may do to a state, and what a pass adds for them: that a value has, too; alone they do nothing
+pub record Admits {V H : Type 0} (among : Bool) (m : Abstraction V H) (may : State → State → Type 0) (admission : Absorption V) : Type 0 where
+  pub nothing : (s : State) → may s s
+  pub taken : (v : V) (e : Exactness) (w : V) → admission v e w → (s t : State) → Has m v s.store → may s t → Has m w t.store
+  pub alone : among ≡ false → (s t : State) → may s t → t ≡ s
+
+module _ {A V H : Type 0} (name : ℕ → A) (may : State → State → Type 0) (n : ℕ) (among : Bool) (m : Abstraction V H) (laws : Laws m) (admission : Absorption V)
+    (admits : Admits among m may admission) (set : Plan) where
   abbrev Passed : Node → Transformer V
-  Passed g = PassUnder V H (lossy_operations m) (absorbed o m) set g
+  Passed g = PassUnder V H (lossy_operations m) admission set g
 
   abbrev Good : Node → Trace A → PassResult V → Type 0
   Good g a r = CoversUnder name may n m g a r
@@ -134,7 +219,30 @@ module _ {A V H : Type 0} (name : ℕ → A) (may : State → State → Type 0) 
   -- what others make of a state is in the value after
   entering : (q : ℕ) (f : Option ℕ) (v : V) (x : PassResult V) → Passed (probe q InterferencePoint) f v x → (s t : State) → Has m v s.store → may s t → Has m x.normal t.store
   entering q f v x (w, e, taken, is) s t h l =
-      subst (λ (y : PassResult V). Has m y.normal t.store) (sym is) (taken.0.formed, taken.0.stores s.store t.store h.1 (changes s t l))
+      subst (λ (y : PassResult V). Has m y.normal t.store) (sym is) (admits.taken v e w taken s t h l)
+
+  -- what others make of a state that comes to the value
+  abbrev HasAfter : V → V → Type 0
+  HasAfter v w = (s t : State) → Has m v s.store → may s t → Has m w t.store
+
+  alone_has : among ≡ false → (v : V) → HasAfter v v
+  alone_has quiet v s t h l = subst (λ (u : State). Has m v u.store) (sym (admits.alone quiet s t l)) h
+
+  -- before a point or a loop, and at the end of its body
+  enters_tree : (b : Bool) → among ≡ b → (q : ℕ) (g : Node) (f : Option ℕ) (v : V) (r : PassResult V) → Passed (others_before b q g) f v r
+      → (x y : PassResult V) × HasAfter v x.normal × Passed g x.flag x.normal y × (r ≡ in_turn x y y.normal y.flag)
+  enters_tree false is q g f v r pass = (goes_on [] v f, r, alone_has is v, pass, refl)
+  enters_tree true is q g f v r (x, y, one, two, same) = (x, y, entering q f v x one, two, same)
+
+  leaves_tree : (b : Bool) → among ≡ b → (q : ℕ) (g : Node) (f : Option ℕ) (v : V) (r : PassResult V) → Passed (others_after b q g) f v r
+      → (x : PassResult V) × Passed g f v x × HasAfter x.normal r.normal × ((i : Moment) (s : State) → Owes m may n x i s → Owes m may n r i s)
+  leaves_tree false is q g f v r pass = (r, pass, alone_has is r.normal, λ i s o. o)
+  leaves_tree true is q g f v r (x, y, one, two, same) = (
+    x,
+    one,
+    λ s t h l. subst (λ (z : PassResult V). Has m z.normal t.store) (sym same) (entering q x.flag x.normal y two s t h l),
+    λ i s o. subst (λ (z : PassResult V). Owes m may n z i s) (sym same) (owed_left m may n x y y.normal y.flag i s o),
+  )
 
   -- leaves
   quiet_empty : (a : Trace A) (r : PassResult V) (i : Moment) (b : Trace A) → Happens name may empty a i b → Owes m may n r i b.state
@@ -313,31 +421,29 @@ module _ {A V H : Type 0} (name : ℕ → A) (may : State → State → Type 0) 
 
   -- others act at a body's end
   body_covers : (q : ℕ) (g : Node) →
-      ((f : Option ℕ) (v : V) (r : PassResult V) → Passed (instrumented n g) f v r → (a : Trace A) → Has m v a.state.store → Good g a r)
-      → (f : Option ℕ) (v : V) (r : PassResult V) → Passed (seq (instrumented n g) (probe q InterferencePoint)) f v r → (a : Trace A) → Has m v a.state.store → BodyCovers name may n m g a r
-  body_covers q g inside f v r (x, y, one, two, is) a h =
+      ((f : Option ℕ) (v : V) (r : PassResult V) → Passed (passed_tree among n g) f v r → (a : Trace A) → Has m v a.state.store → Good g a r)
+      → (f : Option ℕ) (v : V) (r : PassResult V) → Passed (others_after among q (passed_tree among n g)) f v r → (a : Trace A) → Has m v a.state.store → BodyCovers name may n m g a r
+  body_covers q g inside f v r pass a h =
+      let (x, one, ends, owed) = leaves_tree among refl q (passed_tree among n g) f v r pass in
       let i = inside f v x one a h in
-      subst (BodyCovers name may n m g a) (sym is) (record {
-        ends = λ b goes t l. entering q x.flag x.normal y two b.state t (i.ends b goes) l;
-        finds = λ k b d. owed_left m may n x y y.normal y.flag k b.state (i.finds k b d);
-      })
+      record { ends = λ b goes t l. ends b.state t (i.ends b goes) l; finds = λ k b d. owed k b.state (i.finds k b d) }
 
   mutual
-    pub covers_among : (g : Node) (f : Option ℕ) (v : V) (r : PassResult V) → Passed (instrumented n g) f v r → (a : Trace A) → Has m v a.state.store →
+    pub covers_among : (g : Node) (f : Option ℕ) (v : V) (r : PassResult V) → Passed (passed_tree among n g) f v r → (a : Trace A) → Has m v a.state.store →
         Good g a r
     covers_among empty f v r is a h = subst (Good empty a) (sym is) (record {
       ends = λ b e. subst (λ (z : Trace A). Has m v z.state.store) (sym e) h;
       finds = quiet_empty a (goes_on [] v f);
     })
-    covers_among (point q) f v r (x, y, one, two, is) a h =
+    covers_among (point q) f v r pass a h =
+        let (x, y, has, two, is) = enters_tree among refl q (point q) f v r pass in
         subst (Good (point q) a) (sym (is ∙ ap (λ (z : PassResult V). in_turn x z z.normal z.flag) two)) (record {
-          ends = λ b d. entering q f v x one a.state b.state h d.0;
+          ends = λ b d. has a.state b.state h d.0;
           finds = λ i b d. owed_right m may n x (goes_on (value q x.normal ∷ []) x.normal x.flag) x.normal x.flag i b.state
-              (point_owed q a x.normal x.flag (λ t l. entering q f v x one a.state t h l) i b d);
+              (point_owed q a x.normal x.flag (λ t l. has a.state t h l) i b d);
         })
-    covers_among (probe q InterferencePoint) f v r (w, e, taken, is) a h =
-        stays_there q InterferencePoint v a r (subst (λ (z : PassResult V). Has m z.normal a.state.store) (sym is)
-        (taken.0.formed, taken.0.stores a.state.store a.state.store h.1 (none a.state.store)))
+    covers_among (probe q InterferencePoint) f v r pass a h =
+        stays_there q InterferencePoint v a r (entering q f v r pass a.state a.state h (admits.nothing a.state))
     covers_among (probe q (RecordWrite place)) f v r is a h =
         stays_there q (RecordWrite place) v a r (subst (λ (z : PassResult V). Has m z.normal a.state.store) (sym is) h)
     covers_among (act q op) f v r pass a h = acted q op (written_variable op) refl f v r pass a h
@@ -370,14 +476,16 @@ module _ {A V H : Type 0} (name : ℕ → A) (may : State → State → Type 0) 
             | inr p ↦ owed_right m may n x y w (noted q i y.flag) z b.state ((l p.0 p.1).finds z b p.2)
           ];
         })
-    covers_among (iterate q base c g) f v r (x, y, one, (head, later, u, top, out, s, t, e, started, grown, narrowed, off, same), is) a h =
-        let i = loop_covers q base c g (Passed (seq (instrumented n g) (probe q InterferencePoint))) (body_covers q g (covers_among g)) x.flag x.normal y _ head later u top out s t e
-        started grown narrowed off same a (λ b l. entering q f v x one a.state b h l) in
+    covers_among (iterate q base c g) f v r pass a h =
+        let body = others_after among q (passed_tree among n g) in
+        let (x, y, has, (head, later, u, top, out, s, t, e, started, grown, narrowed, off, same), is) = enters_tree among refl q (iterate q base c body) f v r pass in
+        let i = loop_covers q base c g (Passed body) (body_covers q g (covers_among g)) x.flag x.normal y _ head later u top out s t e
+        started grown narrowed off same a (λ b l. has a.state b h l) in
         subst (Good (iterate q base c g) a) (sym is)
         (record { ends = i.ends; finds = λ z b d. owed_right m may n x y y.normal y.flag z b.state (i.finds z b d) })
     covers_among (catch q k g) f v r (w, e, x, one, joined, is) a h =
         let i = covers_among g f v x one a h in
-        let j = joined_caught V H m laws (changes_keep V H m laws) k x e w joined in
+        let j = joined_caught V H m laws k x e w joined in
         subst (Good (catch q k g) a) (sym is) (record {
           ends = λ b d. subst (λ (y : V). Has m y b.state.store) (sym (behind_normal k x w (noted q e x.flag)))
               (elim d [ inl l ↦ j.0 b.state.store (i.ends b l) | inr l ↦ let o = i.finds (stop (by_jump k)) b l in j.1 o.0 o.1 b.state.store o.2 ]);
@@ -390,19 +498,19 @@ module _ {A V H : Type 0} (name : ℕ → A) (may : State → State → Type 0) 
     covers_among (select q base e arms) f v r (other, x, left, pass) a h =
         let labels = entries_of arms in
         let d = list_any (is_same_case Default) labels in
-        let passed : ArmsPassUnder V H (lossy_operations m) (absorbed o m) set q base e d v other (instrumented_arms n arms) (noted q x f) None r =
-        subst (λ (ls : List CaseLabel). ArmsPassUnder V H (lossy_operations m) (absorbed o m) set q base e (list_any (is_same_case Default) ls) v other (instrumented_arms n arms)
-        (noted q x f) None r) (same_entries n arms) pass in
+        let passed : ArmsPassUnder V H (lossy_operations m) admission set q base e d v other (passed_arms among n arms) (noted q x f) None r =
+        subst (λ (ls : List CaseLabel). ArmsPassUnder V H (lossy_operations m) admission set q base e (list_any (is_same_case Default) ls) v other (passed_arms among n arms)
+        (noted q x f) None r) (same_entries among n arms) pass in
         let unmatched : MatchesNone (lossy_operations m) base e labels v x other =
-        subst (λ (ls : List CaseLabel). MatchesNone (lossy_operations m) base e ls v x other) (same_entries n arms) left in
+        subst (λ (ls : List CaseLabel). MatchesNone (lossy_operations m) base e ls v x other) (same_entries among n arms) left in
         let inside : (l : CaseLabel) (b : Trace A) → Finds base e arms a l b → ArmsCoverUnder name may n m l false arms b r =
         λ l b ((z, got, same, is), met). arms_cover q base e d v other arms (noted q x f) None r passed l false b tt
-        (subst (λ (st : List ℤ). Waits V H m laws (changes_keep V H m laws) (values_keep V H m laws) base e d v other l false labels st)
+        (subst (λ (st : List ℤ). Waits V H m laws base e d v other l false labels st)
         (sym (ap (λ (y : State). y.store) same))
-        (subst (λ (y : CaseLabel). Waits V H m laws (changes_keep V H m laws) (values_keep V H m laws) base e d v other y false labels a.state.store) (sym is) (
+        (subst (λ (y : CaseLabel). Waits V H m laws base e d v other y false labels a.state.store) (sym is) (
           λ k y u enters alike.
-              enters_has V H m laws (changes_keep V H m laws) (values_keep V H m laws) base e a.state z b.state.draws got labels k v other x y u unmatched h enters alike,
-          λ never. out_has V H m laws (changes_keep V H m laws) (values_keep V H m laws) base e a.state z b.state.draws got labels v other x unmatched h never,
+              enters_has V H m laws base e a.state z b.state.draws got labels k v other x y u unmatched h enters alike,
+          λ never. out_has V H m laws base e a.state z b.state.draws got labels v other x unmatched h never,
         ))) in
         record {
           ends = λ b d. (inside d.0 d.1 d.2).ends b d.3;
@@ -410,10 +518,10 @@ module _ {A V H : Type 0} (name : ℕ → A) (may : State → State → Type 0) 
         }
 
     arms_cover : (q base : ℕ) (e : Expr) (d : Bool) (v other : V) (arms : Arms) (f : Option ℕ) (running : Option V) (r : PassResult V)
-        → ArmsPassUnder V H (lossy_operations m) (absorbed o m) set q base e d v other (instrumented_arms n arms) f running r →
+        → ArmsPassUnder V H (lossy_operations m) admission set q base e d v other (passed_arms among n arms) f running r →
         (l : CaseLabel) (met : Bool) (a : Trace A)
-        → Runs V H m laws (changes_keep V H m laws) (values_keep V H m laws) met running a.state.store
-        → Waits V H m laws (changes_keep V H m laws) (values_keep V H m laws) base e d v other l met (entries_of arms) a.state.store
+        → Runs V H m laws met running a.state.store
+        → Waits V H m laws base e d v other l met (entries_of arms) a.state.store
         → ArmsCoverUnder name may n m l met arms a r
     arms_cover q base e d v other no_arms f running r (w, x, out, is) l met a runs waits =
         subst (ArmsCoverUnder name may n m l met no_arms a) (sym is) (record {
@@ -421,21 +529,21 @@ module _ {A V H : Type 0} (name : ℕ → A) (may : State → State → Type 0) 
           finds = λ i b d. absurd (none_happens name may l met a i b d);
         })
       where
-        comes_behind : (met : Bool) (to : Option V) (d : Bool) → Runs V H m laws (changes_keep V H m laws) (values_keep V H m laws) met to a.state.store
-            → Waits V H m laws (changes_keep V H m laws) (values_keep V H m laws) base e d v other l met [] a.state.store
+        comes_behind : (met : Bool) (to : Option V) (d : Bool) → Runs V H m laws met to a.state.store
+            → Waits V H m laws base e d v other l met [] a.state.store
             → ComesOut (lossy_operations m) d to other x w → Has m w a.state.store
         comes_behind true None d runs waits out = absurd runs
         comes_behind true (Some u) d runs waits out =
-            comes_running V H m laws (changes_keep V H m laws) (values_keep V H m laws) d u other x w out a.state.store runs
+            comes_running V H m laws d u other x w out a.state.store runs
         comes_behind false to d runs waits out =
             let (undefaulted, has) = waits.1 refl in
-            comes_other V H m laws (changes_keep V H m laws) (values_keep V H m laws) to other x w (subst (λ (b : Bool). ComesOut (lossy_operations m) b to other x w) undefaulted out)
+            comes_other V H m laws to other x w (subst (λ (b : Bool). ComesOut (lossy_operations m) b to other x w) undefaulted out)
             a.state.store has
     arms_cover q base e d v other (entry k arms) f running r (u, w, x, y, enters, joins, rest) l met a runs waits =
         let i = arms_cover q base e d v other arms (noted q y (noted q x f)) (Some w) r rest l (met || is_same_case l k) a
-        (with_interference V H m laws (changes_keep V H m laws) (values_keep V H m laws) base e d v other l k (entries_of arms) a.state.store met (is_same_case l k) running x y u w refl
+        (enters_running V H m laws base e d v other l k (entries_of arms) a.state.store met (is_same_case l k) running x y u w refl
         enters joins runs waits)
-        (waits_on V H m laws (changes_keep V H m laws) (values_keep V H m laws) base e d v other l k (entries_of arms) a.state.store met (is_same_case l k) refl waits) in
+        (waits_on V H m laws base e d v other l k (entries_of arms) a.state.store met (is_same_case l k) refl waits) in
         record { ends = i.ends; finds = λ z b p. i.finds z b (entry_happens name may l k met arms a z b p) }
     arms_cover q base e d v other (arm g arms) f running r (w, x, y, from, one, rest, is) l false a runs waits =
         let i = arms_cover q base e d v other arms x.flag (Some x.normal) y rest l false a tt waits in
@@ -458,4 +566,31 @@ module _ {A V H : Type 0} (name : ℕ → A) (may : State → State → Type 0) 
 
 pub passes_cover : {V H : Type 0} (o : Interference V) (m : Abstraction V H) → Laws m → PassesCoverUnder o m
 passes_cover {V} {H} o m laws set n g f v r pass a h =
-    covers_among (λ q. q) (MayBecome o.rely) n o m laws (λ s t l. l.store) set g f v r pass a h
+    covers_among (λ (q : ℕ). q) (MayBecome o.rely) n true m laws (absorbed o m) (record {
+      nothing = λ s. record { store = none s.store; waiting = refl; draws = refl };
+      taken = λ v e w taken s t h l. (taken.0.formed, taken.0.stores s.store t.store h.1 l.store);
+      alone = λ no s t l. absurd cc;
+    }) set g f v r (subst (λ (x : Node). LossyPass o m set x f v r) (sym (passed_among n g)) pass) a h
+
+alone_covers : {V H : Type 0} (m : Abstraction V H) → Laws m → (set : Plan) (g : Node) (f : Option ℕ) (v : V) (r : PassResult V) →
+    Pass V H (lossy_operations m) set g f v r → (a : Trace ℕ) → Has m v a.state.store → CoversUnder (λ (q : ℕ). q) NoChange 0 m g a r
+alone_covers {V} {H} m laws set g f v r pass a h =
+    covers_among (λ (q : ℕ). q) NoChange 0 false m laws nothing_absorbed (record {
+      nothing = λ s. refl;
+      taken = λ v e w same s t h l. subst (λ (x : V). Has m x t.store) (sym same.0) (subst (λ (u : State). Has m v u.store) (sym l) h);
+      alone = λ no s t l. l;
+    }) set g f v r (subst (λ (x : Node). Pass V H (lossy_operations m) set x f v r) (sym (passed_alone g)) pass) a h
+
+-- from one of its value's stores, a pass of a program that runs alone covers the tree's runs
+pub pass_covers : {V H : Type 0} (m : Abstraction V H) → Laws m → (set : Plan) (g : Node) (f : Option ℕ) (v : V) (r : PassResult V) →
+    Pass V H (lossy_operations m) set g f v r
+    → (s : State) → Has m v s.store → Covers m g s r
+pass_covers m laws set g f v r pass s h =
+    let a : Trace ℕ = record { state = s; events = [] } in
+    let covers = alone_covers m laws set g f v r pass a h in
+    record {
+      ends = λ t e. let x = trees.goes_on (λ (q : ℕ). q) g a t e in covers.ends (record { state = t; events = x.0 }) x.1;
+      leaves = λ k t e. let x = trees.jumps_on (λ (q : ℕ). q) g k a t e in covers.finds (stop (by_jump k)) (record { state = t; events = x.0 }) x.1;
+      comes = λ p t e. let x = trees.comes_on (λ (q : ℕ). q) g p a t e in covers.finds (stop (to_point p)) (record { state = t; events = x.0 }) x.1 t refl;
+      fails = λ p e. let x = trees.fails_on (λ (q : ℕ). q) g p a e in covers.finds (stop (to_failure p)) x.0 x.1;
+    }
