@@ -4,6 +4,7 @@ use Rattle.std.proofs.Common.{◌≡◌, ℕ, zero, suc, ℤ, ◌≤◌, ◌<◌
 use Rattle.std.proofs.{lemmas.List.Elements.Contains-append_cases, lemmas.Option.none-some, lemmas.Option.same_Some, lemmas.Option.slice_get-map}
 use Rattle.std.specs.{List.AllByRecursion, List.Contains, List.flat_map, Prelude.slice_get, Prelude.option_map, Prelude.IsTrue}
 use Rattle.lra_analyse_source.proofs.Crates.{lra_analysis_spec.Caps.solved_capped, lra_linear_spec.ListPlaces.contains_at, lra_linear_spec.Membership.contains_none}
+use Rattle.lra_analyse_source.specs.Crates.lra_resolution_spec.EntryPoint.{at_main}
 use Rattle.lra_analyse_source.specs.Crates.lra_report.Listing.{AreListed, Subject, subject, subjects_of, fits_asked, computes_at, computing_from, accesses_at, accesses_from, subjects, Lists, IsFlag}
 use Rattle.lra_analyse_source.specs.Crates.lra_report.Listing.{AreParts, IsReportOf}
 use Rattle.lra_analyse_source.specs.Crates.lra_report.Report.{Invariant, InvariantHolds, PointReport, Verdict, Report, IsInvariant, IsRight, IsSound}
@@ -232,7 +233,7 @@ module _ {V H : Type 0} (m : Abstraction V H) (laws : Laws m) (shown : V → Inv
             (subst (λ (d : Domain). AllByRecursion (ShowsPart d (length p.names)) (shown v)) (sym same) (subst (λ (n : ℕ). AllByRecursion (ShowsPart settings.domain n) (shown v)) named one.tell));
       }
 
-  pub is_report : (o : Options) (source : List ℕ) → o.domain ≡ settings.domain → 1 ≤ settings.parts → settings.parts ≤ o.parts → r.options ≡ o → Accepts Spells source t → IsReportOf Spells o source r
+  pub is_report : (o : Options) (source : List ℕ) → o.domain ≡ settings.domain → 1 ≤ settings.parts → settings.parts ≤ o.parts → r.options ≡ o → Accepts at_main Spells source t → IsReportOf Spells o source r
   is_report o source same some room options accepted = record {
     options = options;
     tree = t;

@@ -1,5 +1,6 @@
 -- What follows of the tree of a well-formed program, and of a report that states an analysis.
 use Rattle.std.specs.Prelude.{◌≡◌, ◌≤◌, ℕ, ℤ, List, length, None}
+use Rattle.lra_analyse_source.specs.Crates.lra_resolution_spec.EntryPoint.{at_main}
 use Rattle.lra_analyse_source.specs.Crates.lra_operations.Agree.{IsInlinedTree, Agrees}
 use Rattle.lra_analyse_source.specs.Crates.lra_program.WellFormed.{IsWellFormed}
 use Rattle.lra_analyse_source.specs.Crates.lra_report.Listing.{Lists, IsReportOf}
@@ -37,7 +38,7 @@ AnalysedAreReports {V} m = (shown : V → Invariant) (o : Options) (settings : O
     (source : List ℕ) (t : FileTree) (r : Report)
     → (x : ReportsIteration m shown settings constants (resolve t) r)
     → o.domain ≡ settings.domain → 1 ≤ settings.parts → settings.parts ≤ o.parts
-    → Agrees (resolve t) x.tree → Lists t r → r.options ≡ o → Accepts Spells source t → IsReportOf Spells o source r
+    → Agrees (resolve t) x.tree → Lists t r → r.options ≡ o → Accepts at_main Spells source t → IsReportOf Spells o source r
 
 -- two answers without a flag to one source under one list of options are the same report
 abbrev pub OneUnflaggedReport : Type 0

@@ -1,6 +1,7 @@
 //! From the bytes of a source to its report, or to its one refusal.
 
 ghost use Rattle.std.specs.Prelude.{◌≡◌, ◌≤◌, ◌<◌, ◌+◌, ◌^◌, length, map, IfOk};
+ghost use Rattle.lra_analyse_source.specs.Crates.lra_resolution_spec.EntryPoint.{at_main};
 ghost use Rattle.lra_analyse_source.specs.Crates.lra_operations.TreeViews.{node_view, site_view};
 ghost use Rattle.lra_analyse_source.specs.Crates.lra_program.ProgramViews.{program_view};
 ghost use Rattle.lra_analyse_source.specs.Crates.{lra_analysis_spec.Plan.plan_of, lra_base.Refused.IfRefused};
@@ -55,7 +56,7 @@ fn analyse_over<D: Show>(
     ensures answered { IfOk result
         (λ r. IsAnalysisReportOver D.abstraction D.shown options bytes.now
         (report_of r)) }
-    ensures refused { IfRefused result (λ r. Refuse Spells bytes.now r.cause r.place) }
+    ensures refused { IfRefused result (λ r. Refuse at_main Spells bytes.now r.cause r.place) }
 {
     let front = read_source(alloc, bytes)?;
     let plan = Plan::of(alloc, options, &front.constants)?;
@@ -77,7 +78,7 @@ fn analyse_parts<D: Show + BaseDomain>(
         (λ V H m shown. IsAnalysisReportOver m shown options bytes.now (report_of r)) _ _
         D.abstraction
         D.shown) }
-    ensures refused { IfRefused result (λ r. Refuse Spells bytes.now r.cause r.place) }
+    ensures refused { IfRefused result (λ r. Refuse at_main Spells bytes.now r.cause r.place) }
 {
     if options.parts > 1 {
         analyse_over::<PowerSet<D>>(alloc, options, bytes)
@@ -93,7 +94,7 @@ pub fn analyse_source(alloc: Global, options: Options, bytes: &[u8]) -> Result<R
     requires parts { 1 ≤ options.parts }
     requires bound { length bytes.now + 1 < 2 ^ 32 }
     ensures answered { IfOk result (λ r. IsAnalysisReport options bytes.now (report_of r)) }
-    ensures refused { IfRefused result (λ r. Refuse Spells bytes.now r.cause r.place) }
+    ensures refused { IfRefused result (λ r. Refuse at_main Spells bytes.now r.cause r.place) }
 {
     match options.domain {
         Domain::Poly => analyse_parts::<Polyhedron>(alloc, options, bytes),

@@ -1,5 +1,6 @@
 -- A source that can be gone back over isn't refused.
 use Rattle.std.proofs.Common.{ℕ, List}
+use Rattle.lra_back_source.specs.Crates.lra_resolution_spec.EntryPoint.{at_main}
 use Rattle.lra_back_source.specs.Crates.{lra_base.declared.refusals.Refusal.Refusal, lra_paths.Paths.AreFewPaths, lra_program.Assertions.IsAssertion, lra_program.Sites.sites_of}
 use Rattle.lra_back_source.specs.Crates.{lra_resolution_spec.Refuse.Refuse, lra_syntax.Grammar.Spells}
 use Rattle.lra_back_source.proofs.Crates.{lra_front_end.EachAnswer.each_answer, lra_paths.ManyPaths.not_both}
@@ -10,8 +11,8 @@ use Rattle.lra_back_source.specs.{BackReports.BackOrRefused, BackReports.CanGoBa
 
 module _ (source : List ℕ) (p : ℕ) where
   -- an accepted source isn't refused as one
-  pub accepted : {A : Type 0} (x : IsProgram source) (r : Refusal) → Refuse Spells source r.cause r.place → A
-  accepted x r why = absurd ((each_answer source).2 x.tree r.cause r.place (accepted_of source x) why)
+  pub accepted : {A : Type 0} (x : IsProgram source) (r : Refusal) → Refuse at_main Spells source r.cause r.place → A
+  accepted x r why = absurd ((each_answer at_main source).2 x.tree r.cause r.place (accepted_of source x) why)
 
   -- the point is an assertion of the one program or of neither
   pub same_assertion : (x y : IsProgram source) → IsAssertion (sites_of (program_of y)) p → IsAssertion (sites_of (program_of x)) p

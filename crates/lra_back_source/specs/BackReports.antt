@@ -3,6 +3,7 @@
 -- report's numbers are one more.
 use Rattle.std.specs.Prelude.{◌≡◌, ◌↔◌, ◌⊎◌, ℕ, suc, ℤ, List, [], map, Bool, true, Option, None, Some}
 use Rattle.std.specs.{List.AllByRecursion, Prelude.option_map, Prelude.slice_get}
+use Rattle.lra_back_source.specs.Crates.lra_resolution_spec.EntryPoint.{at_main}
 use Rattle.lra_back_source.specs.Crates.lra_analysis_spec.Analysis.{ExactIteration, IsSolution, StrainsAtPoint}
 use Rattle.lra_back_source.specs.Crates.lra_back.BackwardAnalysis.{AreWide, BackwardAnalysis, FailsFrom}
 use Rattle.lra_back_source.specs.Crates.lra_back.BackwardAnalysis.{IsBackwardAnalysis, NothingLeftAtStart}
@@ -149,7 +150,7 @@ BacksHaveSamePoints = (source : List ℕ) (p : ℕ) (r : BackReport) → IsBackR
 -- the source's own refusal; no assertion at the point; or, if there is one, too many paths from the source of this
 -- number, be they on the way to it or not
 abbrev pub IsBackRefusalOf : List ℕ → ℕ → BackRefusal → Type 0
-IsBackRefusalOf source p (Source r) = Refuse Spells source r.cause r.place
+IsBackRefusalOf source p (Source r) = Refuse at_main Spells source r.cause r.place
 IsBackRefusalOf source p NoAssertion = (x : IsProgram source) × (IsAssertion (sites_of (program_of x)) p → ⊥)
 IsBackRefusalOf source p (Paths q) = (x : IsProgram source) × IsAssertion (sites_of (program_of x)) p ×
     HasTooManyPaths (program_of x) x.operations q

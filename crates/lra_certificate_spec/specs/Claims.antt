@@ -2,6 +2,7 @@
 -- answer to each input.
 use Rattle.std.specs.Prelude.{◌≡◌, ◌≤◌, ◌<◌, ◌⊎◌, ℕ, suc, ℤ, ◌^◌, List, [], length, Option, None, Some, slice_get, Ok}
 use Rattle.std.specs.Prelude.{Err, pos, ◌∷◌, Contains}
+use Rattle.lra_certificate_spec.specs.Crates.lra_resolution_spec.EntryPoint.{at_main}
 use Rattle.lra_certificate_spec.specs.Crates.lra_linear_spec.Descriptions.{LinearRow, Con}
 use Rattle.lra_certificate_spec.specs.Crates.lra_path_segments.Segments.{Goal, comes_to, violates}
 use Rattle.lra_certificate_spec.specs.Crates.lra_program.Sites.{Site, sites_of}
@@ -101,7 +102,7 @@ pub data VerifyAnswer : Type 0 where
 -- what an input must get: exactly one answer, in this order
 abbrev pub VerifiesTo : List ℕ → VerifyAnswer → Type 0
 VerifiesTo bytes (verified points proved) = IsVerified bytes points proved
-VerifiesTo bytes (source_refused cause place) = (h : Head) × HasHead bytes h × Refuse Spells h.source cause place
+VerifiesTo bytes (source_refused cause place) = (h : Head) × HasHead bytes h × Refuse at_main Spells h.source cause place
 VerifiesTo bytes (paths_refused p) = (h : Head) × HasHead bytes h × (x : IsProgram h.source)
     × HasTooManyPaths (program_of x) x.operations p
 VerifiesTo bytes (line_refused r) =

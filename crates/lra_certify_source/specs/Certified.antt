@@ -1,6 +1,7 @@
 -- What a source must get that is to be certified: a certificate with the rows, the empty points and the proved
 -- assertions of its report; or why it has none.
 use Rattle.std.specs.Prelude.{◌≡◌, ◌<◌, ◌^◌, ℕ, suc, ⊤, List, [], ◌∷◌, ◌++◌, map, Option, None, Some, option_map}
+use Rattle.lra_certify_source.specs.Crates.lra_resolution_spec.EntryPoint.{at_main}
 use Rattle.lra_certify_source.specs.Crates.lra_certificate_spec.Certificates.{ListedAssertion}
 use Rattle.lra_certify_source.specs.Crates.lra_certificate_spec.Claims.{IsProgram, program_of, IsCertificate}
 use Rattle.lra_certify_source.specs.Crates.lra_paths.Paths.{AreFewPaths, HasTooManyPaths}
@@ -74,7 +75,7 @@ pub record IsStrainedAt (source : List ℕ) (r : Report) (at : StrainedAt) : Typ
 -- the source's own refusal; too many paths from the source of this number; or a limit exceeded with a report that it
 -- must get
 abbrev pub IsCertifyRefusalOf : List ℕ → CertifyRefusal → Type 0
-IsCertifyRefusalOf source (Source r) = Refuse Spells source r.cause r.place
+IsCertifyRefusalOf source (Source r) = Refuse at_main Spells source r.cause r.place
 IsCertifyRefusalOf source (Paths p) = (x : IsProgram source) × HasTooManyPaths (program_of x) x.operations p
 IsCertifyRefusalOf source (Strained at) = (r : Report) × IsStrainedAt source r at
 

@@ -1,6 +1,7 @@
--- What a source must get of which a command reports something: the text of its one refusal, or what is reported about
--- it.
+-- What a source must get of which a command reports something, where its runs begin at an entry point: the text of its
+-- one refusal, or what is reported about it.
 use Rattle.std.specs.Prelude.{◌≡◌, ◌⊎◌, ℕ, List}
+use Rattle.lra_command_answers.specs.Crates.lra_resolution_spec.EntryPoint.{EntryPoint}
 use Rattle.lra_command_answers.specs.Crates.lra_resolution_spec.Refuse.{Refuse, Accepts}
 use Rattle.lra_command_answers.specs.Crates.lra_syntax.Trees.{FileTree}
 use Rattle.lra_command_answers.specs.Crates.{lra_base.declared.refusals.Cause.Cause}
@@ -11,18 +12,19 @@ use Rattle.lra_command_answers.specs.declared.status.Status.TheVariants.{Refused
 use Rattle.lra_command_answers.specs.{Statuses.refused, declared.status.Status.Status}
 
 -- the text is that of the source's refusal
-pub record IsRefusal (bytes text : List ℕ) : Type 0 where
+pub record IsRefusal (entry : EntryPoint) (bytes text : List ℕ) : Type 0 where
   pub cause : Cause
   pub place : Place
-  pub refused : Refuse Spells bytes cause place
+  pub refused : Refuse entry Spells bytes cause place
   pub written : text ≡ refusal_text cause place
 
 -- the text and the status that a source's bytes must get, where these are reported of it
-abbrev pub AnswersSourceWith : (List ℕ → List ℕ → Status → Type 0) → List ℕ → List ℕ → Status → Type 0
-AnswersSourceWith Tells bytes text status = (IsRefusal bytes text × (status ≡ Refused)) ⊎ Tells bytes text status
+abbrev pub AnswersSourceWith : EntryPoint → (List ℕ → List ℕ → Status → Type 0) → List ℕ → List ℕ → Status → Type 0
+AnswersSourceWith entry Tells bytes text status =
+    (IsRefusal entry bytes text × (status ≡ Refused)) ⊎ Tells bytes text status
 
 -- by one of these a source is answered: its refusal, where it has one, and where it is accepted what is reported, whose
 -- statuses these are
-abbrev pub AllowedSourceStatuses : List Status → List ℕ → List Status → Type 0
-AllowedSourceStatuses told bytes among = (HasRefusal bytes × (among ≡ refused))
-    ⊎ ((tree : FileTree) × Accepts Spells bytes tree × (among ≡ told))
+abbrev pub AllowedSourceStatuses : EntryPoint → List Status → List ℕ → List Status → Type 0
+AllowedSourceStatuses entry told bytes among = (HasRefusal entry bytes × (among ≡ refused))
+    ⊎ ((tree : FileTree) × Accepts entry Spells bytes tree × (among ≡ told))

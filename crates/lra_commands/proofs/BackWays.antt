@@ -7,6 +7,7 @@ use Rattle.lra_back_source.specs.declared.refusals.BackRefusal.TheVariants.{Sour
 use Rattle.lra_back_source.specs.{BackReports.CanGoBack, BackReports.IsBackReportOf, BackReports.IsBackRefusalOf, declared.refusals.BackRefusal.BackRefusal}
 use Rattle.lra_back_source.proofs.OneAnswer.{back_or_refused}
 use Rattle.lra_command_line.specs.CommandLine.{point_option}
+use Rattle.lra_commands.specs.Crates.lra_resolution_spec.EntryPoint.{at_main}
 use Rattle.lra_commands.specs.Crates.lra_options.OptionRows.{IsInRange}
 use Rattle.lra_command_answers.specs.Statuses.{Ends, reported, refused, source_statuses}
 use Rattle.lra_command_answers.specs.{declared.answer.Answer.Answer, declared.status.Status.Status, declared.status.Status.TheVariants.Refused}
@@ -47,7 +48,7 @@ pub ruleset deserving = (deserves_refusal)
 -- one byte past the limit ---------------------------------------------------------
 
 longer_so : (p : ℕ) (bytes rest : List ℕ) (r : BackRefusal) → greatest_length < length bytes → IsBackRefusalOf bytes p r → IsBackRefusalOf (bytes ++ rest) p r
-longer_so p bytes rest (Source r) long why = longer_refused bytes rest r.cause r.place long why
+longer_so p bytes rest (Source r) long why = longer_refused at_main bytes rest r.cause r.place long why
 longer_so p bytes rest NoAssertion long (x, none) = absurd (not_past bytes long x.read.not_long)
 longer_so p bytes rest (Paths q) long (x, asserts, many) = absurd (not_past bytes long x.read.not_long)
 

@@ -4,6 +4,7 @@ use Rattle.std.specs.Prelude.{Some}
 use Rattle.lra_base.specs.Places.{greatest_length}
 use Rattle.lra_report.specs.Report.{Report}
 use Rattle.lra_commands.proofs.Crates.lra_front_end.EachAnswer.{each_answer}
+use Rattle.lra_commands.specs.Crates.lra_resolution_spec.EntryPoint.{at_main}
 use Rattle.lra_commands.specs.Crates.lra_analyse_source.SourceReports.{IsAnalysisReport}
 use Rattle.lra_certify_source.specs.declared.refusals.CertifyRefusal.TheVariants.{Source, Paths, Strained}
 use Rattle.lra_certify_source.specs.{Assertions.unknown_assertions, Certified.IsCertificateOf, Certified.IsCertifyRefusalOf, Settings.certify_options, declared.refusals.CertifyRefusal.CertifyRefusal}
@@ -29,7 +30,7 @@ pub ruleset deserving = (deserves_certificate, deserves_refusal)
 -- one byte past the limit ---------------------------------------------------------
 
 longer_so : (bytes rest : List ℕ) (r : CertifyRefusal) → greatest_length < length bytes → IsCertifyRefusalOf bytes r → IsCertifyRefusalOf (bytes ++ rest) r
-longer_so bytes rest (Source r) long why = longer_refused bytes rest r.cause r.place long why
+longer_so bytes rest (Source r) long why = longer_refused at_main bytes rest r.cause r.place long why
 longer_so bytes rest (Paths p) long (x, many) = absurd (not_past bytes long x.read.not_long)
 longer_so bytes rest (Strained at) long (r, s) = absurd (not_past bytes long s.answered.report.accepted.not_long)
 
@@ -52,7 +53,7 @@ never_certified bytes text status never (inr d) = absurd (never d)
 certified_called : (bytes text : List ℕ) (status : Status) (among : List Status) → AnswersCertify bytes text status → AllowedCertifyStatuses bytes among
     → Ends among status
 certified_called bytes text status among d (inl (cause, at, why), is) = subst (λ a. Ends a status) (sym is)
-    (never_certified bytes text status (λ c. (each_answer bytes).2 c.answered.report.tree cause at c.answered.report.accepted why) d)
+    (never_certified bytes text status (λ c. (each_answer at_main bytes).2 c.answered.report.tree cause at c.answered.report.accepted why) d)
 certified_called bytes text status among d (inr (x, p, many), is) = subst (λ a. Ends a status) (sym is)
     (never_certified bytes text status (λ c. (many_refused bytes x p many).0 c.report text c.certificate) d)
 

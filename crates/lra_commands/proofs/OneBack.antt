@@ -1,6 +1,7 @@
 -- A source that isn't gone back over from an assertion is refused in one way.
 use Rattle.std.proofs.Common.{refl, ap}
 use Rattle.lra_commands.proofs.Crates.{lra_certificate_spec.OneProgram.as_said, lra_front_end.EachAnswer.each_answer}
+use Rattle.lra_commands.specs.Crates.lra_resolution_spec.EntryPoint.{at_main}
 use Rattle.lra_commands.specs.Crates.{lra_certificate_spec.Claims.program_of, lra_paths.Paths.HasTooManyPaths}
 use Rattle.lra_certify_source.proofs.OneRefusal.{one_source}
 use Rattle.lra_back_source.specs.declared.refusals.BackRefusal.TheVariants.{Source, NoAssertion, Paths}
@@ -9,7 +10,7 @@ use Rattle.lra_commands.specs.BackAnswer.{OneBackRefusal}
 
 pub one_refusal : OneBackRefusal
 one_refusal bytes p (Source r) (Source s) why also =
-    let (causes, places) = (each_answer bytes).1 r.cause s.cause r.place s.place why also in
+    let (causes, places) = (each_answer at_main bytes).1 r.cause s.cause r.place s.place why also in
     (λ i. Source (record { cause = causes i; place = places i }))
 one_refusal bytes p (Source r) NoAssertion why (y, none) = accepted bytes p y r why
 one_refusal bytes p (Source r) (Paths q) why (y, asserts, many) = accepted bytes p y r why

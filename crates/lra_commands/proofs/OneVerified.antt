@@ -3,6 +3,7 @@
 use Rattle.std.proofs.Common.{◌≡◌, ◌∙◌, ◌≤◌, ◌<◌, ℕ, List, length, None, Ok, Err, ap, sym, subst, arith, inl, inr}
 use Rattle.std.proofs.lemmas.Option.{same_Some, none-some}
 use Rattle.lra_base.specs.{declared.refusals.Cause.Cause, declared.refusals.Place.Place}
+use Rattle.lra_commands.specs.Crates.lra_resolution_spec.EntryPoint.{at_main}
 use Rattle.lra_commands.specs.Crates.lra_certificate_spec.Claims.{IsProgram, program_of, VerifyAnswer, verified, source_refused, paths_refused, line_refused, VerifiesTo, HasHead, greatest_certificate}
 use Rattle.lra_commands.specs.Crates.lra_certificate_spec.Judged.{Judged, Head, too_long, bad_line, judged, head_of}
 use Rattle.lra_commands.specs.Crates.{lra_paths.Paths.AreFewPaths, lra_paths.Paths.HasTooManyPaths, lra_program.Sites.sites_of, lra_resolution_spec.Refuse.Refuse, lra_syntax.Grammar.Spells}
@@ -19,21 +20,21 @@ answer_of (Err r) = line_refused r
 -- of an input with this head: its source is refused, or more paths than are accepted lead from one of its points, or
 -- its lines are judged
 data Below (h : Head) (a : VerifyAnswer) : Type 0 where
-  refuses : (cause : Cause) (place : Place) → Refuse Spells h.source cause place → a ≡ source_refused cause place → Below h a
+  refuses : (cause : Cause) (place : Place) → Refuse at_main Spells h.source cause place → a ≡ source_refused cause place → Below h a
   many : (x : IsProgram h.source) (p : ℕ) → HasTooManyPaths (program_of x) x.operations p → a ≡ paths_refused p → Below h a
   judges : (x : IsProgram h.source) → AreFewPaths (program_of x) x.operations → a ≡ answer_of (judged (program_of x) x.operations h.rest) → Below h a
 
 one_below : (h : Head) (a b : VerifyAnswer) → Below h a → Below h b → a ≡ b
 one_below h a b (refuses c p r e) (refuses d q s f) =
-    let (causes, places) = (each_answer h.source).1 c d p q r s in e ∙ (λ i. source_refused (causes i) (places i)) ∙ sym f
-one_below h a b (refuses c p r e) (many x q s f) = absurd ((each_answer h.source).2 x.tree c p (accepted_of h.source x) r)
-one_below h a b (refuses c p r e) (judges x s f) = absurd ((each_answer h.source).2 x.tree c p (accepted_of h.source x) r)
-one_below h a b (many x p r e) (refuses d q s f) = absurd ((each_answer h.source).2 x.tree d q (accepted_of h.source x) s)
+    let (causes, places) = (each_answer at_main h.source).1 c d p q r s in e ∙ (λ i. source_refused (causes i) (places i)) ∙ sym f
+one_below h a b (refuses c p r e) (many x q s f) = absurd ((each_answer at_main h.source).2 x.tree c p (accepted_of h.source x) r)
+one_below h a b (refuses c p r e) (judges x s f) = absurd ((each_answer at_main h.source).2 x.tree c p (accepted_of h.source x) r)
+one_below h a b (many x p r e) (refuses d q s f) = absurd ((each_answer at_main h.source).2 x.tree d q (accepted_of h.source x) s)
 one_below h a b (many x p r e) (many y q s f) =
     let both = one_source (program_of x) x.operations p q r (as_said (λ P g. HasTooManyPaths P g q) h.source x y s) in e ∙ ap paths_refused both ∙ sym f
 one_below h a b (many x p r e) (judges y s f) =
     absurd (not_both (program_of x).globals (sites_of (program_of x)) x.operations p (as_said (λ P g. AreFewPaths P g) h.source x y s) r)
-one_below h a b (judges x r e) (refuses d q s f) = absurd ((each_answer h.source).2 x.tree d q (accepted_of h.source x) s)
+one_below h a b (judges x r e) (refuses d q s f) = absurd ((each_answer at_main h.source).2 x.tree d q (accepted_of h.source x) s)
 one_below h a b (judges x r e) (many y q s f) =
     absurd (not_both (program_of x).globals (sites_of (program_of x)) x.operations q r (as_said (λ P g. HasTooManyPaths P g q) h.source x y s))
 one_below h a b (judges x r e) (judges y s f) =

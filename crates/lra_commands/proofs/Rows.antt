@@ -5,13 +5,13 @@ use Rattle.lra_command_line.specs.{ParsedCommand.IsWithinRanges, declared.comman
 use Rattle.lra_commands.specs.{Commands.limit_of, Commands.AnswersInput, Commands.statuses_of, Commands.AllowedInputStatuses, SourceAnswer.written_report}
 use Rattle.lra_command_answers.proofs.{Answering.IsAnswering, ToldWays.told_answering}
 use Rattle.lra_commands.proofs.{BackWays.back_answering, CertificateWays.certificate_answering, CertifyWays.certified_answering, SampleWays.sample_answering, ScriptWays.script_answering}
-use Rattle.lra_commands.proofs.{SourceWays.report_telling, ThreadsWays.threads_answering}
+use Rattle.lra_commands.proofs.{SourceWays.report_telling, ThreadsWays.threads_telling}
 
 pub answering : (c : Command) → IsAnswering (IsWithinRanges c) (limit_of c) (λ bytes text status. AnswersInput c bytes text status) (statuses_of c) (λ bytes among. AllowedInputStatuses c bytes among)
 answering (Analyse options format) = told_answering (report_telling options (written_report format)) _
 answering (Sample seed size) = sample_answering seed size
 answering (Back number) = back_answering number
-answering (Threads delay narrow) = threads_answering delay narrow _
+answering (Threads delay narrow) = told_answering (threads_telling delay narrow) _
 answering (Plain Calc) = script_answering _
 answering (Plain Verify) = certificate_answering _
 answering (Plain Certify) = certified_answering _

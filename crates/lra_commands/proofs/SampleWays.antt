@@ -2,6 +2,7 @@
 use Rattle.std.proofs.Common.{◌≡◌, ℕ, List, subst, inr}
 use Rattle.std.specs.Prelude.{None, Result, Ok, Err, IfOk}
 use Rattle.lra_base.specs.{declared.refusals.Cause.Cause, declared.refusals.Place.Place, declared.refusals.Refusal.Refusal}
+use Rattle.lra_commands.specs.Crates.lra_resolution_spec.EntryPoint.{at_main}
 use Rattle.lra_commands.specs.Crates.lra_analyse_source.SourceReports.{IsAnalysisReport}
 use Rattle.lra_commands.specs.Crates.{lra_options.OptionRows.IsInRange, lra_options.declared.options.Options.Options, lra_resolution_spec.Refuse.Refuse, lra_syntax.Grammar.Spells}
 use Rattle.lra_report.specs.{RefusalText.refusal_text, Report.Report, ReportText.unknown_count}
@@ -21,9 +22,9 @@ deserves_summary seed size o source r text status default made answered written 
     deserves_report default_options (summary_text seed size) (sample_source seed size) r text status answered_sample written counted
 
 sample_refused : (seed size : ℕ) (source text : List ℕ) (c : Cause) (at : Place) (status : Status) → source ≡ sample_source seed size
-    → Refuse Spells source c at → text ≡ refusal_text c at → status ≡ Refused → AnswersSample seed size text status
+    → Refuse at_main Spells source c at → text ≡ refusal_text c at → status ≡ Refused → AnswersSample seed size text status
 sample_refused seed size source text c at status made refused written s =
-    deserves_refusal default_options (summary_text seed size) (sample_source seed size) text c at status (subst (λ (x : List ℕ). Refuse Spells x c at) made refused) written s
+    deserves_refusal default_options (summary_text seed size) (sample_source seed size) text c at status (subst (λ (x : List ℕ). Refuse at_main Spells x c at) made refused) written s
 
 -- of a call's result
 pub summary_answer : {E : Type 0} (seed size : ℕ) (o : Options) (source : List ℕ) (r : Report) (result : Result Answer E) → o ≡ default_options → source ≡ sample_source seed size
@@ -32,7 +33,7 @@ pub summary_answer : {E : Type 0} (seed size : ℕ) (o : Options) (source : List
 summary_answer seed size o source r (Ok a) default made answered written counted = deserves_summary seed size o source r a.text.items a.status default made answered written counted
 summary_answer seed size o source r (Err e) default made answered written counted = tt
 
-pub refusal_answer : {E : Type 0} (seed size : ℕ) (source : List ℕ) (r : Refusal) (result : Result Answer E) → source ≡ sample_source seed size → Refuse Spells source r.cause r.place
+pub refusal_answer : {E : Type 0} (seed size : ℕ) (source : List ℕ) (r : Refusal) (result : Result Answer E) → source ≡ sample_source seed size → Refuse at_main Spells source r.cause r.place
     → IfOk result (λ a. a.text.items ≡ refusal_text r.cause r.place) → IfOk result (λ a. a.status ≡ Refused) → IfOk result (λ a. AnswersSample seed size a.text.items a.status)
 refusal_answer seed size source r (Ok a) made refused written is = sample_refused seed size source a.text.items r.cause r.place a.status made refused written is
 refusal_answer seed size source r (Err e) made refused written is = tt

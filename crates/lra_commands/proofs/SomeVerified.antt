@@ -2,18 +2,20 @@
 -- the least source is found from more of which than are accepted lead to one goal, and its lines are judged.
 use Rattle.std.proofs.Common.{◌≡◌, ◌∙◌, ◌≤◌, ◌<◌, ◌⊎◌, ℕ, zero, suc, List, [], ◌∷◌, length, map, Option, None, Some, Ok, Err, Bool, true, false, cond, refl, ap, sym, subst, arith, inl, inr, slice_get}
 use Rattle.std.proofs.{lemmas.Bool.cases_lt, lemmas.Bool.eqb-true, lemmas.Bool.Decides.nat_tests, lemmas.Option.same_Some, lemmas.Option.none-some}
-use Rattle.std.specs.{List.filter, List.flat_map, Prelude.if◌then◌else◌, Prelude.nat_lt, Prelude.nat_eq, Prelude.◌&&◌}
+use Rattle.std.specs.{List.AllZip, List.filter, List.flat_map, Prelude.if◌then◌else◌, Prelude.nat_lt, Prelude.nat_eq, Prelude.◌&&◌}
 use Rattle.lra_base.specs.declared.refusals.Refusal.{Refusal}
+use Rattle.lra_commands.specs.Crates.lra_resolution_spec.EntryPoint.{at_main}
 use Rattle.lra_commands.specs.Crates.lra_certificate_spec.Claims.{IsProgram, program_of, VerifyAnswer, verified, source_refused, paths_refused, line_refused, VerifiesTo, HasHead, greatest_certificate}
 use Rattle.lra_commands.specs.Crates.lra_certificate_spec.Claims.{EachVerified}
 use Rattle.lra_commands.specs.Crates.lra_certificate_spec.Judged.{Judged, Head, too_long, bad_line, judged, head_of}
 use Rattle.lra_commands.specs.Crates.lra_path_segments.Segments.{Goal, comes_to, violates, GoalSegment, Segment, enter, inside}
 use Rattle.lra_commands.specs.Crates.lra_paths.Paths.{same_goal, live_at, started, actions_between, AreFewFrom, AreFewPaths, HasTooManyPaths}
 use Rattle.lra_commands.specs.Crates.lra_program.Sites.{Site, Event, comes, one_call_more, event_sites, events_of, sites_of}
-use Rattle.lra_commands.specs.Crates.{lra_front_end.Claims.IsAccepted, lra_front_end.Stages.HasTree, lra_operations.Tree.Node, lra_path_disjuncts.Disjuncts.written}
+use Rattle.lra_commands.specs.Crates.{lra_front_end.Claims.IsAccepted, lra_front_end.Claims.IsProgramTree, lra_front_end.Stages.HasTree, lra_operations.Tree.Node, lra_path_disjuncts.Disjuncts.written}
 use Rattle.lra_commands.specs.Crates.{lra_path_disjuncts.Disjuncts.greatest_paths, lra_program.Program.Program, lra_resolution_spec.Refuse.greatest_live, lra_resolution_spec.Refuse.greatest_points}
-use Rattle.lra_commands.specs.Crates.{lra_resolution_spec.Refuse.limit_fault, lra_resolution_spec.Resolve.resolve, lra_syntax.Labels.Labelled, lra_syntax.Labels.labels_of}
-use Rattle.lra_commands.proofs.Crates.{lra_certificate_spec.JudgedBothWays.judged_exactly, lra_front_end.SomeAnswer.some_answer, lra_front_end.StageSteps.well, lra_syntax.LexedByTest.and_second}
+use Rattle.lra_commands.specs.Crates.{lra_resolution_spec.Refuse.limit_fault, lra_resolution_spec.Refuse.Accepts, lra_resolution_spec.Resolve.resolve, lra_syntax.Labels.Labelled, lra_syntax.Labels.labels_of}
+use Rattle.lra_commands.specs.Crates.{lra_syntax.Grammar.Spells, lra_syntax.Trees.FileTree}
+use Rattle.lra_commands.proofs.Crates.{lra_certificate_spec.JudgedBothWays.judged_exactly, lra_front_end.SomeAnswer.some_answer, lra_front_end.StageSteps.points_at_main, lra_front_end.StageSteps.well, lra_syntax.LexedByTest.and_second}
 use Rattle.lra_commands.proofs.OneVerified.{one_verified}
 
 -- programs -----------------------------------------------------------------------
@@ -36,26 +38,30 @@ few_sites ls n (comes t ∷ es) e (suc q) s f =
     few_sites ls (suc n) es rest q s f
 few_sites ls n (one_call_more at ∷ es) e q s f = absurd (none-some _ (sym e))
 
-program_from : (source : List ℕ) → IsAccepted source → IsProgram source
-program_from source a =
-    let x = a.accepted in
-    let read : HasTree source a.tree = record { tokens = x.tokens; not_long = x.not_long; lexed = x.lexed; parsed = x.parsed } in
+program_of_tree : (source : List ℕ) (t : FileTree) → Accepts at_main Spells source t → (gs : List Node) → AllZip IsProgramTree (resolve t ∷ []) gs → IsProgram source
+program_of_tree source t x [] are = absurd are
+program_of_tree source t x (g ∷ gs) are =
+    let read : HasTree source t = record { tokens = x.tokens; not_long = x.not_long; lexed = x.lexed; parsed = x.parsed } in
+    let within : limit_fault (labels_of t) 0 (events_of (resolve t)) ≡ None = ap (limit_fault (labels_of t) 0) (sym (points_at_main t)) ∙ x.within in
     record {
-      tree = a.tree;
+      tree = t;
       read = read;
-      operations = a.operations;
-      sites = sites_of (resolve a.tree);
+      operations = g;
+      sites = sites_of (resolve t);
       graph = record {
         names = x.names;
         straight = x.not_recursive;
-        well = well source a.tree read x.names;
-        within = x.within;
-        few = few_sites (labels_of a.tree) 0 (events_of (resolve a.tree)) x.within;
-        is_graph = a.is_graph;
-        agrees = a.agrees;
+        well = well source t read x.names;
+        within = within;
+        few = few_sites (labels_of t) 0 (events_of (resolve t)) within;
+        is_graph = are.0.0;
+        agrees = are.0.1;
         points = refl;
       };
     }
+
+program_from : (source : List ℕ) → IsAccepted at_main source → IsProgram source
+program_from source a = program_of_tree source a.tree a.accepted a.operations a.are_graphs
 
 -- goals --------------------------------------------------------------------------
 
@@ -188,7 +194,7 @@ program_answer bytes h head x = elim (few_paths (program_of x) x.operations) [
 
 headed_answer : (bytes : List ℕ) (o : Option Head) → length bytes ≤ greatest_certificate → head_of bytes ≡ o → Answered bytes
 headed_answer bytes None short e = (line_refused (record { line = 0; fault = bad_line }), inr (inl (short, e, refl)))
-headed_answer bytes (Some h) short e = elim (some_answer h.source) [
+headed_answer bytes (Some h) short e = elim (some_answer at_main h.source) [
   | inl (cause, place, why) ↦ (source_refused cause place, (h, (short, e), why))
   | inr accepted ↦ program_answer bytes h (short, e) (program_from h.source accepted)
 ]

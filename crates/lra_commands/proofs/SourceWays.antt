@@ -1,6 +1,7 @@
 -- From a report that a source must get to how a call ends that answers it.
 use Rattle.std.proofs.Common.{◌≡◌, ◌<◌, ℕ, zero, suc, List, refl, sym, subst, arith, inl, inr}
 use Rattle.lra_base.specs.{declared.refusals.Cause.Cause, declared.refusals.Place.Place}
+use Rattle.lra_commands.specs.Crates.lra_resolution_spec.EntryPoint.{at_main}
 use Rattle.lra_commands.specs.Crates.{lra_analyse_source.SourceReports.IsAnalysisReport, lra_options.declared.options.Options.Options, lra_resolution_spec.Refuse.Refuse, lra_syntax.Grammar.Spells}
 use Rattle.lra_report.specs.{RefusalText.refusal_text, Report.Report, ReportText.unknown_count}
 use Rattle.lra_command_answers.specs.declared.status.Status.TheVariants.{Proved, Unknown, Refused}
@@ -26,9 +27,9 @@ pub deserves_report : (o : Options) (write : Report → List ℕ) (bytes : List 
 deserves_report o write bytes r text status answered written counted = inr (record { report = r; answered = answered; written = written; counted = counted })
 
 -- a source that is refused must get the refusal's
-pub deserves_refusal : (o : Options) (write : Report → List ℕ) (bytes text : List ℕ) (c : Cause) (at : Place) (status : Status) → Refuse Spells bytes c at → text ≡ refusal_text c at → status ≡ Refused
+pub deserves_refusal : (o : Options) (write : Report → List ℕ) (bytes text : List ℕ) (c : Cause) (at : Place) (status : Status) → Refuse at_main Spells bytes c at → text ≡ refusal_text c at → status ≡ Refused
     → AnswersSource o write bytes text status
-deserves_refusal o write = told.deserves_refusal (IsReport o write)
+deserves_refusal o write = told.deserves_refusal at_main (IsReport o write)
 
 pub ruleset deserving = (deserves_report, deserves_refusal)
 
@@ -41,7 +42,7 @@ report_ends (suc n) = inr (inl refl)
 reported_ends : (o : Options) (write : Report → List ℕ) (bytes text : List ℕ) (status : Status) → IsReport o write bytes text status → Ends reported status
 reported_ends o write bytes text status d = subst (Ends reported) (sym d.counted) (report_ends (unknown_count d.report.verdicts))
 
-pub report_telling : (o : Options) (write : Report → List ℕ) → IsTelling (IsReport o write) reported
+pub report_telling : (o : Options) (write : Report → List ℕ) → IsTelling at_main (IsReport o write) reported
 report_telling o write = record {
   accepted = λ bytes text status d. (d.answered.report.tree, d.answered.report.accepted);
   ends = λ bytes text status d. reported_ends o write bytes text status d;

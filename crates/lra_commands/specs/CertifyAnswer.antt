@@ -1,6 +1,7 @@
 -- What a source must get that is to be certified: its certificate, or its refusal.
 use Rattle.std.specs.Fmt.{decimal}
 use Rattle.std.specs.Prelude.{◌≡◌, ◌⊎◌, ℕ, suc, List, ◌++◌, codes}
+use Rattle.lra_commands.specs.Crates.lra_resolution_spec.EntryPoint.{at_main}
 use Rattle.lra_commands.specs.Crates.lra_analyse_source.SourceReports.{IsAnalysisReport}
 use Rattle.lra_commands.specs.Crates.lra_certificate_spec.Claims.{IsProgram, program_of}
 use Rattle.lra_commands.specs.Crates.lra_certify.declared.failures.StrainedAt.TheVariants.{Edge, Assertion}
@@ -47,4 +48,4 @@ HasManyPaths bytes = (x : IsProgram bytes) × (p : ℕ) × HasTooManyPaths (prog
 
 -- it is refused where it is as a source, or has too many paths; else it may exceed a limit
 abbrev pub AllowedCertifyStatuses : List ℕ → List Status → Type 0
-AllowedCertifyStatuses bytes among = (HasRefusal bytes ⊎ HasManyPaths bytes) × (among ≡ refused)
+AllowedCertifyStatuses bytes among = (HasRefusal at_main bytes ⊎ HasManyPaths bytes) × (among ≡ refused)

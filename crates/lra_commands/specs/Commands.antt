@@ -11,9 +11,10 @@ use Rattle.lra_commands.specs.BackAnswer.{AnswersBack, AllowedBackStatuses}
 use Rattle.lra_commands.specs.CertificateAnswer.{AnswersCertificate, AllowedCertificateStatuses, certificate_statuses}
 use Rattle.lra_commands.specs.CertifyAnswer.{AnswersCertify, AllowedCertifyStatuses}
 use Rattle.lra_commands.specs.ScriptAnswer.{AnswersScript, AllowedScriptStatuses, script_statuses}
-use Rattle.lra_commands.specs.ThreadsAnswer.{AnswersThreads, AllowedThreadsStatuses}
+use Rattle.lra_commands.specs.ThreadsAnswer.{AnswersThreads}
 use Rattle.lra_commands.specs.{SampleAnswer.AnswersSample, SourceAnswer.AnswersSource, SourceAnswer.written_report}
-use Rattle.lra_commands.specs.Crates.lra_certificate_spec.Claims.{greatest_certificate}
+use Rattle.lra_commands.specs.Crates.{lra_certificate_spec.Claims.greatest_certificate}
+use Rattle.lra_commands.specs.Crates.lra_resolution_spec.EntryPoint.{at_main, at_threads}
 
 -- the most bytes that a command takes of its input, where it reads it
 abbrev pub limit_of : Command → Option ℕ
@@ -48,10 +49,10 @@ statuses_of (Plain Certify) = source_statuses
 
 -- the statuses of an answer to these bytes
 abbrev pub AllowedInputStatuses : Command → List ℕ → List Status → Type 0
-AllowedInputStatuses (Analyse options format) bytes among = AllowedSourceStatuses reported bytes among
+AllowedInputStatuses (Analyse options format) bytes among = AllowedSourceStatuses at_main reported bytes among
 AllowedInputStatuses (Sample seed size) bytes among = ⊥
 AllowedInputStatuses (Back number) bytes among = AllowedBackStatuses number bytes among
-AllowedInputStatuses (Threads delay narrow) bytes among = AllowedThreadsStatuses bytes among
+AllowedInputStatuses (Threads delay narrow) bytes among = AllowedSourceStatuses at_threads reported bytes among
 AllowedInputStatuses (Plain Calc) bytes among = AllowedScriptStatuses bytes among
 AllowedInputStatuses (Plain Verify) bytes among = AllowedCertificateStatuses bytes among
 AllowedInputStatuses (Plain Certify) bytes among = AllowedCertifyStatuses bytes among

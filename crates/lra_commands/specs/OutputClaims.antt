@@ -3,6 +3,7 @@ use Rattle.std.specs.Prelude.{◌≡◌, ◌≤◌, ℕ, suc, ℤ, List, [], len
 use Rattle.std.specs.Prelude.{pos, option_map, slice_get, Contains}
 use Rattle.std.specs.{Io.KnownBytes.Appends, List.AllByRecursion}
 use Rattle.lra_base.specs.declared.refusals.Place.{Place}
+use Rattle.lra_commands.specs.Crates.lra_resolution_spec.EntryPoint.{at_main, at_threads}
 use Rattle.lra_commands.specs.Crates.lra_analyse_source.SourceReports.{ForOptions, IsAnalysisReport}
 use Rattle.lra_commands.specs.Crates.lra_analysis_spec.Accesses.{JudgesAccesses}
 use Rattle.lra_commands.specs.Crates.lra_analysis_spec.Analysis.{ExactIteration, IsSolution}
@@ -14,7 +15,7 @@ use Rattle.lra_commands.specs.Crates.lra_linear_spec.Descriptions.{LinearRow, Co
 use Rattle.lra_commands.specs.Crates.lra_operations.Agree.{IsInlinedTree, point_of}
 use Rattle.lra_commands.specs.Crates.lra_program.Sites.{Site, sites_of}
 use Rattle.lra_commands.specs.Crates.lra_report_build.AnalysisResults.{reported_all, reported_of}
-use Rattle.lra_commands.specs.Crates.lra_resolution_spec.RefuseThreads.{AcceptsThreads}
+use Rattle.lra_commands.specs.Crates.lra_resolution_spec.Refuse.{Accepts}
 use Rattle.lra_commands.specs.Crates.lra_threads_analysis.Found.{IsThreadResultOf}
 use Rattle.lra_commands.specs.Crates.lra_threads_fixpoint.Rounds.{AreThreadResults}
 use Rattle.lra_commands.specs.Crates.{lra_analysis_spec.Pass.PassResult, lra_analysis_spec.Plan.plan_of}
@@ -61,7 +62,7 @@ IsNeverReached P p = p.state ≡ [] → (store : List ℤ) → At P p.point stor
 -- reached.
 pub record HoldsInAllRuns (bytes : List ℕ) (r : Report) : Type 0 where
   pub tree : FileTree
-  pub accepted : Accepts Spells bytes tree
+  pub accepted : Accepts at_main Spells bytes tree
   pub lists : Lists tree r
   pub sound : IsSound (resolve tree) r
   pub unreached : AllByRecursion (IsNeverReached (resolve tree)) r.points
@@ -91,7 +92,7 @@ pub record ReportsWritten {V H : Type 0} (m : Abstraction V H) (shown : V → In
 -- if nothing is flagged, every value is the written iteration's, by the source's own constants
 pub record IsWrittenUnlessFlagged (o : Options) (bytes : List ℕ) (r : Report) : Type 0 where
   pub tree : FileTree
-  pub accepted : Accepts Spells bytes tree
+  pub accepted : Accepts at_main Spells bytes tree
   pub constants : List ℤ
   pub own : HasConstants bytes constants
   pub tells : r.flagged ≡ None → ForOptions o (λ V H m shown. ReportsWritten m shown o constants (resolve tree) r)
@@ -118,7 +119,7 @@ pub record ReportsAccessing {V H : Type 0} (m : Abstraction V H) (shown : V → 
 -- and no run evaluates an access outside its array that is reported to be in bounds
 pub record ReportsAccesses (o : Options) (bytes : List ℕ) (r : Report) : Type 0 where
   pub tree : FileTree
-  pub accepted : Accepts Spells bytes tree
+  pub accepted : Accepts at_main Spells bytes tree
   pub right : AllByRecursion (IsRight (resolve tree)) r.verdicts
   pub tells : ForOptions o (λ V H m shown. ReportsAccessing m shown o (resolve tree) r)
 
@@ -133,7 +134,7 @@ pub record ReportsFitting {V H : Type 0} (m : Abstraction V H) (shown : V → In
 -- and where all of it fits no run stops there by a number; where it isn't asked for nothing is reported about it
 pub record ReportsFits (o : Options) (bytes : List ℕ) (r : Report) : Type 0 where
   pub tree : FileTree
-  pub accepted : Accepts Spells bytes tree
+  pub accepted : Accepts at_main Spells bytes tree
   pub right : AllByRecursion (IsRight (resolve tree)) r.verdicts
   pub tells : IsTrue o.fits → ForOptions o (λ V H m shown. ReportsFitting m shown o (resolve tree) r)
   pub silent : o.fits ≡ false → (verdicts : List (ℕ × Bool)) × (inside : List (ℕ × List (Place × Bool))) ×
@@ -168,7 +169,7 @@ pub record WritesVerified (left held_old held_new : Option (List ℕ)) : Type 0 
   pub bytes : List ℕ
   pub input : IsInput left bytes
   pub is : IsCertificate bytes
-  pub accepted : Accepts Spells is.certificate.source is.program.tree
+  pub accepted : Accepts at_main Spells is.certificate.source is.program.tree
   pub holds : IsVerifiedInAllRuns (resolve is.program.tree) is.certificate
   pub written : Appends held_old held_new
       (verified_text (length (sites_of (resolve is.program.tree))) (length is.certificate.asserted))
@@ -209,7 +210,7 @@ pub record WritesBack (number : ℕ) (left held_old held_new : Option (List ℕ)
   pub numbered : number ≡ suc point
   pub report : BackReport
   pub answers : IsBackReportOf bytes point report
-  pub accepted : Accepts Spells bytes answers.program.tree
+  pub accepted : Accepts at_main Spells bytes answers.program.tree
   pub holds : ReportCoversFailingRuns (program_of answers.program) point report
   pub first : IsProvedAtFirst (program_of answers.program) answers.program.operations report
   pub is_defined : report.flagged ≡ None →
@@ -233,7 +234,7 @@ pub record WritesThreads (delay narrow : ℕ) (left held_old held_new : Option (
   pub input : IsInput left bytes
   pub report : ThreadsReport
   pub answers : IsThreadsReportOf delay narrow bytes report
-  pub accepted : AcceptsThreads Spells bytes answers.program.tree
+  pub accepted : Accepts at_threads Spells bytes answers.program.tree
   pub holds : HoldsInInterleavings answers.program.tree report
   pub found : AreThreadResults (length (shared_program answers.program.tree).globals)
       (IsThreadResultOf (threads_plan delay narrow answers.constants) (shared_program answers.program.tree)

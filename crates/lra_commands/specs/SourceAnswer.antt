@@ -6,6 +6,7 @@ use Rattle.lra_report.specs.{Report.Report, ReportText.report_text, ReportText.u
 use Rattle.lra_report_json.specs.ReportJson.{report_json}
 use Rattle.lra_command_line.specs.declared.commands.Format.{Format}
 use Rattle.lra_command_line.specs.declared.commands.Format.TheVariants.{Lines, Json}
+use Rattle.lra_commands.specs.Crates.lra_resolution_spec.EntryPoint.{at_main}
 use Rattle.lra_command_answers.specs.SourceAnswers.{AnswersSourceWith}
 use Rattle.lra_command_answers.specs.declared.status.Status.{Status}
 use Rattle.lra_command_answers.specs.declared.status.Status.TheVariants.{Proved, Unknown}
@@ -29,7 +30,7 @@ pub record IsReport (o : Options) (write : Report → List ℕ) (bytes text : Li
 
 -- the text and the status that a source's bytes must get under these options, where reports are written so
 abbrev pub AnswersSource : Options → (Report → List ℕ) → List ℕ → List ℕ → Status → Type 0
-AnswersSource o write bytes text status = AnswersSourceWith (IsReport o write) bytes text status
+AnswersSource o write bytes text status = AnswersSourceWith at_main (IsReport o write) bytes text status
 
 -- two reports that a source must get under one list of options and that are written alike are the same report
 abbrev pub OneWrittenReport : Type 0

@@ -15,7 +15,7 @@ pub mod KnownArrays
 -- Worked examples.
 mod LiteralExamples
 mod KnownExamples
-mod RefuseExamples
+pub mod RefuseExamples
 pub mod OneAnswer
 pub mod EachAnswer
 pub mod ReadSteps
@@ -24,10 +24,6 @@ pub mod SomeAnswer
 -- Limits of one thread after another, and what the stages of the reading answer.
 pub mod Limits
 pub mod ThreadSteps
--- Each source has one answer.
-pub mod ThreadsOneAnswer
-pub mod ThreadsEachAnswer
-pub mod ThreadsSomeAnswer
 mod ThreadsRefuseExamples
 -- The crates below
 pub mod Crates

@@ -3,12 +3,12 @@ use Rattle.std.proofs.Common.{◌≡◌, ◌≤◌, ◌<◌, ℕ, ℤ, List, len
 use Rattle.std.specs.Result.{IsErrAnd}
 use Rattle.lra_base.specs.{Places.place_after, Places.greatest_length, Refused.IfRefusal, Refused.IfRefused, declared.error.SourceError.SourceError, declared.refusals.Cause.Cause}
 use Rattle.lra_base.specs.{declared.refusals.Cause.TheVariants.TooLong, declared.refusals.Place.Place}
-use Rattle.lra_front_end.specs.Crates.lra_resolution_spec.RefuseThreads.{NotParsed, too_long, bad_token, bad_text}
+use Rattle.lra_front_end.specs.Crates.lra_resolution_spec.EntryPoint.{EntryPoint}
+use Rattle.lra_front_end.specs.Crates.lra_resolution_spec.Refuse.{RefusesTree, NotParsed, too_long, bad_token, bad_text, Refuse, not_parsed, bad_tree}
 use Rattle.lra_front_end.specs.Crates.lra_syntax.Tokens.{Lex, IsTokenFault, OneReading}
-use Rattle.lra_front_end.specs.Crates.{lra_resolution_spec.Refuse.RefusesTree, lra_resolution_spec.Refuse.Refuse, lra_resolution_spec.Refuse.bad_tree, lra_syntax.Constants.constants_of}
+use Rattle.lra_front_end.specs.Crates.{lra_syntax.Constants.constants_of}
 use Rattle.lra_front_end.specs.Crates.{lra_syntax.Faults.IsTree, lra_syntax.Faults.IsTextFault, lra_syntax.Grammar.Spells, lra_syntax.Trees.FileTree, lra_syntax.declared.tokens.Token.Token}
-use Rattle.lra_front_end.specs.Crates.lra_resolution_spec.Refuse as plain
-use Rattle.lra_base.proofs.{Limit.limit_is, Refusing.refusal_by, Refusing.refused_by, Refusing.exit_refused}
+use Rattle.lra_base.proofs.{Limit.limit_is, Refusing.refusal_by, Refusing.exit_refused}
 use Rattle.lra_front_end.specs.Stages.{HasConstants, HasTree, OneConstants}
 
 within : (source : List ℕ) → length source ≤ 65536 → length source ≤ greatest_length
@@ -30,17 +30,6 @@ text_unread : (source : List ℕ) (tokens : List Token) (c : Cause) (at : Place)
     → NotParsed Spells source c at
 text_unread source tokens c at l lexed fault = bad_text tokens c at (within source l) lexed fault
 
--- a source that has no tree is refused
-pub unread_refused : (source : List ℕ) (c : Cause) (at : Place) → NotParsed Spells source c at → Refuse Spells source c at
-unread_refused source _ _ (too_long past) = plain.too_long past
-unread_refused source _ _ (bad_token c at l fault) = plain.bad_token c at l fault
-unread_refused source _ _ (bad_text tokens c at l lexed fault) = plain.bad_text tokens c at l lexed fault
-
-pub refused_unread : {X : Type 0} (source : List ℕ) (x : Result X SourceError) → IfRefused x (λ r. NotParsed Spells source r.cause r.place)
-    → IfRefused x (λ r. Refuse Spells source r.cause r.place)
-refused_unread source x h =
-    refused_by (λ r. NotParsed Spells source r.cause r.place) (λ r. Refuse Spells source r.cause r.place) (λ r. unread_refused source r.cause r.place) x h
-
 -- one that has a tree
 pub has_tree : (source : List ℕ) (tokens : List Token) (t : FileTree) → length source ≤ 65536 → Lex source tokens → IsTree Spells tokens t → HasTree source t
 has_tree source tokens t l lexed parsed = record { tokens = tokens; not_long = within source l; lexed = lexed; parsed = parsed }
@@ -54,10 +43,6 @@ pub one_list : OneReading → OneConstants
 one_list reading source one two a b =
     let same : a.tokens ≡ b.tokens = (reading source).0 a.tokens b.tokens a.lexed b.lexed in
     a.are ∙ ap constants_of same ∙ sym b.are
-
--- one whose tree is refused
-pub tree_refused : (source : List ℕ) (t : FileTree) (c : Cause) (at : Place) → HasTree source t → RefusesTree t c at → Refuse Spells source c at
-tree_refused source t c at has fault = bad_tree has.tokens t c at has.not_long has.lexed has.parsed fault
 
 -- exits by the errors of the two stages
 pub exit_lexed : {X : Type 0} (source : List ℕ) (x : Result X SourceError) (e : SourceError) → length source ≤ 65536 → IsErrAnd x (λ y. y ≡ e)
@@ -74,8 +59,16 @@ exit_parsed source tokens given x e l lexed same is fault =
     exit_refused (λ r. NotParsed Spells source r.cause r.place) x e is
     (refusal_by (λ r. IsTextFault Spells tokens r.cause r.place) _ (λ r. text_unread source tokens r.cause r.place l lexed) e there)
 
--- and by those after it
-pub exit_tree : {X : Type 0} (source : List ℕ) (t : FileTree) (x : Result X SourceError) (e : SourceError) → HasTree source t → IsErrAnd x (λ y. y ≡ e)
-    → IfRefusal (λ r. RefusesTree t r.cause r.place) e → IfRefused x (λ r. Refuse Spells source r.cause r.place)
-exit_tree source t x e has is fault =
-    exit_refused (λ r. Refuse Spells source r.cause r.place) x e is (refusal_by (λ r. RefusesTree t r.cause r.place) _ (λ r. tree_refused source t r.cause r.place has) e fault)
+-- by an error of the reading, and by those of the stages after it
+module _ (entry : EntryPoint) {X : Type 0} (source : List ℕ) where
+  pub exit_unread : (x : Result X SourceError) (e : SourceError) → IsErrAnd x (λ y. y ≡ e) → IfRefusal (λ r. NotParsed Spells source r.cause r.place) e
+      → IfRefused x (λ r. Refuse entry Spells source r.cause r.place)
+  exit_unread x e is fault =
+      exit_refused (λ r. Refuse entry Spells source r.cause r.place) x e is
+      (refusal_by (λ r. NotParsed Spells source r.cause r.place) _ (λ r. not_parsed r.cause r.place) e fault)
+
+  pub exit_tree : (t : FileTree) (x : Result X SourceError) (e : SourceError) → HasTree source t → IsErrAnd x (λ y. y ≡ e)
+      → IfRefusal (λ r. RefusesTree entry t r.cause r.place) e → IfRefused x (λ r. Refuse entry Spells source r.cause r.place)
+  exit_tree t x e has is fault =
+      exit_refused (λ r. Refuse entry Spells source r.cause r.place) x e is
+      (refusal_by (λ r. RefusesTree entry t r.cause r.place) _ (λ r. bad_tree has.tokens t r.cause r.place has.not_long has.lexed has.parsed) e fault)

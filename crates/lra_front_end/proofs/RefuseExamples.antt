@@ -5,6 +5,7 @@ use Rattle.std.specs.Prelude.{◌≤◌}
 use Rattle.lra_base.specs.declared.refusals.Cause.TheVariants.{UnknownName, DuplicateName, Misplaced, BadCall, Recursive, NotArray}
 use Rattle.lra_base.specs.{Places.greatest_length, declared.refusals.Cause.Cause, declared.refusals.Place.Place}
 use Rattle.lra_front_end.specs.Crates.lra_syntax.declared.tokens.Mark.TheVariants as mark
+use Rattle.lra_front_end.specs.Crates.lra_resolution_spec.EntryPoint.{EntryPoint, at_main}
 use Rattle.lra_front_end.specs.Crates.lra_resolution_spec.Refuse.{Refuse, RefusesTree, bad_tree, bad_name, recursive, Accepts}
 use Rattle.lra_front_end.specs.Crates.lra_syntax.Tokens.{tokens_of, end_token}
 use Rattle.lra_front_end.specs.Crates.lra_syntax.Trees.{no_items, declaration, statement, FileTree, assign, break, set, set_element, expression}
@@ -18,15 +19,15 @@ use Rattle.lra_front_end.proofs.Crates.{lra_parser_spec.Answered.tree_found, lra
 
 -- reading a source that is written out -----------------------------------------------------------------------------
 
-abbrev inner_tokens : List ExternalDeclaration → Text
+abbrev pub inner_tokens : List ExternalDeclaration → Text
 inner_tokens xs = tokens_of (reading [] xs)
 
-abbrev all_tokens : List ℕ → List ExternalDeclaration → Text
+abbrev pub all_tokens : List ℕ → List ExternalDeclaration → Text
 all_tokens source xs = inner_tokens xs ++ end_token source ∷ []
 
-refused : (source : List ℕ) (xs : List ExternalDeclaration) (t : FileTree) (c : Cause) (p : Place) → source ≡ written xs → is_written [] xs ≡ true → length source ≤ greatest_length
-    → all_inner (inner_tokens xs) ≡ true → file_at 63 (all_tokens source xs) ≡ Ok (t, []) → RefusesTree t c p → Refuse Spells source c p
-refused source xs t c p is so few inner parsed refuses =
+pub refused : (entry : EntryPoint) (source : List ℕ) (xs : List ExternalDeclaration) (t : FileTree) (c : Cause) (p : Place) → source ≡ written xs → is_written [] xs ≡ true → length source ≤ greatest_length
+    → all_inner (inner_tokens xs) ≡ true → file_at 63 (all_tokens source xs) ≡ Ok (t, []) → RefusesTree entry t c p → Refuse entry Spells source c p
+refused entry source xs t c p is so few inner parsed refuses =
     bad_tree (all_tokens source xs) t c p few (all_lexed source xs is (are_read_by [] xs so))
     (tree_found (all_tokens source xs) [] t
     (record { front = inner_tokens xs; last = end_token source; parts = refl; is_end = refl; no_other = no_end (inner_tokens xs) inner }) parsed)
@@ -54,7 +55,7 @@ no_calls [] after c e = cc
 no_calls (b ∷ before) after c e = cc
 
 -- int main(void){}
-empty_accepted : Accepts Spells (codes "int main(void){}") empty_tree
+empty_accepted : Accepts at_main Spells (codes "int main(void){}") empty_tree
 unfolding greatest_length
 empty_accepted = record {
   tokens = all_tokens (codes "int main(void){}") empty_main;
@@ -87,10 +88,10 @@ unknown_read : file_at 63 (all_tokens (codes "int main(void){ x = 1; }") sets_un
 unfolding loop unary_at tests levels
 unknown_read = refl
 
-unknown_name_refused : Refuse Spells (codes "int main(void){ x = 1; }") UnknownName (at 17)
+unknown_name_refused : Refuse at_main Spells (codes "int main(void){ x = 1; }") UnknownName (at 17)
 unfolding greatest_length
 unknown_name_refused =
-    refused (codes "int main(void){ x = 1; }") sets_unknown unknown_tree UnknownName (at 17) refl refl (omega arith) refl unknown_read
+    refused at_main (codes "int main(void){ x = 1; }") sets_unknown unknown_tree UnknownName (at 17) refl refl (omega arith) refl unknown_read
     (bad_name (record { cause = UnknownName; place = at 17 }) [] refl)
 
 abbrev breaks_alone : List ExternalDeclaration
@@ -103,10 +104,10 @@ misplaced_read : file_at 63 (all_tokens (codes "int main(void){ break; }") break
 unfolding loop unary_at tests levels
 misplaced_read = refl
 
-misplaced_refused : Refuse Spells (codes "int main(void){ break; }") Misplaced (at 17)
+misplaced_refused : Refuse at_main Spells (codes "int main(void){ break; }") Misplaced (at 17)
 unfolding greatest_length
 misplaced_refused =
-    refused (codes "int main(void){ break; }") breaks_alone misplaced_tree Misplaced (at 17) refl refl (omega arith) refl misplaced_read
+    refused at_main (codes "int main(void){ break; }") breaks_alone misplaced_tree Misplaced (at 17) refl refl (omega arith) refl misplaced_read
     (bad_name (record { cause = Misplaced; place = at 17 }) [] refl)
 
 abbrev declares_twice : List ExternalDeclaration
@@ -122,10 +123,10 @@ unfolding loop unary_at tests levels
 duplicate_read = refl
 
 -- the second name
-duplicate_name_refused : Refuse Spells (codes "int main(void){ long x; long x; }") DuplicateName (at 30)
+duplicate_name_refused : Refuse at_main Spells (codes "int main(void){ long x; long x; }") DuplicateName (at 30)
 unfolding greatest_length
 duplicate_name_refused =
-    refused (codes "int main(void){ long x; long x; }") declares_twice duplicate_tree DuplicateName (at 30) refl refl (omega arith) refl duplicate_read
+    refused at_main (codes "int main(void){ long x; long x; }") declares_twice duplicate_tree DuplicateName (at 30) refl refl (omega arith) refl duplicate_read
     (bad_name (record { cause = DuplicateName; place = at 30 }) [] refl)
 
 abbrev indexes_scalar : List ExternalDeclaration
@@ -142,10 +143,10 @@ unfolding loop unary_at tests levels
 indexed_read = refl
 
 -- the name, not its bracket
-not_array_refused : Refuse Spells (codes "int main(void){ long x; x[1]=1; }") NotArray (at 25)
+not_array_refused : Refuse at_main Spells (codes "int main(void){ long x; x[1]=1; }") NotArray (at 25)
 unfolding greatest_length
 not_array_refused =
-    refused (codes "int main(void){ long x; x[1]=1; }") indexes_scalar indexed_tree NotArray (at 25) refl refl (omega arith) refl indexed_read
+    refused at_main (codes "int main(void){ long x; x[1]=1; }") indexes_scalar indexed_tree NotArray (at 25) refl refl (omega arith) refl indexed_read
     (bad_name (record { cause = NotArray; place = at 25 }) [] refl)
 
 -- calls ------------------------------------------------------------------------------------------------------------
@@ -163,10 +164,10 @@ bad_call_read : file_at 63 (all_tokens (codes "void f(void){} int main(void){ f(
 unfolding loop unary_at tests levels
 bad_call_read = refl
 
-bad_call_refused : Refuse Spells (codes "void f(void){} int main(void){ f(1); }") BadCall (at 32)
+bad_call_refused : Refuse at_main Spells (codes "void f(void){} int main(void){ f(1); }") BadCall (at 32)
 unfolding greatest_length
 bad_call_refused =
-    refused (codes "void f(void){} int main(void){ f(1); }") one_too_many calls_with_one BadCall (at 32) refl refl (omega arith) refl bad_call_read
+    refused at_main (codes "void f(void){} int main(void){ f(1); }") one_too_many calls_with_one BadCall (at 32) refl refl (omega arith) refl bad_call_read
     (bad_name (record { cause = BadCall; place = at 32 }) [] refl)
 
 abbrev calls_itself : List ExternalDeclaration
@@ -178,8 +179,8 @@ recursive_read : file_at 63 (all_tokens (codes "void f(void){ f(); } int main(vo
 unfolding loop unary_at tests levels
 recursive_read = refl
 
-recursive_refused : Refuse Spells (codes "void f(void){ f(); } int main(void){}") Recursive (at 15)
+recursive_refused : Refuse at_main Spells (codes "void f(void){ f(); } int main(void){}") Recursive (at 15)
 unfolding greatest_length
 recursive_refused =
-    refused (codes "void f(void){ f(); } int main(void){}") calls_itself itself Recursive (at 15) refl refl (omega arith) refl recursive_read
+    refused at_main (codes "void f(void){ f(); } int main(void){}") calls_itself itself Recursive (at 15) refl refl (omega arith) refl recursive_read
     (recursive (at 15) refl is_recursive)

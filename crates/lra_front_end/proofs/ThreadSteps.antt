@@ -6,38 +6,14 @@ use Rattle.lra_base.specs.{Refused.IfRefusal, Refused.IfRefused, declared.error.
 use Rattle.lra_base.specs.{declared.refusals.Cause.Cause, declared.refusals.Place.Place, declared.refusals.Refusal.Refusal}
 use Rattle.lra_base.proofs.Refusing.{exit_refused, refusal_by}
 use Rattle.lra_front_end.specs.Crates.lra_program.Sites.{Event, events_of, sites_of}
-use Rattle.lra_front_end.specs.Crates.lra_resolution_spec.RefuseThreads.{RefusesThreads, bad_name, recursive, past_limit, RefuseThreads, NotParsed, unread, bad_tree, AcceptsThreads}
-use Rattle.lra_front_end.specs.Crates.lra_resolution_spec.Threads.{thread_faults, thread_places, thread_program, thread_events}
+use Rattle.lra_front_end.specs.Crates.lra_resolution_spec.Refuse.{RefusesTree, past_limit}
+use Rattle.lra_front_end.specs.Crates.lra_resolution_spec.EntryPoint.{at_threads, points_of}
+use Rattle.lra_front_end.specs.Crates.lra_resolution_spec.Threads.{thread_faults, thread_program}
 use Rattle.lra_front_end.specs.Crates.{lra_program.ProgramViews.function_or, lra_program.ProgramViews.program_view, lra_program.WellFormed.IsWellFormed, lra_program.declared.program.Program.Program}
 use Rattle.lra_front_end.specs.Crates.{lra_resolution_spec.Refuse.limit_fault, lra_scopes.Outcome.first_fault, lra_scopes.Outcome.IsFirstFault, lra_syntax.Grammar.Spells, lra_syntax.Labels.Labelled}
 use Rattle.lra_front_end.specs.Crates.{lra_syntax.Labels.labels_of, lra_syntax.Reach.NotRecursive, lra_syntax.Trees.FileTree}
 use Rattle.lra_front_end.specs.Crates.lra_program.Program as resolved
-use Rattle.lra_front_end.proofs.{Limits.fault_behind, Limits.fault_stays, Spelled.spelled_are_small, StageSteps.first_is, Whole.threads_formed}
-use Rattle.lra_front_end.specs.{Stages.HasTree, Stages.IsRecursionRefusal, ThreadsStages.HasThreads}
-
--- names --------------------------------------------------------------------------------------------------------------
-
-names_refused : (t : FileTree) (r : Refusal) → first_fault (thread_faults t) ≡ Some r → RefusesThreads t r.cause r.place
-names_refused t r e = let (further, is) = first_is (thread_faults t) r e in bad_name r further is
-
-told_refused : (t : FileTree) (e : SourceError) → IsFirstFault (thread_faults t) e → IfRefusal (λ r. RefusesThreads t r.cause r.place) e
-told_refused t (Refused r) told = names_refused t r told
-told_refused t Memory told = tt
-
-pub exit_named : {X : Type 0} (t : FileTree) (x : Result X SourceError) (e : SourceError) → IsErrAnd x (λ y. y ≡ e) → IsFirstFault (thread_faults t) e
-    → IfRefused x (λ r. RefusesThreads t r.cause r.place)
-exit_named t x e is told = exit_refused (λ r. RefusesThreads t r.cause r.place) x e is (told_refused t e told)
-
--- recursion ----------------------------------------------------------------------------------------------------------
-
-recursion_refused : (t : FileTree) (r : Refusal) → thread_faults t ≡ [] → IsRecursionRefusal t r → RefusesThreads t r.cause r.place
-recursion_refused t r names h = subst (λ (c : Cause). RefusesThreads t c r.place) (sym h.0) (recursive r.place names h.1)
-
-pub exit_recursive : {X : Type 0} (t : FileTree) (x : Result X SourceError) (e : SourceError) → thread_faults t ≡ [] → IsErrAnd x (λ y. y ≡ e)
-    → IfRefusal (IsRecursionRefusal t) e
-    → IfRefused x (λ r. RefusesThreads t r.cause r.place)
-exit_recursive t x e names is fault =
-    exit_refused (λ r. RefusesThreads t r.cause r.place) x e is (refusal_by (IsRecursionRefusal t) _ (λ r. recursion_refused t r names) e fault)
+use Rattle.lra_front_end.proofs.{Limits.fault_behind, Limits.fault_stays}
 
 -- threads ------------------------------------------------------------------------------------------------------------
 
@@ -60,19 +36,19 @@ module _ (t : FileTree) (n m place : ℕ) (places : List ℕ) where
 
   -- a limit that a thread passes refuses the source
   pub limit_refused : (r : Refusal) → thread_faults t ≡ [] → NotRecursive t
-      → limit_fault (labels_of t) 0 (thread_events t) ≡ limit_fault (labels_of t) n (events_at t (place ∷ places))
-      → limit_fault (labels_of t) n (events_of (thread_program t place)) ≡ Some r → RefusesThreads t r.cause r.place
+      → limit_fault (labels_of t) 0 (points_of at_threads t) ≡ limit_fault (labels_of t) n (events_at t (place ∷ places))
+      → limit_fault (labels_of t) n (events_of (thread_program t place)) ≡ Some r → RefusesTree at_threads t r.cause r.place
   limit_refused r names straight whole e =
       past_limit r names straight (whole ∙ fault_stays (labels_of t) n (events_of (thread_program t place)) (events_at t places) r e)
 
   -- and so with an error that reports it
   pub exit_limit : {X : Type 0} (labels : List Labelled) (P : resolved.Program) (x : Result X SourceError) (e : SourceError) → thread_faults t ≡ []
       → NotRecursive t
-      → limit_fault (labels_of t) 0 (thread_events t) ≡ limit_fault (labels_of t) n (events_at t (place ∷ places)) → labels ≡ labels_of t
+      → limit_fault (labels_of t) 0 (points_of at_threads t) ≡ limit_fault (labels_of t) n (events_at t (place ∷ places)) → labels ≡ labels_of t
       → P ≡ thread_program t place
-      → IsErrAnd x (λ y. y ≡ e) → IfRefusal (λ r. limit_fault labels n (events_of P) ≡ Some r) e → IfRefused x (λ r. RefusesThreads t r.cause r.place)
+      → IsErrAnd x (λ y. y ≡ e) → IfRefusal (λ r. limit_fault labels n (events_of P) ≡ Some r) e → IfRefused x (λ r. RefusesTree at_threads t r.cause r.place)
   exit_limit labels P x e names straight whole table is stops fault =
-      exit_refused (λ r. RefusesThreads t r.cause r.place) x e stops
+      exit_refused (λ r. RefusesTree at_threads t r.cause r.place) x e stops
       (refusal_by (λ r. limit_fault labels n (events_of P) ≡ Some r) _
       (λ r h. limit_refused r names straight whole
       (subst (λ (ls : List Labelled). limit_fault ls n (events_of (thread_program t place)) ≡ Some r) table
@@ -114,37 +90,3 @@ zip_more {A} {B} R xs ys zs i x y h l is same r =
     ap (λ k. take k xs) (add-one i) ∙ take-suc xs i x l ∙ ap (λ z. take i xs ++ z ∷ []) (sym is) in
     subst (λ (lefts : List A). AllZip R lefts zs) (sym taken) (subst (λ (rights : List B). AllZip R (take i xs ++ x ∷ []) rights) (sym same)
     (zip_push R (take i xs) ys x y h r))
-
--- sources ------------------------------------------------------------------------------------------------------------
-
--- without faults of names each thread's program is well-formed
-pub well : (source : List ℕ) (t : FileTree) → HasTree source t → thread_faults t ≡ []
-    → AllByRecursion (λ place. IsWellFormed (thread_program t place)) (thread_places t)
-well source t has names = threads_formed t (spelled_are_small source has.tokens t has.parsed.0 has.lexed has.parsed.1 has.parsed.2) names
-
-pub accepted : (source : List ℕ) (t : FileTree) → HasTree source t → HasThreads t → AcceptsThreads Spells source t
-accepted source t has threads = record {
-  tokens = has.tokens;
-  not_long = has.not_long;
-  lexed = has.lexed;
-  parsed = has.parsed;
-  names = threads.names;
-  not_recursive = threads.straight;
-  within = threads.within;
-}
-
--- exits by the errors of the stages
-pub exit_unread : {X : Type 0} (source : List ℕ) (x : Result X SourceError) (e : SourceError) → IsErrAnd x (λ y. y ≡ e)
-    → IfRefusal (λ r. NotParsed Spells source r.cause r.place) e → IfRefused x (λ r. RefuseThreads Spells source r.cause r.place)
-exit_unread source x e is fault =
-    exit_refused (λ r. RefuseThreads Spells source r.cause r.place) x e is
-    (refusal_by (λ r. NotParsed Spells source r.cause r.place) _ (λ r. unread r.cause r.place) e fault)
-
-tree_refused : (source : List ℕ) (t : FileTree) (c : Cause) (at : Place) → HasTree source t → RefusesThreads t c at → RefuseThreads Spells source c at
-tree_refused source t c at has fault = bad_tree has.tokens t c at has.not_long has.lexed has.parsed fault
-
-pub exit_tree : {X : Type 0} (source : List ℕ) (t : FileTree) (x : Result X SourceError) (e : SourceError) → HasTree source t → IsErrAnd x (λ y. y ≡ e)
-    → IfRefusal (λ r. RefusesThreads t r.cause r.place) e → IfRefused x (λ r. RefuseThreads Spells source r.cause r.place)
-exit_tree source t x e has is fault =
-    exit_refused (λ r. RefuseThreads Spells source r.cause r.place) x e is
-    (refusal_by (λ r. RefusesThreads t r.cause r.place) _ (λ r. tree_refused source t r.cause r.place has) e fault)

@@ -4,7 +4,8 @@ use Rattle.std.specs.Prelude.{◌≤◌}
 use Rattle.lra_base.specs.declared.refusals.Cause.TheVariants.{NoThreads, UnknownName}
 use Rattle.lra_base.specs.{Places.greatest_length, declared.refusals.Cause.Cause, declared.refusals.Place.Place}
 use Rattle.lra_front_end.specs.Crates.lra_syntax.declared.tokens.Mark.TheVariants as mark
-use Rattle.lra_front_end.specs.Crates.lra_resolution_spec.RefuseThreads.{RefuseThreads, RefusesThreads, bad_tree, bad_name}
+use Rattle.lra_front_end.specs.Crates.lra_resolution_spec.Refuse.{Refuse, bad_name}
+use Rattle.lra_front_end.specs.Crates.lra_resolution_spec.EntryPoint.{at_threads}
 use Rattle.lra_front_end.specs.Crates.lra_syntax.Trees.{no_items, statement, assign, set, expression, function, FileTree, ItemsTree}
 use Rattle.lra_front_end.specs.Crates.{lra_parser_spec.Expressions.unary_at, lra_parser_spec.Expressions.tests, lra_parser_spec.Files.file_at, lra_parser_spec.Reading.Text}
 use Rattle.lra_front_end.specs.Crates.{lra_parser_spec.Reading.loop, lra_parser_spec.Statements.levels, lra_syntax.Grammar.Spells, lra_syntax.Tokens.tokens_of, lra_syntax.Tokens.end_token}
@@ -12,21 +13,7 @@ use Rattle.lra_front_end.proofs.Crates.lra_syntax.LexedByTest.{space, sign, word
 use Rattle.lra_front_end.proofs.Crates.lra_syntax.Lexemes.{ExternalDeclaration, written, reading, all_lexed}
 use Rattle.lra_front_end.proofs.Crates.lra_syntax.TreeSamples.{at, x_at, literal_text, void_of}
 use Rattle.lra_front_end.proofs.Crates.{lra_parser_spec.Answered.tree_found, lra_parser_spec.FaultExamples.all_inner, lra_parser_spec.FaultExamples.no_end}
-
-abbrev inner_tokens : List ExternalDeclaration → Text
-inner_tokens xs = tokens_of (reading [] xs)
-
-abbrev all_tokens : List ℕ → List ExternalDeclaration → Text
-all_tokens source xs = inner_tokens xs ++ end_token source ∷ []
-
-refused : (source : List ℕ) (xs : List ExternalDeclaration) (t : FileTree) (c : Cause) (p : Place) → source ≡ written xs → is_written [] xs ≡ true
-    → length source ≤ greatest_length
-    → all_inner (inner_tokens xs) ≡ true → file_at 63 (all_tokens source xs) ≡ Ok (t, []) → RefusesThreads t c p → RefuseThreads Spells source c p
-refused source xs t c p is so few inner parsed refuses =
-    bad_tree (all_tokens source xs) t c p few (all_lexed source xs is (are_read_by [] xs so))
-    (tree_found (all_tokens source xs) [] t
-    (record { front = inner_tokens xs; last = end_token source; parts = refl; is_end = refl; no_other = no_end (inner_tokens xs) inner }) parsed)
-    refuses
+use Rattle.lra_front_end.proofs.RefuseExamples.{all_tokens, refused}
 
 -- `void t1(void){`, and what comes after it
 abbrev first_head : List ExternalDeclaration → List ExternalDeclaration
@@ -41,10 +28,10 @@ unfolding loop unary_at tests levels
 one_read = refl
 
 -- one thread
-one_refused : RefuseThreads Spells (codes "void t1(void){}") NoThreads (at 16)
+one_refused : Refuse at_threads Spells (codes "void t1(void){}") NoThreads (at 16)
 unfolding greatest_length
 one_refused =
-    refused (codes "void t1(void){}") (first_head (sign mark.CloseBrace ∷ [])) (first_alone no_items 15) NoThreads (at 16) refl refl (omega arith) refl one_read
+    refused at_threads (codes "void t1(void){}") (first_head (sign mark.CloseBrace ∷ [])) (first_alone no_items 15) NoThreads (at 16) refl refl (omega arith) refl one_read
     (bad_name (record { cause = NoThreads; place = at 16 }) [] refl)
 
 abbrev sets_unknown : List ExternalDeclaration
@@ -58,8 +45,8 @@ unfolding loop unary_at tests levels
 unknown_read = refl
 
 -- faults of names stand before it in the text
-unknown_refused : RefuseThreads Spells (codes "void t1(void){x=1;}") UnknownName (at 15)
+unknown_refused : Refuse at_threads Spells (codes "void t1(void){x=1;}") UnknownName (at 15)
 unfolding greatest_length
 unknown_refused =
-    refused (codes "void t1(void){x=1;}") sets_unknown unknown_tree UnknownName (at 15) refl refl (omega arith) refl unknown_read
+    refused at_threads (codes "void t1(void){x=1;}") sets_unknown unknown_tree UnknownName (at 15) refl refl (omega arith) refl unknown_read
     (bad_name (record { cause = UnknownName; place = at 15 }) (record { cause = NoThreads; place = at 20 } ∷ []) refl)

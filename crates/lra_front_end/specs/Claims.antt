@@ -1,28 +1,33 @@
--- What each source must get: its one refusal, or its tree with the tree of operations of its program.
-use Rattle.std.specs.Prelude.{◌≡◌, ◌≤◌, ◌⊎◌, ℕ, List, slice_get, Some}
+-- What each source must get, wherever its runs begin: its one refusal, or its tree with a tree of operations for each of
+-- its programs.
+use Rattle.std.specs.{List.AllZip, Prelude.◌≡◌, Prelude.◌≤◌, Prelude.◌⊎◌, Prelude.ℕ, Prelude.List, Prelude.slice_get}
+use Rattle.std.specs.Prelude.{Some}
 use Rattle.lra_base.specs.{declared.refusals.Cause.Cause, declared.refusals.Place.Place}
 use Rattle.lra_front_end.specs.Crates.lra_operations.Agree.{IsInlinedTree, Agrees}
+use Rattle.lra_front_end.specs.Crates.lra_resolution_spec.EntryPoint.{EntryPoint, programs_of}
 use Rattle.lra_front_end.specs.Crates.lra_resolution_spec.Refuse.{greatest_live, Refuse, Accepts}
-use Rattle.lra_front_end.specs.Crates.lra_resolution_spec.Resolve.{resolve}
-use Rattle.lra_front_end.specs.Crates.lra_syntax.Trees.{FileTree}
-use Rattle.lra_front_end.specs.Crates.{lra_operations.Tree.Node, lra_program.Sites.Site, lra_syntax.Grammar.Spells}
+use Rattle.lra_front_end.specs.Crates.{lra_operations.Tree.Node, lra_program.Program.Program, lra_program.Sites.Site}
+use Rattle.lra_front_end.specs.Crates.{lra_syntax.Grammar.Spells, lra_syntax.Trees.FileTree}
 
 -- the source is refused for some cause at some place; if it is too long, for that
-abbrev pub HasRefusal : List ℕ → Type 0
-HasRefusal source = (cause : Cause) × (at : Place) × Refuse Spells source cause at
+abbrev pub HasRefusal : EntryPoint → List ℕ → Type 0
+HasRefusal entry source = (cause : Cause) × (at : Place) × Refuse entry Spells source cause at
 
--- the source is accepted, with tokens and a tree, and its program has a tree of operations that reaches the points
--- of its runs
-pub record IsAccepted (source : List ℕ) : Type 0 where
+-- a tree of operations of the program, that reaches the points of its runs
+abbrev pub IsProgramTree : Program → Node → Type 0
+IsProgramTree P g = IsInlinedTree P g × Agrees P g
+
+-- the source is accepted, with tokens and a tree, and each of its programs has such a tree
+pub record IsAccepted (entry : EntryPoint) (source : List ℕ) : Type 0 where
   pub tree : FileTree
-  pub accepted : Accepts Spells source tree
-  pub operations : Node
-  pub is_graph : IsInlinedTree (resolve tree) operations
-  pub agrees : Agrees (resolve tree) operations
+  pub accepted : Accepts entry Spells source tree
+  pub operations : List Node
+  pub are_graphs : AllZip IsProgramTree (programs_of entry tree) operations
 
 -- every list of bytes is refused or accepted, and none is both
 abbrev pub EachAnswer : Type 0
-EachAnswer = (source : List ℕ) → (HasRefusal source ⊎ IsAccepted source) × (HasRefusal source → IsAccepted source → ⊥)
+EachAnswer = (entry : EntryPoint) (source : List ℕ) → (HasRefusal entry source ⊎ IsAccepted entry source)
+    × (HasRefusal entry source → IsAccepted entry source → ⊥)
 
 -- no more variables live at a point than are accepted
 abbrev pub AreFew : List Site → Type 0

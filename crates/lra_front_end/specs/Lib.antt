@@ -5,6 +5,5 @@ pub mod ResolutionClaims
 pub mod Claims
 pub mod Stages
 pub mod ThreadsStages
-pub mod ThreadsClaims
 -- The crates below
 pub mod Crates

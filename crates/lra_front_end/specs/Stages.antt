@@ -4,6 +4,7 @@ use Rattle.lra_base.specs.Places.{greatest_length}
 use Rattle.lra_base.specs.{declared.refusals.Cause.TheVariants.Recursive, declared.refusals.Refusal.Refusal}
 use Rattle.lra_front_end.specs.Crates.lra_operations.Agree.{IsInlinedTree, Agrees}
 use Rattle.lra_front_end.specs.Crates.lra_program.Sites.{Site, events_of, sites_of}
+use Rattle.lra_front_end.specs.Crates.lra_resolution_spec.EntryPoint.{EntryPoint, faults_of, points_of}
 use Rattle.lra_front_end.specs.Crates.lra_syntax.Reach.{IsFirstRecursive, NotRecursive}
 use Rattle.lra_front_end.specs.Crates.{lra_operations.Tree.Node, lra_program.WellFormed.IsWellFormed}
 use Rattle.lra_front_end.specs.Crates.{lra_resolution_spec.NameFaults.name_faults}
@@ -33,6 +34,12 @@ OneConstants = (source : List ℕ) (one two : List ℤ) → HasConstants source 
 -- the refusal of a tree's first recursive call
 abbrev pub IsRecursionRefusal : FileTree → Refusal → Type 0
 IsRecursionRefusal t r = (r.cause ≡ Recursive) × IsFirstRecursive t r.place
+
+-- a tree that has no fault of names, no recursion, and whose programs pass no limit
+pub record IsFaultless (entry : EntryPoint) (t : FileTree) : Type 0 where
+  pub names : faults_of entry t ≡ []
+  pub straight : NotRecursive t
+  pub within : limit_fault (labels_of t) 0 (points_of entry t) ≡ None
 
 -- a tree whose names have no fault, that has no recursion and whose program passes no limit, the tree of operations of
 -- that program, and its points

@@ -3,7 +3,7 @@ use Rattle.std.specs.Prelude.{◌≡◌, ℕ, [], map, None}
 use Rattle.lra_front_end.specs.Crates.lra_operations.Agree.{IsInlinedTree, Agrees}
 use Rattle.lra_front_end.specs.Crates.lra_operations.TreeViews.{node_view, site_view}
 use Rattle.lra_front_end.specs.Crates.lra_operations.declared.tree.InlinedProgram.{InlinedProgram}
-use Rattle.lra_front_end.specs.Crates.lra_resolution_spec.Threads.{thread_faults, thread_program, thread_events}
+use Rattle.lra_front_end.specs.Crates.lra_resolution_spec.Threads.{thread_faults, thread_program}
 use Rattle.lra_front_end.specs.Crates.lra_syntax.Reach.{NotRecursive}
 use Rattle.lra_front_end.specs.Crates.{lra_program.Program.Program, lra_program.Sites.sites_of}
 use Rattle.lra_front_end.specs.Crates.{lra_program.WellFormed.IsWellFormed, lra_resolution_spec.Refuse.limit_fault}
@@ -21,9 +21,3 @@ pub record IsInlinedOf (P : Program) (g : InlinedProgram) : Type 0 where
 -- the tree of operations of the thread whose function stands at this place
 abbrev pub IsThreadInlined : FileTree → ℕ → InlinedProgram → Type 0
 IsThreadInlined t place g = IsInlinedOf (thread_program t place) g
-
--- a tree whose names have no fault, that has no recursion and whose threads pass no limit
-pub record HasThreads (t : FileTree) : Type 0 where
-  pub names : thread_faults t ≡ []
-  pub straight : NotRecursive t
-  pub within : limit_fault (labels_of t) 0 (thread_events t) ≡ None

@@ -3,6 +3,7 @@
 ghost use Rattle.std.specs.Prelude.{◌≡◌, ◌<◌, ◌+◌, ◌^◌, length, map, IfOk};
 ghost use Rattle.lra_base.specs.Refused.{IfRefused};
 ghost use Rattle.lra_front_end.specs.Crates.lra_operations.TreeViews.{node_view, site_view};
+ghost use Rattle.lra_front_end.specs.Crates.lra_resolution_spec.EntryPoint.{at_main};
 ghost use Rattle.lra_front_end.specs.Crates.{lra_program.ProgramViews.program_view, lra_resolution_spec.Refuse.Refuse};
 ghost use Rattle.lra_front_end.specs.Crates.{lra_resolution_spec.Resolve.resolve, lra_syntax.Grammar.Spells};
 ghost use Rattle.lra_front_end.specs.Crates.{lra_syntax.Labels.labels_of, lra_syntax.Views.tree_view};
@@ -45,7 +46,7 @@ pub fn read_source(alloc: Global, bytes: &[u8]) -> Result<AcceptedSource, Source
     ensures labels { IfOk result (λ f. f.resolution.labels.labels ≡ labels_of (tree_view f.tree)) }
     ensures graph { IfOk result (λ f. HasInlinedTree (tree_view f.tree) (node_view f.graph.tree)
         (map site_view f.graph.sites.items)) }
-    ensures refused { IfRefused result (λ r. Refuse Spells bytes.now r.cause r.place) }
+    ensures refused { IfRefused result (λ r. Refuse at_main Spells bytes.now r.cause r.place) }
 {
     let reading = read_text(alloc, bytes)?;
     let Reading { tree, constants } = reading;

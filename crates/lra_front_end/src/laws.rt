@@ -3,7 +3,8 @@
 ghost use Rattle.lra_front_end.specs.Crates.{lra_resolution_spec.Refuse.OneAnswer, lra_syntax.Grammar.Spells};
 ghost use Rattle.lra_front_end.specs.{Claims.EachAnswer, Stages.OneConstants};
 
-/// A source is accepted with at most one tree, or refused for at most one cause at one place; never both.
+/// Wherever its runs begin, a source is accepted with at most one tree, or refused for at most one cause at one place;
+/// never both.
 pub fn one_answer()
     ensures { OneAnswer Spells }
 {
@@ -18,8 +19,8 @@ pub fn one_constants()
     lra_lex::one_reading();
 }
 
-/// Every list of bytes is refused, one of more than 65,536 bytes for that, or accepted with its tree and the tree of
-/// operations of its program; never both.
+/// Wherever its runs begin, every list of bytes is refused, one of more than 65,536 bytes for that, or accepted with its
+/// tree and a tree of operations for each of its programs; never both.
 pub fn each_answer()
     ensures { EachAnswer }
 {

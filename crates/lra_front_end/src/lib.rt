@@ -18,7 +18,6 @@ mod reading;
 mod resolution_laws;
 mod threads;
 mod threads_front;
-mod threads_laws;
 
 pub use front::{AcceptedSource, read_source};
 pub use laws::{each_answer, one_answer, one_constants};
@@ -31,4 +30,3 @@ pub use reading::{Reading, read_text};
 pub use resolution_laws::{arrays_are_there, faultless_are_well_formed, names_are_as_many};
 pub use threads::{inline_threads, threads_of};
 pub use threads_front::{AcceptedThreads, read_threads};
-pub use threads_laws::{each_threads_answer, one_threads_answer};

@@ -3,6 +3,7 @@
 ghost use Rattle.std.specs.Prelude.{◌≡◌, [], map, IfOk, OnOk};
 ghost use Rattle.lra_base.specs.Refused.{IfRefused};
 ghost use Rattle.lra_front_end.specs.Crates.lra_operations.TreeViews.{node_view, site_view};
+ghost use Rattle.lra_front_end.specs.Crates.lra_resolution_spec.EntryPoint.{at_main};
 ghost use Rattle.lra_front_end.specs.Crates.lra_resolution_spec.Resolve.{resolve, resolved_functions};
 ghost use Rattle.lra_front_end.specs.Crates.{lra_program.ProgramViews.program_view};
 ghost use Rattle.lra_front_end.specs.Crates.{lra_program.WellFormed.IsWellFormed};
@@ -22,7 +23,7 @@ pub fn program_of(alloc: Global, tree: &TranslationUnit) -> Result<Resolution, S
     ensures clean { OnOk result (name_faults (tree_view tree.now) ≡ []) }
     ensures found { IfOk result (λ r. program_view r.program ≡ resolve (tree_view tree.now)) }
     ensures labelled { IfOk result (λ r. r.labels.labels ≡ labels_of (tree_view tree.now)) }
-    ensures refused { IfRefused result (λ r. RefusesTree (tree_view tree.now) r.cause r.place) }
+    ensures refused { IfRefused result (λ r. RefusesTree at_main (tree_view tree.now) r.cause r.place) }
 {
     let resolution = resolve(alloc, tree)?;
     Ok(resolution)
@@ -63,7 +64,7 @@ pub fn inline_calls(
     requires well { IsWellFormed (resolve (tree_view tree.now)) }
     ensures graph { IfOk result
         (λ g. HasInlinedTree (tree_view tree.now) (node_view g.tree) (map site_view g.sites.items)) }
-    ensures refused { IfRefused result (λ r. RefusesTree (tree_view tree.now) r.cause r.place) }
+    ensures refused { IfRefused result (λ r. RefusesTree at_main (tree_view tree.now) r.cause r.place) }
 {
     check_calls(alloc, tree, resolution)?;
     match build(alloc, &resolution.program) {

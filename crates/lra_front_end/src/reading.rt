@@ -2,9 +2,9 @@
 
 ghost use Rattle.std.specs.Prelude.{◌<◌, ◌+◌, ◌^◌, length, IfOk};
 ghost use Rattle.lra_base.specs.Refused.{IfRefused};
-ghost use Rattle.lra_front_end.specs.Crates.lra_resolution_spec.RefuseThreads.{NotParsed};
+ghost use Rattle.lra_front_end.specs.Crates.lra_resolution_spec.Refuse.{NotParsed};
 ghost use Rattle.lra_front_end.specs.Crates.lra_syntax.Views.{tree_view};
-ghost use Rattle.lra_front_end.specs.Crates.{lra_resolution_spec.Refuse.Refuse, lra_syntax.Grammar.Spells};
+ghost use Rattle.lra_front_end.specs.Crates.lra_syntax.Grammar.{Spells};
 ghost use Rattle.lra_front_end.specs.Stages.{HasConstants, HasTree};
 
 use lra_base::{Cause, GREATEST_LENGTH, Refusal, SourceError, place_after};
@@ -25,8 +25,7 @@ pub fn read_text(alloc: Global, bytes: &[u8]) -> Result<Reading, SourceError>
     requires { length bytes.now + 1 < 2 ^ 32 }
     ensures found { IfOk result (λ r. HasTree bytes.now (tree_view r.tree)) }
     ensures constants { IfOk result (λ r. HasConstants bytes.now r.constants.items) }
-    ensures refused { IfRefused result (λ r. Refuse Spells bytes.now r.cause r.place) }
-    ensures unread { IfRefused result (λ r. NotParsed Spells bytes.now r.cause r.place) }
+    ensures refused { IfRefused result (λ r. NotParsed Spells bytes.now r.cause r.place) }
 {
     if bytes.len() > GREATEST_LENGTH {
         let place = place_after(&bytes[..GREATEST_LENGTH]);

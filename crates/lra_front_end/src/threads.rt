@@ -3,16 +3,16 @@
 ghost use Rattle.std.specs.List.{AllByRecursion, AllZip};
 ghost use Rattle.std.specs.Prelude.{◌≡◌, ◌++◌, [], ℕ, List, length, IfOk, OnOk, Some, None};
 ghost use Rattle.lra_base.specs.Refused.{IfRefused};
-ghost use Rattle.lra_front_end.specs.Crates.lra_resolution_spec.Threads.{thread_events, thread_faults, thread_places};
-ghost use Rattle.lra_front_end.specs.Crates.lra_resolution_spec.Threads.{thread_program};
+ghost use Rattle.lra_front_end.specs.Crates.lra_resolution_spec.Threads.{thread_faults, thread_places, thread_program};
 ghost use Rattle.lra_front_end.specs.Crates.lra_syntax.Labels.{Labelled, labels_of};
 ghost use Rattle.lra_front_end.specs.Crates.{lra_inline_steps.Inlining.points_in};
 ghost use Rattle.lra_front_end.specs.Crates.{lra_program.ProgramViews.program_view, lra_program.Sites.events_of};
 ghost use Rattle.lra_front_end.specs.Crates.{lra_program.Sites.sites_of, lra_program.WellFormed.IsWellFormed};
-ghost use Rattle.lra_front_end.specs.Crates.{lra_resolution_spec.Refuse.limit_fault};
-ghost use Rattle.lra_front_end.specs.Crates.{lra_resolution_spec.RefuseThreads.RefusesThreads};
+ghost use Rattle.lra_front_end.specs.Crates.{lra_resolution_spec.Refuse.limit_fault, lra_resolution_spec.Refuse.RefusesTree};
+ghost use Rattle.lra_front_end.specs.Crates.lra_resolution_spec.EntryPoint.{at_threads};
 ghost use Rattle.lra_front_end.specs.Crates.{lra_syntax.Reach.NotRecursive, lra_syntax.Views.tree_view};
-ghost use Rattle.lra_front_end.specs.ThreadsStages.{HasThreads, IsInlinedOf, IsThreadInlined};
+ghost use Rattle.lra_front_end.specs.Stages.{IsFaultless};
+ghost use Rattle.lra_front_end.specs.ThreadsStages.{IsInlinedOf, IsThreadInlined};
 
 use crate::program::check_calls;
 use lra_base::SourceError;
@@ -29,7 +29,7 @@ pub fn threads_of(alloc: Global, tree: &TranslationUnit) -> Result<ThreadsResolu
         ≡ thread_program (tree_view tree.now) r.resolution.program.main) }
     ensures threads { IfOk result (λ r. r.threads.items ≡ thread_places (tree_view tree.now)) }
     ensures labelled { IfOk result (λ r. r.resolution.labels.labels ≡ labels_of (tree_view tree.now)) }
-    ensures refused { IfRefused result (λ r. RefusesThreads (tree_view tree.now) r.cause r.place) }
+    ensures refused { IfRefused result (λ r. RefusesTree at_threads (tree_view tree.now) r.cause r.place) }
 {
     let threads = resolve_threads(alloc, tree)?;
     Ok(threads)
@@ -80,9 +80,9 @@ pub fn inline_threads(
     ensures program { OnOk result (program_view resolution.new.program
         ≡ thread_program (tree_view tree.now) resolution.new.program.main) }
     ensures labels { OnOk result (resolution.new.labels ≡ resolution.old.labels) }
-    ensures threads { OnOk result (HasThreads (tree_view tree.now)) }
+    ensures threads { OnOk result (IsFaultless at_threads (tree_view tree.now)) }
     ensures graphs { IfOk result (λ gs. AllZip (IsThreadInlined (tree_view tree.now)) threads.now gs.items) }
-    ensures refused { IfRefused result (λ r. RefusesThreads (tree_view tree.now) r.cause r.place) }
+    ensures refused { IfRefused result (λ r. RefusesTree at_threads (tree_view tree.now) r.cause r.place) }
 {
     check_calls(alloc, tree, resolution)?;
     let mut before = Vec::new(alloc);

@@ -5,6 +5,7 @@ use Rattle.std.specs.List.{AllByRecursion}
 use Rattle.lra_report.specs.Crates.{lra_program.Sites.Site, lra_program.Sites.greatest_calls, lra_program.Sites.sites_of, lra_syntax.Faults.Language, lra_syntax.Grammar.Spells}
 use Rattle.lra_report.specs.Crates.{lra_syntax.Labels.Labelled, lra_syntax.Labels.labels_of, lra_syntax.Labels.label_at, lra_syntax.Lexeme.is_name_word, lra_syntax.Texts.Piece}
 use Rattle.lra_report.specs.Crates.{lra_syntax.Texts.Pieces, lra_syntax.Texts.plain, lra_syntax.Trees.FileTree, lra_syntax.declared.tokens.Token.Token}
+use Rattle.lra_resolution_spec.specs.EntryPoint.{at_main}
 use Rattle.lra_resolution_spec.specs.{LiveNames.live_at, LiveNames.live_in_call_at, LiveNames.names_outside, LiveNames.live_names, LiveNames.globals_named, Refuse.Accepts, Resolve.resolve}
 use Rattle.lra_base.specs.Places.{greatest_length}
 use Rattle.lra_report.specs.Spelled.{AreWords, HasWords}
@@ -74,7 +75,7 @@ tree_words t pieces (x, y, e, are, end) few named =
     all_live_words (globals_named t.parts) (labels_of t) (sites_of (resolve t)) (globals_few most_tokens t.parts [] x are room) (labels_few most_tokens t.parts x are room) (sites_shallow (resolve t))
 
 -- of a language whose texts are texts of the grammar
-pub accepted_words : (L : Language) → ((t : FileTree) (z : Pieces) → L t z → Spells t z) → (source : List ℕ) (t : FileTree) → Accepts L source t → HasWords t
+pub accepted_words : (L : Language) → ((t : FileTree) (z : Pieces) → L t z → Spells t z) → (source : List ℕ) (t : FileTree) → Accepts at_main L source t → HasWords t
 unfolding greatest_length
 accepted_words L spelled source t a =
     let pieces = a.parsed.0 in

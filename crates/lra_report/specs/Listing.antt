@@ -17,6 +17,7 @@ use Rattle.lra_report.specs.ReportText.{CallPlace, path_text}
 use Rattle.lra_report.specs.declared.verdict_kinds.VerdictKind.TheVariants.{Assertion, Fit, Access}
 use Rattle.lra_report.specs.{Parts.ShowsPart, declared.verdict_kinds.VerdictKind.VerdictKind}
 use Rattle.lra_row_text.specs.{Part.ReportGenerator, Part.Part, Rows.ReportRow}
+use Rattle.lra_resolution_spec.specs.EntryPoint.{at_main}
 use Rattle.lra_resolution_spec.specs.LiveNames.{globals_named, live_names}
 use Rattle.lra_resolution_spec.specs.{Refuse.Accepts, Resolve.resolve, ShownNames.shown_names}
 use Rattle.lra_operations.specs.CheckedOperations.{OpAtPoint, computing_ops, accessing_ops}
@@ -164,7 +165,7 @@ pub record AreParts (o : Options) (p : PointReport) : Type 0 where
 pub record IsReportOf (L : Language) (o : Options) (source : List ℕ) (r : Report) : Type 0 where
   pub options : r.options ≡ o
   pub tree : FileTree
-  pub accepted : Accepts L source tree
+  pub accepted : Accepts at_main L source tree
   pub lists : Lists tree r
   pub parts : AllByRecursion (AreParts o) r.points
   pub sound : IsSound (resolve tree) r

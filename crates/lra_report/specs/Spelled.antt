@@ -9,6 +9,7 @@ use Rattle.lra_report.specs.Crates.{lra_linear_spec.declared.ConKind.ConKind, lr
 use Rattle.lra_report.specs.Crates.{lra_program.Sites.sites_of, lra_syntax.Faults.Language, lra_syntax.Grammar.Spells}
 use Rattle.lra_report.specs.Crates.{lra_syntax.Labels.labels_of, lra_syntax.Lexeme.is_name_word}
 use Rattle.lra_report.specs.Crates.{lra_syntax.Trees.FileTree}
+use Rattle.lra_resolution_spec.specs.EntryPoint.{at_main}
 use Rattle.lra_resolution_spec.specs.{LiveNames.live_names, LiveNames.globals_named, Refuse.Accepts, Resolve.resolve}
 use Rattle.lra_options.specs.declared.options.Options.{Options}
 use Rattle.lra_row_text.specs.{Part.ReportGenerator, Part.Part, Rows.ReportRow, Texts.is_negated}
@@ -71,12 +72,12 @@ OneText r s = (t : FileTree) → HasWords t → Lists t r → Lists t s → r.op
 
 -- one text, one report, of the tree of an accepted source, whose variables are named by words
 abbrev pub OneAcceptedText : Report → Report → Type 0
-OneAcceptedText r s = (source : List ℕ) (t : FileTree) → Accepts Spells source t → Lists t r → Lists t s →
+OneAcceptedText r s = (source : List ℕ) (t : FileTree) → Accepts at_main Spells source t → Lists t r → Lists t s →
     r.options ≡ s.options → IsReadable r → IsReadable s → report_text r ≡ report_text s → r ≡ s
 
 -- the source is accepted with one tree at most
 abbrev pub HasOneTree : Language → List ℕ → Type 0
-HasOneTree L source = (t u : FileTree) → Accepts L source t → Accepts L source u → t ≡ u
+HasOneTree L source = (t u : FileTree) → Accepts at_main L source t → Accepts at_main L source u → t ≡ u
 
 -- two reports of one source of the language L under one list of options that have the same text are the same
 abbrev pub OneSourceText : Language → Report → Report → Type 0

@@ -10,7 +10,7 @@ use Rattle.lra_resolution_spec.specs.Crates.{lra_base.declared.number_types.Numb
 use Rattle.lra_program.specs.Program as program
 use Rattle.lra_resolution_spec.specs.Crates.lra_base.Operators as operators
 use Rattle.lra_resolution_spec.specs.Scope as scope
-use Rattle.lra_resolution_spec.specs.{NameFaults.name_faults, Refuse.RefusesTree, Refuse.recursive, Resolve.resolve, Resolve.resolve_cond}
+use Rattle.lra_resolution_spec.specs.{EntryPoint.at_main, NameFaults.name_faults, Refuse.RefusesTree, Refuse.recursive, Resolve.resolve, Resolve.resolve_cond}
 use Rattle.lra_program.proofs.RunExamples as run
 use Rattle.lra_syntax.proofs.TreeSamples.{at, name_at, x_at, literal_text, use_of, tested, call_of, declared_as, long_parameter, main_function, void_of, main_of, one_variable, called_twice}
 
@@ -256,5 +256,5 @@ one_another_recursive = (
   (main_not_reached (codes "f") refl, tt),
 )
 
-one_another_refused : RefusesTree one_another Recursive (at 38)
+one_another_refused : RefusesTree at_main one_another Recursive (at 38)
 one_another_refused = recursive (at 38) refl one_another_recursive

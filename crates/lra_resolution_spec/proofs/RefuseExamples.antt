@@ -9,7 +9,7 @@ use Rattle.lra_syntax.specs.Trees.{scalar, DeclaratorTree, nothing, call, ItemsT
 use Rattle.lra_syntax.specs.{Lexeme.IsOpen, Lexeme.unclosed, Lexeme.comment, Tokens.is_blank, Tokens.blank, Tokens.line_comment, Tokens.block_comment, Tokens.skipped_line, Tokens.NoGap, Tokens.token}
 use Rattle.lra_syntax.specs.{Grammar.Spells, Labels.labels_of, declared.tokens.Kind.Kind, declared.tokens.Kind.TheVariants.Unclosed, declared.tokens.Kind.TheVariants.End, declared.tokens.Token.Token}
 use Rattle.lra_syntax.specs.declared.tokens.Mark.TheVariants as mark
-use Rattle.lra_resolution_spec.specs.{Refuse.limit_fault, Refuse.Refuse, Refuse.too_long, Refuse.bad_token, Refuse.bad_text, Refuse.bad_tree, Refuse.bad_name, Resolve.resolve}
+use Rattle.lra_resolution_spec.specs.{EntryPoint.EntryPoint, EntryPoint.at_main, Refuse.limit_fault, Refuse.NotParsed, Refuse.Refuse, Refuse.too_long, Refuse.bad_token, Refuse.bad_text, Refuse.not_parsed, Refuse.bad_tree, Refuse.bad_name, Resolve.resolve}
 use Rattle.lra_program.specs.Sites.{events_of}
 use Rattle.lra_syntax.proofs.LexedByTest.{space, sign, word_of, are_read_by}
 use Rattle.lra_syntax.proofs.TreeSamples.{at, name_at, call_of, long_parameter, main_function, void_of, main_of, declared_as, literal_text as number_of}
@@ -94,7 +94,7 @@ one_call_too_many = refl
 
 -- whole sources ----------------------------------------------------------------------------------------------------
 
-no_bytes : Refuse Spells [] NoMain (at 1)
+no_bytes : Refuse at_main Spells [] NoMain (at 1)
 unfolding greatest_length
 no_bytes = bad_tree (record { kind = End; place = at 1 } ∷ []) (record { parts = []; end = at 1 }) NoMain (at 1) (omega arith) ([], refl, tt, refl)
     ((record { kind = End; place = at 1 }, 0) ∷ [], ([], _, refl, refl, refl), refl, (omega arith, tt)) (bad_name (record { cause = NoMain; place = at 1 }) [] refl)
@@ -107,16 +107,16 @@ place_from_spaces (suc n) l c =
     let e : c + 1 + n ≡ c + suc n = omega arith in
     place_from_spaces n l (c + 1) ∙ ap (λ (k : ℕ). record { line = l; column = k }) e
 
-spaces_too_long : (n : ℕ) → greatest_length ≡ n → Refuse Spells (replicate (n + 1) 32) TooLong (record { line = 1; column = 1 + n })
+spaces_too_long : (n : ℕ) → greatest_length ≡ n → NotParsed Spells (replicate (n + 1) 32) TooLong (record { line = 1; column = 1 + n })
 spaces_too_long n e =
     let f : place_after (take greatest_length (replicate (n + 1) 32)) ≡ record { line = 1; column = 1 + n } =
     ap (λ (k : ℕ). place_after (take k (replicate (n + 1) 32))) e ∙ ap place_after (take-replicate n (n + 1) 32 (omega arith)) ∙ place_from_spaces n 1 1 in
-    subst (Refuse Spells (replicate (n + 1) 32) TooLong) f (too_long (omega (arith, length-replicate {A = ℕ} (n + 1) 32, e)))
+    subst (NotParsed Spells (replicate (n + 1) 32) TooLong) f (too_long (omega (arith, length-replicate {A = ℕ} (n + 1) 32, e)))
 
--- 65,537 spaces: catches a limit of 65,535, and a place past the end
-too_many_spaces : Refuse Spells (replicate (65536 + 1) 32) TooLong (at 65537)
+-- 65,537 spaces, wherever the runs begin: catches a limit of 65,535, and a place past the end
+too_many_spaces : (entry : EntryPoint) → Refuse entry Spells (replicate (65536 + 1) 32) TooLong (at 65537)
 unfolding greatest_length
-too_many_spaces = spaces_too_long 65536 refl
+too_many_spaces entry = not_parsed _ _ (spaces_too_long 65536 refl)
 
 -- tokens ------------------------------------------------------------------------------------------------------------
 
@@ -127,14 +127,14 @@ abbrev before_dollar : List ExternalDeclaration
 before_dollar =
     sign mark.Int ∷ space ∷ word_of (codes "main") ∷ sign mark.OpenParen ∷ sign mark.Void ∷ sign mark.CloseParen ∷ sign mark.OpenBrace ∷ space ∷ []
 
-dollar : Refuse Spells (codes "int main(void){ $ }") BadByte (at 17)
+dollar : NotParsed Spells (codes "int main(void){ $ }") BadByte (at 17)
 unfolding greatest_length
 dollar =
     bad_token BadByte (at 17) (omega arith)
     (faulty (codes "int main(void){ $ }") (codes "$ }") before_dollar BadByte refl (are_read_by (codes "$ }") before_dollar refl)
     (λ e. cc, no_gap (codes "int main(void){ ") (codes "$ }") refl, no_lexeme (codes "$ }") refl refl))
 
-literal_refused : Refuse Spells (codes "x=9223372036854775808;") BadLiteral (at 3)
+literal_refused : NotParsed Spells (codes "x=9223372036854775808;") BadLiteral (at 3)
 unfolding greatest_length
 literal_refused = bad_token BadLiteral (at 3) (omega arith) too_large
 
@@ -165,7 +165,7 @@ unclosed_open : IsOpen []
 unclosed_open = is_open [] refl
 
 -- /* : catches a comment that need not be closed, and a fault at its end
-unclosed_comment : Refuse Spells (codes "/*") Syntax (at 1)
+unclosed_comment : NotParsed Spells (codes "/*") Syntax (at 1)
 unfolding greatest_length
 unclosed_comment = bad_text (token_at Unclosed 1 ∷ token_at End 3 ∷ []) Syntax (at 1) (omega arith) (
   token (codes "/*") (token_at Unclosed 1) ∷ [],

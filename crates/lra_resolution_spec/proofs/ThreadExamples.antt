@@ -1,13 +1,14 @@
 -- Threads of sources, and refusals of sources of several threads. Which slip an example would catch stands beside it.
 use Rattle.std.proofs.Common.{◌≡◌, ℕ, zero, suc, ◌<◌, List, [], ◌∷◌, length, None, refl, ap, subst, sym, ◌∙◌, arith}
 use Rattle.std.specs.Prelude.{codes, Contains, get_or}
-use Rattle.lra_resolution_spec.specs.Crates.lra_base.declared.refusals.Cause.TheVariants.{NoThreads, UnknownName, DuplicateName, Recursive}
+use Rattle.lra_resolution_spec.specs.Crates.lra_base.declared.refusals.Cause.TheVariants.{NoMain, NoThreads, UnknownName, DuplicateName, Recursive}
 use Rattle.lra_resolution_spec.specs.Crates.{lra_base.declared.refusals.Cause.Cause, lra_base.declared.refusals.Refusal.Refusal}
 use Rattle.lra_syntax.specs.Trees.{expression, set, nothing, assign, call, no_items, ItemsTree, statement, function, FileTree, FunctionTree, ExternalTree}
 use Rattle.lra_syntax.specs.{Functions.functions_of, Labels.labels_of, Reach.calls_of, Reach.ReachesByCalls, Reach.there, Reach.by_call, Reach.IsFirstRecursive, declared.trees.Identifier.Identifier}
 use Rattle.lra_program.specs.Sites.{event_sites}
-use Rattle.lra_resolution_spec.specs.Threads.{thread_faults, thread_places, thread_events, thread_program}
-use Rattle.lra_resolution_spec.specs.{Refuse.limit_fault, RefuseThreads.RefusesThreads, RefuseThreads.recursive}
+use Rattle.lra_resolution_spec.specs.Threads.{thread_faults, thread_places, thread_program}
+use Rattle.lra_resolution_spec.specs.EntryPoint.{at_main, at_threads, faults_of, programs_of, points_of}
+use Rattle.lra_resolution_spec.specs.{Refuse.limit_fault, Refuse.RefusesTree, Refuse.recursive}
 use Rattle.lra_syntax.proofs.TreeSamples.{at, name_at, x_at, literal_text, call_of, long_parameter, main_function, void_of}
 
 abbrev fault : Cause → ℕ → Refusal
@@ -59,8 +60,12 @@ abbrev two : FileTree
 two = record { parts = part (codes "t1") 6 (semicolon 15) 16 ∷ part (codes "t2") 23 (semicolon 32) 33 ∷ part (codes "t4") 40 (semicolon 49) 50 ∷ []; end = at 51 }
 
 -- two threads, since the numbers are consecutive, with four points; main may be missing
-two_threads : (thread_faults two ≡ []) × (thread_places two ≡ 0 ∷ 1 ∷ []) × (length (event_sites (thread_events two)) ≡ 4) × (limit_fault (labels_of two) 0 (thread_events two) ≡ None)
+two_threads : (thread_faults two ≡ []) × (thread_places two ≡ 0 ∷ 1 ∷ []) × (length (event_sites (points_of at_threads two)) ≡ 4) × (limit_fault (labels_of two) 0 (points_of at_threads two) ≡ None)
 two_threads = (refl, refl, refl, refl)
+
+-- two programs of one tree, which means none from a `main` that is missing: catches an entry point that is not asked
+by_entry : (length (programs_of at_threads two) ≡ 2) × (faults_of at_threads two ≡ []) × (faults_of at_main two ≡ fault NoMain 51 ∷ [])
+by_entry = (refl, refl, refl)
 
 -- each of them stands in the place of main
 second_program : (thread_program two 1).main.end ≡ 4
@@ -115,5 +120,5 @@ itself_recursive = (
   (λ r. not_back (codes "t2") refl r, tt),
 )
 
-itself_refused : RefusesThreads itself Recursive (at 55)
+itself_refused : RefusesTree at_threads itself Recursive (at 55)
 itself_refused = recursive (at 55) refl itself_recursive

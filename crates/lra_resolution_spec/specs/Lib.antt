@@ -5,8 +5,8 @@ pub mod Resolve
 pub mod LiveNames
 pub mod ShownNames
 pub mod LabelTable
-pub mod Refuse
 pub mod Threads
-pub mod RefuseThreads
+pub mod EntryPoint
+pub mod Refuse
 -- The crates below
 pub mod Crates

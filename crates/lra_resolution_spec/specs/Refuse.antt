@@ -1,6 +1,6 @@
--- Which sources are refused, for which cause and at which place. The first phase with a fault refuses: the bytes'
--- number; tokens; the tree;
--- names; calls written out. In each phase but the last the fault first in text order is answered.
+-- Which sources are refused, for which cause and at which place, where the runs begin at an entry point. The first
+-- phase with a fault refuses: the bytes' number; tokens; the tree; names; calls written out. In each phase but the last
+-- the fault first in text order is answered.
 use Rattle.std.specs.Prelude.{◌≡◌, ℕ, suc, ◌≤◌, ◌<◌, nat_lt, if◌then◌else◌, List, [], ◌∷◌, length, take, Option, Some}
 use Rattle.std.specs.Prelude.{None}
 use Rattle.lra_resolution_spec.specs.Crates.lra_base.Places.{place_after, greatest_length}
@@ -15,8 +15,9 @@ use Rattle.lra_syntax.specs.Reach.{IsFirstRecursive, NotRecursive}
 use Rattle.lra_syntax.specs.{Faults.Language, Faults.IsTree, Faults.IsTextFault, Grammar.Spells, Tokens.Lex}
 use Rattle.lra_syntax.specs.{Tokens.IsTokenFault, Trees.FileTree, declared.tokens.Token.Token}
 pub use Rattle.lra_resolution_spec.specs.Crates.lra_base.Limits.{greatest_live}
-use Rattle.lra_resolution_spec.specs.{NameFaults.name_faults, Resolve.resolve}
-use Rattle.lra_program.specs.{Sites.Event, Sites.comes, Sites.one_call_more, Sites.events_of, WellFormed.IsWellFormed}
+use Rattle.lra_resolution_spec.specs.EntryPoint.{EntryPoint, at_main, faults_of, points_of}
+use Rattle.lra_resolution_spec.specs.{Resolve.resolve}
+use Rattle.lra_program.specs.{Sites.Event, Sites.comes, Sites.one_call_more, WellFormed.IsWellFormed}
 
 -- limits -----------------------------------------------------------------------------------------------------------
 
@@ -42,40 +43,43 @@ limit_fault ls n (one_call_more at ∷ es) = Some (record
 -- the refusal ------------------------------------------------------------------------------------------------------
 
 -- a tree's fault of names or of calls
-pub data RefusesTree (t : FileTree) : Cause → Place → Type 0 where
-  bad_name : (r : Refusal) (further : List Refusal) → name_faults t ≡ r ∷ further → RefusesTree t r.cause r.place
-  recursive : (at : Place) → name_faults t ≡ [] → IsFirstRecursive t at → RefusesTree t Recursive at
-  past_limit : (r : Refusal) → name_faults t ≡ [] → NotRecursive t →
-      limit_fault (labels_of t) 0 (events_of (resolve t)) ≡ Some r → RefusesTree t r.cause r.place
+pub data RefusesTree (entry : EntryPoint) (t : FileTree) : Cause → Place → Type 0 where
+  bad_name : (r : Refusal) (further : List Refusal) → faults_of entry t ≡ r ∷ further →
+      RefusesTree entry t r.cause r.place
+  recursive : (at : Place) → faults_of entry t ≡ [] → IsFirstRecursive t at → RefusesTree entry t Recursive at
+  past_limit : (r : Refusal) → faults_of entry t ≡ [] → NotRecursive t →
+      limit_fault (labels_of t) 0 (points_of entry t) ≡ Some r → RefusesTree entry t r.cause r.place
 
--- where L is the language of the sources
-pub data Refuse (L : Language) (source : List ℕ) : Cause → Place → Type 0 where
-  too_long : greatest_length < length source → Refuse L source TooLong (place_after (take greatest_length source))
+-- the source has no tree, where L is the language of the sources
+pub data NotParsed (L : Language) (source : List ℕ) : Cause → Place → Type 0 where
+  too_long : greatest_length < length source → NotParsed L source TooLong (place_after (take greatest_length source))
   bad_token : (c : Cause) (at : Place) → length source ≤ greatest_length → IsTokenFault source c at →
-      Refuse L source c at
+      NotParsed L source c at
   bad_text : (tokens : List Token) (c : Cause) (at : Place) → length source ≤ greatest_length → Lex source tokens →
-      IsTextFault L tokens c at → Refuse L source c at
+      IsTextFault L tokens c at → NotParsed L source c at
+
+pub data Refuse (entry : EntryPoint) (L : Language) (source : List ℕ) : Cause → Place → Type 0 where
+  not_parsed : (c : Cause) (at : Place) → NotParsed L source c at → Refuse entry L source c at
   bad_tree : (tokens : List Token) (t : FileTree) (c : Cause) (at : Place) → length source ≤ greatest_length →
-      Lex source tokens → IsTree L tokens t
-      → RefusesTree t c at → Refuse L source c at
+      Lex source tokens → IsTree L tokens t → RefusesTree entry t c at → Refuse entry L source c at
 
 -- the source is accepted, and has this tree
-pub record Accepts (L : Language) (source : List ℕ) (t : FileTree) : Type 0 where
+pub record Accepts (entry : EntryPoint) (L : Language) (source : List ℕ) (t : FileTree) : Type 0 where
   pub tokens : List Token
   pub not_long : length source ≤ greatest_length
   pub lexed : Lex source tokens
   pub parsed : IsTree L tokens t
-  pub names : name_faults t ≡ []
+  pub names : faults_of entry t ≡ []
   pub not_recursive : NotRecursive t
-  pub within : limit_fault (labels_of t) 0 (events_of (resolve t)) ≡ None
+  pub within : limit_fault (labels_of t) 0 (points_of entry t) ≡ None
 
--- a source is accepted with one tree, or refused for one cause at one place
+-- a source is accepted with one tree, or refused for one cause at one place, wherever its runs begin
 abbrev pub OneAnswer : Language → Type 0
-OneAnswer L = (source : List ℕ)
-    → ((s t : FileTree) → Accepts L source s → Accepts L source t → s ≡ t)
-    × ((c d : Cause) (p q : Place) → Refuse L source c p → Refuse L source d q → (c ≡ d) × (p ≡ q))
-    × ((t : FileTree) (c : Cause) (p : Place) → Accepts L source t → Refuse L source c p → ⊥)
+OneAnswer L = (entry : EntryPoint) (source : List ℕ)
+    → ((s t : FileTree) → Accepts entry L source s → Accepts entry L source t → s ≡ t)
+    × ((c d : Cause) (p q : Place) → Refuse entry L source c p → Refuse entry L source d q → (c ≡ d) × (p ≡ q))
+    × ((t : FileTree) (c : Cause) (p : Place) → Accepts entry L source t → Refuse entry L source c p → ⊥)
 
--- so is the program of every accepted source
+-- the program of every accepted source is well-formed
 abbrev pub AcceptedAreWellFormed : Type 0
-AcceptedAreWellFormed = (source : List ℕ) (t : FileTree) → Accepts Spells source t → IsWellFormed (resolve t)
+AcceptedAreWellFormed = (source : List ℕ) (t : FileTree) → Accepts at_main Spells source t → IsWellFormed (resolve t)

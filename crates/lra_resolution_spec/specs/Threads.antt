@@ -2,11 +2,11 @@
 -- without parameters, at most eight. The first definition of a name counts. `main` is an ordinary function: it may be
 -- missing, or have parameters.
 use Rattle.std.specs.Prelude.{ℕ, zero, suc, ◌+◌, Bool, false, not, if◌then◌else◌, ◌&&◌, nat_eq, List, [], ◌∷◌, ◌++◌}
-use Rattle.std.specs.Prelude.{length, map, Option, Some, None, slice_get, flat_map}
+use Rattle.std.specs.Prelude.{length, map, Option, Some, None, slice_get}
 use Rattle.lra_resolution_spec.specs.Crates.lra_base.declared.refusals.Cause.TheVariants.{NoThreads}
 use Rattle.lra_resolution_spec.specs.Crates.lra_base.declared.refusals.Refusal.{Refusal}
 use Rattle.lra_syntax.specs.{Functions.functions_of, Functions.function_named, Trees.FunctionTree, Trees.FileTree}
-use Rattle.lra_program.specs.{Program.Program, ProgramViews.function_or, Sites.Event, Sites.events_of}
+use Rattle.lra_program.specs.{Program.Program, ProgramViews.function_or}
 use Rattle.lra_resolution_spec.specs.NameFaults.{fault_if, parts_faults}
 use Rattle.lra_resolution_spec.specs.Resolve.{function_place, globals_in, arrays_in, resolved_functions}
 
@@ -50,7 +50,3 @@ thread_program t place = record {
 
 abbrev pub thread_programs : FileTree → List Program
 thread_programs t = map (thread_program t) (thread_places t)
-
--- the points of all threads, one thread after the other
-abbrev pub thread_events : FileTree → List Event
-thread_events t = flat_map events_of (thread_programs t)

@@ -1,8 +1,9 @@
 -- Sample sources are such sources, and so they are accepted.
-use Rattle.std.proofs.Common.{◌≡◌, ℕ, ◌+◌, ◌*◌, ◌%◌, ◌<◌, ◌≤◌, List, [], ◌∷◌, ◌++◌, length, map, refl, sym, ap, ◌∙◌, arith, append_assoc}
+use Rattle.std.proofs.Common.{◌≡◌, ℕ, ◌+◌, ◌*◌, ◌%◌, ◌<◌, ◌≤◌, List, [], ◌∷◌, ◌++◌, length, map, refl, sym, ap, ◌∙◌, arith, append_assoc, append-nil}
 use Rattle.std.proofs.{lemmas.Fmt.decimal_digit, lemmas.List.FromFn.length-map-range_with_len}
 use Rattle.std.specs.{Fmt.decimal, List.flat_map, List.range_with_len, Prelude.codes}
-use Rattle.lra_sample.specs.Crates.{lra_base.Places.greatest_length, lra_resolution_spec.Refuse.Accepts, lra_row_text.Texts.text_line, lra_syntax.Grammar.Spells}
+use Rattle.lra_sample.specs.Crates.lra_resolution_spec.EntryPoint.{at_main}
+use Rattle.lra_sample.specs.Crates.{lra_base.Places.greatest_length, lra_resolution_spec.Refuse.Accepts, lra_resolution_spec.Refuse.limit_fault, lra_row_text.Texts.text_line, lra_syntax.Grammar.Spells}
 use Rattle.lra_sample.specs.Sample.{statements_text, kind_of, block_from, block_line, block_lines, sample_source}
 use Rattle.lra_sample.specs.{Accepted.SamplesAreAccepted, Draws.state_after, Draws.draw, declared.block.Kind.Kind}
 use Rattle.lra_sample.proofs.Whole.{head_items, four_declared, last_items, close_items, whole_items, lines_text, whole_written, file_tree, whole_tokens, whole_lexed, parsed}
@@ -75,7 +76,7 @@ short : (n size : ℕ) → size ≤ 400 → n ≤ 78 + 34 * size → n ≤ great
 unfolding greatest_length
 short n size l m = omega (arith, l, m)
 
-accepts : (seed size : ℕ) → size ≤ 400 → Accepts Spells (sample_source seed size)
+accepts : (seed size : ℕ) → size ≤ 400 → Accepts at_main Spells (sample_source seed size)
     (file_tree (sample_source seed size) (lines_of seed size))
 accepts seed size l = record {
   tokens = whole_tokens (sample_source seed size) (lines_of seed size);
@@ -84,7 +85,7 @@ accepts seed size l = record {
   parsed = parsed (sample_source seed size) (lines_of seed size);
   names = names (sample_source seed size) (lines_of seed size);
   not_recursive = not_recursive (sample_source seed size) (lines_of seed size);
-  within = within (sample_source seed size) (lines_of seed size) (omega (arith, as_many seed size, l));
+  within = ap (limit_fault _ 0) (append-nil _) ∙ within (sample_source seed size) (lines_of seed size) (omega (arith, as_many seed size, l));
 }
 
 pub accepted : SamplesAreAccepted

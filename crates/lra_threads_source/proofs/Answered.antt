@@ -2,11 +2,12 @@
 use Rattle.std.proofs.Common.{◌≡◌, ◌∙◌, ◌≤◌, ℕ, ℤ, List, [], ◌∷◌, length, map, refl, sym, ap, ap₂, subst, arith}
 use Rattle.std.proofs.{lemmas.List.length-map, lemmas.Option.get_or_from_slice_get, lemmas.Option.same_Some, lemmas.Option.slice_get_within}
 use Rattle.std.specs.{List.AllZip, Prelude.Some, Prelude.slice_get}
-use Rattle.lra_threads_source.specs.Crates.{lra_analysis_spec.Instrumented.instrumented, lra_analysis_spec.Plan.Plan, lra_front_end.Stages.HasConstants, lra_front_end.ThreadsClaims.IsAcceptedThreads}
-use Rattle.lra_threads_source.specs.Crates.{lra_front_end.ThreadsClaims.IsThreadTree, lra_front_end.ThreadsStages.IsInlinedOf, lra_front_end.ThreadsStages.IsThreadInlined}
+use Rattle.lra_threads_source.specs.Crates.lra_resolution_spec.EntryPoint.{at_threads}
+use Rattle.lra_threads_source.specs.Crates.{lra_analysis_spec.Instrumented.instrumented, lra_analysis_spec.Plan.Plan, lra_front_end.Stages.HasConstants, lra_front_end.Claims.IsAccepted}
+use Rattle.lra_threads_source.specs.Crates.{lra_front_end.Claims.IsProgramTree, lra_front_end.ThreadsStages.IsInlinedOf, lra_front_end.ThreadsStages.IsThreadInlined}
 use Rattle.lra_threads_source.specs.Crates.{lra_operations.Agree.IsInlinedTree, lra_operations.Tree.Node, lra_operations.TreeViews.node_view, lra_operations.TreeViews.site_view}
 use Rattle.lra_threads_source.specs.Crates.{lra_operations.declared.tree.InlinedProgram.InlinedProgram, lra_program.Program.Function, lra_program.Program.Program, lra_program.ProgramViews.function_or}
-use Rattle.lra_threads_source.specs.Crates.{lra_program.ProgramViews.program_view, lra_program.declared.program.GlobalVariable.GlobalVariable, lra_resolution_spec.RefuseThreads.AcceptsThreads}
+use Rattle.lra_threads_source.specs.Crates.{lra_program.ProgramViews.program_view, lra_program.declared.program.GlobalVariable.GlobalVariable, lra_resolution_spec.Refuse.Accepts}
 use Rattle.lra_threads_source.specs.Crates.{lra_resolution_spec.Resolve.resolved_functions, lra_resolution_spec.Threads.thread_places, lra_resolution_spec.Threads.thread_program}
 use Rattle.lra_threads_source.specs.Crates.{lra_syntax.Grammar.Spells, lra_syntax.Trees.FileTree, lra_threads_fixpoint.Rounds.AllRounds, lra_threads_fixpoint.Rounds.ThreadsFixpoint}
 use Rattle.lra_threads_source.specs.Crates.lra_program.declared.program.Program as declared
@@ -16,14 +17,14 @@ use Rattle.lra_threads_analysis.specs.{Holding.AllHold, Holding.AreFlagged, Inte
 use Rattle.lra_threads_source.specs.ThreadsReports.{IsThreadsReportOf, shared_program, thread_functions, threads_plan}
 use Rattle.lra_threads_source.specs.{Listed.ShowsThreads, Listed.thread_place, Stages.AreGraphsOf, Stages.AreOfGraphs, Stages.IsFlagIn, Stages.IsInstrumented, ThreadsText.ThreadsReport}
 use Rattle.lra_threads_source.proofs.Crates.lra_linear_spec.ListPlaces.{there_within}
-use Rattle.lra_threads_source.proofs.{FlaggedPoints.flag_there, Handed.of_graphs, Readying.are_graphs, Readying.are_ready, Readying.graph_at, Readying.zip_at, Readying.zip_viewed}
+use Rattle.lra_threads_source.proofs.{FlaggedPoints.flag_there, Handed.of_graphs, Readying.are_graphs, Readying.are_ready, Readying.graph_at, Readying.zip_at, Readying.zip_mapped, Readying.zip_viewed}
 
 -- the globals as they are handed on
 pub globals_seen : (t : FileTree) (p : declared.Program) (globals : List GlobalVariable) → program_view p ≡ thread_program t p.main → globals ≡ p.globals.items
     → globals ≡ (shared_program t).globals
 globals_seen t p globals is same = same ∙ ap (λ (P : Program). P.globals) is
 
-module _ (source : List ℕ) (t : FileTree) (accepted : AcceptsThreads Spells source t) (graphs others : List InlinedProgram)
+module _ (source : List ℕ) (t : FileTree) (accepted : Accepts at_threads Spells source t) (graphs others : List InlinedProgram)
     (read : AllZip (IsThreadInlined t) (thread_places t) graphs) (globals : List GlobalVariable) (is : globals ≡ (shared_program t).globals)
     (opens : AllZip (IsInstrumented (length globals)) graphs others) where
   abbrev P : Program
@@ -35,13 +36,14 @@ module _ (source : List ℕ) (t : FileTree) (accepted : AcceptsThreads Spells so
   abbrev trees : List Node
   trees = map (λ (g : InlinedProgram). node_view g.tree) graphs
 
-  abbrev program : IsAcceptedThreads source
+  abbrev program : IsAccepted at_threads source
   program = record {
     tree = t;
     accepted = accepted;
     operations = trees;
-    are_graphs = zip_viewed (IsThreadInlined t) (IsThreadTree t) (λ (g : InlinedProgram). node_view g.tree) (thread_places t) graphs
-        (λ place g of. (of.is_graph, of.agrees)) read;
+    are_graphs = zip_mapped IsProgramTree (thread_program t) (thread_places t) trees
+        (zip_viewed (IsThreadInlined t) (λ place. IsProgramTree (thread_program t place)) (λ (g : InlinedProgram). node_view g.tree) (thread_places t) graphs
+        (λ place g of. (of.is_graph, of.agrees)) read);
   }
 
   pub graphs_handed : AreGraphsOf t others

@@ -8,7 +8,8 @@ use Rattle.lra_threads_source.proofs.Crates.lra_front_end.Faultless.{none_right}
 use Rattle.lra_threads_source.proofs.Crates.lra_threads_instrument.InstrumentedTrees.{asks_opened, fits_of, numbered_of, points_of}
 use Rattle.lra_threads_source.specs.Crates.lra_program.Sites.{Event, Site, comes, events_of, one_call_more, event_sites, sites_of}
 use Rattle.lra_threads_source.specs.Crates.lra_resolution_spec.Refuse.{greatest_points, limit_fault}
-use Rattle.lra_threads_source.specs.Crates.lra_resolution_spec.Threads.{has_thread, thread_events, thread_faults, thread_name, thread_places, thread_places_from, thread_program}
+use Rattle.lra_threads_source.specs.Crates.lra_resolution_spec.EntryPoint.{at_threads, points_of}
+use Rattle.lra_threads_source.specs.Crates.lra_resolution_spec.Threads.{has_thread, thread_faults, thread_name, thread_places, thread_places_from, thread_program}
 use Rattle.lra_threads_source.specs.Crates.{lra_analysis_spec.Instrumented.instrumented, lra_analysis_spec.LiveLimit.most_live, lra_analysis_spec.Plan.Plan, lra_base.declared.refusals.Refusal.Refusal}
 use Rattle.lra_threads_source.specs.Crates.{lra_fixpoint.Lives.PointsHave, lra_fixpoint.Numbers.IsNumbered, lra_front_end.ThreadsStages.IsInlinedOf, lra_front_end.ThreadsStages.IsThreadInlined}
 use Rattle.lra_threads_source.specs.Crates.{lra_operations.CheckedOperations.OpAtPoint, lra_operations.CheckedOperations.accessing_ops, lra_operations.Tree.Node, lra_operations.TreeViews.node_view}
@@ -44,6 +45,19 @@ zip_viewed R Q view [] [] each h = tt
 zip_viewed R Q view [] (b ∷ ys) each h = absurd h
 zip_viewed R Q view (a ∷ xs) [] each h = absurd h
 zip_viewed R Q view (a ∷ xs) (b ∷ ys) each h = (each a b h.0, zip_viewed R Q view xs ys each h.1)
+
+-- of things that another list's are mapped to
+pub zip_mapped : {A B C : Type 0} (R : B → C → Type 0) (f : A → B) (xs : List A) (ys : List C) → AllZip (λ x. R (f x)) xs ys → AllZip R (map f xs) ys
+zip_mapped R f [] [] h = tt
+zip_mapped R f [] (y ∷ ys) h = absurd h
+zip_mapped R f (x ∷ xs) [] h = absurd h
+zip_mapped R f (x ∷ xs) (y ∷ ys) h = (h.0, zip_mapped R f xs ys h.1)
+
+pub zip_unmapped : {A B C : Type 0} (R : B → C → Type 0) (f : A → B) (xs : List A) (ys : List C) → AllZip R (map f xs) ys → AllZip (λ x. R (f x)) xs ys
+zip_unmapped R f [] [] h = tt
+zip_unmapped R f [] (y ∷ ys) h = absurd h
+zip_unmapped R f (x ∷ xs) [] h = absurd h
+zip_unmapped R f (x ∷ xs) (y ∷ ys) h = (h.0, zip_unmapped R f xs ys h.1)
 
 pub first_of : {A : Type 0} (xs : List A) → 0 < length xs → (x : A) × (slice_get xs 0 ≡ Some x)
 first_of [] h = absurd (omega (arith, h))
@@ -136,7 +150,7 @@ zip_sums f h (x ∷ xs) (y ∷ ys) same =
     omega (arith, one, two, first, rest)
 
 -- read and instrumented
-module _ (t : FileTree) (clean : thread_faults t ≡ []) (within : limit_fault (labels_of t) 0 (thread_events t) ≡ None) (graphs others : List InlinedProgram)
+module _ (t : FileTree) (clean : thread_faults t ≡ []) (within : limit_fault (labels_of t) 0 (points_of at_threads t) ≡ None) (graphs others : List InlinedProgram)
     (read : AllZip (IsThreadInlined t) (thread_places t) graphs) (n : ℕ) (globals : n ≡ length (shared_program t).globals)
     (are : AllZip (IsInstrumented n) graphs others) where
   -- the k-th
@@ -158,7 +172,7 @@ module _ (t : FileTree) (clean : thread_faults t ≡ []) (within : limit_fault (
 
   few : sum_by points_in others ≤ greatest_points
   few =
-      let whole = few_behind (labels_of t) 0 (thread_events t) within (omega arith) in
+      let whole = few_behind (labels_of t) 0 (points_of at_threads t) within (omega arith) in
       let points = many_points t (thread_places t) in
       let same = same_sums points_in (λ place. length (sites_of (thread_program t place))) others (thread_places t) many
       (λ k h place there at.

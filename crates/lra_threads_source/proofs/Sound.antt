@@ -11,7 +11,7 @@ use Rattle.lra_threads_source.specs.Crates.lra_report_build.AnalysisResults.{acc
 use Rattle.lra_threads_source.specs.Crates.lra_resolution_spec.Threads.{thread_places, thread_program}
 use Rattle.lra_threads_source.specs.Crates.lra_threads_fixpoint.Interference.{interval_at, threads_interference}
 use Rattle.lra_threads_source.specs.Crates.{lra_base.declared.refusals.Place.Place, lra_box.Abstraction.box_abstraction, lra_box.Content.BoxContent, lra_box.declared.interval.Interval.Interval}
-use Rattle.lra_threads_source.specs.Crates.{lra_front_end.ThreadsClaims.IsThreadTree, lra_operations.Agree.IsInlinedTree, lra_operations.Agree.point_of, lra_operations.Tree.Node}
+use Rattle.lra_threads_source.specs.Crates.{lra_front_end.Claims.IsProgramTree, lra_operations.Agree.IsInlinedTree, lra_operations.Agree.point_of, lra_operations.Tree.Node}
 use Rattle.lra_threads_source.specs.Crates.{lra_program.Program.Function, lra_program.Program.Program, lra_program.ProgramViews.function_or, lra_program.Sites.Site, lra_program.Sites.sites_of}
 use Rattle.lra_threads_source.specs.Crates.{lra_report_build.Shown.shown_state, lra_resolution_spec.LiveNames.globals_named, lra_resolution_spec.Resolve.resolved_functions, lra_syntax.Labels.Labelled}
 use Rattle.lra_threads_source.specs.Crates.{lra_syntax.Labels.labels_of, lra_syntax.Trees.FileTree, lra_threads_fixpoint.Rounds.ThreadsFixpoint}
@@ -25,7 +25,7 @@ use Rattle.lra_threads_source.specs.Listed.{thread_sites, verdict_in_thread, rep
 use Rattle.lra_threads_source.specs.ThreadsReports.{BreaksThread, HoldsInInterleavings, IsPointOf, IsThreadsReportOf, IsReportedWrite, ThreadsAreSound, shared_program, thread_functions, threads_plan}
 use Rattle.lra_threads_source.specs.ThreadsText.{ThreadsReport, Writes}
 use Rattle.lra_threads_source.proofs.InTurn.{first_at, first_from, first_has, same_turn, sizes_from}
-use Rattle.lra_threads_source.proofs.{FlaggedPoints.all_end_found, FlaggedPoints.told_low, FlaggedPoints.verdict_low, Readying.zip_at, Readying.zip_long}
+use Rattle.lra_threads_source.proofs.{FlaggedPoints.all_end_found, FlaggedPoints.told_low, FlaggedPoints.verdict_low, Readying.zip_at, Readying.zip_long, Readying.zip_unmapped}
 
 -- lists --------------------------------------------------------------------------------------------------------------
 
@@ -129,10 +129,16 @@ module _ (delay narrow : ℕ) (source : List ℕ) (r : ThreadsReport) (x : IsThr
   abbrev fs : List Function
   fs = thread_functions t
 
+  abbrev IsTree : ℕ → Node → Type 0
+  IsTree place = IsProgramTree (thread_program t place)
+
+  trees : AllZip IsTree (thread_places t) x.program.operations
+  trees = zip_unmapped IsProgramTree (thread_program t) (thread_places t) x.program.operations x.program.are_graphs
+
   pub tree_at : (k : ℕ) (g : Node) → slice_get x.program.operations k ≡ Some g
       → (k < length (thread_places t)) × IsInlinedTree (thread_program t (thread_place t k)) g
   tree_at k g there =
-      let (place, at, graph) = zip_at (IsThreadTree t) (thread_places t) x.program.operations k g x.program.are_graphs there in (
+      let (place, at, graph) = zip_at IsTree (thread_places t) x.program.operations k g trees there in (
         slice_get_within (thread_places t) k place at,
         subst (λ (p : ℕ). IsInlinedTree (thread_program t p) g) (sym (get_or_from_slice_get (thread_places t) k place 0 at)) graph.0,
       )
@@ -140,7 +146,7 @@ module _ (delay narrow : ℕ) (source : List ℕ) (r : ThreadsReport) (x : IsThr
   pub many_found : length x.end.found ≡ length (thread_places t)
   many_found =
       (all_end_found thread_finding (length P.globals) (length x.program.operations) (IsThreadResultOf (threads_plan delay narrow x.constants) P x.program.operations) x.end
-      x.rounds).all ∙ sym (zip_long (IsThreadTree t) (thread_places t) x.program.operations x.program.are_graphs)
+      x.rounds).all ∙ sym (zip_long IsTree (thread_places t) x.program.operations trees)
 
   module _ (j : ℕ) (found : ThreadResult) (there : slice_get x.end.found j ≡ Some found) where
     is_found : IsThreadResultOf (threads_plan delay narrow x.constants) P x.program.operations j (threads_interference (length P.globals) j x.end.table) found

@@ -1,6 +1,7 @@
 -- What is known of the threads of a source before and after the rounds, as the report asks it.
 use Rattle.std.specs.List.{AllZip, flat_map, sum_by}
 use Rattle.std.specs.Prelude.{◌≡◌, ◌≤◌, ◌<◌, ◌+◌, ◌++◌, ◌^◌, ℕ, List, length, map, codes, All, Some, slice_get}
+use Rattle.lra_threads_source.specs.Crates.lra_resolution_spec.EntryPoint.{at_threads}
 use Rattle.lra_threads_source.specs.Crates.lra_base.AccessVerdicts.{reported_view}
 use Rattle.lra_threads_source.specs.Crates.lra_box.Abstraction.{box_abstraction}
 use Rattle.lra_threads_source.specs.Crates.lra_front_end.ThreadsStages.{IsThreadInlined}
@@ -9,7 +10,7 @@ use Rattle.lra_threads_source.specs.Crates.lra_operations.declared.tree.InlinedP
 use Rattle.lra_threads_source.specs.Crates.lra_program.ProgramViews.{program_view}
 use Rattle.lra_threads_source.specs.Crates.lra_report_build.AnalysisResults.{access_verdicts_at, verdict_at}
 use Rattle.lra_threads_source.specs.Crates.lra_resolution_spec.Refuse.{greatest_points}
-use Rattle.lra_threads_source.specs.Crates.lra_resolution_spec.RefuseThreads.{AcceptsThreads}
+use Rattle.lra_threads_source.specs.Crates.lra_resolution_spec.Refuse.{Accepts}
 use Rattle.lra_threads_source.specs.Crates.lra_resolution_spec.Threads.{thread_places, thread_program}
 use Rattle.lra_threads_source.specs.Crates.{lra_analysis_spec.Instrumented.instrumented, lra_fixpoint.Lives.AreWide}
 use Rattle.lra_threads_source.specs.Crates.{lra_front_end.Stages.HasConstants, lra_operations.TreeViews.node_view}
@@ -38,7 +39,7 @@ pub record AreThreadsInstrumented (front other : AcceptedThreads) : Type 0 where
 
 -- all that the rounds and the report take from what is read of a source
 pub record IsReadOf (source : List ℕ) (front : AcceptedThreads) : Type 0 where
-  pub accepted : AcceptsThreads Spells source (tree_view front.tree)
+  pub accepted : Accepts at_threads Spells source (tree_view front.tree)
   pub constants : HasConstants source front.constants.items
   pub program : program_view front.resolution.program
       ≡ thread_program (tree_view front.tree) front.resolution.program.main

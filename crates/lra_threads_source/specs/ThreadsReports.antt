@@ -2,8 +2,9 @@
 -- that claims of the threads beside each other. Threads and points are counted from 0 here.
 use Rattle.std.specs.List.{Contains}
 use Rattle.std.specs.Prelude.{◌≡◌, ◌<◌, ◌+◌, ℕ, suc, ℤ, List, length, map, None, Some, slice_get, IsTrue}
+use Rattle.lra_threads_source.specs.Crates.lra_resolution_spec.EntryPoint.{at_threads}
 use Rattle.lra_threads_source.specs.Crates.lra_analysis_spec.Plan.{Plan, plan_of}
-use Rattle.lra_threads_source.specs.Crates.lra_front_end.ThreadsClaims.{IsAcceptedThreads}
+use Rattle.lra_threads_source.specs.Crates.lra_front_end.Claims.{IsAccepted}
 use Rattle.lra_threads_source.specs.Crates.lra_interleavings.Interleavings.{AtThread, FailsThread, ThreadWritesValue}
 use Rattle.lra_threads_source.specs.Crates.lra_interleavings.Interleavings.{OutOfBoundsThread}
 use Rattle.lra_threads_source.specs.Crates.lra_options.OptionRows.{default_options}
@@ -52,7 +53,7 @@ shared_program t = thread_program t (thread_place t 0)
 pub record IsThreadsReportOf (delay narrow : ℕ) (source : List ℕ) (r : ThreadsReport) : Type 0 where
   pub delay_told : r.delay ≡ delay
   pub narrow_told : r.narrow ≡ narrow
-  pub program : IsAcceptedThreads source
+  pub program : IsAccepted at_threads source
   pub constants : List ℤ
   pub own : HasConstants source constants
   pub end : ThreadsFixpoint ThreadResult

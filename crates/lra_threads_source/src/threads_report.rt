@@ -2,7 +2,8 @@
 
 ghost use Rattle.std.specs.List.{AllZip};
 ghost use Rattle.std.specs.Prelude.{◌≡◌, ◌<◌, ◌+◌, ◌^◌, ℕ, List, length, IfOk};
-ghost use Rattle.lra_threads_source.specs.Crates.lra_resolution_spec.RefuseThreads.{RefuseThreads};
+ghost use Rattle.lra_threads_source.specs.Crates.lra_resolution_spec.EntryPoint.{at_threads};
+ghost use Rattle.lra_threads_source.specs.Crates.lra_resolution_spec.Refuse.{Refuse};
 ghost use Rattle.lra_threads_source.specs.Crates.{lra_base.Refused.IfRefused, lra_syntax.Grammar.Spells};
 ghost use Rattle.lra_threads_source.specs.Stages.{AreThreadsInstrumented, IsInstrumented, IsReadOf};
 ghost use Rattle.lra_threads_source.specs.ThreadsReports as threaded;
@@ -93,7 +94,7 @@ pub fn threads_source(
     requires { length bytes.now + 1 < 2 ^ 32 }
     ensures answered { IfOk result
         (λ r. IsThreadsReportOf delay narrow bytes.now (threads_report_of r)) }
-    ensures refused { IfRefused result (λ r. RefuseThreads Spells bytes.now r.cause r.place) }
+    ensures refused { IfRefused result (λ r. Refuse at_threads Spells bytes.now r.cause r.place) }
 {
     let front = read_threads(alloc, bytes)?;
     let plan = Plan::of(alloc, threads_options(delay, narrow), &front.constants)?;

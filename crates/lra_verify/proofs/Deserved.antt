@@ -1,6 +1,7 @@
 -- What an input must get, by the answer to its program and to the lines after its source.
 use Rattle.std.proofs.Common.{◌≡◌, ◌≤◌, ◌<◌, inl, inr, ℕ, List, length, Option, Some, None, Result, Ok, Err, IfOk, refl, ap, sym, ◌∙◌, subst, arith}
 use Rattle.std.proofs.lemmas.List.{length-map}
+use Rattle.lra_verify.specs.Crates.lra_resolution_spec.EntryPoint.{at_main}
 use Rattle.lra_verify.specs.Crates.lra_certificate_spec.Claims.{IsProgram, program_of, HasHead, VerifiesTo, verified, source_refused, line_refused, greatest_certificate}
 use Rattle.lra_verify.specs.Crates.lra_certificate_spec.Judged.{Head, judged, head_of, too_long, bad_line}
 use Rattle.lra_verify.specs.Crates.{lra_base.declared.refusals.Cause.Cause, lra_base.declared.refusals.Place.Place, lra_front_end.Stages.HasTree, lra_front_end.Stages.HasInlinedTree}
@@ -53,7 +54,7 @@ module _ (bytes : List ℕ) (o : Option declared.Head) (head : declared.Head) (s
   has_head : HasHead bytes (head_view head)
   has_head = (short, sym read ∙ ap (option_map head_view) some)
 
-  pub source_deserved : (cause : Cause) (place : Place) → Refuse Spells head.source.now cause place → VerifiesTo bytes (source_refused cause place)
+  pub source_deserved : (cause : Cause) (place : Place) → Refuse at_main Spells head.source.now cause place → VerifiesTo bytes (source_refused cause place)
   source_deserved cause place r = (head_view head, has_head, r)
 
   module _ (f : AcceptedSource) (tree : HasTree head.source.now (tree_view f.tree))

@@ -3,7 +3,7 @@
 use Rattle.std.proofs.Common.{◌≡◌, List, map, Some, ap}
 use Rattle.lra_front_end.specs.Crates.lra_operations.TreeViews.{node_view, site_view}
 use Rattle.lra_front_end.specs.Crates.{lra_inline_steps.Limits.refusal_of, lra_program.Program.Program, lra_program.ProgramViews.program_view, lra_program.Sites.events_of}
-use Rattle.lra_front_end.specs.Crates.{lra_resolution_spec.Refuse.limit_fault, lra_syntax.Labels.Labelled, lra_syntax.Views.tree_view}
+use Rattle.lra_front_end.specs.Crates.{lra_resolution_spec.EntryPoint.at_main, lra_resolution_spec.Refuse.limit_fault, lra_syntax.Labels.Labelled, lra_syntax.Views.tree_view}
 use Rattle.lra_front_end.proofs.StageSteps.{has_graph, exit_recursive, limit_passed, limit_refused}
 use Rattle.lra_front_end.proofs.program.inline_calls.Goals as goal
 
@@ -12,7 +12,7 @@ check_calls-requires-clause-functions c = ap (λ (P : Program). P.functions) c.r
 
 pub returns-in_err-check_calls-clause-refused : goal.returns-in_err-check_calls-clause-refused
 returns-in_err-check_calls-clause-refused c =
-    exit_recursive (tree_view c.args.tree.now) c.from_residual.result _ c.requires.clean c.from_residual.ensures.1 c.in_err-check_calls.ensures.refused
+    exit_recursive at_main (tree_view c.args.tree.now) c.from_residual.result _ c.requires.clean c.from_residual.ensures.1 c.in_err-check_calls.ensures.refused
 
 pub returns-in-Ok-clause-graph : goal.returns-in-Ok-clause-graph
 returns-in-Ok-clause-graph c =

@@ -5,9 +5,10 @@ use Rattle.std.proofs.lemmas.List.{at_drop_all, take_all, get_or_default}
 use Rattle.std.specs.List.{AllZip}
 use Rattle.lra_front_end.specs.Crates.{lra_inline_steps.Inlining.points_in, lra_operations.TreeViews.site_view, lra_program.Program.Program, lra_program.Sites.events_of, lra_program.Sites.sites_of}
 use Rattle.lra_front_end.specs.Crates.{lra_program.WellFormed.IsWellFormed, lra_resolution_spec.LabelTable.LabelLists, lra_resolution_spec.Refuse.limit_fault}
-use Rattle.lra_front_end.specs.Crates.{lra_resolution_spec.Threads.thread_program, lra_syntax.Labels.labels_of, lra_syntax.Views.tree_view}
+use Rattle.lra_front_end.specs.Crates.{lra_resolution_spec.EntryPoint.at_threads, lra_resolution_spec.Threads.thread_program, lra_syntax.Labels.labels_of, lra_syntax.Views.tree_view}
 use Rattle.lra_front_end.specs.ThreadsStages.{IsInlinedOf, IsThreadInlined}
-use Rattle.lra_front_end.proofs.ThreadSteps.{exit_recursive, placed, stays_placed, events_at, events_behind, exit_limit, each_at, next_at, more_points, zip_more}
+use Rattle.lra_front_end.proofs.StageSteps.{exit_recursive}
+use Rattle.lra_front_end.proofs.ThreadSteps.{placed, stays_placed, events_at, events_behind, exit_limit, each_at, next_at, more_points, zip_more}
 use Rattle.lra_front_end.proofs.threads.inline_threads.Goals as goal
 
 pub check_calls-requires-clause-functions : goal.check_calls-requires-clause-functions
@@ -15,7 +16,7 @@ check_calls-requires-clause-functions c = ap (λ (P : Program). P.functions) c.r
 
 pub returns-in_err-check_calls-clause-refused : goal.returns-in_err-check_calls-clause-refused
 returns-in_err-check_calls-clause-refused c =
-    exit_recursive (tree_view c.args.tree.now) c.from_residual.result _ c.requires.clean c.from_residual.ensures.1 c.in_err-check_calls.ensures.refused
+    exit_recursive at_threads (tree_view c.args.tree.now) c.from_residual.result _ c.requires.clean c.from_residual.ensures.1 c.in_err-check_calls.ensures.refused
 
 pub threads-init : goal.threads-init
 threads-init c =
