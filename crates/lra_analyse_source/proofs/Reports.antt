@@ -233,7 +233,8 @@ module _ {V H : Type 0} (m : Abstraction V H) (laws : Laws m) (shown : V → Inv
             (subst (λ (d : Domain). AllByRecursion (ShowsPart d (length p.names)) (shown v)) (sym same) (subst (λ (n : ℕ). AllByRecursion (ShowsPart settings.domain n) (shown v)) named one.tell));
       }
 
-  pub is_report : (o : Options) (source : List ℕ) → o.domain ≡ settings.domain → 1 ≤ settings.parts → settings.parts ≤ o.parts → r.options ≡ o → Accepts at_main Spells source t → IsReportOf Spells o source r
+  pub is_report : (o : Options) (source : List ℕ) → o.domain ≡ settings.domain → 1 ≤ settings.parts → settings.parts ≤ o.parts → r.options ≡ o → Accepts at_main Spells source t
+      → IsReportOf Spells o source r
   is_report o source same some room options accepted = record {
     options = options;
     tree = t;

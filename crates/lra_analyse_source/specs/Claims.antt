@@ -38,7 +38,8 @@ AnalysedAreReports {V} m = (shown : V → Invariant) (o : Options) (settings : O
     (source : List ℕ) (t : FileTree) (r : Report)
     → (x : ReportsIteration m shown settings constants (resolve t) r)
     → o.domain ≡ settings.domain → 1 ≤ settings.parts → settings.parts ≤ o.parts
-    → Agrees (resolve t) x.tree → Lists t r → r.options ≡ o → Accepts at_main Spells source t → IsReportOf Spells o source r
+    → Agrees (resolve t) x.tree → Lists t r → r.options ≡ o → Accepts at_main Spells source t →
+    IsReportOf Spells o source r
 
 -- two answers without a flag to one source under one list of options are the same report
 abbrev pub OneUnflaggedReport : Type 0

@@ -102,7 +102,8 @@ pub data VerifyAnswer : Type 0 where
 -- what an input must get: exactly one answer, in this order
 abbrev pub VerifiesTo : List ℕ → VerifyAnswer → Type 0
 VerifiesTo bytes (verified points proved) = IsVerified bytes points proved
-VerifiesTo bytes (source_refused cause place) = (h : Head) × HasHead bytes h × Refuse at_main Spells h.source cause place
+VerifiesTo bytes (source_refused cause place) =
+    (h : Head) × HasHead bytes h × Refuse at_main Spells h.source cause place
 VerifiesTo bytes (paths_refused p) = (h : Head) × HasHead bytes h × (x : IsProgram h.source)
     × HasTooManyPaths (program_of x) x.operations p
 VerifiesTo bytes (line_refused r) =

@@ -44,12 +44,14 @@ longer_refused entry bytes rest _ _ long (bad_tree tokens t c p l lexed is e) = 
 -- answers -------------------------------------------------------------------------
 
 -- a source that is refused must get its refusal's text
-pub deserves_refusal : (entry : EntryPoint) (Tells : List ℕ → List ℕ → Status → Type 0) (bytes text : List ℕ) (c : Cause) (at : Place) (status : Status) → Refuse entry Spells bytes c at → text ≡ refusal_text c at
+pub deserves_refusal : (entry : EntryPoint) (Tells : List ℕ → List ℕ → Status → Type 0) (bytes text : List ℕ) (c : Cause) (at : Place) (status : Status)
+    → Refuse entry Spells bytes c at → text ≡ refusal_text c at
     → status ≡ Refused → AnswersSourceWith entry Tells bytes text status
 deserves_refusal entry Tells bytes text c at status why written is = inl (record { cause = c; place = at; refused = why; written = written }, is)
 
 module _ {entry : EntryPoint} {Tells : List ℕ → List ℕ → Status → Type 0} {told : List Status} (t : IsTelling entry Tells told) where
-  longer_told : (bytes rest text : List ℕ) (status : Status) → greatest_length < length bytes → AnswersSourceWith entry Tells bytes text status → AnswersSourceWith entry Tells (bytes ++ rest) text status
+  longer_told : (bytes rest text : List ℕ) (status : Status) → greatest_length < length bytes → AnswersSourceWith entry Tells bytes text status
+      → AnswersSourceWith entry Tells (bytes ++ rest) text status
   longer_told bytes rest text status long (inl (d, is)) =
       inl (record { cause = d.cause; place = d.place; refused = longer_refused entry bytes rest d.cause d.place long d.refused; written = d.written }, is)
   longer_told bytes rest text status long (inr d) = absurd (let (tree, accepted) = t.accepted bytes text status d in not_past bytes long accepted.not_long)

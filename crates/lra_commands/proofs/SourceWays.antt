@@ -27,7 +27,8 @@ pub deserves_report : (o : Options) (write : Report → List ℕ) (bytes : List 
 deserves_report o write bytes r text status answered written counted = inr (record { report = r; answered = answered; written = written; counted = counted })
 
 -- a source that is refused must get the refusal's
-pub deserves_refusal : (o : Options) (write : Report → List ℕ) (bytes text : List ℕ) (c : Cause) (at : Place) (status : Status) → Refuse at_main Spells bytes c at → text ≡ refusal_text c at → status ≡ Refused
+pub deserves_refusal : (o : Options) (write : Report → List ℕ) (bytes text : List ℕ) (c : Cause) (at : Place) (status : Status) → Refuse at_main Spells bytes c at
+    → text ≡ refusal_text c at → status ≡ Refused
     → AnswersSource o write bytes text status
 deserves_refusal o write = told.deserves_refusal at_main (IsReport o write)
 

@@ -17,4 +17,5 @@ pub record IsThreadsAnswer (delay narrow : ℕ) (bytes text : List ℕ) (status 
 
 -- the text and the status that a source's bytes must get
 abbrev pub AnswersThreads : ℕ → ℕ → List ℕ → List ℕ → Status → Type 0
-AnswersThreads delay narrow bytes text status = AnswersSourceWith at_threads (IsThreadsAnswer delay narrow) bytes text status
+AnswersThreads delay narrow bytes text status =
+    AnswersSourceWith at_threads (IsThreadsAnswer delay narrow) bytes text status

@@ -25,7 +25,8 @@ inner_tokens xs = tokens_of (reading [] xs)
 abbrev pub all_tokens : List ℕ → List ExternalDeclaration → Text
 all_tokens source xs = inner_tokens xs ++ end_token source ∷ []
 
-pub refused : (entry : EntryPoint) (source : List ℕ) (xs : List ExternalDeclaration) (t : FileTree) (c : Cause) (p : Place) → source ≡ written xs → is_written [] xs ≡ true → length source ≤ greatest_length
+pub refused : (entry : EntryPoint) (source : List ℕ) (xs : List ExternalDeclaration) (t : FileTree) (c : Cause) (p : Place)
+    → source ≡ written xs → is_written [] xs ≡ true → length source ≤ greatest_length
     → all_inner (inner_tokens xs) ≡ true → file_at 63 (all_tokens source xs) ≡ Ok (t, []) → RefusesTree entry t c p → Refuse entry Spells source c p
 refused entry source xs t c p is so few inner parsed refuses =
     bad_tree (all_tokens source xs) t c p few (all_lexed source xs is (are_read_by [] xs so))

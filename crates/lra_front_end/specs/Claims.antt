@@ -1,5 +1,5 @@
--- What each source must get, wherever its runs begin: its one refusal, or its tree with a tree of operations for each of
--- its programs.
+-- What each source must get, wherever its runs begin: its one refusal, or its tree with a tree of operations for each
+-- of its programs.
 use Rattle.std.specs.{List.AllZip, Prelude.◌≡◌, Prelude.◌≤◌, Prelude.◌⊎◌, Prelude.ℕ, Prelude.List, Prelude.slice_get}
 use Rattle.std.specs.Prelude.{Some}
 use Rattle.lra_base.specs.{declared.refusals.Cause.Cause, declared.refusals.Place.Place}

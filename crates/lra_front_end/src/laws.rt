@@ -19,8 +19,8 @@ pub fn one_constants()
     lra_lex::one_reading();
 }
 
-/// Wherever its runs begin, every list of bytes is refused, one of more than 65,536 bytes for that, or accepted with its
-/// tree and a tree of operations for each of its programs; never both.
+/// Wherever its runs begin, every list of bytes is refused, one of more than 65,536 bytes for that, or accepted with
+/// its tree and a tree of operations for each of its programs; never both.
 pub fn each_answer()
     ensures { EachAnswer }
 {
