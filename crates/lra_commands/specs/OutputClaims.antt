@@ -23,7 +23,7 @@ use Rattle.lra_commands.specs.Crates.{lra_domain.Abstraction.Abstraction, lra_fr
 use Rattle.lra_commands.specs.Crates.{lra_operations.Tree.Node, lra_options.declared.options.Domain.TheVariants.Poly}
 use Rattle.lra_commands.specs.Crates.{lra_options.declared.options.Options.Options, lra_program.Program.Program}
 use Rattle.lra_commands.specs.Crates.{lra_program.Run.At, lra_program.Run.Fails, lra_report_build.Shown.AreShown}
-use Rattle.lra_commands.specs.Crates.{lra_resolution_spec.Refuse.Accepts, lra_resolution_spec.Resolve.resolve}
+use Rattle.lra_commands.specs.Crates.lra_resolution_spec.Resolve.{resolve}
 use Rattle.lra_commands.specs.Crates.{lra_syntax.Grammar.Spells, lra_syntax.Trees.FileTree}
 use Rattle.lra_report.specs.BackText.{BackReport, back_text}
 use Rattle.lra_report.specs.Report.{HasSamePointsAt, Invariant, PointReport, Report, IsRight, IsSound}

@@ -8,7 +8,7 @@ use Rattle.lra_threads_source.proofs.Crates.lra_front_end.Faultless.{none_right}
 use Rattle.lra_threads_source.proofs.Crates.lra_threads_instrument.InstrumentedTrees.{asks_opened, fits_of, numbered_of, points_of}
 use Rattle.lra_threads_source.specs.Crates.lra_program.Sites.{Event, Site, comes, events_of, one_call_more, event_sites, sites_of}
 use Rattle.lra_threads_source.specs.Crates.lra_resolution_spec.Refuse.{greatest_points, limit_fault}
-use Rattle.lra_threads_source.specs.Crates.lra_resolution_spec.EntryPoint.{at_threads, points_of}
+use Rattle.lra_threads_source.specs.Crates.lra_resolution_spec.EntryPoint.{at_threads, points_of as all_points}
 use Rattle.lra_threads_source.specs.Crates.lra_resolution_spec.Threads.{has_thread, thread_faults, thread_name, thread_places, thread_places_from, thread_program}
 use Rattle.lra_threads_source.specs.Crates.{lra_analysis_spec.Instrumented.instrumented, lra_analysis_spec.LiveLimit.most_live, lra_analysis_spec.Plan.Plan, lra_base.declared.refusals.Refusal.Refusal}
 use Rattle.lra_threads_source.specs.Crates.{lra_fixpoint.Lives.PointsHave, lra_fixpoint.Numbers.IsNumbered, lra_front_end.ThreadsStages.IsInlinedOf, lra_front_end.ThreadsStages.IsThreadInlined}
@@ -150,7 +150,7 @@ zip_sums f h (x ∷ xs) (y ∷ ys) same =
     omega (arith, one, two, first, rest)
 
 -- read and instrumented
-module _ (t : FileTree) (clean : thread_faults t ≡ []) (within : limit_fault (labels_of t) 0 (points_of at_threads t) ≡ None) (graphs others : List InlinedProgram)
+module _ (t : FileTree) (clean : thread_faults t ≡ []) (within : limit_fault (labels_of t) 0 (all_points at_threads t) ≡ None) (graphs others : List InlinedProgram)
     (read : AllZip (IsThreadInlined t) (thread_places t) graphs) (n : ℕ) (globals : n ≡ length (shared_program t).globals)
     (are : AllZip (IsInstrumented n) graphs others) where
   -- the k-th
@@ -172,7 +172,7 @@ module _ (t : FileTree) (clean : thread_faults t ≡ []) (within : limit_fault (
 
   few : sum_by points_in others ≤ greatest_points
   few =
-      let whole = few_behind (labels_of t) 0 (points_of at_threads t) within (omega arith) in
+      let whole = few_behind (labels_of t) 0 (all_points at_threads t) within (omega arith) in
       let points = many_points t (thread_places t) in
       let same = same_sums points_in (λ place. length (sites_of (thread_program t place))) others (thread_places t) many
       (λ k h place there at.
