@@ -1,17 +1,17 @@
 -- From what a source must get that is to be certified to what is claimed of its certificate.
 use Rattle.std.proofs.Common.{◌≡◌, ◌∙◌, ◌≤◌, ℕ, suc, List, [], ◌∷◌, length, refl, ap, sym, inl, inr}
 use Rattle.std.proofs.lemmas.List.{length-map}
-use Rattle.std.specs.{Io.KnownBytes.Appends, Prelude.Option}
+use Rattle.std.specs.Io.KnownBytes.{Appends}
 use Rattle.lra_commands.specs.Crates.lra_certificate_spec.Certificates.{ListedAssertion, AreStates}
 use Rattle.lra_commands.specs.Crates.lra_certificate_spec.Claims.{program_of, verified, greatest_certificate}
 use Rattle.lra_commands.specs.Crates.{lra_certificate_spec.Judged.RowsAtPoint, lra_program.Sites.Site, lra_program.Sites.sites_of}
 use Rattle.lra_certify_source.specs.{Certified.IsCertificateWith, Settings.certify_options}
 use Rattle.lra_certify_source.proofs.Written.{certificates}
 use Rattle.lra_command_line.specs.{ParsedCommand.Asks, declared.commands.Command.TheVariants.Plain, declared.commands.PlainCommand.TheVariants.Certify}
-use Rattle.lra_command_answers.specs.{Statuses.Ends, Statuses.reported, declared.status.Status.Status, declared.status.Status.TheVariants.Proved, declared.status.Status.TheVariants.Refused}
+use Rattle.lra_command_answers.specs.{Statuses.Ends, Statuses.reported, declared.status.Status.Status, declared.status.Status.TheVariants.Proved}
 use Rattle.lra_commands.specs.CertificateAnswer.{verified_text, AnswersCertificate}
-use Rattle.lra_commands.specs.{CertifyAnswer.IsCertifyAnswer, CertifyAnswer.AnswersCertify, OutputClaims.WritesCertificate, Run.IsInput, Run.WritesAnswer}
-use Rattle.lra_commands.proofs.{Headline.holds, Headline.is_written, Headline.same_points, Headline.tells_accesses, Headline.tells_fits, Ways.asked_input}
+use Rattle.lra_commands.specs.{CertifyAnswer.IsCertifyAnswer, CertifyAnswer.AnswersCertify, OutputClaims.WritesCertificate, Run.IsInput, Run.WritesAnswer, World.World}
+use Rattle.lra_commands.proofs.{Headline.claims, Headline.not_refused, Ways.asked_input}
 
 -- a state for each point
 states_many : (sites : List Site) (states : List RowsAtPoint) → AreStates sites states → length states ≡ length sites
@@ -36,20 +36,15 @@ accepted source states proved text c short = record {
   ends = refl;
 }
 
-of_certified : (left held_old held_new : Option (List ℕ)) (bytes text : List ℕ) (status : Status) → IsInput left bytes → IsCertifyAnswer bytes text status
-    → Appends held_old held_new text → WritesCertificate left held_old held_new status
-of_certified left held_old held_new bytes text status input d written =
+of_certified : (w : World) (bytes text : List ℕ) (status : Status) → IsInput w.left bytes → IsCertifyAnswer bytes text status → Appends w.held w.held_now text
+    → WritesCertificate w status
+of_certified w bytes text status input d written =
     let meets = certificates bytes d.report text d.certificate in
     record {
       bytes = bytes;
       input = input;
       report = d.report;
-      answers = d.answered;
-      holds = holds certify_options bytes d.report d.answered;
-      written_iteration = is_written certify_options bytes d.report d.answered;
-      fits = tells_fits certify_options bytes d.report d.answered;
-      accesses = tells_accesses certify_options bytes d.report d.answered;
-      same_points = same_points certify_options bytes d.report d.answered;
+      claims = claims certify_options bytes d.report d.answered;
       counted = d.counted;
       text = text;
       certificate = d.certificate;
@@ -58,18 +53,11 @@ of_certified left held_old held_new bytes text status input d written =
       written = written;
     }
 
-pub not_refused : (status : Status) → status ≡ Refused → Ends reported status → ⊥
-not_refused status is (inl proved) = cc
-not_refused status is (inr (inl unknown)) = cc
-not_refused status is (inr (inr none)) = none
+of_answer : (w : World) (bytes text : List ℕ) (status : Status) → IsInput w.left bytes → Ends reported status
+    → AnswersCertify bytes text status → Appends w.held w.held_now text → WritesCertificate w status
+of_answer w bytes text status input ends (inl (d, is)) written = absurd (not_refused status is ends)
+of_answer w bytes text status input ends (inr d) written = of_certified w bytes text status input d written
 
-of_answer : (left held_old held_new : Option (List ℕ)) (bytes text : List ℕ) (status : Status) → IsInput left bytes → Ends reported status
-    → AnswersCertify bytes text status → Appends held_old held_new text → WritesCertificate left held_old held_new status
-of_answer left held_old held_new bytes text status input ends (inl (d, is)) written = absurd (not_refused status is ends)
-of_answer left held_old held_new bytes text status input ends (inr d) written = of_certified left held_old held_new bytes text status input d written
-
-pub writes_certificate : (words : List (List ℕ)) (left held_old held_new : Option (List ℕ)) (status : Status) → Asks words (Plain Certify)
-    → Ends reported status → WritesAnswer words left held_old held_new status → WritesCertificate left held_old held_new status
-writes_certificate words left held_old held_new status asks ends w =
-    of_answer left held_old held_new w.answers.bytes w.text status w.answers.input ends
-    (asked_input words left w.text status (Plain Certify) asks w.answers) w.written
+pub writes_certificate : (w : World) (status : Status) → Asks w.words (Plain Certify) → Ends reported status → WritesAnswer w status → WritesCertificate w status
+writes_certificate w status asks ends a =
+    of_answer w a.answers.bytes a.text status a.answers.input ends (asked_input w.words w.left a.text status (Plain Certify) asks a.answers) a.written

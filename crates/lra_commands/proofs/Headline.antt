@@ -1,6 +1,6 @@
 -- From what a source must get to what is claimed of its report.
-use Rattle.std.proofs.Common.{◌≡◌, ◌∙◌, ℕ, ℤ, List, [], ◌∷◌, length, map, Bool, true, false, ap, refl, sym, subst, inl, inr}
-use Rattle.std.specs.{Io.KnownBytes.Appends, List.AllByRecursion, Prelude.IsTrue, Prelude.Option, Prelude.None, Prelude.Some}
+use Rattle.std.proofs.Common.{◌≡◌, ◌∙◌, ℕ, ℤ, List, [], ◌∷◌, length, map, Bool, true, false, ap, sym, subst, inl, inr}
+use Rattle.std.specs.{Io.KnownBytes.Appends, List.AllByRecursion, Prelude.IsTrue, Prelude.Option, Prelude.None}
 use Rattle.lra_base.specs.declared.refusals.Place.{Place}
 use Rattle.lra_commands.specs.Crates.lra_report_build.AnalysisResults.{reported_all, reported_of}
 use Rattle.lra_commands.specs.Crates.{lra_analyse_source.AnalysisReport.ReportsIteration, lra_analyse_source.SourceReports.IsAnalysisReport, lra_analysis_spec.Analysis.IsSolution}
@@ -15,10 +15,10 @@ use Rattle.lra_sample.specs.{Sample.sample_source, Summary.summary_text}
 use Rattle.lra_command_line.specs.ParsedCommand.{Asks, default_options}
 use Rattle.lra_command_line.specs.{declared.commands.Command.TheVariants.Analyse, declared.commands.Command.TheVariants.Sample, declared.commands.Format.Format}
 use Rattle.lra_command_answers.specs.{Statuses.Ends, Statuses.reported, declared.status.Status.Status, declared.status.Status.TheVariants.Refused}
-use Rattle.lra_commands.specs.OutputClaims.{WritesReport, IsNeverReached, HoldsInAllRuns, ReportsWritten, IsWrittenUnlessFlagged, ReportsAccessing, ReportsAccesses, ReportsFitting, ReportsFits}
-use Rattle.lra_commands.specs.OutputClaims.{ReportsSamePoints, WritesSummary}
+use Rattle.lra_commands.specs.OutputClaims.{ReportClaims, WritesReport, IsNeverReached, HoldsInAllRuns, ReportsWritten, IsWrittenUnlessFlagged, ReportsAccessing, ReportsAccesses}
+use Rattle.lra_commands.specs.OutputClaims.{ReportsFitting, ReportsFits, ReportsSamePoints, WritesSummary}
 use Rattle.lra_report.specs.Report.{HasSamePointsAt}
-use Rattle.lra_commands.specs.{Run.IsInput, Run.WritesAnswer, SourceAnswer.AnswersSource, SourceAnswer.written_report}
+use Rattle.lra_commands.specs.{Run.WritesAnswer, SourceAnswer.AnswersSource, SourceAnswer.IsReport, SourceAnswer.written_report, World.World}
 use Rattle.lra_commands.proofs.Ways.{asked_input}
 
 -- invariants ----------------------------------------------------------------------
@@ -30,7 +30,7 @@ all_unreached : (P : Program) (ps : List PointReport) → AllByRecursion (IsInva
 all_unreached P [] h = tt
 all_unreached P (p ∷ ps) h = (never_reached P p h.0, all_unreached P ps h.1)
 
-pub holds : (o : Options) (bytes : List ℕ) (r : Report) → IsAnalysisReport o bytes r → HoldsInAllRuns bytes r
+holds : (o : Options) (bytes : List ℕ) (r : Report) → IsAnalysisReport o bytes r → HoldsInAllRuns bytes r
 holds o bytes r a = record {
   tree = a.report.tree;
   accepted = a.report.accepted;
@@ -64,7 +64,7 @@ tells_written m shown o constants P r free x =
       proved = x.proved;
     }
 
-pub is_written : (o : Options) (bytes : List ℕ) (r : Report) → IsAnalysisReport o bytes r → IsWrittenUnlessFlagged o bytes r
+is_written : (o : Options) (bytes : List ℕ) (r : Report) → IsAnalysisReport o bytes r → IsWrittenUnlessFlagged o bytes r
 is_written o bytes r a = record {
   tree = a.report.tree;
   accepted = a.report.accepted;
@@ -96,7 +96,7 @@ tells_accessing m shown o constants P r x = record {
   flag = x.flag;
 }
 
-pub tells_accesses : (o : Options) (bytes : List ℕ) (r : Report) → IsAnalysisReport o bytes r → ReportsAccesses o bytes r
+tells_accesses : (o : Options) (bytes : List ℕ) (r : Report) → IsAnalysisReport o bytes r → ReportsAccesses o bytes r
 tells_accesses o bytes r a = record {
   tree = a.report.tree;
   accepted = a.report.accepted;
@@ -140,7 +140,7 @@ silent_so m shown o constants P r never x =
     let none = judges_none m o.fits x.tree x.values x.flagged x.fitting x.overflow_flag never x.judged in
     (x.verdicts, x.inside, x.proved ∙ ap (λ (f : List (ℕ × Bool)). reported_all x.verdicts f x.inside) none)
 
-pub tells_fits : (o : Options) (bytes : List ℕ) (r : Report) → IsAnalysisReport o bytes r → ReportsFits o bytes r
+tells_fits : (o : Options) (bytes : List ℕ) (r : Report) → IsAnalysisReport o bytes r → ReportsFits o bytes r
 tells_fits o bytes r a = record {
   tree = a.report.tree;
   accepted = a.report.accepted;
@@ -163,45 +163,54 @@ same_at o (p ∷ ps) is h = (
   same_at o ps is h.1,
 )
 
-pub same_points : (o : Options) (bytes : List ℕ) (r : Report) → IsAnalysisReport o bytes r → ReportsSamePoints o bytes r
+same_points : (o : Options) (bytes : List ℕ) (r : Report) → IsAnalysisReport o bytes r → ReportsSamePoints o bytes r
 same_points o bytes r a is = same_at o r.points is a.report.parts
 
 -- what is written -----------------------------------------------------------------
 
-module _ (so : List ℕ → Report → Type 0) (left held_old held_new : Option (List ℕ)) (options : Options) (write : Report → List ℕ)
-    (claimed : (bytes : List ℕ) (r : Report) → IsAnalysisReport options bytes r → so bytes r) where
-  not_refused : (status : Status) → status ≡ Refused → Ends reported status → ⊥
-  not_refused status is (inl proved) = cc
-  not_refused status is (inr (inl unknown)) = cc
-  not_refused status is (inr (inr none)) = none
+pub claims : (o : Options) (bytes : List ℕ) (r : Report) → IsAnalysisReport o bytes r → ReportClaims o bytes r
+claims o bytes r a = record {
+  answers = a;
+  holds = holds o bytes r a;
+  is_written = is_written o bytes r a;
+  fits = tells_fits o bytes r a;
+  accesses = tells_accesses o bytes r a;
+  same_points = same_points o bytes r a;
+}
 
-  of_answer : (bytes text : List ℕ) (status : Status) → Ends reported status → IsInput left bytes → AnswersSource options write bytes text status → Appends held_old held_new text
-      → WritesReport options write so left held_old held_new
-  of_answer bytes text status ends input (inl (d, is)) written = absurd (not_refused status is ends)
-  of_answer bytes text status ends input (inr r) written = record {
-    bytes = bytes;
-    input = input;
-    report = r.report;
-    answers = r.answered;
-    written = subst (Appends held_old held_new) r.written written;
-    is_so = claimed bytes r.report r.answered;
-  }
+pub not_refused : (status : Status) → status ≡ Refused → Ends reported status → ⊥
+not_refused status is (inl proved) = cc
+not_refused status is (inr (inl unknown)) = cc
+not_refused status is (inr (inr none)) = none
 
-pub writes_report : (so : List ℕ → Report → Type 0) (words : List (List ℕ)) (left held_old held_new : Option (List ℕ)) (options : Options) (format : Format)
-    → ((bytes : List ℕ) (r : Report) → IsAnalysisReport options bytes r → so bytes r) → (status : Status)
-    → Asks words (Analyse options format) → Ends reported status → WritesAnswer words left held_old held_new status
-    → WritesReport options (written_report format) so left held_old held_new
-writes_report so words left held_old held_new options format claimed status asks ends w =
-    of_answer so left held_old held_new options (written_report format) claimed w.answers.bytes w.text status ends w.answers.input
-    (asked_input words left w.text status (Analyse options format) asks w.answers) w.written
+-- a source that isn't refused gets a report
+source_reported : (options : Options) (write : Report → List ℕ) (bytes text : List ℕ) (status : Status) → Ends reported status → AnswersSource options write bytes text status
+    → IsReport options write bytes text status
+source_reported options write bytes text status ends (inl (d, is)) = absurd (not_refused status is ends)
+source_reported options write bytes text status ends (inr r) = r
 
-all_held : (bytes : List ℕ) (r : Report) → IsAnalysisReport default_options bytes r →
-    HoldsInAllRuns bytes r × IsWrittenUnlessFlagged default_options bytes r × ReportsSamePoints default_options bytes r
-all_held bytes r a = (holds default_options bytes r a, is_written default_options bytes r a, same_points default_options bytes r a)
+pub writes_report : (w : World) (options : Options) (format : Format) (status : Status) → Asks w.words (Analyse options format) → Ends reported status → WritesAnswer w status
+    → WritesReport options format w status
+writes_report w options format status asks ends a =
+    let answer : AnswersSource options (written_report format) a.answers.bytes a.text status = asked_input w.words w.left a.text status (Analyse options format) asks a.answers in
+    let r = source_reported options (written_report format) a.answers.bytes a.text status ends answer in
+    record {
+      bytes = a.answers.bytes;
+      input = a.answers.input;
+      report = r.report;
+      claims = claims options a.answers.bytes r.report r.answered;
+      counted = r.counted;
+      written = subst (Appends w.held w.held_now) r.written a.written;
+    }
 
-pub writes_summary : (words : List (List ℕ)) (left held_old held_new : Option (List ℕ)) (seed size : ℕ) (status : Status)
-    → Asks words (Sample seed size) → Ends reported status → WritesAnswer words left held_old held_new status
-    → WritesSummary seed size held_old held_new
-writes_summary words left held_old held_new seed size status asks ends w =
-    of_answer _ (Some (sample_source seed size)) held_old held_new default_options (summary_text seed size) all_held (sample_source seed size) w.text status ends refl
-    (asked_input words left w.text status (Sample seed size) asks w.answers) w.written
+pub writes_summary : (w : World) (seed size : ℕ) (status : Status) → Asks w.words (Sample seed size) → Ends reported status → WritesAnswer w status
+    → WritesSummary seed size w status
+writes_summary w seed size status asks ends a =
+    let answer : AnswersSource default_options (summary_text seed size) (sample_source seed size) a.text status = asked_input w.words w.left a.text status (Sample seed size) asks a.answers in
+    let r = source_reported default_options (summary_text seed size) (sample_source seed size) a.text status ends answer in
+    record {
+      report = r.report;
+      claims = claims default_options (sample_source seed size) r.report r.answered;
+      counted = r.counted;
+      written = subst (Appends w.held w.held_now) r.written a.written;
+    }

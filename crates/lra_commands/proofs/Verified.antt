@@ -8,7 +8,7 @@ use Rattle.lra_commands.specs.Crates.{lra_linear_spec.Descriptions.LinearRow, lr
 use Rattle.lra_commands.proofs.Crates.{lra_certificate_spec.CertificatesHold.certificates_hold, lra_certificate_spec.OneProgram.accepted_of}
 use Rattle.lra_command_line.specs.{ParsedCommand.Asks, declared.commands.Command.TheVariants.Plain, declared.commands.PlainCommand.TheVariants.Verify}
 use Rattle.lra_commands.specs.CertificateAnswer.{AnswersCertificate, verify_answer_text, answer_status, verified_text}
-use Rattle.lra_commands.specs.{OutputClaims.IsVerifiedInAllRuns, OutputClaims.WritesVerified, Run.IsInput, Run.WritesAnswer}
+use Rattle.lra_commands.specs.{OutputClaims.IsVerifiedInAllRuns, OutputClaims.WritesVerified, Run.IsInput, Run.WritesAnswer, World.World}
 use Rattle.lra_commands.proofs.Ways.{asked_input}
 use Rattle.lra_command_answers.specs.{declared.status.Status.Status, declared.status.Status.TheVariants.Proved}
 
@@ -29,29 +29,27 @@ module _ (P : Program) (c : Certificate) (h : RowsHold P c) where
 
 -- what is written -----------------------------------------------------------------------
 
-writes : (left held_old held_new : Option (List ℕ)) (bytes : List ℕ) (points proved : ℕ) → IsInput left bytes → IsVerified bytes points proved
-    → Appends held_old held_new (verified_text points proved) → WritesVerified left held_old held_new
-writes left held_old held_new bytes points proved input v written =
-    let texts = subst (λ n. Appends held_old held_new (verified_text n proved)) v.points_are written in
+writes : (w : World) (bytes : List ℕ) (points proved : ℕ) → IsInput w.left bytes → IsVerified bytes points proved
+    → Appends w.held w.held_now (verified_text points proved) → WritesVerified w
+writes w bytes points proved input v written =
+    let texts = subst (λ n. Appends w.held w.held_now (verified_text n proved)) v.points_are written in
     record {
       bytes = bytes;
       input = input;
       is = v.is;
       accepted = accepted_of v.is.certificate.source v.is.program;
       holds = verified_in_runs (resolve v.is.program.tree) v.is.certificate (certificates_hold bytes v.is);
-      written = subst (λ n. Appends held_old held_new (verified_text (length (sites_of (resolve v.is.program.tree))) n)) v.proved_are texts;
+      written = subst (λ n. Appends w.held w.held_now (verified_text (length (sites_of (resolve v.is.program.tree))) n)) v.proved_are texts;
     }
 
-of_answer : (left held_old held_new : Option (List ℕ)) (bytes : List ℕ) (a : VerifyAnswer) → IsInput left bytes → answer_status a ≡ Proved → VerifiesTo bytes a
-    → Appends held_old held_new (verify_answer_text a) → WritesVerified left held_old held_new
-of_answer left held_old held_new bytes (verified points proved) input is d written = writes left held_old held_new bytes points proved input d written
-of_answer left held_old held_new bytes (source_refused cause place) input is d written = absurd (let wrong : ⊥ = cc in wrong)
-of_answer left held_old held_new bytes (paths_refused p) input is d written = absurd (let wrong : ⊥ = cc in wrong)
-of_answer left held_old held_new bytes (line_refused r) input is d written = absurd (let wrong : ⊥ = cc in wrong)
+of_answer : (w : World) (bytes : List ℕ) (a : VerifyAnswer) → IsInput w.left bytes → answer_status a ≡ Proved → VerifiesTo bytes a
+    → Appends w.held w.held_now (verify_answer_text a) → WritesVerified w
+of_answer w bytes (verified points proved) input is d written = writes w bytes points proved input d written
+of_answer w bytes (source_refused cause place) input is d written = absurd (let wrong : ⊥ = cc in wrong)
+of_answer w bytes (paths_refused p) input is d written = absurd (let wrong : ⊥ = cc in wrong)
+of_answer w bytes (line_refused r) input is d written = absurd (let wrong : ⊥ = cc in wrong)
 
-pub writes_verified : (words : List (List ℕ)) (left held_old held_new : Option (List ℕ)) (status : Status) → Asks words (Plain Verify) → status ≡ Proved
-    → WritesAnswer words left held_old held_new status → WritesVerified left held_old held_new
-writes_verified words left held_old held_new status asks is w =
-    let d : AnswersCertificate w.answers.bytes w.text status = asked_input words left w.text status (Plain Verify) asks w.answers in
-    of_answer left held_old held_new w.answers.bytes d.answer w.answers.input (sym d.ends ∙ is) d.answers
-    (subst (Appends held_old held_new) d.written w.written)
+pub writes_verified : (w : World) (status : Status) → Asks w.words (Plain Verify) → status ≡ Proved → WritesAnswer w status → WritesVerified w
+writes_verified w status asks is a =
+    let d : AnswersCertificate a.answers.bytes a.text status = asked_input w.words w.left a.text status (Plain Verify) asks a.answers in
+    of_answer w a.answers.bytes d.answer a.answers.input (sym d.ends ∙ is) d.answers (subst (Appends w.held w.held_now) d.written a.written)

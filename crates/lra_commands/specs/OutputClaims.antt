@@ -36,21 +36,11 @@ use Rattle.lra_back_source.specs.BackReports.{StrainsAt}
 use Rattle.lra_threads_source.specs.ThreadsReports.{AreDefinedThreads, HoldsInInterleavings, IsThreadsReportOf}
 use Rattle.lra_threads_source.specs.ThreadsReports.{StrainsAtNumber, shared_program, threads_plan}
 use Rattle.lra_threads_source.specs.ThreadsText.{ThreadsReport, threads_text}
-use Rattle.lra_command_line.specs.ParsedCommand.{default_options}
+use Rattle.lra_command_line.specs.{ParsedCommand.default_options, declared.commands.Format.Format}
 use Rattle.lra_command_answers.specs.{declared.status.Status.Status, declared.status.Status.TheVariants.Proved}
 use Rattle.lra_commands.specs.CertificateAnswer.{verified_text, AnswersCertificate}
 use Rattle.lra_commands.specs.{BackAnswer.back_status, Run.IsInput, SourceAnswer.report_status}
-
--- What `write` makes of a report that the input must get under the options is written whole, and so it is with the
--- input's bytes and this report.
-pub record WritesReport (o : Options) (write : Report → List ℕ) (so : List ℕ → Report → Type 0)
-    (left held_old held_new : Option (List ℕ)) : Type 0 where
-  pub bytes : List ℕ
-  pub input : IsInput left bytes
-  pub report : Report
-  pub answers : IsAnalysisReport o bytes report
-  pub written : Appends held_old held_new (write report)
-  pub is_so : so bytes report
+use Rattle.lra_commands.specs.{SourceAnswer.written_report, World.World}
 
 -- no run reaches a point that is shown as unreachable
 abbrev pub IsNeverReached : Program → PointReport → Type 0
@@ -144,13 +134,32 @@ pub record ReportsFits (o : Options) (bytes : List ℕ) (r : Report) : Type 0 wh
 abbrev pub ReportsSamePoints : Options → List ℕ → Report → Type 0
 ReportsSamePoints o bytes r = o.domain ≡ Poly → AllByRecursion HasSamePointsAt r.points
 
--- the summary of a report of the sample's source is written whole. That report holds in all runs; unless it is flagged
--- it is the written iteration's; rows and generators have the same points
-abbrev pub WritesSummary : ℕ → ℕ → Option (List ℕ) → Option (List ℕ) → Type 0
-WritesSummary seed size held_old held_new = WritesReport default_options (summary_text seed size)
-    (λ source r. HoldsInAllRuns source r × IsWrittenUnlessFlagged default_options source r
-    × ReportsSamePoints default_options source r)
-    (Some (sample_source seed size)) held_old held_new
+-- all that is claimed of a report that a source must get under these options
+pub record ReportClaims (o : Options) (bytes : List ℕ) (r : Report) : Type 0 where
+  pub answers : IsAnalysisReport o bytes r
+  pub holds : HoldsInAllRuns bytes r
+  pub is_written : IsWrittenUnlessFlagged o bytes r
+  pub fits : ReportsFits o bytes r
+  pub accesses : ReportsAccesses o bytes r
+  pub same_points : ReportsSamePoints o bytes r
+
+-- One report is written whole in this format: the input must get it under the options, all of that is so of it, and the
+-- status is that of its verdicts.
+pub record WritesReport (o : Options) (format : Format) (w : World) (status : Status) : Type 0 where
+  pub bytes : List ℕ
+  pub input : IsInput w.left bytes
+  pub report : Report
+  pub claims : ReportClaims o bytes report
+  pub counted : status ≡ report_status (unknown_count report.verdicts)
+  pub written : Appends w.held w.held_now (written_report format report)
+
+-- the summary of a report that the sample's source must get is written whole, and it is so with the claims and the
+-- status of that report
+pub record WritesSummary (seed size : ℕ) (w : World) (status : Status) : Type 0 where
+  pub report : Report
+  pub claims : ReportClaims default_options (sample_source seed size) report
+  pub counted : status ≡ report_status (unknown_count report.verdicts)
+  pub written : Appends w.held w.held_now (summary_text seed size report)
 
 -- In all runs the rows of a certificate hold whenever a run is at their point, no run reaches a point that is empty
 -- there, and no listed assertion is false. Points are counted from 0.
@@ -165,36 +174,31 @@ pub record IsVerifiedInAllRuns (P : Program) (c : Certificate) : Type 0 where
 
 -- the input is a certificate that meets the program of its source, all of this is so of it, and the numbers of its
 -- points and of its listed assertions are written whole
-pub record WritesVerified (left held_old held_new : Option (List ℕ)) : Type 0 where
+pub record WritesVerified (w : World) : Type 0 where
   pub bytes : List ℕ
-  pub input : IsInput left bytes
+  pub input : IsInput w.left bytes
   pub is : IsCertificate bytes
   pub accepted : Accepts at_main Spells is.certificate.source is.program.tree
   pub holds : IsVerifiedInAllRuns (resolve is.program.tree) is.certificate
-  pub written : Appends held_old held_new
+  pub written : Appends w.held w.held_now
       (verified_text (length (sites_of (resolve is.program.tree))) (length is.certificate.asserted))
 
 -- The certificate of a report that the input must get, in which nothing is narrowed, is written whole: it has the rows,
 -- the empty points and the proved assertions of that report, of which all is claimed that is claimed of reports, and
 -- the status is that of its assertions alone. It is a certificate that meets its program, so it must be verified if it
 -- isn't too long.
-pub record WritesCertificate (left held_old held_new : Option (List ℕ)) (status : Status) : Type 0 where
+pub record WritesCertificate (w : World) (status : Status) : Type 0 where
   pub bytes : List ℕ
-  pub input : IsInput left bytes
+  pub input : IsInput w.left bytes
   pub report : Report
-  pub answers : IsAnalysisReport certify_options bytes report
-  pub holds : HoldsInAllRuns bytes report
-  pub written_iteration : IsWrittenUnlessFlagged certify_options bytes report
-  pub fits : ReportsFits certify_options bytes report
-  pub accesses : ReportsAccesses certify_options bytes report
-  pub same_points : ReportsSamePoints certify_options bytes report
+  pub claims : ReportClaims certify_options bytes report
   pub counted : status ≡ report_status (unknown_assertions report.verdicts)
   pub text : List ℕ
   pub certificate : IsCertificateOf bytes report text
   pub meets : IsCertificateWith bytes certificate.states certificate.proved text
   pub verifies : length text ≤ greatest_certificate → AnswersCertificate text
       (verified_text (length certificate.states) (length certificate.proved)) Proved
-  pub written : Appends held_old held_new text
+  pub written : Appends w.held w.held_now text
 
 -- At each point of the input's program, whose forward analysis is gone back over, what is left of the stores from which
 -- the assertion of this number may fail is written whole. A point's state holds at each store with which a run comes
@@ -203,9 +207,9 @@ pub record WritesCertificate (left held_old held_new : Option (List ℕ)) (statu
 -- the start lead is shown as unreachable. Without a flag all that is shown is as it is defined, over the values of the
 -- written iteration; the number of a flag is that of a point of which an operation exceeds a limit, and all before it
 -- is exact.
-pub record WritesBack (number : ℕ) (left held_old held_new : Option (List ℕ)) (status : Status) : Type 0 where
+pub record WritesBack (number : ℕ) (w : World) (status : Status) : Type 0 where
   pub bytes : List ℕ
-  pub input : IsInput left bytes
+  pub input : IsInput w.left bytes
   pub point : ℕ
   pub numbered : number ≡ suc point
   pub report : BackReport
@@ -219,7 +223,7 @@ pub record WritesBack (number : ℕ) (left held_old held_new : Option (List ℕ)
       StrainsAt answers.constants (program_of answers.program) answers.program.operations point q
   pub same_points : AllByRecursion HasSamePointsAt report.points
   pub counted : status ≡ back_status report.proved
-  pub written : Appends held_old held_new (back_text report)
+  pub written : Appends w.held w.held_now (back_text report)
 
 -- What is found of the input's threads is written whole. It holds in every interleaving of their steps: the state of a
 -- point whenever its thread is there, whatever the others have done by then; no assertion that is marked proved fails,
@@ -229,9 +233,9 @@ pub record WritesBack (number : ℕ) (left held_old held_new : Option (List ℕ)
 -- the settled intervals say of the others: a verdict is unknown exactly where the values that are shown say so. Without
 -- a flag all that is shown is as it is defined, round by round; the number of a flag is that of a point of which an
 -- operation exceeds a limit in the written rounds, all before it exact.
-pub record WritesThreads (delay narrow : ℕ) (left held_old held_new : Option (List ℕ)) (status : Status) : Type 0 where
+pub record WritesThreads (delay narrow : ℕ) (w : World) (status : Status) : Type 0 where
   pub bytes : List ℕ
-  pub input : IsInput left bytes
+  pub input : IsInput w.left bytes
   pub report : ThreadsReport
   pub answers : IsThreadsReportOf delay narrow bytes report
   pub accepted : Accepts at_threads Spells bytes answers.program.tree
@@ -245,4 +249,4 @@ pub record WritesThreads (delay narrow : ℕ) (left held_old held_new : Option (
       StrainsAtNumber (threads_plan delay narrow answers.constants) answers.program.tree answers.program.operations
       number
   pub counted : status ≡ report_status (unknown_count report.verdicts)
-  pub written : Appends held_old held_new (threads_text report)
+  pub written : Appends w.held w.held_now (threads_text report)

@@ -7,6 +7,7 @@ use Rattle.lra_commands.specs.Run.{IsInput, IsAsked, IsAnswerToWords, IsRead, Ta
 use Rattle.lra_commands.specs.{Commands.AnswersInput, Commands.asked_limit, declared.top_call.NoAnswer.NoAnswer}
 use Rattle.lra_command_answers.specs.declared.status.Status.TheVariants.{ReadFault, WriteFault, Memory}
 use Rattle.lra_command_answers.specs.{declared.answer.Answer.Answer, declared.status.Status.Status}
+use Rattle.lra_commands.specs.World.{World}
 use Rattle.lra_commands.specs.declared.top_call.NoAnswer.TheVariants as none
 
 -- a text that the input of a command must get with some status
@@ -30,32 +31,22 @@ PrepareCause before now (Ok a) = now ≡ before
 PrepareCause before now (Err none.ReadFault) = Rose before now
 PrepareCause before now (Err none.Memory) = now ≡ before
 
--- what a source and a sink report before a call and after it: bytes left and held, counts of faults, and before it how
--- many bytes the sink surely takes
-pub record World : Type 0 where
-  pub left : Option (List ℕ)
-  pub left_now : Option (List ℕ)
-  pub read : ℕ
-  pub read_now : ℕ
-  pub held : Option (List ℕ)
-  pub held_now : Option (List ℕ)
-  pub spare : ℕ
-  pub wrote : ℕ
-  pub wrote_now : ℕ
-
 -- how a call ends, once the part before the writing has this result
 abbrev pub IsWritten : World → Result Answer NoAnswer → Status → Type 0
-IsWritten t (Ok a) status =
-    (Appends t.held t.held_now a.text.items × (t.wrote_now ≡ t.wrote) × (status ≡ a.status))
-    ⊎ (AppendsPart t.held t.held_now a.text.items × (t.spare < length a.text.items) × Rose t.wrote t.wrote_now
-    × (status ≡ WriteFault))
-IsWritten t (Err none.ReadFault) status = Keeps t.held t.held_now × (t.wrote_now ≡ t.wrote) × (status ≡ ReadFault)
-IsWritten t (Err none.Memory) status = Keeps t.held t.held_now × (t.wrote_now ≡ t.wrote) × (status ≡ Memory)
+IsWritten w (Ok a) status =
+    (Appends w.held w.held_now a.text.items × (w.write_faults_now ≡ w.write_faults) × (status ≡ a.status))
+    ⊎ (AppendsPart w.held w.held_now a.text.items × (w.spare < length a.text.items)
+    × Rose w.write_faults w.write_faults_now × (status ≡ WriteFault))
+IsWritten w (Err none.ReadFault) status =
+    Keeps w.held w.held_now × (w.write_faults_now ≡ w.write_faults) × (status ≡ ReadFault)
+IsWritten w (Err none.Memory) status =
+    Keeps w.held w.held_now × (w.write_faults_now ≡ w.write_faults) × (status ≡ Memory)
 
--- a call of `run`, from which its clauses follow
-pub record Ending (words : List (List ℕ)) (t : World) (status : Status) : Type 0 where
+-- a call of `run` by its parts, from which its promises follow
+pub record Ending (w : World) (status : Status) : Type 0 where
   pub result : Result Answer NoAnswer
-  pub answers : IfOk result (λ a. IsAnswerToWords words t.left a.text.items a.status)
-  pub reads : (asked : Option Command) → IsAsked words asked → IsReadBy (asked_limit asked) t.left t.left_now result
-  pub cause : PrepareCause t.read t.read_now result
-  pub written : IsWritten t result status
+  pub answers : IfOk result (λ a. IsAnswerToWords w.words w.left a.text.items a.status)
+  pub reads : (asked : Option Command) → IsAsked w.words asked →
+      IsReadBy (asked_limit asked) w.left w.left_now result
+  pub cause : PrepareCause w.read_faults w.read_faults_now result
+  pub written : IsWritten w result status

@@ -5,7 +5,7 @@ use Rattle.lra_io.specs.{Causes.AppendsPart, Causes.Rose, ReadErrors.LosesPrefix
 use Rattle.lra_commands.specs.Crates.lra_row_text.Texts.{text_line}
 use Rattle.lra_command_line.specs.ParsedCommand.{Asks, AsksFor, AsksNone}
 use Rattle.lra_command_line.specs.declared.commands.Command.{Command}
-use Rattle.lra_commands.specs.Commands.{AnswersInput}
+use Rattle.lra_commands.specs.{Commands.AnswersInput, World.World}
 use Rattle.lra_command_answers.specs.{declared.status.Status.Status, declared.status.Status.TheVariants.Usage}
 
 -- all bytes that are left of an input, where it reports them
@@ -36,19 +36,18 @@ pub record IsAnswerToWords (words : List (List ℕ)) (left : Option (List ℕ)) 
     pub answers : AnswersCommand asked bytes text status
 
 -- the required text is written whole
-pub record WritesAnswer (words : List (List ℕ)) (left held_old held_new : Option (List ℕ)) (status : Status) : Type 0
-  where
-    pub text : List ℕ
-    pub answers : IsAnswerToWords words left text status
-    pub written : Appends held_old held_new text
+pub record WritesAnswer (w : World) (status : Status) : Type 0 where
+  pub text : List ℕ
+  pub answers : IsAnswerToWords w.words w.left text status
+  pub written : Appends w.held w.held_now text
 
 -- a prefix of the required text is written, and not all of it; the text is longer than what the sink was sure to take
-pub record WritesPrefix (words : List (List ℕ)) (left held_old held_new : Option (List ℕ)) (spare : ℕ) : Type 0 where
+pub record WritesPrefix (w : World) : Type 0 where
   pub text : List ℕ
   pub status : Status
-  pub answers : IsAnswerToWords words left text status
-  pub written : AppendsPart held_old held_new text
-  pub longer : spare < length text
+  pub answers : IsAnswerToWords w.words w.left text status
+  pub written : AppendsPart w.held w.held_now text
+  pub longer : w.spare < length text
 
 -- these bytes are read of the input: all to its end, or one more than the limit
 pub record TakesBytes (limit : ℕ) (old new : Option (List ℕ)) (bytes : List ℕ) : Type 0 where

@@ -1,20 +1,9 @@
 // The top call.
-ghost use Rattle.std.specs.Prelude.{◌≡◌, ◌≢◌, ◌≤◌, ◌<◌, ◌+◌, ◌^◌, ◌⊎◌, ℕ, List, Option, length, map, string_bytes};
-ghost use Rattle.std.specs.{Io.KnownBytes.Keeps, Prelude.IfOk, Prelude.Some};
-ghost use Rattle.lra_io.specs.Causes.{AppendsPart, Rose};
-ghost use Rattle.lra_command_line.specs.ParsedCommand.{Asks, AsksNone, IsRejected, IsWithinRanges};
-ghost use Rattle.lra_command_line.specs.declared.commands.Command.TheVariants.{Analyse, Sample, Back, Threads, Plain};
-ghost use Rattle.lra_command_line.specs.declared.commands.PlainCommand.TheVariants.{Certify, Verify};
-ghost use Rattle.lra_command_line.specs.{declared.commands.Command.Command, declared.commands.Format.Format};
-ghost use Rattle.lra_commands.specs.Crates.lra_options.declared.options.Options.{Options};
-ghost use Rattle.lra_command_answers.specs.Statuses.{Ends, reported, answered, silent, faults};
-ghost use Rattle.lra_commands.specs.Commands.{limit_of, asked_limit, AllowedStatuses};
-ghost use Rattle.lra_commands.specs.OutputClaims.{WritesReport, HoldsInAllRuns, IsWrittenUnlessFlagged};
-ghost use Rattle.lra_commands.specs.OutputClaims.{ReportsAccesses, ReportsFits, ReportsSamePoints, WritesBack};
-ghost use Rattle.lra_commands.specs.OutputClaims.{WritesCertificate, WritesSummary, WritesThreads, WritesVerified};
+ghost use Rattle.std.specs.Prelude.{◌≡◌, ◌<◌, ◌+◌, ◌^◌, Option, length, map, string_bytes, IfOk, Some};
+ghost use Rattle.lra_command_line.specs.{ParsedCommand.IsWithinRanges, declared.commands.Command.Command};
+ghost use Rattle.lra_commands.specs.{Commands.limit_of, Commands.asked_limit, Promises.RunPromises};
 ghost use Rattle.lra_commands.specs.Prepared.{IsInputText, IsTaken, IsReadBy, PrepareCause, Ending};
-ghost use Rattle.lra_commands.specs.Run.{usage_text, IsAsked, IsAnswerToWords, WritesAnswer, WritesPrefix, IsRead};
-ghost use Rattle.lra_commands.specs.{Run.RisesAtFault, SourceAnswer.written_report};
+ghost use Rattle.lra_commands.specs.Run.{usage_text, IsAsked, IsAnswerToWords};
 
 use crate::commands::{answer_command, limit_of};
 use lra_command_answers::{Answer, Status};
@@ -118,23 +107,24 @@ fn prepare<S: Source>(alloc: Global, words: &[String], source: &mut S) -> Result
     }
 }
 
-/// The whole, as one record.
+/// The whole, by its parts.
 fn answer_words<S: Source, K: Sink>(
     alloc: Global,
     words: &[String],
     source: &mut S,
     sink: &mut K,
 ) -> Status
-    ensures { Ending (map string_bytes words.now) (record {
+    ensures { Ending (record {
+      words = map string_bytes words.now;
       left = S.left source.old;
       left_now = S.left source.new;
-      read = S.faults source.old;
-      read_now = S.faults source.new;
+      read_faults = S.faults source.old;
+      read_faults_now = S.faults source.new;
       held = K.held sink.old;
       held_now = K.held sink.new;
       spare = K.spare sink.old;
-      wrote = K.faults sink.old;
-      wrote_now = K.faults sink.new;
+      write_faults = K.faults sink.old;
+      write_faults_now = K.faults sink.new;
     }) result }
 {
     let answer = match prepare(alloc, words, source) {
@@ -152,104 +142,26 @@ fn answer_words<S: Source, K: Sink>(
 /// summary, an output, a certificate, what is verified, what is left before an assertion fails, what is found of
 /// several threads, or a refusal.
 ///
-/// `words` has the program's name first. The whole text is made before the first byte is written.
+/// `words` has the program's name first. The whole text is made before the first byte is written. Each promise is a
+/// field of `RunPromises`, over the words and what source and sink report before the call and after it.
 pub fn run<S: Source, K: Sink>(
     alloc: Global,
     words: &[String],
     source: &mut S,
     sink: &mut K,
 ) -> Status
-    // What is written, by status: the text that the words and the input's bytes must get, whole; or
-    // a prefix of it, and not all of it; or nothing.
-    ensures written { Ends answered result →
-        WritesAnswer (map string_bytes words.now) (S.left source.old) (K.held sink.old)
-        (K.held sink.new) result }
-    ensures part { result ≡ Status.WriteFault →
-        WritesPrefix (map string_bytes words.now) (S.left source.old) (K.held sink.old)
-        (K.held sink.new) (K.spare sink.old) }
-    ensures nothing { Ends silent result → Keeps (K.held sink.old) (K.held sink.new) }
-
-    // If the words ask for a report and the status is that of one: what is written is the one report
-    // that the input must get and that is written so, in the words' format. It holds in all runs. If
-    // nothing is flagged, it says what the written iteration finds. Over polyhedra rows and
-    // generators describe the same points.
-    ensures holds { (options : Options) (format : Format) →
-        Asks (map string_bytes words.now) (Analyse options format) → Ends reported result →
-        WritesReport options (written_report format) HoldsInAllRuns (S.left source.old)
-        (K.held sink.old) (K.held sink.new) }
-    ensures is_written { (options : Options) (format : Format) →
-        Asks (map string_bytes words.now) (Analyse options format) → Ends reported result →
-        WritesReport options (written_report format) (IsWrittenUnlessFlagged options)
-        (S.left source.old) (K.held sink.old) (K.held sink.new) }
-    // If they ask which operations fit: if all that is computed at a point is reported to fit, no
-    // run stops there by a number. It is reported exactly where all fits by the values at the
-    // points.
-    ensures fits { (options : Options) (format : Format) →
-        Asks (map string_bytes words.now) (Analyse options format) → Ends reported result →
-        WritesReport options (written_report format) (ReportsFits options) (S.left source.old)
-        (K.held sink.old) (K.held sink.new) }
-    // Of each access of an array: if it is reported to be in bounds, no run evaluates it outside its
-    // array. It is reported exactly if it is so by the values at the points, flagged or not.
-    ensures accesses { (options : Options) (format : Format) →
-        Asks (map string_bytes words.now) (Analyse options format) → Ends reported result →
-        WritesReport options (written_report format) (ReportsAccesses options) (S.left source.old)
-        (K.held sink.old) (K.held sink.new) }
-    ensures same_points { (options : Options) (format : Format) →
-        Asks (map string_bytes words.now) (Analyse options format) → Ends reported result →
-        WritesReport options (written_report format) (ReportsSamePoints options) (S.left source.old)
-        (K.held sink.old) (K.held sink.new) }
-    // If they ask for a sample: what is written sums up a report of its source. That report holds in all
-    // runs. Unless it is flagged, it is the written iteration's. Rows and generators have the same points.
-    ensures sampled { (seed size : ℕ) → Asks (map string_bytes words.now) (Sample seed size) → Ends reported result →
-        WritesSummary seed size (K.held sink.old) (K.held sink.new) }
-
-    // If they ask to verify, and the status is that of a certificate that meets its program: what then
-    // holds in all runs of its source.
-    ensures verified { Asks (map string_bytes words.now) (Plain Verify) → result ≡ Status.Proved →
-        WritesVerified (S.left source.old) (K.held sink.old) (K.held sink.new) }
-    // If they ask to certify, and the status is that of a report: the certificate of a report that the
-    // input must get. It is verified if it isn't too long.
-    ensures certified { Asks (map string_bytes words.now) (Plain Certify) → Ends reported result →
-        WritesCertificate (S.left source.old) (K.held sink.old) (K.held sink.new) result }
-    // If they ask to go back from an assertion, and the status is that of a report: at each point a
-    // value that has each store from which a run goes on to fail at the assertion. If the assertion
-    // is proved, no run does.
-    ensures backs { (number : ℕ) → Asks (map string_bytes words.now) (Back number) →
-        Ends reported result →
-        WritesBack number (S.left source.old) (K.held sink.old) (K.held sink.new) result }
-    // If they ask for threads, and the status is that of a report: what holds in every interleaving of
-    // the threads' steps. A verdict is unknown exactly where the values that are shown say so. If
-    // nothing is flagged, the report says what the written rounds find. A flag stands at a point of
-    // which an operation exceeds a limit, and all before it is exact.
-    ensures threads { (delay narrow : ℕ) →
-        Asks (map string_bytes words.now) (Threads delay narrow) → Ends reported result →
-        WritesThreads delay narrow (S.left source.old) (K.held sink.old) (K.held sink.new) result }
-
-    // With which statuses what the words ask for may end: those of its answer, by what the input
-    // says of its bytes, or of a fault. (If a flagged set is widened, both answers to a script may be
-    // right: which one is depends on the set.) `Usage` comes only if they ask for no command: the
-    // command line doesn't accept them, or their options conflict.
-    ensures ends { (asked : Option Command) → IsAsked (map string_bytes words.now) asked → (among : List _) →
-        AllowedStatuses asked (S.left source.old) among → Ends among result ⊎ Ends (faults (asked_limit asked)) result }
-    ensures usage { result ≡ Status.Usage →
-        AsksNone (map string_bytes words.now) × IsRejected (map string_bytes words.now) }
-    // What of the input is read: at most one byte past the command's limit, nothing without one.
-    ensures reads { (asked : Option Command) → IsAsked (map string_bytes words.now) asked →
-        IsRead (asked_limit asked) (S.left source.old) (S.left source.new) (result ≡ Status.ReadFault)
-        (result ≢ Status.ReadFault × result ≢ Status.Memory) }
-
-    // A fault is the answer only if its count rose; every other answer leaves the counts. If nothing
-    // fails and memory doesn't run out, there is an answer, written whole. So a source without a
-    // cause of refusal gets its report, and a script that runs to its end gets its output. A sink
-    // that surely takes each text that is required doesn't fail.
-    ensures read_fault { RisesAtFault Status.ReadFault (S.faults source.old) (S.faults source.new) result }
-    ensures write_fault { RisesAtFault Status.WriteFault (K.faults sink.old) (K.faults sink.new) result }
-    ensures complete { (Rose (S.faults source.old) (S.faults source.new) → ⊥) →
-        (Rose (K.faults sink.old) (K.faults sink.new) → ⊥) → result ≢ Status.Memory → Ends answered result }
-    ensures room { ((text : List ℕ) (status : _) →
-        IsAnswerToWords (map string_bytes words.now) (S.left source.old) text status →
-        AppendsPart (K.held sink.old) (K.held sink.new) text → length text ≤ K.spare sink.old) →
-        result ≢ Status.WriteFault }
+    ensures { RunPromises (record {
+      words = map string_bytes words.now;
+      left = S.left source.old;
+      left_now = S.left source.new;
+      read_faults = S.faults source.old;
+      read_faults_now = S.faults source.new;
+      held = K.held sink.old;
+      held_now = K.held sink.new;
+      spare = K.spare sink.old;
+      write_faults = K.faults sink.old;
+      write_faults_now = K.faults sink.new;
+    }) result }
 {
     answer_words(alloc, words, source, sink)
 }
