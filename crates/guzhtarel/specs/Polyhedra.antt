@@ -1,4 +1,4 @@
--- Closed polyhedra: what a value shows, what its operations report, widenings, and where they exceed a limit.
+-- Closed polyhedra: what a value shows, what its operations report, widenings, and when they exceed a limit.
 pub use Rattle.guzhtarel.specs.Crates.lra_linear_spec.Polyhedra
 pub use Rattle.guzhtarel.specs.Crates.lra_linear_spec.Representable
 pub use Rattle.guzhtarel.specs.Crates.lra_linear_spec.Widening

@@ -89,7 +89,7 @@ fn answer(rt: &HostRuntime, words: &[String]) -> ExitCode {
     ExitCode::from(status.exit_number())
 }
 
-/// Ends with the exit number of the status. Nothing is written where there are no words.
+/// Ends with the exit number of the status. Nothing is written if there are no words.
 fn main(rt: HostRuntime) -> ExitCode {
     match words_of(&rt) {
         Ok(words) => answer(&rt, &words),

@@ -102,7 +102,7 @@ one_there (x ∷ xs) once (suc k) a there = by (nat_eq x.point a.point) refl (on
     by true e rest = let equal : 0 ≡ suc k = once 0 (suc k) x a refl there (eqb-true _ _ e) in absurd (omega (arith, equal))
     by false e rest = rest
 
--- where something is picked there is an operation
+-- if something is picked there is an operation
 some_there : (q : ℕ) (xs : List OpAtPoint) → IsTrue (nat_lt 0 (length (flat_map (picked_at q) xs))) → (a : OpAtPoint) × Contains xs a × (a.point ≡ q)
 some_there q [] some = absurd (let no : false ≡ true = some in cc)
 some_there q (x ∷ xs) some = by (nat_eq x.point q) refl some (λ later. some_there q xs later)

@@ -1,4 +1,4 @@
--- Where all that is computed at a point is judged to fit, no run stops there by a number.
+-- If all that is computed at a point is judged to fit, no run stops there by a number.
 use Rattle.std.proofs.Common.{◌≡◌, ◌∙◌, ℕ, List, Option, Some, Bool, true, refl, sym, ap, subst}
 use Rattle.std.specs.{List.Contains, Prelude.slice_get}
 use Rattle.lra_analyse_source.specs.Crates.{lra_analysis_spec.Analysis.LossyIteration, lra_analysis_spec.Analysis.IsSolution, lra_analysis_spec.Fits.JudgedAtPoint, lra_analysis_spec.Fits.Judges}

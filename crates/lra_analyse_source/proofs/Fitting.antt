@@ -219,7 +219,7 @@ switch_fit f n q base e arms x = record { fits = (x.fits, λ m j. sym (same_Some
     outer continued m d j = x.jumps continued m j
     outer returned m d j = x.jumps returned m j
 
--- an operation that gives arguments fits where so many more variables may live, which it adds
+-- an operation that gives arguments fits if so many more variables may live, which it adds
 abbrev AddsFitting : (List Argument → Op) → Type 0
 AddsFitting gives = (es : List Argument) (n : ℕ) → n + length es ≤ most_live → OpFitsDims (gives es) n × (live_after_op (gives es) n ≡ n + length es)
 

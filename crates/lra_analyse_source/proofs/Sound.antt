@@ -21,7 +21,7 @@ module _ (V H : Type 0) (m : Abstraction V H) where
     derivation_covers (none, first, e, universal, values, pass) draws = begun_covers m laws set P good g none first e r universal values pass draws
 
     module _ (derived : LossyIteration m set P g r) (agrees : Agrees P g) (values : List V) (verdicts : List (ℕ × Bool)) (flagged : Option ℕ) (solves : IsSolution m r values verdicts flagged) where
-      -- where a run reaches a point, the value there has its store
+      -- if a run reaches a point, the value there has its store
       pub held_there : (q : ℕ) (s : Site) (store : List ℤ) → slice_get (sites_of P) q ≡ Some s → At P (point_of s) store
           → (v : V) × (slice_get values q ≡ Some v) × Has m v store × (length store ≡ m.dims v)
       held_there q s store there at =
@@ -34,14 +34,14 @@ module _ (V H : Type 0) (m : Abstraction V H) where
           → (v : V) × (slice_get values q ≡ Some v) × m.gamma v store × (length store ≡ m.dims v)
       value_there q s store there at = let h = held_there q s store there at in (h.0, h.1, h.2.1, h.3)
 
-      -- no run comes where the value has no part
+      -- no run comes if the value has no part
       pub none_comes : (q : ℕ) (s : Site) (v : V) (store : List ℤ) → slice_get (sites_of P) q ≡ Some s → slice_get values q ≡ Some v → IsUnreachable m v → At P (point_of s) store → ⊥
       none_comes q s v store there found none at =
           let (w, got, has, long) = held_there q s store there at in
           let own = subst (λ (x : V). Has m x store) (sym (same_Some v w (sym found ∙ got))) has in
           laws.partless v own.0 none store own.1
 
-      -- where a run fails an assertion, a value where its condition is false has its store
+      -- if a run fails an assertion, a value where its condition is false has its store
       pub failing_there : (q : ℕ) (s : Site) → slice_get (sites_of P) q ≡ Some s → Fails P (point_of s) → (v : V) × (store : List ℤ) × Contains r.entries (failing q v) × Has m v store
       failing_there q s there fails =
           let (draws, words, failed) = (agrees.fails q s there).0 fails in

@@ -28,7 +28,7 @@ pub record ReportsIteration {V H : Type 0} (m : Abstraction V H) (shown : V → 
   pub accesses : AgreesOnAccesses P tree
   pub result : PassResult V
   pub values : List V
-  -- a verdict is unknown exactly where something is left of the value at which the assertion's condition is false
+  -- a verdict is unknown exactly if something is left of the value at which the assertion's condition is false
   pub verdicts : List (ℕ × Bool)
   pub flagged : Option ℕ
   pub solves : IsSolution m result values verdicts flagged

@@ -25,7 +25,7 @@ abbrev pub TreesAreNumbered : Type 0
 TreesAreNumbered = (P : Program) (g : Node) → IsInlinedTree P g →
     IsNumbered (sites_of P) g × AreBelow (length (sites_of P)) g
 
--- where tree and runs agree the states hold in all runs, and no assertion that is marked proved fails
+-- if tree and runs agree the states hold in all runs, and no assertion that is marked proved fails
 abbrev pub AnalysedAreSound : {V H : Type 0} → Abstraction V H → Type 0
 AnalysedAreSound {V} m = (shown : V → Invariant) (settings : Options) (constants : List ℤ) (t : FileTree) (r : Report)
     → (x : ReportsIteration m shown settings constants (resolve t) r) → Agrees (resolve t) x.tree → Lists t r

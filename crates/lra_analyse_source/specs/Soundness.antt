@@ -14,7 +14,7 @@ use Rattle.lra_analyse_source.specs.Crates.{lra_program.Sites.sites_of, lra_prog
 use Rattle.lra_fixpoint.specs.Solved.{IsSolved}
 
 -- the value at a point has each store that a run brings there, no assertion that is proved fails, and no run comes
--- where the value has no part
+-- if the value has no part
 pub record HoldsInRuns {V H : Type 0} (m : Abstraction V H) (P : Program) (values : List V)
     (verdicts : List (ℕ × Bool)) : Type 0 where
   pub stores : (q : ℕ) (s : Site) (store : List ℤ) → slice_get (sites_of P) q ≡ Some s → At P (point_of s) store
@@ -24,7 +24,7 @@ pub record HoldsInRuns {V H : Type 0} (m : Abstraction V H) (P : Program) (value
   pub unreached : (q : ℕ) (s : Site) (v : V) (store : List ℤ) → slice_get (sites_of P) q ≡ Some s
       → slice_get values q ≡ Some v → IsUnreachable m v → At P (point_of s) store → ⊥
 
--- so it is with what is found over a tree that agrees with its program's runs, where first values are numbers of
+-- so it is with what is found over a tree that agrees with its program's runs, if first values are numbers of
 -- their types
 abbrev pub SolvedAreSound : {V H : Type 0} → Abstraction V H → Type 0
 SolvedAreSound {V} m =
@@ -32,7 +32,7 @@ SolvedAreSound {V} m =
     (flagged : Option ℕ) → IsSolved m plan P tree values verdicts flagged → AreGoodGlobals P.globals
     → IsInlinedTree P tree → Agrees P tree → HoldsInRuns m P values verdicts
 
--- where all that is computed at a point is judged to fit by what is found, no run stops there by a number
+-- if all that is computed at a point is judged to fit by what is found, no run stops there by a number
 abbrev pub FittingIsSound : {V H : Type 0} → Abstraction V H → Type 0
 FittingIsSound {V} m =
     (plan : Plan) (P : Program) (tree : Node) (values : List V) (verdicts fitting : List (ℕ × Bool))

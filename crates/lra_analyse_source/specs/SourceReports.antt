@@ -36,7 +36,7 @@ pub record IsAnalysisReportOver {V H : Type 0} (m : Abstraction V H) (shown : V 
 abbrev pub DomainProperty : Type 1
 DomainProperty = (V H : Type 0) → Abstraction V H → (V → Invariant) → Type 0
 
--- it is said of the sets of a domain's values where there may be more parts than one, else of the domain itself
+-- it is said of the sets of a domain's values if there may be more parts than one, else of the domain itself
 abbrev pub WithParts : ℕ → DomainProperty → DomainProperty
 WithParts (suc (suc n)) say V H m shown = say (SetContent V) (SetHead V H) (set_abstraction m) (shown_set shown)
 WithParts n say V H m shown = say V H m shown

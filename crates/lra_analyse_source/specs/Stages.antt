@@ -28,7 +28,7 @@ pub record IsReportOfTree {V H : Type 0} (m : Abstraction V H) (shown : V → In
   pub readable : IsReadable r
 
 -- at each point it shows the value that was found there, and on each assertion the verdict; beside these it says what
--- fits, and where that isn't asked for nothing, and which accesses lie inside their arrays
+-- fits, and if that isn't asked for nothing, and which accesses lie inside their arrays
 pub record ReportsSolution {V : Type 0} (shown : V → Invariant) (fits : Bool) (values : List V)
     (verdicts : List (ℕ × Bool)) (r : Report) : Type 0 where
   pub states : map (λ (p : PointReport). p.state) r.points ≡ map shown values

@@ -44,7 +44,7 @@ pub fn solved_are_sound<D: Domain>()
     ensures { SolvedAreSound D.abstraction }
 {}
 
-/// Where all that is computed at a point is judged to fit, no run stops there by a number.
+/// If all that is computed at a point is judged to fit, no run stops there by a number.
 pub fn fitting_is_sound<D: Domain>()
     ensures { FittingIsSound D.abstraction }
 {}
@@ -55,7 +55,7 @@ pub fn accesses_are_sound<D: Domain>()
 {}
 
 /// Linear forms have the value of their expressions wherever it exists, and so has what is seen of divisions, over the
-/// quotient and what it leaves; tests pass exactly where their comparisons are true.
+/// quotient and what it leaves; tests pass exactly if their comparisons are true.
 pub fn forms_are_right()
     ensures forms { FormsAreRight }
     ensures seen { LinearizationIsRight }

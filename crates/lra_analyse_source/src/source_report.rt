@@ -64,7 +64,7 @@ fn analyse_over<D: Show>(
     Ok(report)
 }
 
-/// The report of a source over the sets of a domain's values where the options allow more parts than one, else over the
+/// The report of a source over the sets of a domain's values if the options allow more parts than one, else over the
 /// domain itself; or its one refusal.
 fn analyse_parts<D: Show + BaseDomain>(
     alloc: Global,

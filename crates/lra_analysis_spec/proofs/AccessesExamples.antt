@@ -26,7 +26,7 @@ three_elements = refl
 one_element : outside (form (pos 1) (pos 2 ∷ [])) 1 ≡ Some (at_least_zero_of (negsuc 1) (negsuc 1 ∷ []), at_least_zero_of (pos 0) (pos 2 ∷ []))
 one_element = refl
 
--- where a number of one of both passes 64 bits there are none: of x - 9223372036854775806 for an array of 3 the second
+-- if a number of one of both passes 64 bits there are none: of x - 9223372036854775806 for an array of 3 the second
 -- constant, of -9223372036854775808x the first coefficient
 too_low : outside (form (negsuc 9223372036854775805) (pos 1 ∷ [])) 3 ≡ None
 too_low = refl
@@ -78,13 +78,13 @@ module _ {V H : Type 0} (m : Abstraction V H) (ops : Operations V H) (v : V) whe
       OpInside m ops gets_input v ((at 32, b) ∷ (at 40, c) ∷ []) (worse e Exact)
   target_first b c e one two = (b, (at 40, c) ∷ [], e, Exact, one, (c, [], Exact, Exact, two, (refl, refl), refl, refl), refl, refl)
 
-  -- where neither test leaves a part the access is inside. Catches one that is never inside, and one given by one test
+  -- if neither test leaves a part the access is inside. Catches one that is never inside, and one given by one test
   -- alone
   neither_test : (tests : Test × Test) (under over : V) (c d : Exactness) → ops.changed (test_action tests.0) v c under →
       ops.changed (test_action tests.1) v d over → m.parts under ≡ [] → m.parts over ≡ [] → IndexJudged m ops v (Some tests) true (worse c d)
   neither_test tests under over c d one two low high = (under, over, c, d, one, two, (λ so. inr (low, high), λ so. refl), refl)
 
-  -- what stands right of `||` is judged by what is left where the left side is false, right of `&&` by what is left where it
+  -- what stands right of `||` is judged by what is left if the left side is false, right of `&&` by what is left if it
   -- is true. Catches the value itself, and the other side
   abbrev reads : Expr
   reads = element a (at 32) (literal Int 0)

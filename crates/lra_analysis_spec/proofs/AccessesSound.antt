@@ -35,7 +35,7 @@ test_holds : (o : Option Form) (t : Test) (store : List ℤ) (z : ℤ) → at_le
     pos 0 ≤ℤ z → TestHolds t store
 test_holds o t store z is value low = let (f, of, same) = from_form o t is in (passes_same f t store z same (value f of)).0 low
 
--- one of both tests holds where the index is outside
+-- one of both tests holds if the index is outside
 one_holds : (e : Form) (n : ℕ) (tests : Test × Test) (store : List ℤ) → outside e n ≡ Some tests → place_among n (form_value e store) ≡ None →
     TestHolds tests.0 store ⊎ TestHolds tests.1 store
 one_holds e n tests store is none =

@@ -16,7 +16,7 @@ use Rattle.lra_analysis_spec.specs.Pass.{JoinsRunning, ComesOut, RunsFrom}
 use Rattle.lra_analysis_spec.specs.{Analysis.LossyIteration, Analysis.IsSolution, Moves.AreMade, MovesOf.guard, MovesOf.value_moves, MovesOf.moves_of, MovesOf.first_values, Operations.Operations}
 use Rattle.lra_analysis_spec.specs.{Operations.lossy_operations, Plan.Plan, Plan.Widening, UnderInterference.absorbed, UnderInterference.IterationUnder, UnderInterference.LossyIterationUnder}
 
--- what has no operand has the property, and each operation keeps it, where this many parts are asked for
+-- what has no operand has the property, and each operation keeps it, if this many parts are asked for
 pub record Preserves {V H : Type 0} (ops : Operations V H) (parts : ℕ) (Good : V → Type 0) (Fine : H → Type 0) : Type 0 where
   pub void : (n : ℕ) (v : V) → ops.bottom n parts v → Good v
   pub changed : (step : Action) (v : V) (e : Exactness) (w : V) → ops.changed step v e w → Good v → Good w
@@ -125,7 +125,7 @@ module _ (V H : Type 0) (ops : Operations V H) (set : Plan) (Good : V → Type 0
   enters_good base e (Case z) v other x w is g h = looked_for_good base e z true v x w is g
   enters_good base e Default v other x w (same, exact) g h = subst Good (sym same) h
 
-  -- where something runs, it is good
+  -- if something runs, it is good
   abbrev RunsGood : Option V → Type 0
   RunsGood None = Unit {0}
   RunsGood (Some u) = Good u
@@ -143,7 +143,7 @@ module _ (V H : Type 0) (ops : Operations V H) (set : Plan) (Good : V → Type 0
   from_good live None w nothing h = keeps.void live w nothing
   from_good live (Some running) w same h = subst Good (sym same) h
 
-  -- where others act, what comes after has the property, too
+  -- if others act, what comes after has the property, too
   module _ (admission : Absorption V) (admits : (v : V) (e : Exactness) (w : V) → admission v e w → Good v → Good w) where
     mutual
       pub pass_good_among : (tree : Node) (f : Option ℕ) (v : V) (r : PassResult V) → PassUnder V H ops admission set tree f v r → Good v → AreGood r

@@ -54,7 +54,7 @@ or_false : (so : Bool) (rest left : List ℤ) (d : Drawn Bool) → (if so then S
 or_false true rest left d e = absurd (let no : true ≡ false = some_first true false rest left e in cc)
 or_false false rest left d e = (refl, e)
 
--- a comparison, or its opposite, is true where it is to be so
+-- a comparison, or its opposite, is true if it is to be so
 pub as_wanted : (wanted : Bool) (op : Comparison) (x y : ℤ) → compares op x y ≡ wanted → IsTrue (compares (comparison_as wanted op) x y)
 as_wanted true op x y is = is
 as_wanted false op x y is = opposite_is op x y is
@@ -71,7 +71,7 @@ module _ (store : List ℤ) where
   case_leads c None divides passes = refl
   case_leads c (Some t) divides passes = seen_tested c (test_action t) store divides (passes t refl, refl)
 
-  -- a comparison other than `!=`, where its test passes wherever it is true
+  -- a comparison other than `!=`, if its test passes wherever it is true
   seen_leads : (op : Comparison) (w : Linearized) (x y : ℤ) → SeenIs w store (x -ℤ y) → IsTrue (compares op x y)
       → MayLead (linearized_moves (length store) op w) store store
   seen_leads op (Linear d) x y is so = test_leads (comparison_test op d) (λ t e. (test_is_right op d t store x y is.1 e).0 so)
@@ -148,7 +148,7 @@ module _ (s : Environment) where
       let (so, on) = or_false r.0 r.1 left (truth_of b s r.1) to in
       (s.store, cond_leads a false draws r.1 (answered a draws r.1 r.0 false so got), cond_leads b false r.1 left on)
 
--- an expression that has the value or, where it is not wanted, another one
+-- an expression that has the value or, if it is not wanted, another one
 pub value_leads : (s : Environment) (e : Expr) (z : ℤ) (wanted : Bool) (draws left : List ℤ) (y : ℤ) → value_of e s draws ≡ Some (y, left)
     → compares equal y z ≡ wanted
     → MayLead (value_moves (length s.store) s.base wanted e z) s.store s.store

@@ -30,7 +30,7 @@ abbrev pub ChangesKeep : {V H : Type 0} → Abstraction V H → Type 0
 ChangesKeep {V} m = (op : Op) (v : V) (e : Exactness) (w : V) → OpTransfer (lossy_operations m) op v e w → (s t : State) →
     Has m v s.store → run_op op s ≡ Some t → Has m w t.store
 
--- what is left of a value where an expression has another value, or has not, keeps each store at which it has the one
+-- what is left of a value if an expression has another value, or has not, keeps each store at which it has the one
 abbrev pub ValuesKeep : {V H : Type 0} → Abstraction V H → Type 0
 ValuesKeep {V} m = (base : ℕ) (e : Expr) (z : ℤ) (wanted : Bool) (v : V) (x : Exactness) (w : V) → ValueIs (lossy_operations m) base e z wanted v x w
     → (s : State) (y : ℤ) (left : List ℤ) →

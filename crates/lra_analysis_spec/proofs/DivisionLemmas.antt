@@ -334,7 +334,7 @@ division_is f g d e =
     some_same : (c d : Division) → Some c ≡ Some d → c ≡ d
     some_same c d e = cc
 
--- what `/` and `%` give, where they give a number
+-- what `/` and `%` give, if they give a number
 abbrev ShareIs : Operator → ℤ → ℤ → ℤ → Type 0
 ShareIs over x y z = int_div x y ≡ z
 ShareIs modulo x y z = int_rem x y ≡ z

@@ -73,7 +73,7 @@ module _ {V H : Type 0} (m : Abstraction V H) (v : V) where
   conversion_alone : (b : Bool) → AnswersUnlessUnreachable m v b (LiesIn m v Int None) → GivenJudged m v 0 (variable_at 0 Int) input (b ∷ [])
   conversion_alone b answer = ([], b ∷ [], refl, (b, answer, refl), refl)
 
-  -- what has no form doesn't fit, but where no run comes
+  -- what has no form doesn't fit unless no run comes
   formless_fits_nowhere : (b : Bool) → AnswersUnlessUnreachable m v b (LiesIn m v Int None) → b ≡ true → m.parts v ≡ []
   formless_fits_nowhere b answer is = elim (answer.0 is) [ inl none ↦ none | inr lies ↦ absurd lies ]
 

@@ -120,7 +120,7 @@ module _ {V H : Type 0} (m : Abstraction V H) (laws : Laws m) (s : Environment) 
     sized : m.dims v ≡ length s.store
     sized = sym (laws.sized v s.store held.0 held.1)
 
-    -- an answer, where the value has a store
+    -- an answer, if the value has a store
     answered : (so : Type 0) (b : Bool) → AnswersUnlessUnreachable m v b so → b ≡ true → so
     answered so b answer is = elim (answer.0 is) [ inl none ↦ absurd (laws.partless v held.0 none s.store held.1) | inr it ↦ it ]
 
@@ -216,7 +216,7 @@ module _ {V H : Type 0} (m : Abstraction V H) (laws : Laws m) (s : Environment) 
         some_none (number (type_of e) (pos 0 -ℤ r.0)) (pos 0 -ℤ r.0) (there (type_of e) (pos 0 -ℤ r.0)
         (subst (λ (z : ℤ). fits (type_of e) z ≡ true) value (expr_lies (type_of e) (negate e) f is lies))) stop
 
-    -- where all of it fits, no number stops an expression
+    -- if all of it fits, no number stops an expression
     expr_goes : (e : Expr) (bs : List Bool) (draws : List ℤ) → ExprJudged m v s.base e bs → AllSo bs → ExprOverflows e s draws → ⊥
     expr_goes (literal t n) bs draws judged all stops = stops
     expr_goes (read x) bs draws judged all stops = stops

@@ -1,4 +1,4 @@
--- A flag stays where an exact operation follows, and where it stands before others.
+-- A flag stays if an exact operation follows, and if it stands before others.
 use Rattle.std.proofs.Common.{◌≡◌, ℕ, List, [], ◌∷◌, Option, None, Some, refl}
 use Rattle.lra_domain.specs.declared.Exactness.TheVariants.{Exact}
 use Rattle.lra_analysis_spec.specs.{Judging.Finding, Judging.first_flagged, Pass.noted}

@@ -1,4 +1,4 @@
--- The linear form of an expression has the expression's value wherever there is one, and the test of a comparison passes exactly where
+-- The linear form of an expression has the expression's value wherever there is one, and the test of a comparison passes exactly if
 -- the comparison is true.
 use Rattle.std.proofs.Common.{◌≡◌, ℕ, zero, suc, ℤ, pos, negsuc, ◌+ℤ◌, ◌*ℤ◌, List, [], ◌∷◌, Option, Some, None, Bool, true, false, length, refl, sym, ap, subst, ◌∙◌, arith, inl, inr}
 use Rattle.std.proofs.{lemmas.Bool.and_parts, lemmas.Int.ints, lemmas.List.length-set}
@@ -53,7 +53,7 @@ product_zeros zero xs = refl
 product_zeros (suc n) [] = product_none (pos 0 ∷ replicate n (pos 0))
 product_zeros (suc n) (x ∷ xs) = let e = product_zeros n xs in ring (v (pos 0) ⊗ v x ⊕ v (product (replicate n (pos 0)) xs)) (v (product (replicate n (pos 0)) xs)) (omega arith) ∙ e
 
--- with one number at a place, and where the place isn't there
+-- with one number at a place, and if the place isn't there
 pub product_at : (c : ℤ) (n place : ℕ) (xs : List ℤ) (z : ℤ) → n ≡ length xs → slice_get xs place ≡ Some z → product (slice_set (replicate n (pos 0)) place c) xs ≡ c *ℤ z
 product_at c n place [] z e is = cc
 product_at c zero place (x ∷ xs) z e is = absurd (omega (arith, e))
@@ -215,7 +215,7 @@ difference_value f g h store a b e =
     ring ((v f.constant ⊕ v (negsuc 0) ⊗ v g.constant) ⊕ (v p ⊕ v (negsuc 0) ⊗ v q)) ((v f.constant ⊕ v p) ⊕ v (negsuc 0) ⊗ (v g.constant ⊕ v q)) (omega arith) ∙
     sym (minus_is (f.constant +ℤ p) (g.constant +ℤ q))
 
--- where no variable occurs the value is the constant
+-- if no variable occurs the value is the constant
 pub constant_value : (f : Form) (store : List ℤ) → is_constant f ≡ true → form_value f store ≡ f.constant
 constant_value f store e = ap (λ (y : ℤ). f.constant +ℤ y) (product_constant f.coefficients store e) ∙ ring (v f.constant ⊕ v (pos 0)) (v f.constant) (omega arith)
 
@@ -240,7 +240,7 @@ operator_value modulo f g h store x y a b e is also = cc
 pub exact_forms : OperatorFormsAreExact
 exact_forms op f g h s a b e = operator_value op f g h s (form_value f s) (form_value g s) (record { width = a }) (record { width = b }) e refl refl
 
--- where the operator has a value in a type, that is it
+-- if the operator has a value in a type, that is it
 exactly_is : (t : NumberType) (op : Operator) (f g h : Form) (x y z : ℤ) → operator_form op f g ≡ Some h → apply t op x y ≡ Some z → exactly op x y ≡ z
 exactly_is t plus f g h x y z e to = number_same t (x +ℤ y) z to
 exactly_is t minus f g h x y z e to = number_same t (x -ℤ y) z to
@@ -382,7 +382,7 @@ compared s op a b draws left so e =
     let (q, got_too, end) = bind_some (value_of b s r.1) (λ q. Some (compares op r.0 q.0, q.1)) (so, left) on in
     record { x = r.0; y = q.0; middle = r.1; last = q.1; has_x = got; has_y = got_too; is = some_first (compares op r.0 q.0) so q.1 left end }
 
--- the difference of two expressions has the difference of their values, also where that passes 64 bits
+-- the difference of two expressions has the difference of their values, also if that passes 64 bits
 pub difference_is_right : (s : Environment) (a b : Expr) (d : Form) (draws middle last : List ℤ) (x y : ℤ) → difference_in s a b ≡ Some d
     → value_of a s draws ≡ Some (x, middle) → value_of b s middle ≡ Some (y, last) → form_value d s.store ≡ x -ℤ y
 difference_is_right s a b d draws middle last x y is ran ran_too =

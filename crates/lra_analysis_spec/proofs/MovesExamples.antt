@@ -29,7 +29,7 @@ less = at_least_0 (negsuc 0) (negsuc 0) (pos 1)
 differs_joins : guard 2 0 true (compare differs x y) ≡ join_of (make less) (make (at_least_0 (negsuc 0) (pos 1) (negsuc 0)))
 differs_joins = refl
 
--- !(x < y && x) is !(x < y), or x < y and then x == 0: catches an `&&` that stays, and a right side that is met where the left one is false
+-- !(x < y && x) is !(x < y), or x < y and then x == 0: catches an `&&` that stays, and a right side that is met if the left one is false
 opposed : guard 2 0 true (opposite (both_of (compare below x y) (nonzero x)))
     ≡ join_of (make (at_least_0 (pos 0) (pos 1) (negsuc 0))) (first_then (make less) (make (is_0 (pos 0) (pos 1) (pos 0))))
 opposed = refl

@@ -1,4 +1,4 @@
--- Where each operation has one result, the same values report one thing of accesses; and what is judged of them with
+-- If each operation has one result, the same values report one thing of accesses; and what is judged of them with
 -- drops is what is defined, as far as nothing is flagged.
 use Rattle.std.proofs.Common.{◌≡◌, ◌∙◌, ℕ, List, [], ◌∷◌, ◌++◌, Option, Some, None, Bool, refl, sym, subst}
 use Rattle.lra_analysis_spec.specs.Crates.lra_program.Accesses.{expr_accesses, arguments_accesses, aim_accesses}

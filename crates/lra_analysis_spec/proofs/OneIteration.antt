@@ -1,4 +1,4 @@
--- The written iteration finds one value at each point: where each operation has one result, so has a pass.
+-- The written iteration finds one value at each point: if each operation has one result, so has a pass.
 use Rattle.std.proofs.Common.{◌≡◌, ◌∙◌, ℕ, zero, suc, ℤ, ◌-◌, List, [], ◌∷◌, Option, None, Some, Bool, true, false, refl, sym, subst}
 use Rattle.lra_analysis_spec.specs.Crates.lra_base.declared.case_labels.CaseLabel.TheVariants.{Case, Default}
 use Rattle.lra_analysis_spec.specs.Crates.lra_program.Program.{Expr, Cond, Program}
@@ -12,7 +12,7 @@ use Rattle.lra_analysis_spec.specs.Pass.{ValueIs, MatchesNone, Enters, JoinsRunn
 use Rattle.lra_analysis_spec.specs.{Analysis.ExactIteration, Analysis.Iteration, Moves.AreMade, MovesOf.guard, MovesOf.value_moves, MovesOf.moves_of, MovesOf.first_values, Operations.Operations}
 use Rattle.lra_analysis_spec.specs.{Operations.exact_operations, Plan.Plan, Plan.Widening, Plan.mode_at, Thresholds.loop_thresholds}
 
--- each operation has one exactness and one result; a head doesn't grow where it is stable
+-- each operation has one exactness and one result; a head doesn't grow if it is stable
 pub record Single {V H : Type 0} (ops : Operations V H) : Type 0 where
   pub universal : (n cap : ℕ) (v w : V) → ops.top n cap v → ops.top n cap w → v ≡ w
   pub void : (n cap : ℕ) (v w : V) → ops.bottom n cap v → ops.bottom n cap w → v ≡ w

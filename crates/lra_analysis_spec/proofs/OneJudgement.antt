@@ -1,4 +1,4 @@
--- Where each operation has one result, the same values report one thing of what fits; and what is judged with drops is
+-- If each operation has one result, the same values report one thing of what fits; and what is judged with drops is
 -- what is defined, as far as nothing is flagged.
 use Rattle.std.proofs.Common.{◌≡◌, ◌∙◌, ℕ, List, [], ◌∷◌, Option, None, Bool, true, false, refl, sym, ap}
 use Rattle.std.specs.{List.list_all, Prelude.◌↔◌, Prelude.IsTrue}

@@ -1,4 +1,4 @@
--- Whatever is reported of operations: where each operation has one result and one thing is reported about it, the same
+-- Whatever is reported of operations: if each operation has one result and one thing is reported about it, the same
 -- values report one thing; and what is judged with drops is judged so by other operations, as far as what is flagged
 -- matters.
 use Rattle.std.proofs.Common.{◌≡◌, ◌∙◌, ℕ, List, [], ◌∷◌, Option, Some, None, Bool, true, false, refl, sym, subst, inl, inr}

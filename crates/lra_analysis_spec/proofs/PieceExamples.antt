@@ -63,7 +63,7 @@ int_given = refl
 long_given : moves_of 1 (store_value 0 (variable_at 0 Long) (literal Int 3)) ≡ make (assign 0 (form (pos 3) (pos 0 ∷ [])))
 long_given = refl
 
--- of three variables the newest two go; where none goes nothing is done
+-- of three variables the newest two go; if none goes nothing is done
 keep_one : moves_of 3 (truncate_to 1) ≡ make (remove_last 2)
 keep_one = refl
 

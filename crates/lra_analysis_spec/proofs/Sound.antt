@@ -124,7 +124,7 @@ module _ (V H : Type 0) (m : Abstraction V H) (laws : Laws m) where
         by false (Case y) i made a = absurd (let no : false ≡ true = a in cc)
         by false Default i (same, exact) a = subst (λ (y : V). Has m y s.store) (sym same) (no_match labels v c other none i h)
 
-    -- where the label isn't met at the end, no label is `default`, and there is no match
+    -- if the label isn't met at the end, no label is `default`, and there is no match
     pub out_has : (labels : List CaseLabel) (v other : V) (c : Exactness) → MatchesNone (lossy_operations m) base e labels v c other → Has m v s.store
         → list_any (is_same_case (goal_of z labels)) labels ≡ false
         → (list_any (is_same_case Default) labels ≡ false) × Has m other s.store
@@ -153,13 +153,13 @@ module _ (V H : Type 0) (m : Abstraction V H) (laws : Laws m) where
   comes_other None other x w (same, exact) st h = subst (λ (y : V). Has m y st) (sym same) h
   comes_other (Some running) other x w joined st h = covered_has m laws other w joined.0.formed joined.0.right st h
 
-  -- what runs before some arms has the state, where the label was met
+  -- what runs before some arms has the state, if the label was met
   abbrev pub Runs : Bool → Option V → List ℤ → Type 0
   Runs true None st = ⊥
   Runs true (Some u) st = Has m u st
   Runs false o st = Unit {0}
 
-  -- before it is met: what comes in at it has the state, and so has what comes out where it isn't met
+  -- before it is met: what comes in at it has the state, and so has what comes out if it isn't met
   abbrev pub Waits : ℕ → Expr → Bool → V → V → CaseLabel → Bool → List CaseLabel → List ℤ → Type 0
   Waits base e d v other l true labels st = Unit {0}
   Waits base e d v other l false labels st =

@@ -1,4 +1,4 @@
--- From an iteration by some operations to one by others, where each answer of the first that matters is one of the second.
+-- From an iteration by some operations to one by others, if each answer of the first that matters is one of the second.
 use Rattle.std.proofs.Common.{◌≡◌, ℕ, zero, suc, ℤ, ◌-◌, List, [], ◌∷◌, Option, None, Some, Bool, true, false, refl, subst}
 use Rattle.lra_analysis_spec.specs.Crates.lra_base.declared.case_labels.CaseLabel.TheVariants.{Case, Default}
 use Rattle.lra_analysis_spec.specs.Crates.lra_systems.LinearSystems.{LinearSystem}
@@ -123,7 +123,7 @@ module _ (V H : Type 0) (a b : Operations V H) (Keeps : Exactness → Type 0) (F
   runs_from live cap None w h = moves.void live cap w h
   runs_from live cap (Some running) w h = h
 
-  -- where others act, each answer of the first that matters is one of the second, too
+  -- if others act, each answer of the first that matters is one of the second, too
   module _ (first second : Absorption V) (takes : (v : V) (e : Exactness) (w : V) → Keeps e → first v e w → second v e w) where
     mutual
       pub passes_among : (set : Plan) (g : Node) (f : Option ℕ) (v : V) (r : PassResult V) → Fine r.flag → PassUnder V H a first set g f v r

@@ -1,6 +1,6 @@
 -- Which accesses of arrays lie inside their arrays, as the values at the points report it. The accesses of an operation
 -- are judged in the order in which they are evaluated, each by the value that the operation has there: the right side
--- of `&&` and `||` by what the left side leaves to it. An access is inside where no run comes, or where its index is
+-- of `&&` and `||` by what the left side leaves to it. An access is inside if no run comes, or if its index is
 -- linear and two tests have 64 bits, that it is below 0 and that it is at least the array's length, each of which alone
 -- leaves nothing of the value. What is reported about an access is the place where its array is named, and whether it
 -- is inside.
@@ -22,7 +22,7 @@ use Rattle.lra_analysis_spec.specs.Linear.{form_of, at_least_zero, less_by, comp
 use Rattle.lra_analysis_spec.specs.Operations.{Operations, lossy_operations}
 use Rattle.lra_analysis_spec.specs.{Analysis.IsUnreachable, MovesOf.test_action}
 
--- that an index of this form is below 0, -e - 1 >= 0, and that it is at least the length, e - n >= 0: both, where all
+-- that an index of this form is below 0, -e - 1 >= 0, and that it is at least the length, e - n >= 0: both, if all
 -- their numbers have 64 bits
 abbrev pub outside : Form → ℕ → Option (Test × Test)
 outside e n = comparison_test below e >>= λ under. at_least_zero (less_by n e) >>= λ over. Some (under, over)
@@ -40,7 +40,7 @@ module _ {V H : Type 0} (m : Abstraction V H) (ops : Operations V H) where
       × AnswersUnlessUnreachable m v b (IsUnreachable m under × IsUnreachable m over) ×
       (e ≡ worse c d)
 
-  -- an access by a value, where the call's own variables begin at `base`
+  -- an access by a value, if the call's own variables begin at `base`
   abbrev pub AccessJudged : V → ℕ → Element → Bool → Exactness → Type 0
   AccessJudged v base x b e = IndexJudged v (outside_of (form_of (ops.dims v) base x.index) x.array.length) b e
 

@@ -8,7 +8,7 @@ use Rattle.lra_analysis_spec.specs.Operations.{Operations, exact_operations, los
 use Rattle.lra_analysis_spec.specs.Pass.{value, failing, PassResult, nothing_absorbed}
 use Rattle.lra_analysis_spec.specs.{Plan.Plan, UnderInterference.IterationUnder}
 
--- where the program runs alone
+-- if the program runs alone
 abbrev pub Iteration : {V H : Type 0} → Operations V H → Plan → Program → Node → PassResult V → Type 0
 Iteration ops = IterationUnder ops nothing_absorbed
 
@@ -29,7 +29,7 @@ abbrev pub IsUnreachable : {V H : Type 0} → Abstraction V H → V → Type 0
 IsUnreachable m v = m.parts v ≡ []
 
 -- values are in the order of their points' numbers, and so are verdicts, one for each assertion; a verdict is a point's
--- number, and whether the assertion is proved: exactly where nothing is left of the value at which its condition is
+-- number, and whether the assertion is proved: exactly if nothing is left of the value at which its condition is
 -- false
 pub record IsSolution {V H : Type 0} (m : Abstraction V H) (r : PassResult V) (values : List V)
     (verdicts : List (ℕ × Bool))

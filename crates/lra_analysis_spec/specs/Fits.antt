@@ -45,7 +45,7 @@ module _ {V H : Type 0} (m : Abstraction V H) where
     OperatorFits t over f g = IsDivisor g
     OperatorFits t modulo f g = IsDivisor g
 
-  -- all that is computed of it, where the call's own variables begin at `base`
+  -- all that is computed of it, if the call's own variables begin at `base`
   module _ (v : V) (base : ℕ) where
     -- the answers on an expression
     abbrev pub ExprJudged : Expr → List Bool → Type 0

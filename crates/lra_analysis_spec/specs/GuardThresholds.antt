@@ -29,7 +29,7 @@ comparison_rows equal (Some d) = row_of d (pos 0) ∷ opposite_row d ∷ []
 comparison_rows differs (Some d) = row_of d (pos 0) ∷ opposite_row d ∷ []
 comparison_rows op (Some d) = test_rows (comparison_test op d)
 
--- of the condition where it is to be so
+-- of the condition if it is to be so
 abbrev pub guard_rows : ℕ → ℕ → Bool → Cond → List (List ℤ)
 guard_rows live base wanted (compare op a b) =
     comparison_rows (comparison_as wanted op) (difference_form live base a b)

@@ -10,7 +10,7 @@ use Rattle.lra_operations.specs.Tree.{Node, empty, point, probe, act, check, seq
 use Rattle.lra_operations.specs.Tree.{Arms, no_arms, entry, arm}
 use Rattle.lra_operations.specs.declared.probes.Probe.TheVariants.{InterferencePoint, RecordWrite}
 
--- what the variable gets is noted, where it is one of the first n
+-- what the variable gets is noted, if it is one of the first n
 abbrev pub with_recording : ℕ → ℕ → Option ℕ → Node → Node
 with_recording n q None g = g
 with_recording n q (Some place) g = if nat_lt place n then seq g (probe q (RecordWrite place)) else g

@@ -13,7 +13,7 @@ use Rattle.lra_analysis_spec.specs.Crates.lra_program.Program.{compare}
 use Rattle.lra_analysis_spec.specs.Crates.lra_program.Value.{◌>>=◌, is_word, is_zero, index_of, Environment, value_of}
 use Rattle.lra_analysis_spec.specs.Crates.lra_program.Value.{truth_of}
 
--- the form, where the constant and all coefficients have 64 bits
+-- the form, if the constant and all coefficients have 64 bits
 abbrev pub fitting : Form → Option Form
 fitting f = if is_word f.constant && list_all is_word f.coefficients then Some f else None
 
@@ -86,7 +86,7 @@ OperatorFormsAreExact = (op : Operator) (f g h : Form) (s : List ℤ) → length
 abbrev pub form_in : Environment → Expr → Option Form
 form_in s e = form_of (length s.store) s.base e
 
--- where the expression has a value, its form has the same
+-- if the expression has a value, its form has the same
 abbrev pub FormsAreRight : Type 0
 FormsAreRight = (s : Environment) (e : Expr) (f : Form) (draws left : List ℤ) (z : ℤ)
     → form_in s e ≡ Some f → value_of e s draws ≡ Some (z, left) → form_value f s.store ≡ z
@@ -128,13 +128,13 @@ difference_form live base a b = form_of live base (binary minus a b)
 abbrev pub difference_in : Environment → Expr → Expr → Option Form
 difference_in s a b = difference_form (length s.store) s.base a b
 
--- where both sides have a value, the comparison is true exactly where its test passes
+-- if both sides have a value, the comparison is true exactly if its test passes
 abbrev pub TestsAreRight : Type 0
 TestsAreRight = (s : Environment) (op : Comparison) (a b : Expr) (d : Form) (t : Test) (draws left : List ℤ) (v : Bool)
     → difference_in s a b ≡ Some d → comparison_test op d ≡ Some t
     → truth_of (compare op a b) s draws ≡ Some (v, left) → (IsTrue v ↔ TestHolds t s.store)
 
--- and `!=` is true exactly where the test of `<` or that of `>` passes
+-- and `!=` is true exactly if the test of `<` or that of `>` passes
 abbrev pub DiffersIsRight : Type 0
 DiffersIsRight = (s : Environment) (a b : Expr) (d : Form) (less more : Test) (draws left : List ℤ) (v : Bool)
     → difference_in s a b ≡ Some d → comparison_test below d ≡ Some less → comparison_test above d ≡ Some more

@@ -1,4 +1,4 @@
--- What an analysis sees of the numbers that a program computes: a linear form, where the expression has one. A linear
+-- What an analysis sees of the numbers that a program computes: a linear form, if the expression has one. A linear
 -- form A divided by a constant k above 0 has none, but whole numbers say of it more than that it is any: A is
 -- k*t + r for the quotient t and what is left, r, and r has the sign of A and lies nearer to 0 than k. So t and r are
 -- taken as two variables after the live ones, first t, then r, and what is seen is a linear form over all of them.
@@ -81,7 +81,7 @@ linearized_from None None = Unseen
 abbrev pub linearized : ℕ → ℕ → Expr → Linearized
 linearized live base e = linearized_from (form_of live base e) (share_of live base e)
 
--- over so many variables: a form has a coefficient for each of them, and for the two after them where they are there
+-- over so many variables: a form has a coefficient for each of them, and for the two after them if they are there
 abbrev pub LinearizedFits : Linearized → ℕ → Type 0
 LinearizedFits (Linear f) n = length f.coefficients ≡ n
 LinearizedFits (Divided d f) n = Divides d n × (length f.coefficients ≡ n + 2)
@@ -95,7 +95,7 @@ abbrev pub divided_if : Division → Option Form → Linearized
 divided_if d None = Unseen
 divided_if d (Some f) = Divided d f
 
--- the one minus the other; where both are divisions nothing is seen
+-- the one minus the other; if both are divisions nothing is seen
 abbrev pub subtracted : Linearized → Linearized → Linearized
 subtracted (Linear f) (Linear g) = linear_if (combined_forms (λ x y. x -ℤ y) f g)
 subtracted (Linear f) (Divided d g) = divided_if d (combined_forms (λ x y. x -ℤ y) (extended f (pos 0) (pos 0)) g)

@@ -5,7 +5,7 @@ use Rattle.lra_domain.specs.Moves.{Moves, stay, make, first_then, join_of}
 use Rattle.lra_domain.specs.{Abstraction.worse, declared.Exactness.Exactness, declared.Exactness.TheVariants.Exact}
 use Rattle.lra_analysis_spec.specs.Operations.{Operations}
 
--- from the first value to the second one, with this exactness: flagged where any of it is
+-- from the first value to the second one, with this exactness: flagged if any of it is
 abbrev pub AreMade : {V H : Type 0} → Operations V H → Moves → V → Exactness → V → Type 0
 AreMade ops stay v e w = (w ≡ v) × (e ≡ Exact)
 AreMade ops (make step) v e w = ops.changed step v e w

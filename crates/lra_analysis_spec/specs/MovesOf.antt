@@ -1,11 +1,11 @@
 -- The moves of a program's least changes and of its conditions, over so many live variables. An assignment of a linear
--- form assigns, that of a division does so in two cases, where what is divided is at least 0 and where it is below 0,
+-- form assigns, that of a division does so in two cases, if what is divided is at least 0 and if it is below 0,
 -- and joins them; any other one forgets. Of what arrays hold nothing is reported, so an element that is read forgets,
 -- and one that gets a value changes nothing. After each that an `int` gets, and after its declaration, stand the tests
 -- that it lies within 32 bits. Conditions (Cousot and Halbwachs 1978): `!` is pushed to the comparisons; a
--- comparison tests, where its difference is linear, and in the two cases, where one side is a division and the other
+-- comparison tests, if its difference is linear, and in the two cases, if one side is a division and the other
 -- one linear; `&&` is the one after the other; `||` joins what the left side leaves with what the right side leaves
--- where the left one is false.
+-- if the left one is false.
 use Rattle.std.specs.Prelude.{ℕ, zero, suc, ◌-◌, ℤ, pos, negsuc, neg_ℤ, ◌-ℤ◌, List, [], ◌∷◌, Bool, true, false, not}
 use Rattle.std.specs.Prelude.{Option, None, Some, replicate, slice_set}
 use Rattle.lra_analysis_spec.specs.Crates.lra_base.NumberTypes.{least_of, greatest_of}
@@ -41,12 +41,12 @@ abbrev pub in_turn : List Action → Moves
 in_turn [] = stay
 in_turn (step ∷ steps) = first_then (make step) (in_turn steps)
 
--- where A is at least 0: t and r come after the live variables, and 0 <= r, r <= k - 1, A = k*t + r
+-- if A is at least 0: t and r come after the live variables, and 0 <= r, r <= k - 1, A = k*t + r
 abbrev pub first_case : ℕ → Division → List Action
 first_case live d = action.test Ge d.numerator ∷ embed 2 ∷ action.test Ge (remainder_form live)
     ∷ action.test Ge (behind_form live (d.divisor -ℤ pos 1) (pos 0) (negsuc 0)) ∷ action.test Eq (left_over d) ∷ []
 
--- where it is below 0: 1 - k <= r, r <= 0, A = k*t + r
+-- if it is below 0: 1 - k <= r, r <= 0, A = k*t + r
 abbrev pub second_case : ℕ → Division → List Action
 second_case live d = action.test Ge d.opposite ∷ embed 2
     ∷ action.test Ge (behind_form live (d.divisor -ℤ pos 1) (pos 0) (pos 1))
@@ -104,7 +104,7 @@ comparison_moves live op (Linear d) = split_moves live op (Linear d)
 comparison_moves live op (Divided c d) = split_moves live op (Divided c d)
 comparison_moves live op Unseen = stay
 
--- the condition where it is to be so; a bare `e` is `e != 0`
+-- the condition if it is to be so; a bare `e` is `e != 0`
 abbrev pub guard : ℕ → ℕ → Bool → Cond → Moves
 guard live base wanted (compare op a b) =
     comparison_moves live (comparison_as wanted op) (linearized_difference live base a b)
@@ -118,7 +118,7 @@ guard live base true (either_of a b) =
     join_of (guard live base true a) (first_then (guard live base false a) (guard live base true b))
 guard live base false (either_of a b) = first_then (guard live base false a) (guard live base false b)
 
--- what is seen has this value or, where it is not wanted, another one: the comparison with a literal
+-- what is seen has this value or, if it is not wanted, another one: the comparison with a literal
 abbrev pub number_moves : ℕ → Bool → Linearized → ℤ → Moves
 number_moves live wanted s z =
     comparison_moves live (comparison_as wanted equal) (subtracted s (Linear (linear.constant_form live z)))
@@ -139,7 +139,7 @@ below_greatest t live x = record {
   coefficients = slice_set (replicate live (pos 0)) x (negsuc 0);
 }
 
--- After what gives the variable a value, where so many live then: an `int` lies within 32 bits. Nothing is tested of
+-- After what gives the variable a value, if so many live then: an `int` lies within 32 bits. Nothing is tested of
 -- 64 bits, which every number of a store has.
 abbrev pub within_type : NumberType → ℕ → ℕ → Moves → Moves
 within_type Long live x p = p
@@ -148,7 +148,7 @@ within_type Int live x p = first_then p (first_then (make (action.test Ge (above
 
 -- least changes ---------------------------------------------------------------------------------------------------
 
--- the variable gets the number that is seen; any value where nothing is seen
+-- the variable gets the number that is seen; any value if nothing is seen
 abbrev pub set_to : ℕ → ℕ → Linearized → Moves
 set_to live x (Linear f) = make (assign x f)
 set_to live x (Divided d f) = in_cases live d (assign x f)
@@ -175,7 +175,7 @@ abbrev pub set_target : ℕ → Option Target → Linearized → Moves
 set_target live None v = stay
 set_target live (Some t) v = set_cell live t.number_type t.cell v
 
--- so many of the newest variables go; where none goes there is nothing to do
+-- so many of the newest variables go; if none goes there is nothing to do
 abbrev pub drop_last : ℕ → Moves
 drop_last zero = stay
 drop_last (suc k) = make (remove_last (suc k))

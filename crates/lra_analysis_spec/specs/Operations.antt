@@ -1,6 +1,6 @@
 -- The operations of which an iteration is made. Each is a relation of its operands, its exactness and its result, so
 -- that one definition of the iteration serves for the written one, for one in which operations may be flagged, and for
--- where one exceeds a limit.
+-- if one exceeds a limit.
 use Rattle.std.specs.Prelude.{◌≡◌, ℕ}
 use Rattle.lra_analysis_spec.specs.Crates.lra_linear_spec.declared.ConKind.{ConKind}
 use Rattle.lra_analysis_spec.specs.Crates.lra_systems.LinearSystems.{LinearSystem}

@@ -120,11 +120,11 @@ Filters ops base c wanted v e w = AreMade ops (guard (ops.dims v) base wanted c)
 abbrev pub OpTransfer : {V H : Type 0} → Operations V H → Op → V → Exactness → V → Type 0
 OpTransfer ops op v e w = AreMade ops (moves_of (ops.dims v) op) v e w
 
--- from v, where the expression has the value z, wanted so or not, w
+-- from v, if the expression has the value z, wanted so or not, w
 abbrev pub ValueIs : {V H : Type 0} → Operations V H → ℕ → Expr → ℤ → Bool → V → Exactness → V → Type 0
 ValueIs ops base e z wanted v x w = AreMade ops (value_moves (ops.dims v) base wanted e z) v x w
 
--- where the expression has none of these labels' values: `e != z` for one after the other
+-- if the expression has none of these labels' values: `e != z` for one after the other
 abbrev pub MatchesNone : {V H : Type 0} → Operations V H → ℕ → Expr → List CaseLabel → V → Exactness → V → Type 0
 MatchesNone ops base e [] v x w = (w ≡ v) × (x ≡ Exact)
 MatchesNone {V} ops base e (Case z ∷ labels) v x w = (m : V) × (c d : Exactness) × ValueIs ops base e z false v c m ×
@@ -136,7 +136,7 @@ abbrev pub Enters : {V H : Type 0} → Operations V H → ℕ → Expr → CaseL
 Enters ops base e (Case z) v other x w = ValueIs ops base e z true v x w
 Enters ops base e Default v other x w = (w ≡ other) × (x ≡ Exact)
 
--- joined to what runs there, where something does: before the first label nothing does
+-- joined to what runs there, if something does: before the first label nothing does
 abbrev pub JoinsRunning : {V H : Type 0} → Operations V H → Option V → V → Exactness → V → Type 0
 JoinsRunning ops None u x w = (w ≡ u) × (x ≡ Exact)
 JoinsRunning ops (Some running) u x w = ops.joined running u x w
@@ -248,7 +248,7 @@ module _ (V H : Type 0) (ops : Operations V H) (admission : Absorption V) where
         × ArmsPassUnder set q base e has_default v other arms s.flag (Some s.normal) t
         × (r ≡ in_turn s t t.normal t.flag)
 
--- where a program runs alone
+-- if a program runs alone
 abbrev pub Pass : (V H : Type 0) → Operations V H → Plan → Node → Transformer V
 Pass V H ops = PassUnder V H ops nothing_absorbed
 

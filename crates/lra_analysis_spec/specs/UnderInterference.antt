@@ -13,11 +13,11 @@ use Rattle.lra_analysis_spec.specs.{Moves.AreMade, MovesOf.first_values, Plan.Pl
 abbrev pub absorbed_exactly : {V : Type 0} → Interference V → Absorption V
 absorbed_exactly o v e w = (e ≡ Exact) × o.done v w
 
--- with drops, where it exceeds a limit; the result has the dimensions and the caps of the value
+-- with drops, if it exceeds a limit; the result has the dimensions and the caps of the value
 abbrev pub absorbed : {V H : Type 0} → Interference V → Abstraction V H → Absorption V
 absorbed o m v e w = Absorbs o m v e w × (m.dims w ≡ m.dims v) × CapsWithin (m.capped v) (m.capped w)
 
--- flagged, with anything, where it exceeds a limit
+-- flagged, with anything, if it exceeds a limit
 abbrev pub absorbed_straining : {V : Type 0} → Interference V → Absorption V
 absorbed_straining o v e w = (e ≡ Exact → o.done v w) × (e ≡ Flagged → o.strains v)
 

@@ -8,7 +8,7 @@ use std::alloc::{AllocError, Global};
 /// A linear form that a number above 0 divides.
 pub struct Division {
     pub numerator: LinExpr,
-    /// `-numerator - 1`, which is at least 0 where the numerator is below 0.
+    /// `-numerator - 1`, which is at least 0 if the numerator is below 0.
     pub opposite: LinExpr,
     pub divisor: i64,
 }

@@ -1,4 +1,4 @@
--- From going back by some operations to going back by others, where each answer of the first that matters is one of the
+-- From going back by some operations to going back by others, if each answer of the first that matters is one of the
 -- second.
 use Rattle.std.proofs.Common.{ℕ, zero, suc, List, [], ◌∷◌, length, Option, None, Some, Bool, true, false, subst, inl, inr}
 use Rattle.std.specs.Prelude.{slice_set}

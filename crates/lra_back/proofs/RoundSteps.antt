@@ -53,7 +53,7 @@ module _ {V H : Type 0} (ops : BackwardOperations V H) (task : Task V) where
 
 -- ranks ----------------------------------------------------------------------------------------------------------------
 
--- where nothing joins, the ranks don't rise, and fall where something grew
+-- if nothing joins, the ranks don't rise, and fall if something grew
 abbrev pub RanksFall : {V H : Type 0} → Abstraction V H → Mode → List H → List H → Bool → Type 0
 RanksFall m mode before now stable = mode ≢ Join → (ranks_of m now ≤ ranks_of m before) × (stable ≡ false → ranks_of m now < ranks_of m before)
 

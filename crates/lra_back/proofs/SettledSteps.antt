@@ -78,7 +78,7 @@ module _ {V H : Type 0} (ops : BackwardOperations V H) (task : Task V) where
         sym (set_same heads p is.head is.is_there),
       )
 
-  -- another point stays settled after a turn, where the head is the same, or no paths lead to it
+  -- another point stays settled after a turn, if the head is the same, or no paths lead to it
   other_same : (q p : ℕ) (e : Exactness) (heads : List H) (f : Option ℕ) → IsSettled ops task heads f q → IsSettled ops task heads (noted p e f) q
   other_same q p e heads f is = record {
     head = is.head;

@@ -58,7 +58,7 @@ task_of globals sites g forward p seed = record {
 }
 
 -- From forward values, with the first flagged point so far, to what is so at each point, by the operations: the seed is
--- what the forward value at the assertion leaves where its condition is false, and is made once; then come the rounds,
+-- what the forward value at the assertion leaves if its condition is false, and is made once; then come the rounds,
 -- and last the meets, from the first point to the last.
 pub record BackwardAnalysis {V H : Type 0} (ops : BackwardOperations V H) (globals : List GlobalVariable)
     (sites : List Site) (g : Node)
@@ -79,7 +79,7 @@ pub record BackwardAnalysis {V H : Type 0} (ops : BackwardOperations V H) (globa
       rounds_flag last
   pub met : AreBackwardValues ops 0 rounds_flag last forward flag values
 
--- what is found, flagged or not: without a flag it is what is defined; where the forward values have none, the first
+-- what is found, flagged or not: without a flag it is what is defined; if the forward values have none, the first
 -- flag stands where the definition exceeds a limit
 pub record IsBackwardAnalysis {V H : Type 0} (m : Abstraction V H) (b : BackwardAbstraction V)
     (globals : List GlobalVariable) (sites : List Site)
@@ -88,7 +88,7 @@ pub record IsBackwardAnalysis {V H : Type 0} (m : Abstraction V H) (b : Backward
   pub written : flag ≡ None → BackwardAnalysis (exact_back_operations m b) globals sites g forward f p values flag
   pub strained : BackwardAnalysis (straining_back_operations m b) globals sites g forward f p values flag
 
--- proved is an assertion where no path from the start leads to a point at which something is left
+-- proved is an assertion if no path from the start leads to a point at which something is left
 abbrev pub NothingLeftAtStart : {V H : Type 0} → Abstraction V H → List GlobalVariable → List Site → Node → List V →
     Type 0
 NothingLeftAtStart {V} m globals sites g values = (q : ℕ) (v : V) → slice_get values q ≡ Some v →

@@ -168,7 +168,7 @@ pub record BackNeeds {V H : Type 0} (m : Abstraction V H) (globals : List Global
   pub asserts : IsAssertion sites p
   pub asserted : AreAsserted sites tree
 
--- what is gone back over from the point, where the seed has this exactness
+-- what is gone back over from the point, if the seed has this exactness
 pub record IsPrepared {V H : Type 0} (m : Abstraction V H) (b : BackwardAbstraction V) (globals : List GlobalVariable)
     (sites : List Site) (g : Node) (forward : List V) (p : ℕ) (t : Task V) (e : Exactness) : Type 0 where
   pub base : ℕ

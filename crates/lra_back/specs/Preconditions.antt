@@ -17,7 +17,7 @@ PreOfPath {V} ops forward target path e w =
     (v u : V) × (c d i : Exactness) × ops.forward.valued target c v × PreAlong ops path v d u ×
     ops.meet u forward i w × (e ≡ worse (worse c d) i)
 
--- what these paths bring back, joined one by one to what came before, where something did
+-- what these paths bring back, joined one by one to what came before, if something did
 abbrev pub PreOfPaths : {V H : Type 0} → BackwardOperations V H → V → H → List (List Action) → Option V → Exactness →
     Option V → Type 0
 PreOfPaths ops forward target [] so e all = (all ≡ so) × (e ≡ Exact)

@@ -61,7 +61,7 @@ module _ {V H : Type 0} (ops : BackwardOperations V H) where
     Widens n (suc more) f heads g last =
         (i : Option ℕ) × (between : List H) × Round Widen n f heads i false between × Widens n more i between g last
 
-    -- the first round joins; where it left all heads stable it is the last
+    -- the first round joins; if it left all heads stable it is the last
     abbrev pub Rounds : ℕ → Option ℕ → List H → Option ℕ → List H → Type 0
     Rounds n f heads g last =
         Round Join n f heads g true last

@@ -8,7 +8,7 @@ use Rattle.lra_back.specs.Operations.{BackwardOperations, lossy_back_operations}
 use Rattle.lra_back.specs.{declared.rounds.BackwardState.BackwardState, declared.tasks.Task.Task}
 use Rattle.lra_back.specs.Rounds as rounds
 
--- the point's next value over these heads lies in its own where that widens, and adds no flag
+-- the point's next value over these heads lies in its own if that widens, and adds no flag
 pub record IsSettled {V H : Type 0} (ops : BackwardOperations V H) (task : rounds.Task V) (heads : List H)
     (f : Option ℕ)
     (p : ℕ) : Type 0 where
@@ -27,7 +27,7 @@ pub record AreSettled {V H : Type 0} (ops : BackwardOperations V H) (task : roun
   pub count : length settled ≡ length task.forward
   pub each : (p : ℕ) → slice_get settled p ≡ Some true → IsSettled ops task heads f p
 
--- After a turn of the point: where its head was stable, it may be marked if the round widens; else neither it nor any
+-- After a turn of the point: if its head was stable, it may be marked if the round widens; else neither it nor any
 -- point from which paths lead to it is marked.
 abbrev pub Settles : {V : Type 0} → rounds.Task V → Mode → ℕ → Bool → List Bool → List Bool → Type 0
 Settles task mode p true old new = (length new ≡ length old) × ((q : ℕ) → slice_get new q ≡ Some true →

@@ -20,7 +20,7 @@ pub struct PreValue<D> {
     pub exactness: Exactness,
 }
 
-/// What is joined so far, where something is, with the exactness of all of it.
+/// What is joined so far, if something is, with the exactness of all of it.
 #[derive(Drop)]
 pub struct Joined<D> {
     pub value: Option<D>,
@@ -71,7 +71,7 @@ fn come_back<D: Backward>(
     })
 }
 
-/// Joined to what came before, where something did.
+/// Joined to what came before, if something did.
 pub fn join_to<D: Backward>(so_far: Option<D>, value: D) -> Result<PreValue<D>, AllocError>
     requires { IfThereHas D.abstraction (D.abstraction.dims value) so_far }
     ensures joins { IfOk result

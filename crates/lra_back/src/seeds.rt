@@ -1,4 +1,4 @@
-//! Where going back begins: what an assertion's forward value leaves where its condition is false.
+//! Where going back begins: what an assertion's forward value leaves if its condition is false.
 
 ghost use Rattle.std.specs.Prelude.{◌≡◌, ◌≤◌, ℕ, [], ◌∷◌, map, false, Some, IfOk};
 ghost use Rattle.lra_program.specs.Program as program;
@@ -79,7 +79,7 @@ pub fn find_asserted<'g>(ways: &[TreeSegment<'g>], point: usize) -> Option<Asser
     None
 }
 
-/// What the value leaves where the condition is false.
+/// What the value leaves if the condition is false.
 pub fn restrict_to_violation<D: Backward>(
     alloc: Global,
     asserted: Asserted<'_>,

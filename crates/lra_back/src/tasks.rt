@@ -22,7 +22,7 @@ pub struct Task<'g, D> {
     pub seed: D,
 }
 
-/// What was found, or the empty value of so many dimensions where nothing was.
+/// What was found, or the empty value of so many dimensions if nothing was.
 fn or_empty<D: Backward>(alloc: Global, dims: usize, found: Option<D>) -> Result<D, AllocError>
     requires few { dims ≤ 2 ^ 30 }
     requires has { IfThereHas D.abstraction dims found }

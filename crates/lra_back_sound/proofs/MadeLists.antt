@@ -19,7 +19,7 @@ all_pairs Q R P f h xs ys i j = all_flat R P (λ y. map (f y) xs) (λ y k. all_m
 pub all_one : {A : Type 0} (P : A → Type 0) (x : A) → P x → All P (x ∷ [])
 all_one P x h = All-cons P x [] h (All-nil P)
 
--- where there are any
+-- if there are any
 pub all_if : {A : Type 0} (P : A → Type 0) (b : Bool) (xs ys : List A) → (b ≡ true → All P xs) → (b ≡ false → All P ys) → All P (if b then xs else ys)
 all_if P true xs ys h k = h refl
 all_if P false xs ys h k = k refl

@@ -1,5 +1,5 @@
 -- Moves of which each disjunct can be made of a value with so many dimensions, and leaves so many: those of what is
--- done on a segment, where it fits.
+-- done on a segment, if it fits.
 use Rattle.std.proofs.Common.{◌≡◌, ℕ, ℤ, pos, negsuc, zero, suc, ◌+◌, ◌-◌, ◌≤◌, ◌<◌, List, [], ◌∷◌, ◌++◌, length, Option, Some, None, Bool, true, false, refl, sym, ◌∙◌, subst, arith}
 use Rattle.std.proofs.lemmas.List.{length-set}
 use Rattle.std.proofs.{lemmas.List.length-replicate, lemmas.List.Elements.All-append}
@@ -214,7 +214,7 @@ op_leads (step.test base c wanted) n few fits = guard_leads n few base wanted c
 
 -- what is done on a segment -------------------------------------------------------------------------------------------
 
--- it can be done where n variables live
+-- it can be done if n variables live
 abbrev pub StepFits : ℕ → SegmentStep → Type 0
 StepFits n (does op) = OpFitsDims op n
 StepFits n (goes base e labels l) = ⊤
@@ -223,7 +223,7 @@ step_leads : (s : SegmentStep) (n : ℕ) → n ≤ most_live → StepFits n s �
 step_leads (does op) n few fits = op_leads op n few fits
 step_leads (goes base e labels l) n few fits = label_leads n few (linearized n base e) labels l (seen_fits n base e)
 
--- all of it can be done where n variables live, and leaves m
+-- all of it can be done if n variables live, and leaves m
 abbrev pub StepsFit : ℕ → ℕ → List SegmentStep → Type 0
 StepsFit n m [] = n ≡ m
 StepsFit n m (s ∷ ops) = StepFits n s × (n ≤ most_live) × StepsFit (dims_after_step s n) m ops

@@ -1,4 +1,4 @@
--- Segments of trees whose operations fit: what is done on each can be done where as many variables live as at its
+-- Segments of trees whose operations fit: what is done on each can be done if as many variables live as at its
 -- source, and leaves as many as live at its goal.
 use Rattle.std.proofs.Common.{◌≡◌, ◌≢◌, ℕ, ◌≤◌, List, [], ◌∷◌, ◌++◌, map, Some, Bool, true, false, inl, inr, refl, sym, ◌∙◌, subst}
 use Rattle.std.proofs.lemmas.List.Elements.{All-nil, All-append, All-weaker}
@@ -41,7 +41,7 @@ exits_same returned returned e = refl
 -- what must hold ------------------------------------------------------------------------------------------------------
 
 module _ (T : List Site) where
-  -- where n live, it leads to the goal with as many as live there
+  -- if n live, it leads to the goal with as many as live there
   abbrev pub GoalFits : ℕ → Goal → List SegmentStep → Type 0
   GoalFits n (comes_to q) ops = (r : Site) → slice_get T q ≡ Some r → StepsFit n r.live ops
   GoalFits n (violates q) ops = Unit {0}

@@ -21,7 +21,7 @@ pub record CoverFailingRuns {V H : Type 0} (m : Abstraction V H) (P : Program) (
   pub stores : (s r : Site) (q : ℕ) (store : List ℤ) → slice_get (sites_of P) p ≡ Some s →
       slice_get (sites_of P) q ≡ Some r → FailsFrom P (point_of s) (point_of r) store → (v : V) ×
       (slice_get values q ≡ Some v) × InGamma m v store
-  -- where nothing is left at the points to which paths from the start lead, no run fails
+  -- if nothing is left at the points to which paths from the start lead, no run fails
   pub proved : (s : Site) → slice_get (sites_of P) p ≡ Some s →
       NothingLeftAtStart m P.globals (sites_of P) g values → Fails P (point_of s) → ⊥
 

@@ -10,7 +10,7 @@ use Rattle.lra_fixpoint.specs.Lives.{PointsHave}
 use Rattle.lra_back.specs.BackwardAnalysis.{AreAsserted, NothingLeftAtStart, PathsFit}
 
 -- a tree whose operations can be made, and which reaches its points with as many variables as live there, has paths
--- that can be made where the globals are no more than may live
+-- that can be made if the globals are no more than may live
 abbrev pub TreesHavePathsThatFit : Type 0
 TreesHavePathsThatFit = (globals : List GlobalVariable) (sites : List Site) (g : Node) →
     length globals ≤ most_live → TreeFits g (length globals) → PointsHave sites g (length globals) →
@@ -30,7 +30,7 @@ pub record IsFirst (P : Program) (g : Node) (q : ℕ) : Type 0 where
 abbrev pub OnePointIsFirst : Type 0
 OnePointIsFirst = (P : Program) (g : Node) → IsInlinedTree P g → (q : ℕ) × IsFirst P g q
 
--- nothing is left at the start exactly where nothing is left at that point
+-- nothing is left at the start exactly if nothing is left at that point
 abbrev pub NothingLeftAtFirst : {V H : Type 0} → Abstraction V H → Type 0
 NothingLeftAtFirst {V} m = (P : Program) (g : Node) (q : ℕ) (values : List V) (v : V) → IsFirst P g q →
     slice_get values q ≡ Some v → (NothingLeftAtStart m P.globals (sites_of P) g values ↔ IsUnreachable m v)

@@ -7,13 +7,13 @@ use lra_back::Backward;
 use lra_fixpoint::Domain;
 
 /// What is found by going back over values that hold in all runs has each store with which a run is at a point from
-/// which it goes on to fail; where it leaves nothing at the start, no run fails.
+/// which it goes on to fail; if it leaves nothing at the start, no run fails.
 pub fn backward_is_sound<D: Backward>()
     ensures { BackwardIsSound D.abstraction D.backward_abstraction }
 {}
 
 /// A tree whose operations can be made, and which reaches its points with as many variables as live there, has paths
-/// that can be made where the globals are no more than may live.
+/// that can be made if the globals are no more than may live.
 pub fn paths_fit()
     ensures { TreesHavePathsThatFit }
 {}
@@ -29,7 +29,7 @@ pub fn one_point_is_first()
     ensures { OnePointIsFirst }
 {}
 
-/// Nothing is left at the start exactly where the value at that point has nothing.
+/// Nothing is left at the start exactly if the value at that point has nothing.
 pub fn nothing_left_at_first<D: Domain>()
     ensures { NothingLeftAtFirst D.abstraction }
 {}

@@ -1,5 +1,5 @@
 -- What going back does to the first flagged point: a fact of flags that each noted one keeps, at points of the program, is so at the end
--- where it was so before.
+-- if it was so before.
 use Rattle.std.proofs.Common.{◌≡◌, ◌∙◌, ◌≤◌, ◌<◌, ◌+◌, ℕ, zero, suc, Bool, true, List, [], ◌∷◌, length, refl, sym, subst, arith, inl, inr}
 use Rattle.std.proofs.lemmas.Option.{none-some, slice_get_within}
 use Rattle.std.specs.Prelude.{Option, None, Some}

@@ -41,7 +41,7 @@ pub record ShowsAtPoints (t : FileTree) (values : List Polyhedron) (points : Lis
   pub are_shown : AreShown polyhedron_abstraction Poly shown_polyhedron values
 
 -- The point is an assertion of a program with few paths; what the forward analysis finds is gone back over from there,
--- after its flags. Proved the assertion is exactly where nothing is left at the points to which paths from the start
+-- after its flags. Proved the assertion is exactly if nothing is left at the points to which paths from the start
 -- lead.
 pub record IsBackwardFinding (constants : List ℤ) (P : Program) (g : Node) (p : ℕ) (values : List Polyhedron)
     (last : Option ℕ) (holds : Bool) : Type 0 where
@@ -72,13 +72,13 @@ pub record IsBackReportOf (source : List ℕ) (p : ℕ) (r : BackReport) : Type 
 abbrev pub HoldsBeforeFailing : Program → Point → PointReport → Type 0
 HoldsBeforeFailing P assertion x = (store : List ℤ) → FailsFrom P assertion x.point store → InvariantHolds x.state store
 
--- so it is at all points, and no run fails where the assertion is proved
+-- so it is at all points, and no run fails if the assertion is proved
 pub record ReportCoversFailingRuns (P : Program) (p : ℕ) (r : BackReport) : Type 0 where
   pub states : (s : Site) → slice_get (sites_of P) p ≡ Some s →
       AllByRecursion (HoldsBeforeFailing P (point_of s)) r.points
   pub proved : r.proved ≡ true → (s : Site) → slice_get (sites_of P) p ≡ Some s → Fails P (point_of s) → ⊥
 
--- it is proved exactly where the one point to which paths from the start lead is shown as unreachable
+-- it is proved exactly if the one point to which paths from the start lead is shown as unreachable
 pub record IsProvedAtFirst (P : Program) (g : Node) (r : BackReport) : Type 0 where
   pub first : ℕ
   pub is_first : IsFirst P g first

@@ -4,7 +4,7 @@ ghost use Rattle.lra_back_source.specs.BackReports.{BacksAreProvedAtFirst, Backs
 ghost use Rattle.lra_back_source.specs.BackReports.{BackOrRefused, FlaggedBacksStrain, UnflaggedBacksAreDefined};
 
 /// What is shown at a point has each store from which a run goes on to fail at the assertion; if it is proved, no run
-/// fails, and that is so exactly where the first point is shown as unreachable.
+/// fails, and that is so exactly if the first point is shown as unreachable.
 pub fn backs_are_sound()
     ensures sound { BacksAreSound }
     ensures first { BacksAreProvedAtFirst }

@@ -12,6 +12,6 @@ is_same_case (Case y) Default = false
 is_same_case Default (Case z) = false
 is_same_case Default Default = true
 
--- after the label that names the value, wherever it stands; where none does, after `default`
+-- after the label that names the value, wherever it stands; if none does, after `default`
 abbrev pub goal_of : ℤ → List CaseLabel → CaseLabel
 goal_of z labels = if list_any (is_same_case (Case z)) labels then Case z else Default

@@ -42,7 +42,7 @@ pub enum Cause {
     BadLength,
     /// An array's name without an index, or a variable's with one.
     NotArray,
-    /// Not both of `t1` and `t2` are defined without parameters, where threads are asked for.
+    /// Not both of `t1` and `t2` are defined without parameters, if threads are asked for.
     NoThreads,
 }
 

@@ -19,7 +19,7 @@ lt_yes a b h = grind (arith, nat_tests)
 lt_no : (a b : ℕ) → b ≤ a → nat_lt a b ≡ false
 lt_no a b h = grind (arith, nat_tests)
 
--- a number but b is below b + 1 where it is below b
+-- a number but b is below b + 1 if it is below b
 lt_same : (a b : ℕ) → a ≢ b → nat_lt a (b + 1) ≡ nat_lt a b
 lt_same a b n = elim (cases_lt a b) [
   | inl h ↦ lt_yes a (b + 1) (omega (arith, h)) ∙ sym (lt_yes a b h)

@@ -51,7 +51,7 @@ last_inside width words values wider e w =
     let n : length values ≡ width = sym (ap length e) ∙ length_unpacked width words in
     omega (arith, n, ap length w ∙ length-append values (false ∷ []))
 
--- where the last word has room no further one is needed
+-- if the last word has room no further one is needed
 pub room_left : (width : ℕ) (words : List ℕ) (values : List Bool) → unpacked width words ≡ values → length values % 64 ≢ 0 → length words ≡ words_needed width →
     ((k : ℕ) → width ≤ k → bit_of words k ≡ false) → (length words ≡ words_needed (width + 1)) × ((k : ℕ) → width + 1 ≤ k → bit_of words k ≡ false)
 room_left width words values e room n u =

@@ -15,7 +15,7 @@ abbrev pub true_count : List Bool → ℕ
 true_count [] = 0
 true_count (x ∷ xs) = cond x (suc (true_count xs)) (true_count xs)
 
--- where a value of the first list is true, that of the second is
+-- if a value of the first list is true, that of the second is
 abbrev pub IsSubset : List Bool → List Bool → Type 0
 IsSubset xs ys = (k : ℕ) → value_at xs k ≡ true → value_at ys k ≡ true
 

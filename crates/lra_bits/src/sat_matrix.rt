@@ -241,7 +241,7 @@ impl SatMatrix {
         None
     }
 
-    /// As `find_within`, by the columns, where they are at hand, and the places where the first row is true.
+    /// As `find_within`, by the columns, if they are at hand, and the places where the first row is true.
     pub fn find_within_by(
         &self,
         columns: &SatMatrix,

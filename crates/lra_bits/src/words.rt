@@ -74,7 +74,7 @@ pub fn count_apart(xs: &[u64], ys: &[u64]) -> usize
     xs.len()
 }
 
-/// As `are_common_within`, where so many words at the start have no bit in common: these aren't looked at.
+/// As `are_common_within`, if so many words at the start have no bit in common: these aren't looked at.
 pub fn are_common_within_from(xs: &[u64], ys: &[u64], zs: &[u64], from: usize) -> bool
     requires second { length xs.now ≡ length ys.now }
     requires third { length xs.now ≡ length zs.now }

@@ -29,7 +29,7 @@ pub both_behind : (old mid new xs ys zs : List Element) → mid ≡ old ++ xs �
 both_behind old mid new xs ys zs one two is =
     two ∙ ap (λ (us : List Element). us ++ ys) one ∙ append_assoc old xs ys ∙ ap (λ (us : List Element). old ++ us) (sym is)
 
--- where there was memory for the other
+-- if there was memory for the other
 pub ok_behind : {T E : Type 0} (r : Result T E) (old mid new xs ys zs : List Element) → mid ≡ old ++ xs → OnOk r (new ≡ mid ++ ys) → zs ≡ xs ++ ys
     → OnOk r (new ≡ old ++ zs)
 ok_behind (Ok x) old mid new xs ys zs one two is = both_behind old mid new xs ys zs one two is

@@ -29,7 +29,7 @@ use std::alloc::{AllocError, Global};
 /// is inside.
 pub struct BoundsCheck;
 
-/// Whether nothing is left of the value where the test holds, and whether what is left is exact.
+/// Whether nothing is left of the value if the test holds, and whether what is left is exact.
 fn rule_out<D: Domain>(
     alloc: Global,
     value: &D,
@@ -46,7 +46,7 @@ fn rule_out<D: Domain>(
 }
 
 /// Whether an index isn't outside of which these are the tests that it is. Each of the two is made, of the value
-/// itself, also where the answer is known without it.
+/// itself, also if the answer is known without it.
 fn judge_tests<D: Domain>(
     alloc: Global,
     value: &D,
@@ -169,7 +169,7 @@ impl<D: Domain> Leaf<D> for BoundsCheck {
     }
 }
 
-/// All accesses of a least change by one value, where the variables of its call begin at `base`.
+/// All accesses of a least change by one value, if the variables of its call begin at `base`.
 fn judge_all<D: Domain>(
     around: Surroundings,
     op: &Op,

@@ -8,7 +8,7 @@ use lra_overflow_checks::{less_by, test_of};
 use lra_program::Comparison;
 use std::alloc::{AllocError, Global};
 
-/// The tests that an index of this form is below 0, and that it is at least the array's length; `None` exactly where a
+/// The tests that an index of this form is below 0, and that it is at least the array's length; `None` exactly if a
 /// number of one of the two passes 64 bits.
 pub fn outside(
     alloc: Global,

@@ -14,7 +14,7 @@ read_set [] k i h = absurd (omega arith)
 read_set (j ∷ js) zero i h = refl
 read_set (j ∷ js) (suc k) i h = read_set js k i (omega arith)
 
--- which of the two bounds was flagged, where the answer is
+-- which of the two bounds was flagged, if the answer is
 pub record Worse (low high e : Exactness) : Type 0 where
   pub exact : e ≡ Exact → (low ≡ Exact) × (high ≡ Exact)
   pub flagged : e ≡ Flagged → (low ≡ Flagged) ⊎ (high ≡ Flagged)

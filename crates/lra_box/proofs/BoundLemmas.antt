@@ -173,7 +173,7 @@ grown_falls Widen n a b m f g w = wide_falls n a b f g w
 grown_falls Limited n a b m f g w = wide_falls n a b f g w
 grown_falls Tightest n a b m f g w = wide_falls n a b f g w
 
--- where both have intervals, they have as many
+-- if both have intervals, they have as many
 abbrev pub SameLength : Option (List Interval) → Option (List Interval) → Type 0
 SameLength a b = (is js : List Interval) → a ≡ Some is → b ≡ Some js → length is ≡ length js
 

@@ -25,7 +25,7 @@ equal_example = refl
 crossed_example : tested Eq (form (negsuc 0) (pos 1 ∷ [])) (Some (between (pos 3) (pos 5) ∷ [])) ≡ None
 crossed_example = refl
 
--- where no variable occurs the constant decides
+-- if no variable occurs the constant decides
 constant_example : tested Ge (form (negsuc 0) (pos 0 ∷ [])) (Some (full_interval ∷ [])) ≡ None
 constant_example = refl
 

@@ -7,7 +7,7 @@ use Rattle.lra_box.specs.{Bounds.BoundHolds, Bounds.InInterval, Bounds.InBounds,
 use Rattle.lra_box.specs.{declared.ends.Bound.Bound, declared.interval.Interval.Interval, declared.interval.Side.Side, declared.interval.Side.TheVariants.Low, declared.interval.Side.TheVariants.High}
 use Rattle.lra_domain.specs.{Bounds.greater, Bounds.lesser_low, declared.Exactness.Exactness, declared.Exactness.TheVariants.Exact, declared.Exactness.TheVariants.Flagged}
 
--- a computed bound holds where the table's does
+-- a computed bound holds if the table's does
 bound_at : (side : Side) (table : Option ℤ) (passes : Type 0) (e : Exactness) (b : Bound) (v : ℤ) → b.exactness ≡ e → IsBound table passes b → BoundHolds side table v → BoundHolds side b.value v
 bound_at side table passes Exact b v e is h = rw (is.exact e) h
 bound_at side table passes Flagged b v e is h = rw (is.flagged e).1 tt

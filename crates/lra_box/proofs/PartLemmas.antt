@@ -58,7 +58,7 @@ row_value n k c f s h e = let p = product_place n k f s h e in let o = times_one
 
 -- ---- lists of rows of one kind
 
--- a list of constraints holds where the first and the rest hold
+-- a list of constraints holds if the first and the rest hold
 con_cons : (g : LinearRow) (gs : List LinearRow) (x : List ℤ) → Con (g ∷ gs) x ↔ (Holds g x × Con gs x)
 con_cons g gs x = (
   λ h. (h g (contains_head g gs), λ k m. h k (contains_tail g k gs m)),
@@ -154,7 +154,7 @@ from_place n k (i ∷ is) s e l =
       λ h. let p = one.1 h.0 in let q = rest.1 h.1 in (a.1 (p.0, q.0), b.1 (p.1, q.1)),
     )
 
--- a list of as many numbers as dimensions is a store exactly where all rows of some part hold
+-- a list of as many numbers as dimensions is a store exactly if all rows of some part hold
 pub parts_mean : (n : ℕ) (b : Option (List Interval)) (s : List ℤ) → BoundsFit n b → length s ≡ n → has_bounds b s ↔ SomePartHolds (box_parts n b) s
 parts_mean n None s f l = (λ h. h, λ h. h)
 parts_mean n (Some is) s f l =

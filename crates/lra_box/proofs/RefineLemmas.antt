@@ -38,7 +38,7 @@ lowered_holds : (o : Option ℤ) (b x : ℤ) → BoundHolds High o x → x ≤�
 lowered_holds None b x h k = k
 lowered_holds (Some a) b x h k = omega (arith, ints, clamps)
 
--- the tightened interval keeps x, where the others add r, which is at most what is thought
+-- the tightened interval keeps x, if the others add r, which is at most what is thought
 pub tightened_holds : (c : ℤ) (o : Option ℤ) (i : Interval) (x r : ℤ) → InInterval i x → BoundHolds High o r → pos 0 ≤ℤ ((c *ℤ x) +ℤ r) → InInterval (tightened c o i) x
 tightened_holds c None i x r h k p = h
 tightened_holds (pos zero) (Some m) i x r h k p = h
@@ -74,7 +74,7 @@ either_holds : (o p : Option ℤ) (r : ℤ) → (o ≡ None) ⊎ (o ≡ p) → B
 either_holds o p r (inl e) h = rw e tt
 either_holds o p r (inr e) h = rw e h
 
--- the tightened interval of a place keeps the store's number there, where the form passes
+-- the tightened interval of a place keeps the store's number there, if the form passes
 pub place_holds : (a : ℤ) (cs : List ℤ) (k : ℕ) (is : List Interval) (s : List ℤ) (o : Option ℤ) → k < length cs → length cs ≡ length is → InBounds is s
     → pos 0 ≤ℤ (a +ℤ product cs s) → (o ≡ None) ⊎ (o ≡ others_most a cs k is)
     → InInterval (tightened (slice_index_or cs k (pos 0)) o (slice_index_or is k full_interval)) (slice_index_or s k (pos 0))

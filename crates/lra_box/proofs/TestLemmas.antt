@@ -40,7 +40,7 @@ times_zero : (c : ℤ) → c *ℤ pos 0 ≡ pos 0
 times_zero (pos c) = grind (arith, ints)
 times_zero (negsuc c) = grind (arith, ints)
 
--- where no variable occurs the form is its constant
+-- if no variable occurs the form is its constant
 product_of_zeros : (cs s : List ℤ) → some_occurs cs ≡ false → product cs s ≡ pos 0
 product_of_zeros [] s h = refl
 product_of_zeros (pos zero ∷ cs) [] h = let p = product_of_zeros cs [] h in omega (arith, ints)

@@ -61,7 +61,7 @@ end_product High (pos (suc n)) i = times (pos (suc n)) i.high
 end_product Low (negsuc n) i = times (negsuc n) i.high
 end_product High (negsuc n) i = times (negsuc n) i.low
 
--- a number plus the least or the greatest products, in column order; absent where one of these is
+-- a number plus the least or the greatest products, in column order; absent if one of these is
 abbrev pub end_sum : Side → ℤ → List ℤ → List Interval → Option ℤ
 end_sum side a [] is = Some a
 end_sum side a (c ∷ cs) [] = Some a
@@ -87,7 +87,7 @@ SumPasses side a (c ∷ cs) (i ∷ is) =
     EndProductPasses side c i ⊎ IsSomeAnd (end_product side c i)
     (λ p. (¬ InRange (a +ℤ p)) ⊎ SumPasses side (a +ℤ p) cs is)
 
--- a computed bound is the table's, where nothing passes; it is absent and flagged only if something passes
+-- a computed bound is the table's, if nothing passes; it is absent and flagged only if something passes
 pub record IsBound (table : Option ℤ) (passes : Type 0) (b : Bound) : Type 0 where
   pub exact : b.exactness ≡ Exact → b.value ≡ table
   pub flagged : b.exactness ≡ Flagged → passes × (b.value ≡ None)

@@ -1,4 +1,4 @@
--- The rows that mean a box: `x = l` where both bounds are equal, else its finite bounds as inequalities; the equalities
+-- The rows that mean a box: `x = l` if both bounds are equal, else its finite bounds as inequalities; the equalities
 -- first.
 use Rattle.std.specs.Prelude.{ℕ, suc, ℤ, pos, negsuc, neg_ℤ, List, [], ◌∷◌, ◌++◌, length, replicate, slice_set, Option}
 use Rattle.std.specs.{Ordering.int_eq, Prelude.None, Prelude.Some, Prelude.Bool, Prelude.false, Prelude.if◌then◌else◌}

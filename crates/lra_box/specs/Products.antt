@@ -3,7 +3,7 @@ use Rattle.std.proofs.Common.{ℕ, suc, ◌≤◌, ℤ, pos, negsuc, arith}
 use Rattle.std.proofs.{Math.Nat.mul-le-mul_left, lemmas.Int.ints}
 use Rattle.std.specs.Prelude.{◌*ℤ◌, ◌≤ℤ◌}
 
--- a product grows with its second factor, where the first is not negative
+-- a product grows with its second factor, if the first is not negative
 pub mul_grows : (c : ℕ) (l x : ℤ) → l ≤ℤ x → (pos c *ℤ l) ≤ℤ (pos c *ℤ x)
 mul_grows c (pos a) (pos b) h =
     let k : a ≤ b = omega (arith, ints) in

@@ -19,7 +19,7 @@ abbrev pub lowered : Option ℤ → ℤ → ℤ
 lowered None b = b
 lowered (Some a) b = int_min a b
 
--- the numbers x of the interval for which c*x + m is not negative, where m is finite: at least -floor(m / c) for a
+-- the numbers x of the interval for which c*x + m is not negative, if m is finite: at least -floor(m / c) for a
 -- positive c, at most floor(m / -c) for a negative one
 abbrev pub tightened : ℤ → Option ℤ → Interval → Interval
 tightened c None i = i
@@ -56,7 +56,7 @@ abbrev pub some_occurs : List ℤ → Bool
 some_occurs [] = false
 some_occurs (c ∷ cs) = if is_not_zero c then true else some_occurs cs
 
--- the test `a + cs >= 0`: of the constant alone where no variable occurs
+-- the test `a + cs >= 0`: of the constant alone if no variable occurs
 abbrev pub ge_tested : ℤ → List ℤ → Option (List Interval) → Option (List Interval)
 ge_tested a cs b = if some_occurs cs then refined a cs (length cs) b else (if int_lt a (pos 0) then None else b)
 

@@ -36,7 +36,7 @@ product_holds High (pos (suc n)) i x h = times_up High (suc n) i.high x h.1
 product_holds Low (negsuc n) i x h = times_down_low n i.high x h.1
 product_holds High (negsuc n) i x h = times_down_high n i.low x h.0
 
--- a bound of u is one of v, where u is on its side of v
+-- a bound of u is one of v, if u is on its side of v
 weaken : (side : Side) (o : Option ℤ) (u v : ℤ) → BoundHolds side o u → BoundHolds side (Some u) v
     → BoundHolds side o v
 weaken side None u v h k = tt
@@ -69,7 +69,7 @@ end_sum_holds side a (c ∷ cs) (i ∷ is) (x ∷ xs) h e =
     end_sum_step side a (end_product side c i) (c *ℤ x) (product cs xs) (λ p. end_sum side (a +ℤ p) cs is)
     (product_holds side c i x h.0) (λ p. end_sum_holds side (a +ℤ p) cs is xs h.1 (omega arith))
 
--- one product more, where it and the sum are in range
+-- one product more, if it and the sum are in range
 pub sum_step : (side : Side) (a c p b : ℤ) (i : Interval) (cs : List ℤ) (is : List Interval)
     → end_product side c i ≡ Some p → a +ℤ p ≡ b
     → (end_sum side a (c ∷ cs) (i ∷ is) ≡ end_sum side b cs is)

@@ -30,7 +30,7 @@ abbrev pub AssignPasses : Form → Option (List Interval) → Type 0
 AssignPasses e None = ⊥
 AssignPasses e (Some is) = SumPasses Low e.constant e.coefficients is ⊎ SumPasses High e.constant e.coefficients is
 
--- the lesser lower and the greater upper bound, each absent where one of the two is
+-- the lesser lower and the greater upper bound, each absent if one of the two is
 abbrev pub joined_interval : Interval → Interval → Interval
 joined_interval i j = record { low = lesser_low i.low j.low; high = greater i.high j.high }
 
@@ -44,7 +44,7 @@ joined_bounds None b = b
 joined_bounds (Some is) None = Some is
 joined_bounds (Some is) (Some js) = Some (joined_intervals is js)
 
--- a bound of the old stays where the new is no wider
+-- a bound of the old stays if the new is no wider
 abbrev pub LowWithin : Option ℤ → Option ℤ → Type 0
 LowWithin a None = Unit {0}
 LowWithin None (Some b) = ⊥

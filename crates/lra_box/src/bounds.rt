@@ -301,7 +301,7 @@ pub fn bounds_of(bounds: &Bounds, e: &LinExpr) -> (Option<i128>, Option<i128>)
     }
 }
 
-/// 1, 0, 0, and how many bounds there are; one more than the most there can be where the box is empty.
+/// 1, 0, 0, and how many bounds there are; one more than the most there can be if the box is empty.
 pub fn rank_of(dims: usize, bounds: &Bounds) -> Rank
     requires few { dims ≤ 2 ^ 30 }
     requires fit { BoundsFit dims (bounds_view bounds.now) }

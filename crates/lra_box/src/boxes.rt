@@ -49,7 +49,7 @@ impl Model for Boxes {
 }
 
 impl Boxes {
-    /// The bounds of dimension `x`; none exactly where the box is empty.
+    /// The bounds of dimension `x`; none exactly if the box is empty.
     pub fn bound(&self, x: usize) -> Option<Interval>
         requires { x < self.now.dims }
         ensures bound { result ≡ bound_at x self.now.bounds }

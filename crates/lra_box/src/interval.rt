@@ -28,7 +28,7 @@ impl Interval {
         high: None,
     };
 
-    /// The interval from the lesser lower to the greater upper bound; an end is open where one of the two is.
+    /// The interval from the lesser lower to the greater upper bound; an end is open if one of the two is.
     pub fn join(&self, other: &Interval) -> Interval
         ensures { result ≡ joined_interval self.now other.now }
     {

@@ -32,7 +32,7 @@ fn row_of(
     Row::from_slice(alloc, numbers.as_slice())
 }
 
-/// Adds `x_k - low`, where there is a bound.
+/// Adds `x_k - low`, if there is a bound.
 fn push_low(
     alloc: Global,
     system: &mut ConSys,
@@ -54,7 +54,7 @@ fn push_low(
     }
 }
 
-/// Adds `high - x_k >= 0`, where there is a bound.
+/// Adds `high - x_k >= 0`, if there is a bound.
 fn push_high(
     alloc: Global,
     system: &mut ConSys,
@@ -85,7 +85,7 @@ fn is_single(interval: Interval) -> bool
     }
 }
 
-/// Adds the equality of a place, where its bounds are equal.
+/// Adds the equality of a place, if its bounds are equal.
 fn push_equal(
     alloc: Global,
     system: &mut ConSys,
@@ -109,7 +109,7 @@ fn push_equal(
     }
 }
 
-/// Adds the inequalities of a place, where its bounds aren't equal.
+/// Adds the inequalities of a place, if its bounds aren't equal.
 fn push_unequal(
     alloc: Global,
     system: &mut ConSys,

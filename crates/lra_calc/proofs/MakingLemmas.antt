@@ -113,7 +113,7 @@ pushed_here equal v s t row kind items i x all same rows kinds h e is before =
     (ap (λ (g : LinearRow). rows_by_kind equal s.rows s.kinds ++ g ∷ map v (drop (i + 1) items)) (sym is)
     ∙ ap (λ (gs : List LinearRow). rows_by_kind equal s.rows s.kinds ++ gs) (sym (rest_at v items i x x h e)) ∙ before)
 
--- ---- a polyhedron, flagged where something was lost
+-- ---- a polyhedron, flagged if something was lost
 pub made_of : (n : ℕ) (P : PointSet) (Strains : Loss → Type 0) (p : Polyhedron) (outcome : Outcome) → IsRepresentable p → Becomes n P Strains p outcome →
     IsMadeOf n P Strains (is_flagged outcome) p
 made_of n P Strains p Exact fine b = b.exact

@@ -240,7 +240,7 @@ one_step form number s e f P Q r q h k clear_e clear_f later x y =
       ]
     ]
 
--- two ends of the lines are one, where no line is flagged
+-- two ends of the lines are one, if no line is flagged
 pub one_end : (all : List (List ℕ)) (number : ℕ) (s : Option Session) (e f : End) → CarriesOut number s all e → CarriesOut number s all f → IsUnflagged (last_session e) →
     IsUnflagged (last_session f) → e ≡ f
 one_end [] number s e f h k clear_e clear_f = h ∙ sym k

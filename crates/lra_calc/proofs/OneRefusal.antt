@@ -146,7 +146,7 @@ brings_alike : {A : Type 0} (P Q : Result A Fault → Type 0) (f g : A → Sessi
 brings_alike P Q f g r q h k agree both =
     alike_by r q (session_after f h.outcome) (session_after g k.outcome) h.is k.is (behind_alike f g h.outcome k.outcome agree both)
 
--- where widenings agree
+-- if widenings agree
 pub line_alike_by : (number : ℕ) (s t : Session) (line : Line) (r q : Result Session Fault) → Alike s t →
     ((step other : Made → Session) (x y : Result Made Fault) → r ≡ session_after step x → q ≡ session_after other y → WideningsAgree s t x y) → AfterLine number s line r → AfterLine number t line q →
     AlikeResults r q

@@ -71,7 +71,7 @@ point_is [] n e = cc
 point_is (d ∷ ds) n e = ap (λ (t : List ℤ). d ∷ t) (take_rest (d ∷ ds) 1)
 
 -- ---- the set of points
--- what an answer says of it, and that a row passes where it is wide
+-- what an answer says of it, and that a row passes if it is wide
 abbrev Tells : List LinearRow → List ℤ → Option Bool → Type 0
 Tells rows x (Some true) = points_of rows x
 Tells rows x (Some false) = points_of rows x → ⊥

@@ -1,4 +1,4 @@
--- What is answered of widenings: the set that is made, with all points where the inclusion is wide, or the generator outside.
+-- What is answered of widenings: the set that is made, with all points if the inclusion is wide, or the generator outside.
 use Rattle.std.proofs.Common.{◌≡◌, ◌∙◌, inl, inr, ℕ, Bool, true, List, [], length, refl, ap, sym, subst, Some, None, Result, Ok, Err}
 use Rattle.lra_calc.specs.Crates.lra_linear_spec.Descriptions.{LinearRow, Con as points_of}
 use Rattle.lra_calc.specs.Crates.lra_linear_spec.Polyhedra.{Polyhedron, IsPolyhedronOf}

@@ -51,7 +51,7 @@ CombiningStrains Elapse p q = TimeElapseStrains p q
 abbrev pub IsCombined : Combination → ℕ → Polyhedron → Polyhedron → Bool → Polyhedron → Type 0
 IsCombined how n p q = IsMadeOf n (combined_sets how n p q) (CombiningStrains how p q)
 
--- widen: of P inside Q the points at which each row of Q holds that is tight on P; Q where P is empty
+-- widen: of P inside Q the points at which each row of Q holds that is tight on P; Q if P is empty
 abbrev pub IsWidened : ℕ → Polyhedron → Polyhedron → Bool → Polyhedron → Type 0
 IsWidened n p q = IsMadeOf n (widening.StandardWidening p q) (StandardStrains p q)
 

@@ -29,7 +29,7 @@ pub data Fault : Type 0 where
   BadLine : Fault
   -- this name was not made before it
   UnknownName : List ℕ → Fault
-  -- a vector with so many numbers where so many are needed
+  -- a vector with so many numbers if so many are needed
   WrongDimension : ℕ → ℕ → Fault
   -- what is to be widened isn't in the other set; the text of its first generator outside
   NotIncluded : List ℕ → Fault
@@ -52,18 +52,18 @@ flagged_by number true None = Some number
 
 -- names and numbers ---------------------------------------------------------------------------------------------
 
--- refused where there is a fault
+-- refused if there is a fault
 abbrev pub Unless : {A : Type 0} → Option Fault → (Result A Fault → Type 0) → Result A Fault → Type 0
 Unless (Some fault) Told result = result ≡ Err fault
 Unless None Told result = Told result
 
--- what is reported about the set that the name stands for; refused where none was made
+-- what is reported about the set that the name stands for; refused if none was made
 abbrev pub WithSet : {A : Type 0} → List ℕ → Option Polyhedron → (Polyhedron → Result A Fault → Type 0)
     → Result A Fault → Type 0
 WithSet name None Told result = result ≡ Err (UnknownName name)
 WithSet name (Some p) Told result = Told p result
 
--- a vector with so many numbers, where so many are needed; or the fault of a later one
+-- a vector with so many numbers, if so many are needed; or the fault of a later one
 abbrev pub width_or : ℕ → ℕ → Option Fault → Option Fault
 width_or count needed later = if nat_eq count needed then later else Some (WrongDimension count needed)
 
@@ -102,8 +102,8 @@ abbrev pub MakesSet : (Bool → Polyhedron → Type 0) → Result Made Fault →
 MakesSet Told (Ok made) = Told made.flagged made.polyhedron
 MakesSet Told (Err fault) = ⊥
 
--- of P widened by Q: what is reported, where P is in Q; else refused with the first generator of P outside Q; all
--- points, flagged, where a product passes before that is known
+-- of P widened by Q: what is reported, if P is in Q; else refused with the first generator of P outside Q; all
+-- points, flagged, if a product passes before that is known
 abbrev pub WidenedBy : ℕ → Polyhedron → (Bool → Polyhedron → Type 0) → Inclusion → Result Made Fault → Type 0
 WidenedBy n p Told inclusion.Yes result = MakesSet Told result
 WidenedBy n p Told (inclusion.No place) result = result ≡ Err (NotIncluded (generator_at p place))
@@ -141,7 +141,7 @@ pub record Answer : Type 0 where
   pub text : List ℕ
   pub wide : Bool
 
--- the text of an answer that is right, flagged where it is a wide one
+-- the text of an answer that is right, flagged if it is a wide one
 pub record Answers {A : Type 0} (IsRight : A → Type 0) (text : A → List ℕ) (is_wide : A → Bool)
     (result : Result Answer Fault) : Type 0 where
   pub answer : A
@@ -169,7 +169,7 @@ membership (g ∷ gs) x = decided g.equal (checked_product g.row x) (membership 
 abbrev pub PassesFirst : List LinearRow → List ℤ → Type 0
 PassesFirst rows x = (place : ℕ) × FirstAt (HoldsInRange x) (IsWide x) rows place
 
--- what the answer says of the set of points with these constraints; it is wide exactly where their products with the
+-- what the answer says of the set of points with these constraints; it is wide exactly if their products with the
 -- point pass
 abbrev pub IsMembershipAnswer : List LinearRow → List ℤ → Option Bool → Type 0
 IsMembershipAnswer rows x (Some true) = points_of rows x × (¬ (PassesFirst rows x))
@@ -290,7 +290,7 @@ abbrev pub flag_text : Option ℕ → List ℕ
 flag_text None = text_line (codes "flagged 0")
 flag_text (Some number) = text_line (codes "flagged at line " ++ decimal number)
 
--- nothing was printed where all lines are skipped
+-- nothing was printed if all lines are skipped
 abbrev pub output : Option Session → List ℕ
 output None = flag_text None
 output (Some s) = s.printed ++ flag_text s.flagged
@@ -331,7 +331,7 @@ abbrev pub IsUnflagged : Option Session → Type 0
 IsUnflagged None = Unit {0}
 IsUnflagged (Some s) = s.flagged ≡ None
 
--- a script has one end where no line is flagged: one output, or one refusal
+-- a script has one end if no line is flagged: one output, or one refusal
 abbrev pub HasOneEnd : List ℕ → Type 0
 HasOneEnd script =
     (e f : End) → CarriesOut 1 None (lines script) e → CarriesOut 1 None (lines script) f

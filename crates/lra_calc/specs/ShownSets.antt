@@ -21,7 +21,7 @@ variables n = variables_from 1 n
 abbrev pub part_of : Polyhedron → Part
 part_of p = record { rows = map shown_constraint p.rows; generators = map shown_generator p.generators }
 
--- a text where there is a generator; without one there is no point
+-- a text if there is a generator; without one there is no point
 abbrev pub empty_or : List LinearRow → List ℕ → List ℕ
 empty_or [] text = text_line (codes "  empty")
 empty_or (g ∷ gs) text = text

@@ -140,7 +140,7 @@ pub fn script(alloc: Global, bytes: &[u8]) -> Result<Vec<u8>, CalcError>
     ensures without_widenings { spec.NeverWidens bytes.now → (a : Result (List ℕ) spec.Refusal) →
         spec.AnswersTo bytes.now a → spec.IsDeterminedByLines a }
     ensures one_end { spec.HasOneEnd bytes.now }
-    // What an answer to `holds` says of the set that the name stands for, and where it is wide.
+    // What an answer to `holds` says of the set that the name stands for, and when it is wide.
     ensures points { (p : Polyhedron) (x : List ℤ) → spec.IsMembershipAnswer p.rows x (spec.membership p.rows x) }
     // What an answer to `include` says of the sets, and an answer to `maximise`.
     ensures inclusions { (p q : Polyhedron) (answer : Inclusion) → IsPolyhedron p →

@@ -33,7 +33,7 @@ step_zero line r next e s =
     let x = entry r (pivot line) in
     no_product s.lowest.times (entry next (pivot line)) s.lowest.positive (step_entry line r next e s (pivot line) ∙ ring (v a ⊗ v x ⊕ ⊖ (v x) ⊗ v a) (v (pos 0)) (omega arith))
 
--- where both are 0, the next row is
+-- if both are 0, the next row is
 step_keeps : (line r next : List ℤ) → length r ≡ length line → ClearingStep line r next → (q : ℕ) → entry r q ≡ pos 0 → entry line q ≡ pos 0 → entry next q ≡ pos 0
 step_keeps line r next e s q h k =
     let a = entry line (pivot line) in

@@ -1,4 +1,4 @@
--- An echelon form with one more row is one, and of the same span; and what passes where it is made is a strain.
+-- An echelon form with one more row is one, and of the same span; and what passes when it is made is a strain.
 use Rattle.std.proofs.Common.{◌≡◌, ◌≢◌, ℕ, zero, suc, ◌+◌, ◌<◌, Bool, true, false, cond, List, [], ◌∷◌, ◌++◌, length, refl, ap, sym, ◌∙◌, subst, pos, ℤ, ◌+ℤ◌, ◌*ℤ◌, ◌<ℤ◌, neg_ℤ, arith, inl, inr, ◌⊎◌}
 use Rattle.std.proofs.{Common.true≢false, lemmas.Bool.cases_lt, lemmas.Int.ints, lemmas.List.Elements.Contains-append_right}
 use Rattle.std.specs.{Cmp.signed_Decides, List.Contains, Ordering.int_eq}

@@ -1,4 +1,4 @@
--- Of the orders of one list of rows one is sorted, where only equal rows tie.
+-- Of the orders of one list of rows one is sorted, if only equal rows tie.
 use Rattle.std.proofs.Common.{◌≡◌, ◌==◌, ℕ, suc, ◌+◌, ◌<◌, Bool, false, cond, List, [], ◌∷◌, length, get_or, refl, ap, sym, ◌∙◌, subst, ℤ, arith, Bor}
 use Rattle.std.proofs.lemmas.List.Sorted.{sorted_far, sum_by-IsPermutation, length_permutation, Contains-permutation, IsPermutation-sym}
 use Rattle.std.proofs.{lemmas.Fn.always_returns_same, lemmas.List.MinMax.ranks_by, lemmas.List.Sums.sum_by-cons}
@@ -14,7 +14,7 @@ use Rattle.lra_canonical.specs.declared.order.Order.TheVariants.{Inequalities, G
 use Rattle.lra_canonical.specs.{Ordered.cmp_by, Ordered.TiesAreEqual, Ordered.IsOneOrder, declared.order.Order.Order}
 
 -- ---- sorted lists
--- 1 where z ties with x
+-- 1 if z ties with x
 abbrev tie : {A : Type 0} → (A → A → Ordering) → A → A → ℕ
 tie cmp x z = cond (is_eq (cmp z x)) 1 0
 
@@ -62,7 +62,7 @@ same_first cmp total x y h k = decide (cmp x y) (cmp y x) (total.antisymm x y) h
     decide Greater Equal e h k = cc
     decide Greater Greater e h k = cc
 
--- two sorted lists with the same elements, each as often, where only equal elements tie
+-- two sorted lists with the same elements, each as often, if only equal elements tie
 same_sorted : {A : Type 0} (cmp : A → A → Ordering) → IsTotalOrder cmp → (xs ys : List A) → IsSorted cmp xs → IsSorted cmp ys → ((x y : A) → Contains xs x → Contains ys y → cmp x y ≡ Equal → x ≡ y) →
     length xs ≡ length ys → ((f : A → ℕ) → sum_by f xs ≡ sum_by f ys) → xs ≡ ys
 same_sorted cmp total [] [] su sv ties n sums = refl
@@ -111,7 +111,7 @@ one_order order rows sorted p up t other q other_up =
     (λ x y k l. ties_equal order rows t x y (Contains-permutation other rows x (IsPermutation-sym rows other q) k) (Contains-permutation sorted rows y (IsPermutation-sym rows sorted p) l))
     (length_permutation rows other q ∙ sym (length_permutation rows sorted p)) (λ f. sum_by-IsPermutation f rows other q ∙ sym (sum_by-IsPermutation f rows sorted p))
 
--- a sorted list with no element twice, where only equal elements tie
+-- a sorted list with no element twice, if only equal elements tie
 pub ascends : (order : Order) (rows : List (List ℤ)) → TiesAreEqual order rows → NoRepeat rows → IsSorted (cmp_by order) rows → Ascends (cmp_by order) rows
 ascends order [] ties once up = tt
 ascends order (x ∷ xs) ties once up = (

@@ -1,4 +1,4 @@
--- What is made of rows so that each set has one spelling, and where a number passes the range in it.
+-- What is made of rows so that each set has one spelling, and when a number passes the range in it.
 pub mod Reduced
 pub mod Echelons
 pub mod Irredundant

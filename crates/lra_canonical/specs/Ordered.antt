@@ -18,7 +18,7 @@ cmp_by Inequalities = inequality_cmp
 cmp_by Generators = row_cmp
 cmp_by Pivots = pivot_cmp
 
--- Rows that tie are equal: of inequalities and of generators always, of lines where their pivots differ.
+-- Rows that tie are equal: of inequalities and of generators always, of lines if their pivots differ.
 abbrev pub TiesAreEqual : Order → List (List ℤ) → Type 0
 TiesAreEqual Inequalities rows = Unit {0}
 TiesAreEqual Generators rows = Unit {0}

@@ -48,7 +48,7 @@ IsOneReduced form r t =
     (other s : List ℤ) → length other ≡ length r → SameSolutions form r other → IsReducedBy form other s → s ≡ t
 
 -- ---- one step
--- r with 0 at the pivot of the line: r itself where it is 0 there
+-- r with 0 at the pivot of the line: r itself if it is 0 there
 abbrev pub IsCleared : List ℤ → List ℤ → List ℤ → Type 0
 IsCleared line r next = ((entry r (pivot line) ≡ pos 0) × (next ≡ r)) ⊎ ClearingStep line r next
 

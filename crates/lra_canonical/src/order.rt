@@ -47,7 +47,7 @@ fn compare_by(order: Order, left: &Row, right: &Row) -> Ordering
     }
 }
 
-/// Puts the rows in order. Lists with the same rows, each as often, become equal, with `Pivots` where the pivots
+/// Puts the rows in order. Lists with the same rows, each as often, become equal, with `Pivots` if the pivots
 /// differ. Running out of memory leaves the list as it was.
 pub fn canonical_order(rows: &mut Vec<Row>, order: Order) -> Result<(), AllocError>
     ensures same { IsPermutation rows.old.items rows.new.items }

@@ -38,7 +38,7 @@ fn has_cover(saturation: &SatMatrix, gone: &BitRow, place: usize) -> bool
     false
 }
 
-// From so many rows on, where they are more than the columns, these are made: else each row is sooner tried with each.
+// From so many rows on, if they are more than the columns, these are made: else each row is sooner tried with each.
 const MANY_ROWS: usize = 64;
 
 // The columns, or none.
@@ -54,7 +54,7 @@ fn find_columns(alloc: Global, saturation: &SatMatrix) -> Result<SatMatrix, Allo
     }
 }
 
-// Whether some row covers the row at `place`. The marks are only looked at where some other row is true wherever it is.
+// Whether some row covers the row at `place`. The marks are only looked at if some other row is true wherever it is.
 fn is_covered(
     alloc: Global,
     saturation: &SatMatrix,
@@ -106,9 +106,9 @@ pub fn remove_marked(rows: &mut Vec<Row>, gone: &BitRow)
     rows.truncate(kept);
 }
 
-/// Takes out the redundant inequalities, and their rows of the matrix. Where row `i` of the matrix reports at which
+/// Takes out the redundant inequalities, and their rows of the matrix. If row `i` of the matrix reports at which
 /// generators row `i` is tight, the rows that stay have the same solutions, and lists with the same solutions get the
-/// same rows. A row goes where another one that is left is tight wherever it is (Le Verge 1992, Fukuda and Prodon
+/// same rows. A row goes if another one that is left is tight wherever it is (Le Verge 1992, Fukuda and Prodon
 /// 1996); no number is computed. Running out of memory leaves both lists as they were.
 pub fn drop_redundant(rows: &mut Vec<Row>, saturation: &mut SatMatrix) -> Result<(), AllocError>
     requires { length saturation.old.rows ≡ length rows.old.items }

@@ -11,7 +11,7 @@ ghost use Rattle.lra_certificate_spec.specs.Lines.{is_feed, pieces_at, line_numb
 
 use crate::refusals::{LineFault, VerifyError, VerifyRefusal};
 
-/// Where this byte stands first; the length where it doesn't.
+/// Where this byte stands first; the length if it doesn't.
 pub fn place_of(bytes: &[u8], byte: u8) -> usize
     ensures place { result ≡ position_or_len (λ b. nat_eq b byte) bytes.now }
     ensures within { result ≤ length bytes.now }

@@ -39,7 +39,7 @@ fn is_spelled(word: &[u8]) -> bool
     }
 }
 
-/// The number that a word spells, where it is one of the range.
+/// The number that a word spells, if it is one of the range.
 #[tactic(auto, using(lra_certificate_spec::proofs::NumberSteps::spelled_number, lra_certificate_spec::proofs::NumberSteps::no_spelling))]
 fn number_in(word: &[u8]) -> Option<i128>
     ensures number { result ≡ number_in word.now }
@@ -63,7 +63,7 @@ fn first_word(text: &[u8]) -> Option<&[u8]>
     Some(word)
 }
 
-/// The numbers of a text, each after one space, where they are so many.
+/// The numbers of a text, each after one space, if they are so many.
 fn spaced_numbers(alloc: Global, text: &[u8], count: usize) -> Result<Option<Vec<i128>>, AllocError>
     ensures numbers { IfOk result (λ r. option_items r ≡
         so_many count (spaced_numbers (words_of text.now))) }
@@ -90,7 +90,7 @@ fn spaced_numbers(alloc: Global, text: &[u8], count: usize) -> Result<Option<Vec
     }
 }
 
-/// The numbers after a text with which the line begins, each after one space, where they are so many.
+/// The numbers after a text with which the line begins, each after one space, if they are so many.
 pub fn numbers_behind(
     alloc: Global,
     line: &[u8],

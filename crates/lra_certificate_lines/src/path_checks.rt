@@ -219,7 +219,7 @@ impl PathCheck {
         }
     }
 
-    /// Whether the multipliers show the claim; `Wide` where a form of the path passes.
+    /// Whether the multipliers show the claim; `Wide` if a form of the path passes.
     fn answer(
         &self,
         alloc: Global,

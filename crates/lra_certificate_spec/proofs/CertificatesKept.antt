@@ -1,4 +1,4 @@
--- What a certificate that meets its program says is kept along each path: its rows hold at the goal's store where they
+-- What a certificate that meets its program says is kept along each path: its rows hold at the goal's store if they
 -- hold at the source's; and no path leads to where a listed assertion is false.
 use Rattle.std.proofs.Common.{◌≡◌, ℕ, zero, suc, ◌<◌, ◌≤◌, ◌+◌, ◌-◌, ℤ, pos, negsuc, ◌+ℤ◌, ◌*ℤ◌, ◌≤ℤ◌, List, [], ◌∷◌, ◌++◌, length, map, drop, Option, Some, None, Ok, refl, ap, sym, ◌∙◌, subst, arith}
 use Rattle.std.proofs.lemmas.List.Elements.{All-from_recursion, All-contains, Contains-append_cases}

@@ -1,4 +1,4 @@
--- The lines are accepted exactly where the input is a certificate that meets its program.
+-- The lines are accepted exactly if the input is a certificate that meets its program.
 use Rattle.std.proofs.Common.{◌≡◌, ◌≤◌, ◌+◌, ◌^◌, ℕ, suc, pos, Bool, true, false, List, [], ◌∷◌, ◌++◌, length, ap, sym, ◌∙◌, arith, Option, Some, None, Ok, length-append}
 use Rattle.std.proofs.lemmas.Bool.Decides.{nat_tests}
 use Rattle.std.specs.Prelude.{if◌then◌else◌, nat_lt}

@@ -86,7 +86,7 @@ from_same : (live : ℕ) (path : Path) (source target : RowsAtPoint) (x y : Evid
 from_same live path None target x y h k u v e = h ∙ sym k
 from_same live path (Some rows) target x y h k u v e = evidence_same (record { live = live; rows = rows; path = path }) target x y h k u v e
 
--- one piece, where what is left after it is one
+-- one piece, if what is left after it is one
 piece_same : (x y : Evidence) (r s : List ℕ) → (evidence_text x ≡ evidence_text y → x ≡ y) → evidence_text x ++ r ≡ evidence_text y ++ s → r ≡ s →
     (x ≡ y) × (r ≡ s)
 piece_same x y r s same e rest =

@@ -1,4 +1,4 @@
--- What rows over symbols stand for: where actions lead from one store to another, the symbols have values at which the
+-- What rows over symbols stand for: if actions lead from one store to another, the symbols have values at which the
 -- rows are the numbers of the second store, and at which the tests hold.
 use Rattle.std.proofs.Common.{◌≡◌, ℕ, zero, suc, ◌<◌, ◌≤◌, ◌+◌, ◌-◌, ℤ, pos, ◌+ℤ◌, ◌*ℤ◌, List, [], ◌∷◌, ◌++◌, length, map, take, drop, Result, Ok, Err, refl, ap, sym, ◌∙◌, subst, arith, inl, inr, ◌⊎◌}
 use Rattle.std.proofs.lemmas.List.{map-append, length-append, length-map, map-set, take-map, length-set}

@@ -1,4 +1,4 @@
--- Certificates as values, and when one meets its program: its rows hold at the goal of each path where they hold at its
+-- Certificates as values, and when one meets its program: its rows hold at the goal of each path if they hold at its
 -- source, as multipliers show. Points are numbered from 0 here, sources as in paths.
 use Rattle.std.specs.Prelude.{◌≡◌, ◌<◌, ℕ, zero, suc, ◌-◌, ℤ, ⊤, true, List, [], ◌∷◌, ◌++◌, length, map, Option, None}
 use Rattle.std.specs.{List.AllByRecursion, Prelude.Some, Prelude.slice_get, Prelude.Ok}
@@ -12,7 +12,7 @@ use Rattle.lra_paths.specs.Paths.{Path, live_at, paths_of, violations_of}
 use Rattle.lra_multipliers.specs.Multipliers.{Multipliers, yes, IsAnswer}
 use Rattle.lra_multipliers.specs.Symbols.{SymbolicState, composed, width_of, executed_path}
 
--- what a certificate says of one path: nothing, where its source is empty; that nothing goes along it; or what shows
+-- what a certificate says of one path: nothing, if its source is empty; that nothing goes along it; or what shows
 -- its claims, one after the other
 pub data Evidence : Type 0 where
   none : Evidence

@@ -38,7 +38,7 @@ pub record IsCertificate (bytes : List ℕ) : Type 0 where
   pub text : bytes ≡ certificate_text (paths_of (program_of program) program.operations) certificate
   pub meets : Certifies (program_of program) program.operations certificate
 
--- the rows hold at the store; where it is empty there is no store
+-- the rows hold at the store; if it is empty there is no store
 abbrev pub RowsHoldAt : Option (List LinearRow) → List ℤ → Type 0
 RowsHoldAt None store = ⊥
 RowsHoldAt (Some rows) store = Con rows (pos 1 ∷ store)
@@ -65,7 +65,7 @@ pub record PathsKeepRows (P : Program) (g : Node) (c : Certificate) : Type 0 whe
       SomeLeads (actions_between P g (suc p) goal) s t →
       ClaimsAt c goal t
 
--- a certificate that meets its program does that, along every path; and its rows hold where what it says does
+-- a certificate that meets its program does that, along every path; and its rows hold if what it says does
 abbrev pub CertificatesAreInductive : Type 0
 CertificatesAreInductive = (P : Program) (g : Node) (c : Certificate) → Certifies P g c →
     PathsKeepRows P g c × (HoldInAllRuns P (ClaimsAt c) → RowsHold P c)
@@ -112,7 +112,7 @@ VerifiesTo bytes (line_refused r) =
     ⊎ ((h : Head) × HasHead bytes h × (x : IsProgram h.source) × AreFewPaths (program_of x) x.operations
     × (judged (program_of x) x.operations h.rest ≡ Err r))
 
--- the lines are accepted exactly where the input is a certificate that meets its program, with its numbers
+-- the lines are accepted exactly if the input is a certificate that meets its program, with its numbers
 pub record JudgedSo (bytes : List ℕ) (h : Head) (x : IsProgram h.source) (points proved : ℕ) : Type 0 where
   pub short : length bytes ≤ greatest_certificate
   pub head : head_of bytes ≡ Some h

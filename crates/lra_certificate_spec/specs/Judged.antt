@@ -68,7 +68,7 @@ numbers_in (word ∷ words) = then_number (number_in word) (numbers_in words)
 abbrev pub words_of : List ℕ → List (List ℕ)
 words_of line = slice_split (λ b. nat_eq b 32) line
 
--- the numbers after the text, each after one space, where they are so many
+-- the numbers after the text, each after one space, if they are so many
 abbrev pub so_many : ℕ → Option (List ℤ) → Option (List ℤ)
 so_many n None = None
 so_many n (Some zs) = if nat_eq (length zs) n then Some zs else None

@@ -15,7 +15,7 @@ pub fn certificates_hold()
     ensures { CertificatesHold }
 {}
 
-/// The lines after the head are accepted exactly where the input is a certificate that meets its program, with its
+/// The lines after the head are accepted exactly if the input is a certificate that meets its program, with its
 /// numbers.
 pub fn judged_exactly()
     ensures { JudgedExactly }

@@ -1,5 +1,5 @@
 //! Certificates of a program: rows at its points with the multipliers that show them, their text, the first line that
-//! is refused, and what holds in all runs where a certificate meets its program.
+//! is refused, and what holds in all runs if a certificate meets its program.
 //!
 //! `specs/` is to be read in the order of `specs/Lib.antt`: certificates and when one meets its program, their text,
 //! the first refused line, and what then holds in all runs. What answers by them is `lra_verify`.

@@ -51,7 +51,7 @@ claim_shown laws g claim are some holds alive unshown =
     (λ x is_point meets. subst (λ (z : ℤ). pos 0 ≤ℤ z) (sym (value x).1) (holds x is_point meets)) unshown.never
     (subst (λ (r : List ℤ). IsEmptySet (multiplier_dims (constraints g.premises)) (Con (multiplier_rows (constraints g.premises) r))) (sym nothing) alive.never)
 
--- where no point meets the premises, -1 >= 0 has some
+-- if no point meets the premises, -1 >= 0 has some
 pub dead_shown : AreLaws → (g : PathFacts) → AllLead g None → IsNotShown g None → ⊥
 dead_shown laws g lead alive =
     let n = g.premises.dims in
@@ -60,7 +60,7 @@ dead_shown laws g lead alive =
     (subst (λ (r : List ℤ). AreAsWide (constraints g.premises) r) (sym nothing) alive.wide) (λ x is_point meets. lead x is_point meets)
     (subst (λ (r : List ℤ). IsEmptySet (multiplier_dims (constraints g.premises)) (Con (multiplier_rows (constraints g.premises) r))) (sym nothing) alive.never)
 
--- the claims of a target's rows hold where all points lead to it
+-- the claims of a target's rows hold if all points lead to it
 pub target_holds : (g : PathFacts) (rows : List LinearRow) → AllLead g (Some rows) → AllHold g (system_of rows)
 target_holds g rows lead = λ claim k x is_point meets. con_solves rows (led_to g x) (lead x is_point meets) claim k
 

@@ -27,7 +27,7 @@ module _ (laws : AreLaws) where
       none_show premises claim m.0 wide unshown m.1) in
       none_show premises (falsity n) dead.0 dead_wide alive dead.1
 
-  -- where no point meets the premises at all
+  -- if no point meets the premises at all
   pub never_alive : (n : ℕ) (premises : List LinearRow) → AreAsWide premises (falsity n) → IsEmptySet n (Con premises) → AreNone premises (falsity n) → ⊥
   never_alive n premises wide empty alive =
       let dead = laws.nowhere n premises wide empty in none_show premises (falsity n) dead.0 wide alive dead.1

@@ -124,7 +124,7 @@ product_behind [] u k = dot_zeros k (entry u)
 product_behind (c ∷ cs) [] k = product_none (c ∷ cs ++ zeros k) ∙ sym (product_none (c ∷ cs))
 product_behind (c ∷ cs) (y ∷ ys) k = ap (λ (z : ℤ). (c *ℤ y) +ℤ z) (product_behind cs ys k)
 
--- a row with zeros after it holds at a point where the row does at the first columns
+-- a row with zeros after it holds at a point if the row does at the first columns
 pub padded_holds : (width live : ℕ) (g : LinearRow) (u : List ℤ) → length g.row ≡ suc live → Holds (padded width g) u → Holds g (take (suc live) u)
 padded_holds width live g u e h =
     subst (λ (z : ℤ). HoldsWith g.equal z)

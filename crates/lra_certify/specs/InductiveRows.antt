@@ -11,7 +11,7 @@ use Rattle.lra_certify.specs.Crates.{lra_operations.Tree.Node, lra_program.Progr
 use Rattle.lra_verify.specs.EdgeViews.{live_by}
 use Rattle.lra_certify.specs.PointMoves.{PointLeadsAll}
 
--- the point meets the rows; where nothing comes no point does
+-- the point meets the rows; if nothing comes no point does
 abbrev pub IsIn : RowsAtPoint → List ℤ → Type 0
 IsIn None y = ⊥
 IsIn (Some rows) y = Con rows y

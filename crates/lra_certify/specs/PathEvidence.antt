@@ -1,4 +1,4 @@
--- What is written of a path: the first multipliers that show that nothing goes along it; where there are none, the
+-- What is written of a path: the first multipliers that show that nothing goes along it; if there are none, the
 -- first for each claim of its target.
 use Rattle.std.specs.List.{AllZip}
 use Rattle.std.specs.Prelude.{◌≡◌, ◌⊎◌, ℕ, ℤ, List, [], None, Some, Ok, Err, Contains}
@@ -61,7 +61,7 @@ abbrev pub claims_to : RowsAtPoint → List (List ℤ)
 claims_to None = []
 claims_to (Some rows) = system_of rows
 
--- multipliers exceed a limit: those of -1 >= 0 or, where none show that, of a claim; or that claim passes
+-- multipliers exceed a limit: those of -1 >= 0 or, if none show that, of a claim; or that claim passes
 abbrev pub EvidenceStrains : PathPremises → RowsAtPoint → SymbolicState → Type 0
 EvidenceStrains a target w = MultipliersStrain (premises_of a w) (contradiction a)
     ⊎ (IsNotShownInfeasible a × (claim : List ℤ) × Contains (claims_to target) claim × ClaimStrains a w claim)

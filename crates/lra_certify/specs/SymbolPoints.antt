@@ -5,7 +5,7 @@ use Rattle.lra_certify.specs.Crates.lra_multipliers.Symbols.{SymbolicState, widt
 use Rattle.lra_certify.specs.Crates.{lra_domain.Actions.Action, lra_linear_spec.Descriptions.Con}
 use Rattle.lra_certify.specs.PointMoves.{PointLeadsAll}
 
--- where the tests hold
+-- if the tests hold
 abbrev pub SymbolsGivePoints : Type 0
 SymbolsGivePoints = (live : ℕ) (steps : List Action) (w : SymbolicState) (u : List ℤ) →
     executed_path live steps ≡ Ok w →

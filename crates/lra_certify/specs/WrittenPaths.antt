@@ -36,7 +36,7 @@ AllAreInductive w paths = (path : Path) → Contains paths path → IsInductiveA
 
 -- their lines --------------------------------------------------------------------------------------------------------
 
--- with the line that begins a path, or, where an assertion has been named, without it
+-- with the line that begins a path, or, if an assertion has been named, without it
 abbrev pub edge_lines : Path → Evidence → List ℕ
 edge_lines path evidence = text_line (edge_text path) ++ evidence_text evidence
 

@@ -1,4 +1,4 @@
-//! The lines of one path: the first multipliers that show that nothing goes along it; where there are none, the first
+//! The lines of one path: the first multipliers that show that nothing goes along it; if there are none, the first
 //! for each claim of its target.
 
 ghost use Rattle.std.specs.Prelude.{◌<◌, [], ◌∷◌, length, OnOk, IfOk, IfErr, IfSome, Some, None, string_bytes};

@@ -64,7 +64,7 @@ fn push_rows(text: &mut String, rows: &ConSys) -> Result<(), AllocError>
     Ok(())
 }
 
-/// Appends the lines of the point of this number; where nothing comes it has no rows.
+/// Appends the lines of the point of this number; if nothing comes it has no rows.
 fn push_state(text: &mut String, number: usize, state: Option<&ConSys>) -> Result<(), AllocError>
     ensures text { OnOk result (string_bytes text.new ≡ string_bytes text.old ++
         state_text number (target_rows state.entry)) }

@@ -74,7 +74,7 @@ asserted_so v = is_assertion v.0 && v.3
 abbrev numbers_in : List ReportedVerdict → List ℕ
 numbers_in vs = map (λ (v : ReportedVerdict). v.1) (filter asserted_so vs)
 
--- one more of them, where it is one of these
+-- one more of them, if it is one of these
 one_more : (b : Bool) (n : ℕ) (v : ReportedVerdict) (vs : List ReportedVerdict) (ns : List ℕ) → v.1 ≡ n → map (λ (x : ReportedVerdict). x.1) vs ≡ ns
     → map (λ (x : ReportedVerdict). x.1) (cond b (v ∷ vs) vs) ≡ cond b (n ∷ ns) ns
 one_more true n v vs ns same e = ap₂ (λ (k : ℕ) (l : List ℕ). k ∷ l) same e

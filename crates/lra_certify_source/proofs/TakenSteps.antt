@@ -1,4 +1,4 @@
--- What is taken of values: a point of a value is one of its rows, and there are rows where there is a point.
+-- What is taken of values: a point of a value is one of its rows, and there are rows if there is a point.
 use Rattle.std.proofs.Common.{◌≡◌, ◌≢◌, ◌∙◌, ◌<◌, ℕ, ℤ, true, false, List, [], ◌∷◌, ◌++◌, length, refl, ap, sym, subst, arith, inl, inr}
 use Rattle.std.proofs.{lemmas.List.append_assoc, lemmas.Option.none-some, lemmas.Option.same_Some, lemmas.Option.slice_get-map}
 use Rattle.std.specs.Prelude.{Option, None, Some, option_map, map, slice_get, Contains}
@@ -42,7 +42,7 @@ any_listed [] (k ∷ kinds) given long some = absurd (omega (arith, long))
 any_listed (r ∷ rows) [] given long some = absurd (omega (arith, some))
 any_listed (r ∷ rows) (k ∷ kinds) given long some = refl
 
--- where a list of generators has a kind
+-- if a list of generators has a kind
 pub rows_kept : (gens : LinearSystem GenKind) (given rows : List LinearRow) → length gens.kinds ≡ length gens.rows → 0 < length gens.kinds
     → generators gens ≡ given → rows_if_any given rows ≡ Some rows
 rows_kept gens given rows long some is =

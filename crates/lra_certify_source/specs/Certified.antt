@@ -79,7 +79,7 @@ IsCertifyRefusalOf source (Source r) = Refuse at_main Spells source r.cause r.pl
 IsCertifyRefusalOf source (Paths p) = (x : IsProgram source) × HasTooManyPaths (program_of x) x.operations p
 IsCertifyRefusalOf source (Strained at) = (r : Report) × IsStrainedAt source r at
 
--- where too many paths lead from a source, that is the one refusal of it, and it has no certificate
+-- if too many paths lead from a source, that is the one refusal of it, and it has no certificate
 abbrev pub ManyAreRefused : Type 0
 ManyAreRefused = (source : List ℕ) (x : IsProgram source) (p : ℕ) → HasTooManyPaths (program_of x) x.operations p →
     ((r : Report) (bytes : List ℕ) → IsCertificateOf source r bytes → ⊥)

@@ -8,7 +8,7 @@ use Rattle.lra_certify_source.specs.Crates.lra_linear_spec.Polyhedra.{Polyhedron
 use Rattle.lra_certify_source.specs.Crates.lra_linear_spec.declared.ConKind.{ConKind}
 use Rattle.lra_certify_source.specs.Crates.lra_systems.LinearSystems.{LinearSystem}
 
--- the rows where there is a generator
+-- the rows if there is a generator
 abbrev pub rows_if_any : List LinearRow → List LinearRow → RowsAtPoint
 rows_if_any [] rows = None
 rows_if_any (g ∷ gs) rows = Some rows

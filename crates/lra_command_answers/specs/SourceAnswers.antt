@@ -18,12 +18,12 @@ pub record IsRefusal (entry : EntryPoint) (bytes text : List ℕ) : Type 0 where
   pub refused : Refuse entry Spells bytes cause place
   pub written : text ≡ refusal_text cause place
 
--- the text and the status that a source's bytes must get, where these are reported of it
+-- the text and the status that a source's bytes must get, if these are reported of it
 abbrev pub AnswersSourceWith : EntryPoint → (List ℕ → List ℕ → Status → Type 0) → List ℕ → List ℕ → Status → Type 0
 AnswersSourceWith entry Tells bytes text status =
     (IsRefusal entry bytes text × (status ≡ Refused)) ⊎ Tells bytes text status
 
--- by one of these a source is answered: its refusal, where it has one, and where it is accepted what is reported, whose
+-- by one of these a source is answered: its refusal, if it has one, and if it is accepted what is reported, whose
 -- statuses these are
 abbrev pub AllowedSourceStatuses : EntryPoint → List Status → List ℕ → List Status → Type 0
 AllowedSourceStatuses entry told bytes among = (HasRefusal entry bytes × (among ≡ refused))

@@ -1,4 +1,4 @@
--- A command line that names no option asks for the options that hold where none is named; what `--best` stands for, and which options can't be given together.
+-- A command line that names no option asks for the options that hold if none is named; what `--best` stands for, and which options can't be given together.
 use Rattle.std.proofs.Common.{◌∷◌, [], List, true, refl, codes, inl, inr, map}
 use Rattle.std.specs.Borrow.{Bor}
 use Rattle.clap.specs.Words.{Text}

@@ -1,4 +1,4 @@
--- What a walk without a fault leaves in the rows, where each argument of the command is to be used
+-- What a walk without a fault leaves in the rows, if each argument of the command is to be used
 -- once.
 use Rattle.std.proofs.Common.{◌≡◌, ◌∙◌, ◌++◌, ◌&&◌, ℕ, Bool, List, [], ◌∷◌, Option, Some, None, ap, codes, refl, sym, subst, true, false, zero, suc, append-nil, arith}
 use Rattle.std.proofs.{lemmas.Bool.ne_eqb, lemmas.Slice.Eq.bytes_eq-Decides}

@@ -383,7 +383,7 @@ stop_gives parser takes (Some p) no_help e some =
         only true x = refl
         only false x = cc
 
--- where a subcommand is required, a level without a fault has met one
+-- if a subcommand is required, a level without a fault has met one
 subcommand_met : (s : Shape) (rows : List Row) (has : Bool) → s.subcommand_required ≡ true → check_fault s rows has ≡ [] → has ≡ true
 subcommand_met s rows true required e = refl
 subcommand_met s rows false required e =

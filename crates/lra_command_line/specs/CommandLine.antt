@@ -66,7 +66,7 @@ json_rule = flag (codes "json")
 abbrev pub file_rule : Rule
 file_rule = record (new_rule (codes "file")) { value_names = 1 }
 
--- the rule of each argument, where the domains have this parser
+-- the rule of each argument, if the domains have this parser
 abbrev pub argument_rule : ValueParser → Argument → Rule
 argument_rule parser arg.Domain = domain_rule parser
 argument_rule parser (arg.Number option) = number_rule (number_row option)

@@ -19,7 +19,7 @@ use Rattle.lra_command_line.specs.declared.commands.Format.TheVariants.{Lines, J
 use Rattle.lra_command_line.specs.declared.commands.PlainCommand.{PlainCommand}
 use Rattle.lra_command_line.specs.{declared.commands.Command.Command, declared.commands.Format.Format}
 
--- the number that a text writes, by decimal digits after at most one plus, where it is below
+-- the number that a text writes, by decimal digits after at most one plus, if it is below
 -- `limit`
 abbrev pub number_below : ℕ → Text → Option ℕ
 number_below limit text =

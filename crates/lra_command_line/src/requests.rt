@@ -45,7 +45,7 @@ fn request_without_command<'a>(alloc: Global, why: &Unasked) -> Result<Request<'
 
 /// What the words ask of the program; the first word is its name.
 ///
-/// They ask to run a command exactly where [`crate::parse_command`] answers one. Nothing is printed, and no file is
+/// They ask to run a command exactly if [`crate::parse_command`] answers one. Nothing is printed, and no file is
 /// opened.
 pub fn read_request<'a>(alloc: Global, words: &'a [String]) -> Result<Request<'a>, AllocError>
     ensures { IfOk result (IsRequest (map string_bytes words.now)) }

@@ -340,7 +340,7 @@ fn read_file<'a>(matches: &ArgMatches<'a>) -> Option<&'a str>
     if name == "-" { None } else { Some(name) }
 }
 
-/// What the matches ask for, `None` where their options conflict.
+/// What the matches ask for, `None` if their options conflict.
 fn choose<'a>(matches: &ArgMatches<'a>) -> Option<Asked<'a>>
     ensures command { option_map (λ a. a.command) result ≡ command_of (subcommand_rows_of matches.now) }
     ensures file { IfSome result (λ a.
@@ -381,7 +381,7 @@ pub(crate) fn ask<'a>(alloc: Global, words: &'a [String]) -> Result<Asked<'a>, U
 
 /// The command that the words give; the first word is the program's name.
 ///
-/// `Usage` comes exactly where the command line doesn't take the words, or where options are among them that can't be
+/// `Usage` comes exactly if the command line doesn't take the words, or if options are among them that can't be
 /// given together; `Memory` only when memory runs out. Nothing is printed.
 pub fn parse_command(alloc: Global, words: &[String]) -> Result<Command, Refusal>
     ensures usage { result ≡ Err Refusal.Usage →
@@ -395,7 +395,7 @@ pub fn parse_command(alloc: Global, words: &[String]) -> Result<Command, Refusal
     }
 }
 
-/// The command that the words ask for, `None` where the command line doesn't take them or their options conflict.
+/// The command that the words ask for, `None` if the command line doesn't take them or their options conflict.
 pub fn find_command(alloc: Global, words: &[String]) -> Result<Option<Command>, AllocError>
     ensures asks { IfOk result (λ asked. AsksFor (map string_bytes words.now) asked) }
     ensures ranges { IfOk result (λ asked. IfSome asked IsWithinRanges) }

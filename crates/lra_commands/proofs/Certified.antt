@@ -20,7 +20,7 @@ states_many [] (s ∷ ss) are = absurd are
 states_many (site ∷ sites) [] are = absurd are
 states_many (site ∷ sites) (s ∷ ss) are = ap suc (states_many sites ss are.1)
 
--- it is verified, where it isn't too long
+-- it is verified, if it isn't too long
 accepted : (source : List ℕ) (states : List RowsAtPoint) (proved text : List ℕ) → IsCertificateWith source states proved text →
     length text ≤ greatest_certificate
     → AnswersCertificate text (verified_text (length states) (length proved)) Proved

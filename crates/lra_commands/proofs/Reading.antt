@@ -45,7 +45,7 @@ pub ruleset reading = (taken_whole, taken_past, reads_whole, reads_past, reads_f
 pub found_limit : (c : Command) (found : Option ℕ) (limit : ℕ) → found ≡ limit_of c → found ≡ Some limit → limit + 2 < 2 ^ 32
 found_limit c found limit is same = (answering c).small limit (sym is ∙ same)
 
--- what a limit says, where it is the command's
+-- what a limit says, if it is the command's
 pub of_limit : (P : Option ℕ → Type 0) (c : Command) (found limit : Option ℕ) → found ≡ limit_of c → found ≡ limit → P limit → P (limit_of c)
 of_limit P c found limit is same p = subst P is (subst P (sym same) p)
 

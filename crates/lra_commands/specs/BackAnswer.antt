@@ -44,7 +44,7 @@ abbrev pub OneBackRefusal : Type 0
 OneBackRefusal = (bytes : List ℕ) (p : ℕ) (one other : BackRefusal) → IsBackRefusalOf bytes p one →
     IsBackRefusalOf bytes p other → one ≡ other
 
--- it is refused where it is as a source, where no assertion has the number, and where its program has too many paths;
+-- it is refused if it is as a source, if no assertion has the number, and if its program has too many paths;
 -- elsewhere it is answered
 abbrev pub AllowedBackStatuses : ℕ → List ℕ → List Status → Type 0
 AllowedBackStatuses number bytes among = (point : ℕ) × (number ≡ suc point) ×

@@ -46,8 +46,8 @@ EachCertificateAnswer = (bytes : List ℕ) →
 abbrev pub certificate_statuses : List Status
 certificate_statuses = Refused ∷ printed
 
--- by one of these it is answered: by a refusal where the input is no certificate that meets its program, by what is
--- verified where it is one, of no more bytes than are accepted
+-- by one of these it is answered: by a refusal if the input is no certificate that meets its program, by what is
+-- verified if it is one, of no more bytes than are accepted
 abbrev pub AllowedCertificateStatuses : List ℕ → List Status → Type 0
 AllowedCertificateStatuses bytes among = ((IsCertificate bytes → ⊥) × (among ≡ refused))
     ⊎ (IsCertificate bytes × (length bytes ≤ greatest_certificate) × (among ≡ printed))

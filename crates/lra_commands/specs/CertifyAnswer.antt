@@ -46,6 +46,6 @@ AnswersCertify bytes text status =
 abbrev pub HasManyPaths : List ℕ → Type 0
 HasManyPaths bytes = (x : IsProgram bytes) × (p : ℕ) × HasTooManyPaths (program_of x) x.operations p
 
--- it is refused where it is as a source, or has too many paths; else it may exceed a limit
+-- it is refused if it is as a source, or has too many paths; else it may exceed a limit
 abbrev pub AllowedCertifyStatuses : List ℕ → List Status → Type 0
 AllowedCertifyStatuses bytes among = (HasRefusal at_main bytes ⊎ HasManyPaths bytes) × (among ≡ refused)

@@ -16,7 +16,7 @@ use Rattle.lra_commands.specs.{SampleAnswer.AnswersSample, SourceAnswer.AnswersS
 use Rattle.lra_commands.specs.Crates.{lra_certificate_spec.Claims.greatest_certificate}
 use Rattle.lra_commands.specs.Crates.lra_resolution_spec.EntryPoint.{at_main, at_threads}
 
--- the most bytes that a command takes of its input, where it reads it
+-- the most bytes that a command takes of its input, if it reads it
 abbrev pub limit_of : Command → Option ℕ
 limit_of (Analyse options format) = Some greatest_length
 limit_of (Sample seed size) = None
@@ -26,7 +26,7 @@ limit_of (Plain Calc) = Some greatest_length
 limit_of (Plain Verify) = Some greatest_certificate
 limit_of (Plain Certify) = Some greatest_length
 
--- the text and the status that a command must get, by these bytes of the input where it reads it
+-- the text and the status that a command must get, by these bytes of the input if it reads it
 abbrev pub AnswersInput : Command → List ℕ → List ℕ → Status → Type 0
 AnswersInput (Analyse options format) bytes text status =
     AnswersSource options (written_report format) bytes text status

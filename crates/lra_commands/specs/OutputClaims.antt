@@ -47,7 +47,7 @@ abbrev pub IsNeverReached : Program → PointReport → Type 0
 IsNeverReached P p = p.state ≡ [] → (store : List ℤ) → At P p.point store → ⊥
 
 -- The report lists all points of the accepted source and what is judged of them. Each state holds whenever a run is at
--- its point, no assertion that is marked proved fails, no run stops by a number where all is reported to fit, no access
+-- its point, no assertion that is marked proved fails, no run stops by a number if all is reported to fit, no access
 -- that is reported to be in bounds is evaluated outside its array, and no point that is shown as unreachable is
 -- reached.
 pub record HoldsInAllRuns (bytes : List ℕ) (r : Report) : Type 0 where
@@ -88,7 +88,7 @@ pub record IsWrittenUnlessFlagged (o : Options) (bytes : List ℕ) (r : Report) 
   pub tells : r.flagged ≡ None → ForOptions o (λ V H m shown. ReportsWritten m shown o constants (resolve tree) r)
 
 -- A line for each access of an array, in the order in which they are evaluated at each point, says whether it is in
--- bounds by the values whose states are shown: it is unknown exactly where these leave an index outside. After what is
+-- bounds by the values whose states are shown: it is unknown exactly if these leave an index outside. After what is
 -- flagged of all else stands what is flagged of that.
 pub record ReportsAccessing {V H : Type 0} (m : Abstraction V H) (shown : V → Invariant) (o : Options) (P : Program)
     (r : Report) : Type 0 where
@@ -114,14 +114,14 @@ pub record ReportsAccesses (o : Options) (bytes : List ℕ) (r : Report) : Type 
   pub tells : ForOptions o (λ V H m shown. ReportsAccessing m shown o (resolve tree) r)
 
 -- If it is asked for, a line for each point at which something is computed says whether all of it fits by the
--- values whose states are shown: it may overflow exactly where something doesn't.
+-- values whose states are shown: it may overflow exactly if something doesn't.
 pub record ReportsFitting {V H : Type 0} (m : Abstraction V H) (shown : V → Invariant) (o : Options) (P : Program)
     (r : Report) : Type 0 where
   pub beside : ReportsAccessing m shown o P r
   pub flagged : Option ℕ
   pub judged : Judges m (lossy_operations m) beside.tree beside.values flagged beside.fitting beside.flag_before
 
--- and where all of it fits no run stops there by a number; where it isn't asked for nothing is reported about it
+-- and if all of it fits no run stops there by a number; if it isn't asked for nothing is reported about it
 pub record ReportsFits (o : Options) (bytes : List ℕ) (r : Report) : Type 0 where
   pub tree : FileTree
   pub accepted : Accepts at_main Spells bytes tree
@@ -203,7 +203,7 @@ pub record WritesCertificate (w : World) (status : Status) : Type 0 where
 -- At each point of the input's program, whose forward analysis is gone back over, what is left of the stores from which
 -- the assertion of this number may fail is written whole. A point's state holds at each store with which a run comes
 -- there that goes on to fail at the assertion, flagged or not; rows and generators describe the same points. No run
--- fails where the assertion is proved, and the status says whether it is: exactly where the point to which paths from
+-- fails if the assertion is proved, and the status says whether it is: exactly if the point to which paths from
 -- the start lead is shown as unreachable. Without a flag all that is shown is as it is defined, over the values of the
 -- written iteration; the number of a flag is that of a point of which an operation exceeds a limit, and all before it
 -- is exact.
@@ -230,7 +230,7 @@ pub record WritesBack (number : ℕ) (w : World) (status : Status) : Type 0 wher
 -- no access that is reported to be in bounds is evaluated outside its array, no thread reaches a point that is shown as
 -- unreachable, and whatever value a thread gives a global variable lies in the interval that is reported for these two.
 -- The status says whether some verdict is unknown. Flagged or not, what is shown of a thread was found of it among what
--- the settled intervals say of the others: a verdict is unknown exactly where the values that are shown say so. Without
+-- the settled intervals say of the others: a verdict is unknown exactly if the values that are shown say so. Without
 -- a flag all that is shown is as it is defined, round by round; the number of a flag is that of a point of which an
 -- operation exceeds a limit in the written rounds, all before it exact.
 pub record WritesThreads (delay narrow : ℕ) (w : World) (status : Status) : Type 0 where

@@ -25,7 +25,7 @@ IsTaken (Some limit) old new bytes = TakesBytes limit old new bytes
 abbrev pub IsReadBy : {T : Type 0} → Option ℕ → Option (List ℕ) → Option (List ℕ) → Result T NoAnswer → Type 0
 IsReadBy limit old new result = IsRead limit old new (IsErrOf result none.ReadFault) (IsOk result)
 
--- the count of the source's faults rose where a fault is the answer, and stays at every other
+-- the count of the source's faults rose if a fault is the answer, and stays at every other
 abbrev pub PrepareCause : {T : Type 0} → ℕ → ℕ → Result T NoAnswer → Type 0
 PrepareCause before now (Ok a) = now ≡ before
 PrepareCause before now (Err none.ReadFault) = Rose before now

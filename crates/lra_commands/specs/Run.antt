@@ -8,7 +8,7 @@ use Rattle.lra_command_line.specs.declared.commands.Command.{Command}
 use Rattle.lra_commands.specs.{Commands.AnswersInput, World.World}
 use Rattle.lra_command_answers.specs.{declared.status.Status.Status, declared.status.Status.TheVariants.Usage}
 
--- all bytes that are left of an input, where it reports them
+-- all bytes that are left of an input, if it reports them
 abbrev pub IsInput : Option (List ℕ) → List ℕ → Type 0
 IsInput None bytes = Unit {0}
 IsInput (Some left) bytes = left ≡ bytes
@@ -62,7 +62,7 @@ IsRead None old new failed done = (new ≡ old) × (failed → ⊥)
 IsRead (Some limit) old new failed done =
     LosesPrefix old new limit × (done → (bytes : List ℕ) × TakesBytes limit old new bytes)
 
--- a count of faults rose where the fault is the status, and stays at every other
+-- a count of faults rose if the fault is the status, and stays at every other
 pub record RisesAtFault (fault : Status) (before now : ℕ) (status : Status) : Type 0 where
   pub rose : status ≡ fault → Rose before now
   pub same : status ≢ fault → now ≡ before

@@ -5,7 +5,7 @@ use Rattle.lra_command_line.specs.ParsedCommand.{default_options}
 use Rattle.lra_commands.specs.SourceAnswer.{AnswersSource}
 use Rattle.lra_command_answers.specs.declared.status.Status.{Status}
 
--- the text and the status that the sample of a seed and a size must get, analysed as a source is where words name no
+-- the text and the status that the sample of a seed and a size must get, analysed as a source is if words name no
 -- option
 abbrev pub AnswersSample : ℕ → ℕ → List ℕ → Status → Type 0
 AnswersSample seed size text status =

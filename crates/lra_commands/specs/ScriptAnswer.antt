@@ -20,7 +20,7 @@ AnswersScript bytes text status =
 abbrev pub script_statuses : List Status
 script_statuses = Refused ∷ printed
 
--- by one of these a script is answered: a refusal where it has no output, its output where nothing refuses it
+-- by one of these a script is answered: a refusal if it has no output, its output if nothing refuses it
 abbrev pub AllowedScriptStatuses : List ℕ → List Status → Type 0
 AllowedScriptStatuses bytes among = (script.NeverRuns bytes × (among ≡ refused))
     ⊎ (script.NeverIsRefused bytes × (among ≡ printed))

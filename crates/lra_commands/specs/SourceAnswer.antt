@@ -28,7 +28,7 @@ pub record IsReport (o : Options) (write : Report → List ℕ) (bytes text : Li
   pub written : text ≡ write report
   pub counted : status ≡ report_status (unknown_count report.verdicts)
 
--- the text and the status that a source's bytes must get under these options, where reports are written so
+-- the text and the status that a source's bytes must get under these options, if reports are written so
 abbrev pub AnswersSource : Options → (Report → List ℕ) → List ℕ → List ℕ → Status → Type 0
 AnswersSource o write bytes text status = AnswersSourceWith at_main (IsReport o write) bytes text status
 

@@ -16,7 +16,7 @@ use lra_command_answers::Answer;
 use lra_command_line::{Command, PlainCommand};
 use std::alloc::{AllocError, Global};
 
-/// The most bytes that a command takes of its input, where it reads it.
+/// The most bytes that a command takes of its input, if it reads it.
 #[tactic(auto, unfolding(lra_base::specs::Places::greatest_length))]
 pub fn limit_of(command: Command) -> Option<usize>
     ensures { result ≡ limit_of command }

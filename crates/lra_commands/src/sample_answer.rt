@@ -35,7 +35,7 @@ fn answer_summary(
     })
 }
 
-/// The answer to a sample of up to 400 blocks: its source is made, and analysed with the options that hold where words
+/// The answer to a sample of up to 400 blocks: its source is made, and analysed with the options that hold if words
 /// name none.
 pub fn answer_sample(alloc: Global, seed: u64, size: u32) -> Result<Answer, AllocError>
     requires { size ≤ 400 }

@@ -58,7 +58,7 @@ beside_place front x back t k n = elim (Contains-append_cases front (x ∷ back)
 ]
 
 -- ---- numbers
--- where a sum of numbers that are not negative is 0, each is
+-- if a sum of numbers that are not negative is 0, each is
 first_zero : (a b z y : ℤ) → pos 0 <ℤ a → pos 0 ≤ℤ b → pos 0 ≤ℤ z → pos 0 ≤ℤ y → ((a *ℤ z) +ℤ (b *ℤ y)) ≡ pos 0 → z ≡ pos 0
 first_zero a b z y ha hb hz hy e =
     no_factor z a ha (zero_part (z *ℤ a) (b *ℤ y) (mul_nonnegative z a hz (positive_is_nonnegative a ha)) (mul_nonnegative b y hb hy)
@@ -194,7 +194,7 @@ module _ (w : ℕ) (c : List ℤ) (system lines rays : List (List ℤ)) (d : Are
         sym (dot_scale s (pos a.lowest.times) (entry t)) ∙ dot_same s (λ j. pos a.lowest.times *ℤ entry t j) (λ j. (up_factor *ℤ entry a.up j) +ℤ (down_factor *ℤ entry a.down j)) sum_entry ∙
         dot_linear s up_factor down_factor (entry a.up) (entry a.down)
 
-    -- it is tight exactly where both rays are
+    -- it is tight exactly if both rays are
     pub sum_tight : (s : List ℤ) → Contains system s → dot s (entry t) ≡ pos 0 → (dot s (entry a.up) ≡ pos 0) × (dot s (entry a.down) ≡ pos 0)
     sum_tight s m z =
         let x = dot s (entry a.up) in

@@ -31,7 +31,7 @@ abbrev pub saturation_rows : List LinearRow → List (List ℤ) → List (List B
 saturation_rows taken [] = []
 saturation_rows taken (r ∷ rays) = tight_values taken r ∷ saturation_rows taken rays
 
--- a row for each ray, with a column for each row added: true where that is tight at the ray
+-- a row for each ray, with a column for each row added: true if that is tight at the ray
 abbrev pub cone_saturation : List LinearRow → List (List ℤ) → Matrix
 cone_saturation taken rays = record { width = length taken; rows = saturation_rows taken rays }
 

@@ -14,7 +14,7 @@ AreTried w taken (g ∷ all) kept losses =
     ⊎ ((loss : Loss) × (others : List Loss) × (losses ≡ loss ∷ others) × (loss.chosen ≡ taken) × (loss.further ≡ g)
     × Strains w (taken ++ g ∷ []) loss × AreTried w taken all kept others)
 
--- After the first rows all were tried in their order: those kept are among them, and are all where none was left out;
+-- After the first rows all were tried in their order: those kept are among them, and are all if none was left out;
 -- the first that was left out exceeds a limit.
 pub record IsConversion (first all kept : List LinearRow) (cone : ConeContent) (losses : List Loss) : Type 0 where
   pub taken : cone.taken ≡ first ++ kept

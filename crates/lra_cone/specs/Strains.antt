@@ -1,4 +1,4 @@
--- What is reported where a cone doesn't take a row in: the rows of the cone with which a number passes the range, or
+-- What is reported if a cone doesn't take a row in: the rows of the cone with which a number passes the range, or
 -- how many rays there would be.
 use Rattle.std.specs.Prelude.{◌≡◌, ℕ, suc, ◌⊎◌, neg_ℤ, ℤ, Bool, List, Err}
 use Rattle.lra_cone.specs.Crates.lra_linear_spec.declared.Excess as E

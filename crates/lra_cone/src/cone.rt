@@ -200,7 +200,7 @@ impl Cone {
         })
     }
 
-    // Takes a row in where its product with the line at the place, and with none after it, isn't 0.
+    // Takes a row in if its product with the line at the place, and with none after it, isn't 0.
     fn flatten(
         &mut self,
         row: &Row,
@@ -245,7 +245,7 @@ impl Cone {
         free.saturating_sub(1)
     }
 
-    // Takes a row in where its product with each line is 0.
+    // Takes a row in if its product with each line is 0.
     fn cut(&mut self, row: &Row, kind: ConKind, products: &[i128]) -> Result<(), ConeError>
         requires width { length row.now ≡ suc self.old.dims }
         requires flat { All (λ l. product row.now l ≡ pos 0) self.old.lines }
@@ -262,7 +262,7 @@ impl Cone {
         Ok(())
     }
 
-    // Takes a row in by what it makes of the rays, where its product with each line is 0.
+    // Takes a row in by what it makes of the rays, if its product with each line is 0.
     fn exchange_rays(&mut self, row: &Row, kind: ConKind, made: Cut) -> Result<(), AllocError>
         requires width { length row.now ≡ suc self.old.dims }
         requires flat { All (λ l. product row.now l ≡ pos 0) self.old.lines }

@@ -20,7 +20,7 @@ pub struct Conversion {
 }
 
 impl Conversion {
-    // Takes a row in, or leaves it out where it exceeds a limit of the cone.
+    // Takes a row in, or leaves it out if it exceeds a limit of the cone.
     fn take_row(&mut self, alloc: Global, row: &Row, kind: ConKind) -> Result<(), AllocError>
         requires width { length row.now ≡ suc self.old.cone.dims }
         requires dims { self.old.kept.dims ≡ self.old.cone.dims }

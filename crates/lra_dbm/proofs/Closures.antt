@@ -7,7 +7,7 @@ use Rattle.lra_dbm.specs.{Cells.Cells, Cells.size, Cells.outside, Cells.entries,
 use Rattle.lra_dbm.proofs.EntryLemmas.{le_refl, le_same, le_none, le_trans}
 use Rattle.lra_dbm.proofs.PointwiseLemmas.{within_both, within_entries, entries_within, tight_least}
 
--- every list of n numbers is a store where only the diagonal is finite
+-- every list of n numbers is a store if only the diagonal is finite
 pub all_are_stores : (n : ℕ) (m : Entries) (s : List ℤ) → ((i j : ℕ) → m i j ≡ outside i j) → length s ≡ n → IsStore n m s
 all_are_stores n m s e width = record {
   width = width;

@@ -66,7 +66,7 @@ lesser_is (Some a) (Some b) = elim (int_lt b a) as (λ v. (Some (cond v b a) ≡
 pub le_lesser : {a b c : Option ℤ} → c ⊑ a → c ⊑ b → c ⊑ lesser a b
 le_lesser {a} {b} {c} h k = elim (lesser_is a b) as (λ _. c ⊑ lesser a b) [ inl e ↦ rw e h | inr e ↦ rw e k ]
 
--- below the sum of two lesser ones, where below the four sums
+-- below the sum of two lesser ones, if below the four sums
 pub le_sums : (c a1 a2 b1 b2 : Option ℤ) → c ⊑ a1 ⊞ b1 → c ⊑ a1 ⊞ b2 → c ⊑ a2 ⊞ b1 → c ⊑ a2 ⊞ b2 → c ⊑ lesser a1 a2 ⊞ lesser b1 b2
 le_sums c a1 a2 b1 b2 p q r s =
     elim (lesser_is a1 a2) as (λ _. c ⊑ lesser a1 a2 ⊞ lesser b1 b2) [

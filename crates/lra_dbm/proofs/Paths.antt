@@ -195,7 +195,7 @@ module _ (n : ℕ) where
   all_comes : (k : ℕ) (p : Progress) → k ≤ 2 * n → IsMatrix n p.cells → Comes n p (all_relaxed k p)
   all_comes k p h is = in_turn_keeps (λ q. Comes n p q) (pivot_relaxed n) k (λ i q l c. comes_on c (pivot_comes i q (omega arith) c.is)) p (comes_here n p is)
 
-  -- where no entry of the diagonal is below 0 in the end, none was before, and every pivot was taken
+  -- if no entry of the diagonal is below 0 in the end, none was before, and every pivot was taken
   all_taken : (k : ℕ) (p : Progress) → k ≤ 2 * n → IsMatrix n p.cells → ((i : ℕ) → Some (pos 0) ⊑ entries n (shortest n k p).cells i i)
       → shortest n k p ≡ all_relaxed k p
   unfolding shortest

@@ -20,7 +20,7 @@ row_starts n i given cells full = record {
   either = λ a b h k. inr refl;
 }
 
--- the entry at a pair, where twins are equal
+-- the entry at a pair, if twins are equal
 at_pair : (m : Entries) (i j a b : ℕ) → m i j ≡ m (opposite j) (opposite i) → ((a ≡ i) × (b ≡ j)) ⊎
     ((a ≡ opposite j) × (b ≡ opposite i)) → m i j ≡ m a b
 at_pair m i j a b twins (inl p) = rw (p.0, p.1) refl

@@ -1,4 +1,4 @@
--- A tightly closed matrix has a store that attains each entry, or passes each number where it is infinite.
+-- A tightly closed matrix has a store that attains each entry, or passes each number if it is infinite.
 use Rattle.std.proofs.Common.{◌≡◌, ℕ, zero, suc, ◌+◌, ◌*◌, ◌/◌, ◌%◌, ◌<◌, ◌⊎◌, inl, inr, ℤ, pos, List, [], ◌∷◌, length, Option, None, Some, refl, sym, ap, ◌∙◌, arith}
 use Rattle.std.proofs.lemmas.Int.{ints, clamps, by_lt_z}
 use Rattle.std.specs.{Int.int_div_euclid, Int.int_min, Int.int_max, Prelude.◌+ℤ◌, Prelude.◌-ℤ◌, Prelude.◌≤ℤ◌, Prelude.◌<ℤ◌, Prelude.neg_ℤ}

@@ -11,11 +11,11 @@ Cells = List (Option ℤ)
 abbrev pub size : ℕ → ℕ
 size n = 2 * n * (n + 1)
 
--- the place of row i and column j in the list, where the row holds it
+-- the place of row i and column j in the list, if the row holds it
 abbrev pub row_place : ℕ → ℕ → ℕ
 row_place i j = (i + 1) * (i + 1) / 2 + j
 
--- the place of an entry, or of its twin where the row doesn't hold it
+-- the place of an entry, or of its twin if the row doesn't hold it
 unfoldable pub place : ℕ → ℕ → ℕ
 place i j = cond (nat_lt j (2 * (i / 2) + 2)) (row_place i j) (row_place (opposite j) (opposite i))
 

@@ -26,8 +26,8 @@ from_shortest n p = cond (negative_diagonal p.cells (2 * n)) (found_empty p) (fr
 abbrev pub closing : ℕ → Cells → AfterClosing
 closing n cells = from_shortest n (shortest n (2 * n) (record { cells = cells; flagged = false }))
 
--- after closing: no store where it answers that there is none, which is never flagged, else the same stores and a
--- diagonal of 0; and the matrix is tight where no number passed the range
+-- after closing: no store if it answers that there is none, which is never flagged, else the same stores and a
+-- diagonal of 0; and the matrix is tight if no number passed the range
 pub record Closes (n : ℕ) (old new : Cells) (empty flagged : Bool) : Type 0 where
   pub none : empty ≡ true → (s : List ℤ) → IsStore n (entries n old) s → ⊥
   pub exact : empty ≡ true → flagged ≡ false

@@ -14,7 +14,7 @@ abbrev pub IsClosure : ℕ → Entries → Option Cells → Type 0
 IsClosure n m None = (s : List ℤ) → IsStore n m s → ⊥
 IsClosure n m (Some cells) = IsTightWith n m cells
 
--- where a and b are tight, j is the least matrix that has the stores of both: each other one has entries that are at
+-- if a and b are tight, j is the least matrix that has the stores of both: each other one has entries that are at
 -- least those of j
 pub record LeastJoin (n : ℕ) (a b j : Entries) : Type 0 where
   pub least : IsTight n a → IsTight n b → (m : Entries)

@@ -10,7 +10,7 @@ infixl 6 ◌⊞◌
 pub record ◌⊑◌ (a b : Option ℤ) : Type 0 where
   pub at_most : AtMost a b
 
--- the sum, infinite where one of the two is
+-- the sum, infinite if one of the two is
 abbrev pub ◌⊞◌ : Option ℤ → Option ℤ → Option ℤ
 None ⊞ b = None
 Some a ⊞ None = None

@@ -3,13 +3,13 @@ use Rattle.std.specs.Prelude.{ℕ, ◌+◌, ◌<◌, ◌^◌, ℤ, unsigned_abs,
 use Rattle.lra_dbm.specs.{Cells.Cells, Entry.◌⊑◌}
 use Rattle.lra_domain.specs.Bounds.{finite, greater, stable}
 
--- the greater entries; infinite where one of the two is
+-- the greater entries; infinite if one of the two is
 abbrev pub greater_cells : Cells → Cells → Cells
 greater_cells [] ds = []
 greater_cells (c ∷ cs) [] = []
 greater_cells (c ∷ cs) (d ∷ ds) = greater c d ∷ greater_cells cs ds
 
--- the first entries where the second ones are at most them, else infinite
+-- the first entries if the second ones are at most them, else infinite
 abbrev pub stable_cells : Cells → Cells → Cells
 stable_cells [] ds = []
 stable_cells (c ∷ cs) [] = []

@@ -1,22 +1,22 @@
--- What becomes of the entries where a number is added to a variable or to its opposite.
+-- What becomes of the entries when a number is added to a variable or to its opposite.
 use Rattle.std.specs.Prelude.{◌≡◌, ℕ, ◌+◌, ◌*◌, ◌/◌, ◌<◌, ◌==◌, ◌&&◌, Bool, true, false, cond, ℤ, pos, neg_ℤ, ◌-ℤ◌}
 use Rattle.std.specs.Prelude.{Some, length, ◌⊎◌}
 use Rattle.lra_dbm.specs.Entry.{◌⊞◌, within_range, passes_range}
 use Rattle.lra_dbm.specs.{Cells.Cells, Cells.size, Cells.entries, Cells.IsMatrix, Tight.Entries, Tight.opposite}
 
--- what is added to a signed variable where c is added to x
+-- what is added to a signed variable when c is added to x
 abbrev pub added_to : ℕ → ℤ → ℕ → ℤ
 added_to x c i = cond (i == 2 * x) c (cond (i == 2 * x + 1) (neg_ℤ c) (pos 0))
 
--- the signed variable whose place i takes; where x flips, its two change places
+-- the signed variable whose place i takes; if x flips, its two change places
 abbrev pub origin : Bool → ℕ → ℕ → ℕ
 origin flips x i = cond (flips && i / 2 == x) (opposite i) i
 
--- the entries where x becomes x + c, or where it flips -x + c
+-- the entries when x becomes x + c, or if it flips -x + c
 abbrev pub shifted : Bool → ℕ → ℤ → Entries → Entries
 shifted flips x c m i j = m (origin flips x i) (origin flips x j) ⊞ Some (added_to x c j -ℤ added_to x c i)
 
--- the shifted entries, where a number that passes the range counts as infinite
+-- the shifted entries, if a number that passes the range counts as infinite
 abbrev pub shifted_within : Bool → ℕ → ℤ → Entries → Entries
 shifted_within flips x c m i j = within_range (shifted flips x c m i j)
 

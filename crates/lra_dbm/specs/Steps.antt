@@ -50,7 +50,7 @@ relaxed_unless_negative n k p = cond (negative_diagonal p.cells (2 * n)) p (pivo
 unfoldable pub shortest : ℕ → ℕ → Progress → Progress
 shortest n k = in_turn (relaxed_unless_negative n) k
 
--- 2. Empty where an entry of the diagonal is below 0.
+-- 2. Empty if an entry of the diagonal is below 0.
 
 -- 3. Each unary entry, a bound of twice a variable, is rounded down to even.
 
@@ -60,7 +60,7 @@ rounded i p = lowered i (opposite i) (half_of (cell p.cells i (opposite i)) ⊞ 
 unfoldable pub all_rounded : ℕ → Progress → Progress
 all_rounded k = in_turn rounded k
 
--- 4. Empty where the two bounds of a variable cross: their sum is below 0.
+-- 4. Empty if the two bounds of a variable cross: their sum is below 0.
 
 abbrev pub bounds_sum : Cells → ℕ → Option ℤ
 bounds_sum cells i = cell cells i (opposite i) ⊞ cell cells (opposite i) i

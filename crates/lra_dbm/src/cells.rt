@@ -29,7 +29,7 @@ fn row_place(n: usize, i: usize, j: usize) -> usize
     (i + 1) * (i + 1) / 2 + j
 }
 
-/// The place of the entry, or of its twin where the row doesn't hold it.
+/// The place of the entry, or of its twin if the row doesn't hold it.
 pub fn cell_place(n: usize, i: usize, j: usize) -> usize
     requires few { n ≤ 2 ^ 30 }
     requires row { i < 2 * n }
@@ -94,7 +94,7 @@ pub fn least(a: Option<i128>, b: Option<i128>) -> Option<i128>
     }
 }
 
-/// A sum of two entries: infinite where it passes the range.
+/// A sum of two entries: infinite if it passes the range.
 #[derive(Clone, Copy, Debug, PartialEq, Eq)]
 pub struct Sum {
     pub value: Option<i128>,

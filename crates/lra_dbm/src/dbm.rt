@@ -71,7 +71,7 @@ impl Dbm {
         self.dims
     }
 
-    /// The entry at `i` and `j`, none exactly where it is infinite.
+    /// The entry at `i` and `j`, none exactly if it is infinite.
     pub fn bound(&self, i: usize, j: usize) -> Option<i128>
         requires row { i < 2 * self.now.dims }
         requires column { j < 2 * self.now.dims }
@@ -100,7 +100,7 @@ impl Dbm {
 
     /// Closes the matrix in place by numbered steps: shortest paths, rounding of the unary entries, strengthening
     /// (Bagnara, Hill and Zaffanella, 2008). Empty comes only if there is no store, and is exact. Otherwise the
-    /// stores stay, and the matrix is tight where no number of the steps passes the range. A number that passes counts
+    /// stores stay, and the matrix is tight if no number of the steps passes the range. A number that passes counts
     /// as infinite and flags.
     pub fn close(&mut self) -> (Closing, Exactness)
         ensures dims { self.new.dims ≡ self.old.dims }
@@ -144,7 +144,7 @@ impl Dbm {
         shift_cells(self.dims, &mut self.cells, &old.cells, shift)
     }
 
-    /// The matrix where `x` becomes `x + c`, or where it flips `-x + c`: the entries of `x` are exchanged for the sign
+    /// The matrix when `x` becomes `x + c`, or if it flips `-x + c`: the entries of `x` are exchanged for the sign
     /// and shifted. A number that passes the range counts as infinite and flags.
     pub fn shift(
         &self,
@@ -212,7 +212,7 @@ impl Dbm {
         all_within(&self.cells, &other.cells)
     }
 
-    /// The entries that are the greater of both. Where both matrices are tight, they are the least that have the stores
+    /// The entries that are the greater of both. If both matrices are tight, they are the least that have the stores
     /// of both.
     pub fn join(&self, other: &Dbm, alloc: Global) -> Result<Dbm, AllocError>
         requires { self.now.dims ≡ other.now.dims }

@@ -6,7 +6,7 @@ ghost use Rattle.lra_dbm.specs.{Cells.size, Cells.entries, Cells.IsMatrix, Steps
 
 use crate::cells::{Sum, add_entries, entry, opposite, write};
 
-/// Variable `x` becomes `x + c`, or where it flips `-x + c`.
+/// Variable `x` becomes `x + c`, or if it flips `-x + c`.
 #[derive(Clone, Copy, Debug, PartialEq, Eq)]
 pub struct Shift {
     pub flips: bool,

@@ -88,7 +88,7 @@ at_points n x point = subst (λ z. pos 0 ≤ℤ z) (sym (positivity_product n x)
     nonneg : (z : ℤ) → pos 0 <ℤ z → pos 0 ≤ℤ z
     nonneg z h = omega (arith, ints, h)
 
--- where no ray is above 0 in column 0, all is 0 there
+-- if no ray is above 0 in column 0, all is 0 there
 pub flat_rows : (lines rays : List (List ℤ)) → ((t : List ℤ) → Contains (all_rows lines rays) t → pos 0 ≤ℤ entry t 0) → points_of rays ≡ [] → (t : List ℤ) → Contains (all_rows lines rays) t →
     entry t 0 ≡ pos 0
 flat_rows lines rays nonneg none t m = elim (Contains-append_cases rays (both_ways lines) t m) [

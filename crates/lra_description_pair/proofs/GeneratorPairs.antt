@@ -78,7 +78,7 @@ own_lost_strain n s cause losses after told d k none t et x =
 pub further_rows : (more : LinearSystem GenKind) (rows : LinearSystem ConKind) → rows.rows ≡ more.rows → rows.kinds ≡ map dual_kind more.kinds → constraints rows ≡ generators more
 further_rows more rows er ek = ap (λ (y : List (List ℤ)). rows_by_kind is_equality y rows.kinds) er ∙ ap (rows_by_kind is_equality more.rows) ek ∙ dual_given more.rows more.kinds
 
--- where nothing was lost, all are added
+-- if nothing was lost, all are added
 pub further_taken : (more : LinearSystem GenKind) (rows : LinearSystem ConKind) (start cone : ConeContent) (kept : List LinearRow) (losses : List Loss) → rows.rows ≡ more.rows →
     rows.kinds ≡ map dual_kind more.kinds →
     IsConversion start.taken (constraints rows) kept cone losses → losses ≡ [] → cone.taken ≡ start.taken ++ generators more
@@ -99,7 +99,7 @@ given_take equal (suc at) (r ∷ rows) (k ∷ kinds) = ap (λ (l : List LinearRo
 pub take_short : (n most : ℕ) (xs : List LinearRow) → length xs ≤ n → n ≤ most → take n xs ≡ take most xs
 take_short n most xs h m = take_all n xs h ∙ sym (take_all most xs (omega (arith, h, m)))
 
--- all of them, where they are fewer
+-- all of them, if they are fewer
 pub all_first : (at count : ℕ) (list : LinearSystem ConKind) (rows : List (List ℤ)) (kinds : List ConKind) → rows ≡ list.rows → kinds ≡ list.kinds → length kinds ≡ length list.rows → count ≤ at →
     at ≤ count →
     count ≡ length rows → length rows ≤ most_kept → take at (constraints list) ≡ take most_kept (constraints list)

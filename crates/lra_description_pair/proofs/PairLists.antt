@@ -98,7 +98,7 @@ given_some : (points : List (List ℤ)) (rays lines : List LinearRow) → points
 given_some [] rays lines n e = n refl
 given_some (x ∷ points) rays lines n e = cc
 
--- where no generator is shown there is no point
+-- if no generator is shown there is no point
 pub none_shown : (cone : ConeContent) (n : ℕ) (kept : List LinearRow) (list : LinearSystem GenKind) → IsCone cone → cone.dims ≡ n → cone.taken ≡ inequality (positivity n) ∷ kept →
     ShowsGenerators cone.lines cone.rays list → list.rows ≡ [] → IsEmptySet n (Con kept)
 none_shown cone n kept list k d t shown e = elim (generators_shown cone n kept list k d t shown).0 [

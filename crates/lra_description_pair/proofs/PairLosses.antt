@@ -55,7 +55,7 @@ own_strained s (TooMany count) loss l x =
     let c = loss.further in
     inr (subst (λ (g : List LinearRow). OwnTooMany w (with_row c.equal c.row (system_of g)) count) (sym l.chosen) (many_again w s.taken c count l.further x))
 
--- where no row was left out before, the own list's strain is the list's
+-- if no row was left out before, the own list's strain is the list's
 pub own_strain : (s : ConeContent) (all : List LinearRow) (cause : Cause) (loss : Loss) → IsCone s → s.taken ≡ all → IsOwnLoss s cause loss → IsOwnCause s cause → Strains (suc s.dims) all loss
 own_strain s all cause loss k t l x = record {
   rest = [];

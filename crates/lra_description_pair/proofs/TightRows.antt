@@ -151,7 +151,7 @@ reduced_append form [] (y ∷ ts) r t a x = absurd a
 reduced_append form (z ∷ rows) [] r t a x = absurd a
 reduced_append form (z ∷ rows) (y ∷ ts) r t a x = (a.0, reduced_append form rows ts r t a.1 x)
 
--- a row with these values is tight at all rays exactly where all are true
+-- a row with these values is tight at all rays exactly if all are true
 pub told_tight : (rays : List (List ℤ)) (lines : ℕ) (r : List ℤ) (bits : List Bool) → TellsTight rays lines r bits → ((k : ℕ) → k < length bits → value_at bits k ≡ true) → is_tight_at rays r ≡ true
 told_tight rays lines r bits t h = tight_from rays r (λ x m. ap (product r) (sym m.2 ∙ get_or_default rays m.0 x [] m.1) ∙ (t.at_rays m.0 m.1).0 (h m.0 (omega (arith, m.1, t.many))))
 

@@ -93,7 +93,7 @@ pub record TellsOwnLoss (s : ConeContent) (reason : Cause) (before after : List 
 abbrev pub columns_of : ConeContent → List (List ℤ)
 columns_of s = s.rays ++ s.lines
 
--- Where the old matrix says at which of the cone's rays and lines each row is tight, and all are at its lines, the new
+-- If the old matrix says at which of the cone's rays and lines each row is tight, and all are at its lines, the new
 -- one says at which of the rows each of those shown is tight.
 abbrev pub TurnsTo : ConeContent → Matrix → List (List ℤ) → Matrix → Type 0
 TurnsTo s old shown new = (rows : List (List ℤ)) → old ≡ tight_matrix (columns_of s) rows →

@@ -38,7 +38,7 @@ pub record IsOfFirst (n : ℕ) (list : List LinearRow) (p : Polyhedron) : Type 0
   pub losses : List Loss
   pub tried : IsOfTried n (with_positivity n []) (take most_kept list) p losses
 
--- the polyhedron of the generators that were added to the cone; where their canonical list exceeds a limit, that of
+-- the polyhedron of the generators that were added to the cone; if their canonical list exceeds a limit, that of
 -- constraints that hold at each of them
 abbrev pub IsMadeOfPoints : ℕ → ConeContent → List LinearRow → Polyhedron → List Loss → Type 0
 IsMadeOfPoints n cone list p losses = ((losses ≡ []) × IsPolyhedronOf n (Gen cone.taken) p) ⊎

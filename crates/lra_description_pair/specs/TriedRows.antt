@@ -1,5 +1,5 @@
 -- What becomes of rows that are tried after others: those that exceed a limit are left out, and the polyhedron is that
--- of all others; but where the canonical list of these exceeds a limit is that of all points.
+-- of all others; but if the canonical list of these exceeds a limit is that of all points.
 use Rattle.std.specs.Prelude.{◌≡◌, ◌≢◌, ◌⊎◌, ℕ, List, [], drop}
 use Rattle.lra_description_pair.specs.Crates.lra_linear_spec.Descriptions.{Con, LinearRow}
 use Rattle.lra_description_pair.specs.Crates.lra_linear_spec.Polyhedra.{IsPolyhedronOf, Polyhedron}

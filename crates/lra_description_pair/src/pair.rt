@@ -155,7 +155,7 @@ pub fn universe(alloc: Global, n: usize) -> Result<DescriptionPair, AllocError>
     })
 }
 
-// The cone's generators, and at which of these rows each is tight, where the matrix says at which of the cone's rays
+// The cone's generators, and at which of these rows each is tight, if the matrix says at which of the cone's rays
 // and lines each row is.
 fn show_generators(
     alloc: Global,
@@ -317,7 +317,7 @@ fn push_own_loss(
     Ok(())
 }
 
-// The polyhedron of the rows that were added to the cone, after these losses; all points where a number passes in
+// The polyhedron of the rows that were added to the cone, after these losses; all points if a number passes in
 // its canonical constraints, or there are too many.
 fn of_taken_rows(
     alloc: Global,

@@ -51,7 +51,7 @@ given_there equal (r ∷ rows) (k ∷ kinds) zero g d n h e = subst (λ (x : Lis
 given_there equal (r ∷ rows) (k ∷ kinds) (suc i) g d n h e = contains_tail (let x : LinearRow = record { row = r; equal = equal k } in x) (record { row = g; equal = equal (get_or kinds i d) })
     (rows_by_kind equal rows kinds) (given_there equal rows kinds i g d (omega (arith, n)) (omega (arith, h)) e)
 
--- where one of the list passes the range, or isn't as a kind asks, the row isn't seen to be valid
+-- if one of the list passes the range, or isn't as a kind asks, the row isn't seen to be valid
 pub unseen_at : {K : Type 0} (equal : K → Bool) (e : Bool) (r : List ℤ) (rows : List (List ℤ)) (kinds : List K) (i : ℕ) (g : List ℤ) (d : K) → length kinds ≡ length rows → i < length rows →
     g ≡ get_or rows i g → ¬ (IsOk (checked_product r g) × HoldsWith e (product r g) × HoldsWith (equal (get_or kinds i d)) (product r g)) → ¬ IsSeenValid e r (rows_by_kind equal rows kinds)
 unseen_at equal e r rows kinds i g d n h eg out seen = out (seen (record { row = g; equal = equal (get_or kinds i d) }) (given_there equal rows kinds i g d n h eg))

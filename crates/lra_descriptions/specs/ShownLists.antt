@@ -40,7 +40,7 @@ AreGeneratorsOf n rows generators =
     ⊎ HasGenerators n (system_of (inequality (positivity n) ∷ rows)) generators
 
 -- ---- constraints, as they are shown
--- Equalities and inequalities, each in order. The facets are the inequalities, with the positivity row where that isn't
+-- Equalities and inequalities, each in order. The facets are the inequalities, with the positivity row if that isn't
 -- redundant; with the equalities they are the canonical description of what is valid on the generators.
 pub record HasConstraints (n : ℕ) (generators : List (List ℤ)) (rows : List LinearRow) : Type 0 where
   pub equalities : List (List ℤ)
@@ -53,7 +53,7 @@ pub record HasConstraints (n : ℕ) (generators : List (List ℤ)) (rows : List 
   pub canonical : IsCanonical equalities facets
   pub inequalities_ascend : Ascends inequality_cmp inequalities
 
--- the canonical constraints of the generators; -1 >= 0 where these have no point
+-- the canonical constraints of the generators; -1 >= 0 if these have no point
 abbrev pub AreConstraintsOf : ℕ → List LinearRow → List LinearRow → Type 0
 AreConstraintsOf n generators rows =
     ((rows ≡ inequality (falsity n) ∷ []) × IsEmptySet n (Gen generators))

@@ -8,7 +8,7 @@ use Rattle.lra_descriptions.specs.Crates.{lra_bits.Matrix.Matrix, lra_linear_spe
 abbrev pub tight_at : List (List ℤ) → List ℤ → List Bool
 tight_at columns r = map (λ c. int_eq (product r c) (pos 0)) columns
 
--- a row for each of the rows, with a column for each of the columns: true exactly where their product is 0
+-- a row for each of the rows, with a column for each of the columns: true exactly if their product is 0
 abbrev pub tight_matrix : List (List ℤ) → List (List ℤ) → Matrix
 tight_matrix columns rows = record { width = length columns; rows = map (tight_at columns) rows }
 
@@ -16,7 +16,7 @@ tight_matrix columns rows = record { width = length columns; rows = map (tight_a
 abbrev pub saturated : List LinearRow → List ℤ → List Bool
 saturated generators r = map (λ g. int_eq (product r g.row) (pos 0)) generators
 
--- a row for each of the constraints, with a column for each of the generators: true exactly where their product is 0
+-- a row for each of the constraints, with a column for each of the generators: true exactly if their product is 0
 abbrev pub saturation_of : List LinearRow → List LinearRow → Matrix
 saturation_of rows generators = record {
   width = length generators;

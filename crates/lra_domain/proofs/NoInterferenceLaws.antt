@@ -1,4 +1,4 @@
--- Where there are no others a store stays, and a value is as it was.
+-- If there are no others a store stays, and a value is as it was.
 use Rattle.std.proofs.Common.{◌≡◌, ℤ, List, refl, sym, subst}
 use Rattle.lra_domain.specs.Interference.{RelyClosure, none, more, no_interference, Absorbs}
 use Rattle.lra_domain.specs.{Abstraction.Abstraction, declared.Exactness.TheVariants.Exact}

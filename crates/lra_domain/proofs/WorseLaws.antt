@@ -1,4 +1,4 @@
--- The worse of two answers is exact only where both are; of three it is the same in either grouping.
+-- The worse of two answers is exact only if both are; of three it is the same in either grouping.
 use Rattle.std.proofs.Common.{◌≡◌, refl}
 use Rattle.lra_domain.specs.{Abstraction.worse, declared.Exactness.Exactness, declared.Exactness.TheVariants.Exact, declared.Exactness.TheVariants.Flagged}
 

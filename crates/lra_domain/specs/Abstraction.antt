@@ -9,7 +9,7 @@ use Rattle.lra_domain.specs.declared.Exactness.TheVariants.{Exact, Flagged}
 use Rattle.lra_domain.specs.{declared.Exactness.Exactness, declared.Included.Included, declared.Included.TheVariants.No}
 use Rattle.lra_domain.specs.{declared.Included.TheVariants.Wide, declared.Mode.Mode, declared.Rank.Rank}
 
--- several answers in a row are flagged where one of them is
+-- several answers in a row are flagged if one of them is
 abbrev pub worse : Exactness → Exactness → Exactness
 worse Exact e = e
 worse Flagged e = Flagged
@@ -62,7 +62,7 @@ pub record Abstraction (V H : Type 0) : Type 1 where
   -- of the first head's widening thresholds the second has those that are left, as far as the domain uses them: a row
   -- that was struck isn't given again
   pub left : H → Mode → H → Type 0
-  -- what a head may become where the inclusion answers Wide: a head with all stores, as a content
+  -- what a head may become if the inclusion answers Wide: a head with all stores, as a content
   pub given_up : H → Mode → H → Type 0
   -- the defined growth of the head by next; when its join or its widening may be flagged
   pub grown : H → V → Mode → H → Type 0
@@ -116,11 +116,11 @@ pub record Grew {V H : Type 0} (m : Abstraction V H) (old : H) (next : V) (mode 
   pub left : m.left old mode new
   -- the head covers the defined growth
   pub covers : (h : H) → m.grown old next mode h → m.head_leq h new
-  -- an exact growth is the defined one, where the inclusion answers No
+  -- an exact growth is the defined one, if the inclusion answers No
   pub moved : exactness ≡ Exact → m.answers old next mode No
   pub exact : exactness ≡ Exact → m.grown old next mode new
   -- a flagged one comes from an inclusion that exceeds a limit, and then the head is given up; or from a join or a
-  -- widening that exceeds a limit, where the inclusion answers No
+  -- widening that exceeds a limit, if the inclusion answers No
   pub flagged : exactness ≡ Flagged
       → (m.answers old next mode Wide × m.given_up old mode new) ⊎
       (m.answers old next mode No × m.grow_strains old next mode)

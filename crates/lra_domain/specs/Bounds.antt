@@ -13,7 +13,7 @@ greater None b = None
 greater (Some a) None = None
 greater (Some a) (Some b) = Some (int_max a b)
 
--- the first bound where the second is at most it, else none
+-- the first bound if the second is at most it, else none
 abbrev pub stable : Option ℤ → Option ℤ → Option ℤ
 stable None b = None
 stable (Some a) None = None

@@ -13,7 +13,7 @@ action_of (Test t) = test t.kind t.expr
 action_of (Embed k) = embed k
 action_of (RemoveLast k) = remove_last k
 
--- the action can be made of a value of n dimensions: it fits, and leaves at most 2^30 where it appends some
+-- the action can be made of a value of n dimensions: it fits, and leaves at most 2^30 if it appends some
 abbrev pub CanBeMade : Action → ℕ → Type 0
 CanBeMade (assign x e) n = (x < n) × (length e.coefficients ≡ n)
 CanBeMade (forget x) n = x < n
@@ -35,7 +35,7 @@ abbrev pub AllCanBeMade : List Action → ℕ → Type 0
 AllCanBeMade [] n = Unit {0}
 AllCanBeMade (step ∷ steps) n = CanBeMade step n × AllCanBeMade steps (dims_after step n)
 
--- from the old value to the new one, flagged where one of them is
+-- from the old value to the new one, flagged if one of them is
 abbrev pub TransfersAllTo : {V H : Type 0} → Abstraction V H → List Action → V → Exactness → V → Type 0
 TransfersAllTo m [] old a new = (new ≡ old) × (a ≡ exactness.Exact)
 TransfersAllTo {V} m (step ∷ steps) old a new =

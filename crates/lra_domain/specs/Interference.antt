@@ -17,7 +17,7 @@ pub data RelyClosure (may : List ℤ → List ℤ → Type 0) : List ℤ → Lis
   none : (s : List ℤ) → RelyClosure may s s
   more : (s t u : List ℤ) → RelyClosure may s t → may t u → RelyClosure may s u
 
--- where a program runs alone nothing changes
+-- if a program runs alone nothing changes
 abbrev pub no_interference : {V : Type 0} → Interference V
 no_interference = record { rely = λ s t. ⊥; as_long = λ s t never. absurd never; done = λ v w. w ≡ v; strains = λ v. ⊥ }
 

@@ -11,7 +11,7 @@ pub data Moves : Type 0 where
   -- joined in this order
   join_of : Moves → Moves → Moves
 
--- what the moves may do to a store: where two are joined, the one or the other
+-- what the moves may do to a store: if two are joined, the one or the other
 abbrev pub MayLead : Moves → List ℤ → List ℤ → Type 0
 MayLead stay s t = t ≡ s
 MayLead (make step) s t = Leads step s t

@@ -23,7 +23,7 @@ pub fn join_lows(a: Option<i128>, b: Option<i128>) -> Option<i128>
     }
 }
 
-/// The first bound where the second is at most it, else none.
+/// The first bound if the second is at most it, else none.
 pub fn widen_highs(a: Option<i128>, b: Option<i128>) -> Option<i128>
     ensures { result ≡ stable a b }
 {

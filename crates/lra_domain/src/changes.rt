@@ -34,8 +34,8 @@ impl Drop for Change {
     }
 }
 
-/// Makes the changes, one after the other: each store to which they may lead is kept. Flagged where one of them is.
-/// Where one answers an error, those before it stay made.
+/// Makes the changes, one after the other: each store to which they may lead is kept. Flagged if one of them is.
+/// If one answers an error, those before it stay made.
 pub fn change_all<D: Domain>(value: &mut D, changes: &[Change]) -> Result<Exactness, AllocError>
     requires { AllCanBeMade (actions_of changes.now) (D.abstraction.dims value.old) }
     ensures stores { OnOk result ((s t : List ℤ) → InGamma D.abstraction value.old s →

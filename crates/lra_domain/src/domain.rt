@@ -53,7 +53,7 @@ use std::alloc::{AllocError, Global};
 /// **Heads.** `answers` says what the inclusion of next in a head may answer: `Yes` only if next lies in it, `No`
 /// only if it doesn't, `Wide` only if it exceeds a limit. `grow` answers `Stable` only with `Yes`, `Grew(Exact)`
 /// only with `No`. `Grew(Flagged)` comes with `Wide`, and then the head is given up: it has all stores, as a content
-/// that `given_up` allows; or with `No`, where the join or the widening exceeds a limit. Which thresholds are `left` is
+/// that `given_up` allows; or with `No`, if the join or the widening exceeds a limit. Which thresholds are `left` is
 /// reported of each growth, flagged or not.
 ///
 /// **Ranks.** After `Grew` in another mode than `Join` the rank is lower than before, also when flagged: this is why

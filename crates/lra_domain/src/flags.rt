@@ -6,7 +6,7 @@ ghost use Rattle.lra_domain.specs.declared.Exactness.TheVariants.{Exact, Flagged
 
 use crate::Exactness;
 
-/// Flagged where one of the two is.
+/// Flagged if one of the two is.
 pub fn worse(one: Exactness, two: Exactness) -> Exactness
     ensures is { result ≡ worse one two }
     ensures exact { result ≡ Exact → (one ≡ Exact) × (two ≡ Exact) }

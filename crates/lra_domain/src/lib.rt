@@ -24,7 +24,7 @@ pub enum Exactness {
     Flagged,
 }
 
-/// The answer of an inclusion; `Wide` where a number passed the range before it was decided.
+/// The answer of an inclusion; `Wide` if a number passed the range before it was decided.
 #[derive(Clone, Copy, Debug, PartialEq, Eq)]
 pub enum Included {
     Yes,

@@ -87,7 +87,7 @@ cut_matrix m products pairs gone = record {
   rows = unmarked gone (lengthened_rows m.rows (map (λ p. int_eq p (pos 0)) products) ++ pair_tight_rows pairs);
 }
 
--- The marks of the rays that go, and the rays that come; where the row is tight at the rays and at the pairs' rays, and
+-- The marks of the rays that go, and the rays that come; if the row is tight at the rays and at the pairs' rays, and
 -- the rows that are tight at both of each pair.
 pub record IsCut (equal : Bool) (products : List ℤ) (rays : List (List ℤ)) (m : Matrix) (cut : Cut) : Type 0 where
   pub pairs : List Pair

@@ -34,7 +34,7 @@ pub record IsCombinedWith (line : Across) (product : ℤ) (r t : List ℤ) : Typ
   pub lowest : IsPrimitive t ⊎ ((j : ℕ) → entry t j ≡ pos 0)
   pub same_length : length t ≡ length r
 
--- r itself where its product is 0, else combined with the line
+-- r itself if its product is 0, else combined with the line
 abbrev pub IsFlattened : Across → ℤ → List ℤ → List ℤ → Type 0
 IsFlattened line product r t = ((product ≡ pos 0) × (t ≡ r)) ⊎ IsCombinedWith line product r t
 

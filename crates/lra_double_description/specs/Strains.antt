@@ -1,4 +1,4 @@
--- What is reported where a step passes a limit: the rows with which a number passes the range, or how many rays there
+-- What is reported if a step passes a limit: the rows with which a number passes the range, or how many rays there
 -- would be.
 use Rattle.std.specs.Prelude.{◌≡◌, ℕ, ◌+◌, ◌<◌, ◌⊎◌, neg_ℤ, ℤ, pos, int_lt, Bool, cond, List, [], length, Result, Err}
 use Rattle.std.specs.{List.Contains, Prelude.slice_index_or}

@@ -6,7 +6,7 @@ ghost use Rattle.lra_bits.specs.Transposed.{AreColumns};
 use lra_bits::SatMatrix;
 use std::alloc::{AllocError, Global};
 
-/// The columns, or none: they are made where there are more pairs of rays on both sides than rows, as they cost more
+/// The columns, or none: they are made if there are more pairs of rays on both sides than rows, as they cost more
 /// than few pairs.
 pub fn find_columns(
     alloc: Global,

@@ -129,7 +129,7 @@ fn rows_of_pairs(alloc: Global, width: usize, pairs: Vec<Pair>) -> Result<SatMat
     Ok(more)
 }
 
-/// What a row makes of the rays: those marked as gone go, and these come after the others. Where the row is tight at
+/// What a row makes of the rays: those marked as gone go, and these come after the others. If the row is tight at
 /// the rays and at these, and for each of these the rows of the matrix that are tight at it.
 #[derive(Drop)]
 pub struct Cut {

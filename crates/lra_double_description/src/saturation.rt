@@ -7,7 +7,7 @@ ghost use Rattle.lra_double_description.specs.Steps.{lengthened_rows};
 use lra_bits::{BitRow, SatMatrix};
 use std::alloc::{AllocError, Global};
 
-/// True where the product is 0, and at so many further places.
+/// True if the product is 0, and at so many further places.
 pub fn mark_tight(alloc: Global, products: &[i128], further: usize) -> Result<BitRow, AllocError>
     requires { length products.now + further < 2 ^ 64 }
     ensures { IfOk result (λ values.

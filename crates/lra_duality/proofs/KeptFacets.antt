@@ -1,4 +1,4 @@
--- The canonical lists of a polyhedron are the description of the cone of what is valid on its generators. The positivity row is one of the facets exactly where no inequality is tight wherever it is.
+-- The canonical lists of a polyhedron are the description of the cone of what is valid on its generators. The positivity row is one of the facets exactly if no inequality is tight wherever it is.
 use Rattle.std.proofs.Common.{◌≡◌, ◌≤◌, suc, true, false, [], List, ◌∷◌, ◌++◌, length, ap, sym, ◌∙◌, subst, refl, ℤ, pos, neg_ℤ, ◌<ℤ◌, ◌≤ℤ◌, inl, inr, arith}
 use Rattle.std.proofs.{lemmas.Int.ints, lemmas.List.Elements.Contains-append_cases, lemmas.List.Elements.Contains-append_left, lemmas.List.Elements.Contains-append_right}
 use Rattle.std.specs.List.{Contains}
@@ -126,7 +126,7 @@ of_facets p h rays to from once few = record {
   few = few;
 }
 
--- where an inequality is tight wherever the positivity row is
+-- if an inequality is tight wherever the positivity row is
 pub covered_cone : (p : Polyhedron) (h : HasPoint p) (r : List ℤ) → Contains p.rows (inequality r) → IsTightToo p r → length (rays_of p.rows) ≤ row_limit →
     IsCone (record { dims = p.dims; taken = p.generators; lines = lines_of p.rows; rays = rays_of p.rows })
 covered_cone p h r m tight few =
@@ -138,7 +138,7 @@ covered_cone p h r m tight few =
     ])
     (λ t k. (h.shown t (subst (λ (l : List (List ℤ)). Contains l t) e k)).0) (subst NoRepeat (sym e) (ascending_once h.inequalities h.inequalities_ascend)) few
 
--- where none is
+-- if none is
 pub alone_cone : (p : Polyhedron) (h : HasPoint p) → ((r : List ℤ) → Contains p.rows (inequality r) → ¬ (IsTightToo p r)) → length (rays_of p.rows ++ positivity p.dims ∷ []) ≤ row_limit →
     IsCone (record { dims = p.dims; taken = p.generators; lines = lines_of p.rows; rays = rays_of p.rows ++ positivity p.dims ∷ [] })
 alone_cone p h alone few =

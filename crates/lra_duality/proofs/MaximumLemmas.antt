@@ -326,7 +326,7 @@ err_turned (Ok z) q t e = let wrong : ⊥ = cc in absurd wrong
 err_turned (Err f) (Ok y) t e = absurd t
 err_turned (Err f) (Err g) t e = refl
 
--- a product passes with a row exactly where it does with the row's opposite, and is that with its sign turned
+-- a product passes with a row exactly if it does with the row's opposite, and is that with its sign turned
 pub opposite_product : (form row : List ℤ) (z : ℤ) → checked_product form row ≡ Ok z →
     checked_product (negated form) row ≡ Ok (neg_ℤ z)
 opposite_product form row z e =

@@ -1,4 +1,4 @@
-//! Whether a product of rows is 0, also where it passes the range as it is computed.
+//! Whether a product of rows is 0, also if it passes the range as it is computed.
 
 ghost use Rattle.std.specs.Prelude.{◌≡◌, ◌↔◌, pos, ◌<ℤ◌, ◌≤ℤ◌, ◌^◌, IsTrue, length};
 ghost use Rattle.std.specs.{Int.int_rem_euclid, List.All, Ordering.int_eq};
@@ -44,7 +44,7 @@ fn divides(modulus: i128, xs: &[i128], ys: &[i128]) -> bool
     residue(xs, ys, modulus) == 0
 }
 
-// Whether the product of two rows is 0: where all the primes divide it, so does their product.
+// Whether the product of two rows is 0: if all the primes divide it, so does their product.
 fn vanishes(xs: &[i128], ys: &[i128]) -> bool
     requires widths { length xs.now ≡ length ys.now }
     requires xs_in { All InRange xs.now }
@@ -87,8 +87,8 @@ fn low_product(xs: &[i128], ys: &[i128]) -> u64
     sum
 }
 
-/// Whether the product of the row with the generator is 0: it is given by the product itself where both are narrow, and
-/// isn't 0 where its lowest 64 bits aren't.
+/// Whether the product of the row with the generator is 0: it is given by the product itself if both are narrow, and
+/// isn't 0 if its lowest 64 bits aren't.
 pub fn saturates(row: &Row, generator: &Row) -> bool
     requires { length row.now ≡ length generator.now }
     ensures { result ≡ int_eq (product row.now generator.now) (pos 0) }

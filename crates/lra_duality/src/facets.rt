@@ -114,7 +114,7 @@ fn with_row(
 }
 
 // The rays of the cone of what is valid on the generators, and which generators they are tight at: the inequalities,
-// and the positivity row where none of them is tight wherever it is.
+// and the positivity row if none of them is tight wherever it is.
 fn facets(
     alloc: Global,
     list: &ConSys,
@@ -153,7 +153,7 @@ fn facets(
 }
 
 /// The cone of what is valid on the generators, by the constraints; none if `cone_of` gives none, or there are as
-/// many constraints, equalities counted with them, as a cone may have rays. The positivity row is one of its rays where
+/// many constraints, equalities counted with them, as a cone may have rays. The positivity row is one of its rays if
 /// no inequality is tight wherever it is.
 pub fn facet_cone(
     alloc: Global,

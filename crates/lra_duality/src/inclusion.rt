@@ -11,7 +11,7 @@ use lra_descriptions::{GenSys, MembershipAnswer};
 use lra_row::Row;
 
 /// Whether each point of one polyhedron is in another. The generators of the one are tried in their order, with each
-/// the constraints of the other in theirs; the first pair that doesn't hold decides. Where its product passes the range
+/// the constraints of the other in theirs; the first pair that doesn't hold decides. If its product passes the range
 /// that is `Wide`, with the places of the generator and of the constraint, from 0; else `No`, with the generator's.
 #[derive(Clone, Copy, Debug, PartialEq, Eq)]
 pub enum Inclusion {

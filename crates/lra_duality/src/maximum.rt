@@ -29,7 +29,7 @@ pub enum Maximum {
     At { num: i128, den: i128, place: usize },
 }
 
-// The sum with a product, or `None` exactly where one of the two passes the range.
+// The sum with a product, or `None` exactly if one of the two passes the range.
 fn plus_product(sum: i128, factor: &i64, number: &i128) -> Option<i128>
     ensures { SomeIff result (AddsInRange sum factor.now number.now) (sum +ℤ (factor.now *ℤ number.now)) }
 {
@@ -38,7 +38,7 @@ fn plus_product(sum: i128, factor: &i64, number: &i128) -> Option<i128>
     Some(more)
 }
 
-// The sum with the product of two rows, or `None` exactly where a number of it passes the range.
+// The sum with the product of two rows, or `None` exactly if a number of it passes the range.
 fn product_from(sum: i128, factors: &[i64], numbers: &[i128]) -> Option<i128>
     ensures { MatchOption result (IsErr (checked_product_from sum factors.now numbers.now))
         (λ z. checked_product_from sum factors.now numbers.now ≡ Ok z) }
@@ -60,7 +60,7 @@ fn product_from(sum: i128, factors: &[i64], numbers: &[i128]) -> Option<i128>
     Some(total)
 }
 
-// The product of the form with the row, or `None` exactly where a number of it passes the range.
+// The product of the form with the row, or `None` exactly if a number of it passes the range.
 fn multiply_with(form: &LinExpr, row: &Row) -> Option<i128>
     ensures { MatchOption result (IsErr (checked_product (form_row form.now) row.now))
         (λ z. checked_product (form_row form.now) row.now ≡ Ok z) }
@@ -77,7 +77,7 @@ fn multiply_with(form: &LinExpr, row: &Row) -> Option<i128>
     }
 }
 
-// The product of the form, or of its opposite, with the row, or `None` exactly where a number of it passes the range.
+// The product of the form, or of its opposite, with the row, or `None` exactly if a number of it passes the range.
 fn multiply_along(form: &LinExpr, is_opposite: bool, row: &Row) -> Option<i128>
     ensures { MatchOption result (IsErr (checked_product (directed form.now is_opposite) row.now))
         (λ z. checked_product (directed form.now is_opposite) row.now ≡ Ok z) }

@@ -25,7 +25,7 @@ pub fn mark_saturated(alloc: Global, row: &Row, list: &GenSys) -> Result<BitRow,
     Ok(bits)
 }
 
-/// A row for each of the constraints, with a column for each of the generators: true exactly where their product is 0.
+/// A row for each of the constraints, with a column for each of the generators: true exactly if their product is 0.
 pub fn saturation_matrix(
     alloc: Global,
     list: &ConSys,

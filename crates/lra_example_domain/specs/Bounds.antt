@@ -1,4 +1,4 @@
--- Bounds of the gauge: 0 if there is no store, 255 where nothing is bounded.
+-- Bounds of the gauge: 0 if there is no store, 255 if nothing is bounded.
 use Rattle.std.specs.Prelude.{ℕ, ◌+◌, ◌<◌, max}
 use Rattle.lra_domain.specs.declared.Mode.{Mode}
 use Rattle.lra_domain.specs.declared.Mode.TheVariants.{Join, Widen, Limited, Tightest}
@@ -17,7 +17,7 @@ grown_bound Widen a b = unbounded
 grown_bound Limited a b = unbounded
 grown_bound Tightest a b = unbounded
 
--- what is lost where a head grows by joining; a widening loses nothing
+-- what is lost when a head grows by joining; a widening loses nothing
 abbrev pub GrowthPasses : Mode → ℕ → ℕ → Type 0
 GrowthPasses Join a b = Passes 60 a b
 GrowthPasses Widen a b = ⊥

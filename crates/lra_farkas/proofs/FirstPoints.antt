@@ -45,7 +45,7 @@ first_point p h =
       meets = (con_gen p (inr h)).1 f.0 is_point (cone_gen p h f.0 (generated_row ((h.points ++ h.rays) ++ both_ways h.lines) f.0 has));
     }
 
--- where there is a first generator, or a point
+-- if there is a first generator, or a point
 none_first : (g : LinearRow) (gs : List LinearRow) → gs ≡ [] → slice_get gs 0 ≡ Some g → ⊥
 none_first g gs e f = none-some g (sym (ap (λ (x : List LinearRow). slice_get x 0) e) ∙ f)
 
@@ -138,7 +138,7 @@ module _ (premises : List LinearRow) (claim : List ℤ) (m : Multipliers) (a : A
     meets = a.is.points.1 (point_of m) first_is_point (subst (Con a.polyhedron.rows) same_row at_first.meets);
   })
 
-  -- where nothing passes, the check's answer is that they do
+  -- if nothing passes, the check's answer is that they do
   pub first_answer : (x : Answer) → AreAsWide premises claim → IsAnswer premises claim m (answer_view x) → (x ≡ Yes) ⊎ (x ≡ No) →
       IsAnswer premises claim m yes
   first_answer x wide told is = elim is [

@@ -62,7 +62,7 @@ reordered_fails n m rows others NotImplied e p h = λ x i c. h x (subst (λ (k :
 reordered_fails n m rows others Strained e p h = tt
 reordered_fails n m rows others Memory e p h = tt
 
--- where the list's own order exceeds a limit, and the others have no first point
+-- if the list's own order exceeds a limit, and the others have no first point
 pub tried_fails : {X : Type 0} (n : ℕ) (rows : List LinearRow) (x : Result X MultipliersFailure) → HasNoFirst n rows Strained → IfErr x (HasNoPoint n rows) →
     IfErr x (HasNoFirst n rows)
 tried_fails n rows (Ok q) strained h = tt

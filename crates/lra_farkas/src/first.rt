@@ -80,7 +80,7 @@ fn convert_otherwise(alloc: Global, rows: &ConSys) -> Result<Poly, MultipliersFa
     }
 }
 
-/// The polyhedron of the rows, which has a point, where the order of the list exceeds a limit by another order.
+/// The polyhedron of the rows, which has a point, if the order of the list exceeds a limit by another order.
 fn convert_by_any(alloc: Global, rows: &ConSys) -> Result<Poly, MultipliersFailure>
     requires small { rows.now.dims < too_many_dimensions }
     ensures is { IfOk result (IsPolyhedronOf rows.now.dims (Con (constraints rows.now))) }

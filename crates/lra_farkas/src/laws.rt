@@ -8,7 +8,7 @@ pub fn multipliers_are_points()
     ensures { PointsShow }
 {}
 
-/// A claim that holds wherever the premises do has multipliers; where no point meets the premises, `-1 >= 0` has.
+/// A claim that holds wherever the premises do has multipliers; if no point meets the premises, `-1 >= 0` has.
 pub fn what_holds_is_shown()
     ensures everywhere { WhatHoldsIsShown }
     ensures at_points { WhatHoldsAtPointsIsShown }

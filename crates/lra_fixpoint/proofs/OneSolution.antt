@@ -30,7 +30,7 @@ module _ {V H : Type 0} (m : Abstraction V H) (r : PassResult V) where
   pub one_values : (xs ys : List V) (vs ws : List (ℕ × Bool)) (f g : Option ℕ) → IsSolution m r xs vs f → IsSolution m r ys ws g → xs ≡ ys
   one_values xs ys vs ws f g a b = same_list xs ys (λ i x. (λ h. (b.is_value i x).1 ((a.is_value i x).0 h), λ h. (a.is_value i x).1 ((b.is_value i x).0 h)))
 
-  -- where no assertion has two values at which it is false
+  -- if no assertion has two values at which it is false
   pub one_verdict : (xs ys : List V) (vs ws : List (ℕ × Bool)) (f g : Option ℕ) → ((q : ℕ) (u v : V) → Contains r.entries (failing q u) → Contains r.entries (failing q v) → u ≡ v)
       → IsSolution m r xs vs f → IsSolution m r ys ws g → (q : ℕ) (a b : Bool) → Contains vs (q, a) → Contains ws (q, b) → a ≡ b
   one_verdict xs ys vs ws f g once x y q a b i j =

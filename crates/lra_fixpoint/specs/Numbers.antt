@@ -4,7 +4,7 @@ use Rattle.lra_operations.specs.Tree.{Node, empty, probe, point, act, check, seq
 use Rattle.lra_operations.specs.Tree.{Arms, no_arms, entry, arm}
 use Rattle.lra_fixpoint.specs.Crates.lra_program.Sites.{Site}
 
--- 1 where the numbers are equal, else 0
+-- 1 if the numbers are equal, else 0
 unfoldable pub one_if : ℕ → ℕ → ℕ
 one_if q k = cond (nat_eq q k) 1 0
 

@@ -7,7 +7,7 @@ use Rattle.lra_operations.specs.Tree.{Node, ReachesPoint, FailsAt}
 
 pub record HoldsInTree {V H : Type 0} (m : Abstraction V H) (P : Program) (tree : Node) (values : List V)
     (verdicts : List (ℕ × Bool)) : Type 0 where
-  -- where a run reaches a point, the value there has its store, and as many dimensions as that has numbers
+  -- if a run reaches a point, the value there has its store, and as many dimensions as that has numbers
   pub stores : (q : ℕ) (draws : List ℤ) (t : State) → ReachesPoint tree (begun P draws) q t → (v : V) ×
       (slice_get values q ≡ Some v) × m.gamma v t.store × (m.dims v ≡ length t.store)
   -- no run fails an assertion that is proved

@@ -16,7 +16,7 @@ notes_in (value q v ∷ xs) = notes_in xs
 notes_in (failing q v ∷ xs) = notes_in xs
 notes_in (recorded q place v ∷ xs) = (q, place, v) ∷ notes_in xs
 
--- n places for values, and n for whether an assertion is proved: filled where there is such an entry
+-- n places for values, and n for whether an assertion is proved: filled if there is such an entry
 pub record AreTabled {V H : Type 0} (m : Abstraction V H) (n : ℕ) (xs : List (PassEntry V)) (values : List (Option V))
     (verdicts : List (Option Bool)) : Type 0 where
   pub places : length values ≡ n

@@ -25,7 +25,7 @@ WritesUnder o P g draws q place a = WritesVariable (λ q. q) (MayBecome o.rely) 
 pub record HoldsUnder {V H : Type 0} (o : Interference V) (m : Abstraction V H) (P : Program) (g : Node)
     (values : List V)
     (notes : List (ℕ × ℕ × V)) (verdicts : List (ℕ × Bool)) : Type 0 where
-  -- where a run reaches a point, and whatever others do there, the value there has its store, and as many dimensions
+  -- if a run reaches a point, and whatever others do there, the value there has its store, and as many dimensions
   -- as that has numbers
   pub stores : (q : ℕ) (draws : List ℤ) (a : Trace ℕ) (t : State) → RunsUnder o P g draws (to_point q) a →
       MayBecome o.rely a.state t →

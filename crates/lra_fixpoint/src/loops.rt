@@ -1,4 +1,4 @@
-//! Loops: a head that grows, is narrowed, and is left where the condition is false.
+//! Loops: a head that grows, is narrowed, and is left if the condition is false.
 
 ghost use Rattle.std.specs.Prelude.{◌≡◌, ◌≤◌, ◌<◌, ◌^◌, ◌+◌, ◌*◌, ℕ, suc, Option, true, false, IfOk};
 ghost use Rattle.lra_fixpoint.specs.Crates.lra_domain.declared.Exactness.{Exactness};
@@ -53,7 +53,7 @@ fn head_first<D: Domain>(
     Ok(all)
 }
 
-/// The value at the head and what its round found, and after it what that value leaves where the condition is false.
+/// The value at the head and what its round found, and after it what that value leaves if the condition is false.
 fn leave_loop<D: Domain>(
     alloc: Global,
     the_loop: &Loop<'_>,
@@ -108,7 +108,7 @@ fn finish<D: Domain, F: Interfere<D>>(
     Ok(outcome)
 }
 
-/// What comes into a loop's body from the value at its head: what the condition leaves, or the kept round, where that
+/// What comes into a loop's body from the value at its head: what the condition leaves, or the kept round, if that
 /// entered it last.
 fn enter<D: Domain, F: Interfere<D>>(
     alloc: Global,
@@ -250,7 +250,7 @@ fn turn_narrowing<'a, D: Domain, F: Interfere<D>>(
     }
 }
 
-/// The loop is left with its last round where no round of narrowing is left. Else the value at its head becomes the
+/// The loop is left with its last round if no round of narrowing is left. Else the value at its head becomes the
 /// join of the first one with what that round left, and is passed again.
 fn narrow_on<'a, D: Domain, F: Interfere<D>>(
     alloc: Global,

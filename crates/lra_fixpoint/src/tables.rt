@@ -10,7 +10,7 @@ use lra_interference_sound::Domain;
 use lra_pass_results::PassEntry;
 use std::alloc::{AllocError, Global};
 
-/// What is known where at this point the variable at this place has just got a value.
+/// What is known when at this point the variable at this place has just got a value.
 pub struct Note<D> {
     pub point: usize,
     pub variable: usize,
@@ -55,7 +55,7 @@ fn fill<T: Drop>(table: &mut Vec<Option<T>>, place: usize, value: T)
     table[place] = Some(value);
 }
 
-/// The entries at their numbers, and the notes; an assertion is proved where its value is empty.
+/// The entries at their numbers, and the notes; an assertion is proved if its value is empty.
 pub fn tables_of<D: Domain>(
     alloc: Global,
     count: usize,

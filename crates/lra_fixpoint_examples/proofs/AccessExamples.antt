@@ -182,7 +182,7 @@ tried_inside = (
   refl,
 )
 
--- right of `||` by what the left sides leave where they are false: catches one that is judged by the point's value
+-- right of `||` by what the left sides leave if they are false: catches one that is judged by the point's value
 tried_told : InsideAtPoint box_abstraction boxes trying_values (record { point = 1; fresh = None; op = step.test 0 outside_or true }) ((at 57, true) ∷ []) Exact
 tried_told = (
   any,

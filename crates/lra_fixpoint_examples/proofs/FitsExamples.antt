@@ -43,14 +43,14 @@ gets_one_more = store_value 0 (variable_at 0 Int) x_plus_one
 some_value : (l h : ℤ) → IsUnreachable box_abstraction (x_in l h) → ⊥
 some_value l h e = cc
 
--- an answer, where a run comes
+-- an answer, if a run comes
 fits_so : (v : BoxContent) (so : Type 0) → so → AnswersUnlessUnreachable box_abstraction v true so
 fits_so v so is = (λ h. inr is, λ h. refl)
 
 fits_not : (l h : ℤ) (so : Type 0) → (so → ⊥) → AnswersUnlessUnreachable box_abstraction (x_in l h) false so
 fits_not l h so never = (λ k. cc, λ k. elim k [ inl nothing ↦ absurd (some_value l h nothing) | inr is ↦ absurd (never is) ])
 
--- where none comes everything fits, also what has no form
+-- if none comes everything fits, also what has no form
 fits_nowhere : AnswersUnlessUnreachable box_abstraction (record { dims = 1; bounds = None }) true
     (LiesIn box_abstraction (record { dims = 1; bounds = None }) Int None)
 fits_nowhere = (λ h. inl refl, λ h. refl)

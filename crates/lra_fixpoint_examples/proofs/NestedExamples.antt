@@ -67,7 +67,7 @@ under_three = form (pos 2) (pos 0 ∷ negsuc 0 ∷ [])
 abbrev next_b : Form
 next_b = form (pos 1) (pos 0 ∷ pos 1 ∷ [])
 
--- what a round of the inner loop from v finds: `on` where b is at least 3, `off` where it isn't, z at the body's end
+-- what a round of the inner loop from v finds: `on` if b is at least 3, `off` if it isn't, z at the body's end
 abbrev inner_found : List (PassEntry BoxContent) → BoxContent → BoxContent → BoxContent → PassResult BoxContent
 inner_found before on off z = record {
   entries = before ++ value 6 on ∷ value 7 off ∷ value 8 off ∷ value 9 off ∷ value 10 z ∷ [];
@@ -230,7 +230,7 @@ inner_entries a =
 abbrev inner_loop_found : Interval → PassResult BoxContent
 inner_loop_found a = record { entries = inner_entries a; normal = two a (between 3 3); breaks = []; continues = []; returns = two a (between 0 2) ∷ []; flag = None }
 
--- the inner loop where b begins with 0: its heads have b 0..0, 0..1 and 0.. , and it is narrowed to 0..3
+-- the inner loop if b begins with 0: its heads have b 0..0, 0..1 and 0.. , and it is narrowed to 0..3
 module _ (set : Plan) (a : Interval) (sound : IsValidInterval a) (order : crossed a ≡ false) (low_joined : lesser_low a.low a.low ≡ a.low) (high_joined : greater a.high a.high ≡ a.high)
     (low_widened : widened_low a.low a.low ≡ a.low) (high_widened : stable a.high a.high ≡ a.high) where
   at_three : (x : Interval) (o : Option (List Interval)) → box_of o ≡ stepped (test Ge three) (two a x) → BoxTransfersTo (test Ge three) (two a x) (box_of o)
@@ -338,7 +338,7 @@ zero_form = form (pos 0) (pos 0 ∷ pos 0 ∷ [])
 abbrev next_a : Form
 next_a = form (pos 1) (pos 1 ∷ pos 0 ∷ [])
 
--- what a round from a in x and b in z finds, where a in y is under 5, and comes to be in u
+-- what a round from a in x and b in z finds, if a in y is under 5, and comes to be in u
 abbrev outer_found : List (PassEntry BoxContent) → Interval → Interval → Interval → PassResult BoxContent
 outer_found before y z u = record {
   entries = before ++ value 3 (two y z) ∷ (inner_entries y ++ value 11 (two y (between 3 3)) ∷ value 12 (two u (between 3 3)) ∷ []);
@@ -522,7 +522,7 @@ outer_loop_pass = (
   refl,
 )
 
--- assert(a == 5): where it is false there is nothing, below 5 and above it
+-- assert(a == 5): if it is false there is nothing, below 5 and above it
 asserted : Pass BoxContent BoxContent boxes (narrowed 1) (seq (point 13) (check 13 0 (compare equal a_is (literal Int 5)))) None
     (two (between 5 5) (between 0 3))
     (goes_on (value 13 (two (between 5 5) (between 0 3)) ∷ failing 13 nowhere ∷ []) (two (between 5 5) (between 0 3)) None)

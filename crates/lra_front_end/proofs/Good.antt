@@ -1,4 +1,4 @@
--- What a tree means is good, where nothing of it is at fault and its literals are small.
+-- What a tree means is good, if nothing of it is at fault and its literals are small.
 use Rattle.std.proofs.Common.{◌≡◌, ℕ, suc, ◌+◌, List, [], ◌∷◌, ◌++◌, length, map, Option, Some, None, Bool, true, false, not, refl, sym, subst, ◌∙◌}
 use Rattle.std.proofs.{lemmas.Bool.not-false, lemmas.List.length-map}
 use Rattle.std.specs.{List.AllByRecursion, List.flat_map, Prelude.⊤, Prelude.slice_get}

@@ -1,4 +1,4 @@
--- Variables and calls without faults; what a tree means is good where nothing of it is at fault.
+-- Variables and calls without faults; what a tree means is good if nothing of it is at fault.
 pub mod Faultless
 pub mod Declared
 pub mod Good

@@ -95,7 +95,7 @@ module _ (outside : List (List ℕ)) (ls : List Labelled) where
       let b = length-append front back in
       let c = length-append outside front in omega arith
 
-  -- the points of a call's own statements, where each call's points are so
+  -- the points of a call's own statements, if each call's points are so
   module _ (F : List tree.FunctionTree) (inside : List ℕ → ℕ → Call → List Event) (path : List ℕ)
       (calls : (live : ℕ) (c : Call) → width_of path + length (live_in_call_at (label_at ls c.label)) ≡ live → EachPoint HasAsMany (inside path live c)) where
     point_has : (n live : ℕ) (b : Bool) (l : Labelled) → width_of path + length l.live ≡ live → label_at ls n ≡ Some l → HasAsMany (record { path = path; label = n; live = live; asserts = b })

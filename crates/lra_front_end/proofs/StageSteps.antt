@@ -69,7 +69,7 @@ has_graph t P g sites is names straight well graph agrees points few within = re
   points = subst (λ (Q : Program). sites ≡ sites_of Q) is points;
 }
 
--- the limit that is passed, where that is the answer
+-- the limit that is passed, if that is the answer
 pub limit_passed : (P : Limit → Type 0) (e : InlineError) (x : Limit) → e ≡ Passed x → OnError e P → P x
 limit_passed P e x is h = subst (λ (y : InlineError). OnError y P) is h
 

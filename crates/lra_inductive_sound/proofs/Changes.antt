@@ -46,7 +46,7 @@ module _ (V H X : Type 0) (o : PointsOf V H X) where
           | inr b ↦ keep.covered t w joined.0.formed joined.0.right y (made_keep q v d t two actions x y b h led)
         ]
 
-    -- what is left of a value where an expression has none of the labels' values
+    -- what is left of a value if an expression has none of the labels' values
     pub none_keep : (base : ℕ) (e : Expr) (labels : List CaseLabel) (v : V) (x : Exactness) (w : V) → MatchesNone (lossy_operations m) base e labels v x w
         → (live : ℕ) → m.dims v ≡ live → SidesKeep v (unmatched_moves live (linearized live base e) labels) w
     none_keep base e [] v x w (same, exact) live wide = stays_keep v w same

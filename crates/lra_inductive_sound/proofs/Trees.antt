@@ -29,7 +29,7 @@ behind_part broken r v f x h = h
 behind_part continued r v f x h = h
 behind_part returned r v f x h = h
 
--- where they are of one kind nothing is left
+-- if they are of one kind nothing is left
 only_other : {A : Type 0} (b : Bool) (xs : List A) (x : A) → Contains (if b then [] else xs) x → (b ≡ false) × Contains xs x
 only_other true xs x there = absurd (contains_none x there)
 only_other false xs x there = (refl, there)
@@ -84,7 +84,7 @@ module _ (V H X : Type 0) (m : Abstraction V H) (o : PointsOf V H X) where
       passes normal ops there = one_pass v v [] f [] (itself V H X m o v) ops there
       passes (jump j) ops there = absurd (contains_none ops there)
 
-  -- what stands beside a program's operations changes no value where it runs alone
+  -- what stands beside a program's operations changes no value if it runs alone
   aside_closed : (q : ℕ) (what : Probe) (v : V) (xs : List (PassEntry V)) (f : Option ℕ) → IsInductiveThrough m o (probe q what) v (goes_on xs v f)
   aside_closed q what v xs f = record {
     passes = passes;

@@ -17,7 +17,7 @@ use Rattle.lra_inductive_sound.specs.Points.{PointsOf, LeadsBy}
 
 -- programs: what is reported of an iteration ----------------------------------------------------------------------
 
--- at a point its value has it; where an assertion is false, that assertion isn't proved
+-- at a point its value has it; if an assertion is false, that assertion isn't proved
 abbrev pub IsAtGoal : {V H X : Type 0} → PointsOf V H X → List V → List (ℕ × Bool) → Goal → X → Type 0
 IsAtGoal {V} o values verdicts (comes_to q) y = (w : V) × (slice_get values q ≡ Some w) × o.on w y
 IsAtGoal o values verdicts (violates q) y = ¬ Contains verdicts (q, true)
@@ -44,7 +44,7 @@ abbrev pub FailOnce : {V : Type 0} → PassResult V → Type 0
 FailOnce {V} r = (q : ℕ) (u w : V) → Contains r.entries (failing q u) → Contains r.entries (failing q w) → u ≡ w
 
 -- Of an iteration that isn't narrowed, flagged or not. Narrowed once, a loop's value is the join of what came in first
--- with what one round left, and where its body isn't monotone, as one with a loop, another round may lead out of that.
+-- with what one round left, and if its body isn't monotone, as one with a loop, another round may lead out of that.
 abbrev pub ValuesAreInductive : {V H X : Type 0} → Abstraction V H → PointsOf V H X → Type 0
 ValuesAreInductive {V} m o = (set : Plan) (P : Program) (g : Node) (r : PassResult V) (values : List V)
     (verdicts : List (ℕ × Bool)) (flagged : Option ℕ) → set.narrow ≡ 0 → LossyIteration m set P g r →

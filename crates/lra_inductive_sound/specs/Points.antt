@@ -11,7 +11,7 @@ pub record PointsOf (V H X : Type 0) : Type 1 where
   -- the point is one of the value, of the head
   pub on : V → X → Type 0
   pub head_on : H → X → Type 0
-  -- it is one of no dimension, as where no variable lives
+  -- it is one of no dimension, as when no variable lives
   pub bare : X → Type 0
   -- the action may lead from the first point to the second
   pub leads : Action → X → X → Type 0

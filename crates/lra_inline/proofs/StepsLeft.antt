@@ -1,4 +1,4 @@
--- Where the innermost place goes on after its part, fewer steps are left in all.
+-- If the innermost place goes on after its part, fewer steps are left in all.
 use Rattle.std.proofs.{Common.◌≡◌, Common.◌+◌, Common.◌<◌, Common.List, Common.[], Common.◌∷◌, Common.◌++◌, Common.sym, Common.subst, Common.arith, lemmas.List.Sums.sum_by_push}
 use Rattle.std.specs.List.{sum_by}
 use Rattle.lra_program.specs.Program.{Program}

@@ -164,7 +164,7 @@ module _ (P : Program) (well : IsWellFormed P) (p : List ℕ) (r : Frame) (S : L
 -- a program that is written out after these points, or passes a limit there
 module _ (P : Program) (S : List Site) where
   module _ (U : List Site) (e : add_points S (events_of P) ≡ passed U) where
-    -- where it is the first one
+    -- if it is the first one
     pub made_sites : S ≡ [] → U ≡ sites_of P
     made_sites none = whole_sites P U (subst (λ z. add_points z (events_of P) ≡ passed U) none e)
 

@@ -1,4 +1,4 @@
-//! What a program is refused for that passes a limit, where its source has these labels.
+//! What a program is refused for that passes a limit, if its source has these labels.
 
 ghost use Rattle.std.specs.Prelude.{◌≡◌};
 ghost use Rattle.lra_inline.specs.Crates.lra_syntax.Labels.{label_at, called_place};

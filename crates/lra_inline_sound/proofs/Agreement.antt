@@ -1,4 +1,4 @@
--- A run reaches a point on a trace, and fails there, exactly where the tree does; so without traces too.
+-- A run reaches a point on a trace, and fails there, exactly if the tree does; so without traces too.
 use Rattle.std.proofs.Common.{◌≡◌, ℕ, ℤ, List, [], ◌∷◌, length, Some, slice_get, ◌⊎◌, inl, inr, refl, sym, ap, ◌∙◌, subst}
 use Rattle.std.proofs.lemmas.Option.{same_Some}
 use Rattle.lra_inline_sound.specs.Crates.lra_program.Run.{begun, Point, start, label_on, IsOn, At, Fails}

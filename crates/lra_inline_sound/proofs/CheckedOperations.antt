@@ -1,4 +1,4 @@
--- Where something holds of what is on top of a run, it holds of what its tree asks there: where a run stops by a number, and where an access is outside.
+-- If something holds of what is on top of a run, it holds of what its tree asks there: where a run stops by a number, and where an access is outside.
 use Rattle.std.proofs.Common.{◌≡◌, ℕ, [], length, Some, None, refl, ap, subst, slice_get}
 use Rattle.lra_inline_sound.specs.Crates.{lra_program.NextOperation.NextOpIs, lra_program.Program.Program, lra_program.Run.start, lra_program.Run.IsOn, lra_program.Run.Reaches, lra_program.Sites.Site}
 use Rattle.lra_inline_sound.specs.Crates.{lra_program.Sites.sites_of, lra_program.Step.State, lra_program.Step.Config, lra_program.Traces.NoChange}

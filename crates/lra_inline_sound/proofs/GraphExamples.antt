@@ -62,7 +62,7 @@ returned_from q n = seq (point q) (seq (act q (store_value 1 (variable_at 0 Long
 abbrev zero_given : Argument
 zero_given = record { number_type = Long; value = program.literal Int 0 }
 
--- the call's tree has its returns in text order and then its end, where the target gets a draw: catches an end before the returns
+-- the call's tree has its returns in text order and then its end, if the target gets a draw: catches an end before the returns
 two_returns_graph : InlineItems (resolve two_returns) (sites_of (resolve two_returns)) (main_inline_state (resolve two_returns)) (resolve two_returns).main.body
     (seq (seq (point 0) (seq (act 0 (append Long)) (seq (act 0 (push 0 (zero_given ∷ [])))
     (catch 0 returned (seq

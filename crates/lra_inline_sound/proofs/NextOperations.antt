@@ -37,7 +37,7 @@ abbrev pub strays : ℕ → Question
 strays n = record { asks = op_accesses_any; holds = λ op s. OpOutOfBounds op s n; asked = straying_accesses n }
 
 module _ (Q : Question) where
-  -- one of these operations is at the point, and it holds of it where the point is on top in this state
+  -- one of these operations is at the point, and it holds of it if the point is on top in this state
   pub record Asks (xs : List OpAtPoint) (number : ℕ) (s : State) : Type 0 where
     pub asked : OpAtPoint
     pub among : Contains xs asked
@@ -86,7 +86,7 @@ module _ (Q : Question) where
   pub asks_second : (g h : Node) → AsksAs h (seq g h)
   asks_second g h fresh q s x = asks_right (all_in fresh g) (all_in (fresh_after fresh g) h) q s (x (fresh_after fresh g))
 
-  -- where no variable is new
+  -- if no variable is new
   pub asks_front : (g h : Node) (q : ℕ) (s : State) → Asks (all_in None g) q s → Asks (all_in None (seq g h)) q s
   asks_front g h q s x = asks_left (all_in None g) (all_in (fresh_after None g) h) q s x
 
@@ -145,7 +145,7 @@ module _ (Q : Question) where
       asks_left (own n None (store_value base nobody e)) (all_in_arms None arms) n s (asks_own n (store_value base nobody e) s over)
 
   module _ {P : Program} {T : List Site} where
-    -- what a call's operation does in the state m that the one on top becomes by a new variable, where one is made
+    -- what a call's operation does in the state m that the one on top becomes by a new variable, if one is made
     pub asks_calls : {spot : InlineState} {r : ℕ} {x : Receiver} {gives : List Argument → Op} {c : Call} {g : Node} {q : ℕ} →
         InlineCall P T spot r x gives c g q
         → (fresh : Option NumberType) (s m : State) → ((op : Op) → Q.holds op m → HoldsWithFresh Q.holds fresh op s) → CallOpIs Q.holds P gives c m

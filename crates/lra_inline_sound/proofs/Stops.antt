@@ -18,7 +18,7 @@ use Rattle.lra_inline_sound.proofs.Split.{trail, named, not_there, receiver_is, 
 use Rattle.lra_inline_sound.proofs.{Landing.config, Landing.Matches, Shapes.loop_at, Shapes.loop_first, Shapes.loop_join, Shapes.tail_node}
 
 module _ (may : State → State → Type 0) (Q : Question) (P : Program) (T : List Site) where
-  -- what the tree has to show where the program stands at the point of this number
+  -- what the tree has to show when the program stands at the point of this number
   abbrev pub Shows : (c : Config) (zs : List (TraceEvent Point)) (p number : ℕ) → Stop → Trace Point → Type 0
   Shows c zs p number (by_jump j) b = ⊥
   Shows c zs p number (to_point q) b = (q ≡ number) × (b ≡ trail c.state zs)

@@ -149,7 +149,7 @@ module _ (called : Call → ℕ) where
   steps_left before after cases left (labels, is, arms) = ap (cases_steps called) is ∙ labels_free labels left
 
   module _ (before after : List code_arm.Arm) (cases : List CaseItem) (left : program.Cases) (passed : PassesLabels before after cases left) where
-    -- one is left where no statement is
+    -- one is left if no statement is
     pub none_steps : left ≡ no_cases → 0 < cases_steps called (cases_of (map case_view cases))
     none_steps e =
         let one : cases_steps called (cases_of (map case_view cases)) ≡ 1 = steps_left before after cases left passed ∙ ap (cases_steps called) e in

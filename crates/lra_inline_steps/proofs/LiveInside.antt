@@ -32,7 +32,7 @@ pub filled_behind : (items : List BlockItem) (i n : ℕ) (x : BlockItem) (at : �
     → x ≡ code_item.Array at a → behind_items n (drop (i + 1) items) ≡ behind_items n (drop i items)
 filled_behind items i n x at a l e f = rw (items_at items i x l e, f, shown_array at a (items_of (map item_view (drop (i + 1) items)))) refl
 
--- where the number no longer fits
+-- if the number no longer fits
 pub beyond : (items : List BlockItem) (i n whole : ℕ) (x : BlockItem) (d : Declarator) → i < length items → x ≡ get_or items i x → x ≡ code_item.Declaration d
     → behind_items n (drop i items) ≡ whole → (n + 1 < 18446744073709551616 → ⊥) → greatest_live < whole
 beyond items i n whole x d l e f same h =

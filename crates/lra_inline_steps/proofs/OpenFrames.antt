@@ -199,7 +199,7 @@ module _ (P : Program) where
       → IsInlineFrame P whole under (record { frame = f; place = place.Forked x' })
   forked_seen whole under f x x' e o = subst (λ z. IsInlineFrame P whole under (record { frame = f; place = place.Forked z })) e o
 
-  -- what is made of its parts, where only the memory may fail
+  -- what is made of its parts, if only the memory may fail
   pub closed_ok : (b : Result (next_type.Next) InlineError) (X : code.Node → Type 0) (Y : next_type.Next → Type 0) {E : Type 0} (a : Result code.Node E) (live : ℕ)
       → IfOk b (λ k. (g : code.Node) × (a ≡ Ok g) × (k ≡ next.Written (record { node = g; live = live })))
       → IfOk a X → ((g : code.Node) → X g → Y (next.Written (record { node = g; live = live }))) → IfOk b Y

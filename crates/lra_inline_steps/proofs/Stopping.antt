@@ -30,7 +30,7 @@ middle_stopped S V es fs gs x e f = walk_then S es (fs ++ gs) V (stopped x) e (w
 pub limit_to : {A : Type 0} (b : Result A InlineError) (d e : InlineError) (X Y : Limit → Type 0) → b ≡ Err d → d ≡ e → ((x : Limit) → X x → Y x) → OnError e X → OnLimit b Y
 limit_to b d e X Y i j f h = rw (i, j) (error_as e X Y f h)
 
--- what the exit of a `?` answers where a part passed a limit (where the memory failed, nothing has to hold)
+-- what the exit of a `?` answers if a part passed a limit (if the memory failed, nothing has to hold)
 module _ {A : Type 0} (b : Result A InlineError) where
   pub err_stopped : (e : InlineError) (X Y : Limit → Type 0) → IsErrAnd b (λ d. d ≡ e) → ((x : Limit) → X x → Y x) → OnError e X → OnLimit b Y
   err_stopped e X Y h f o = let p = err_from_is_err_and b h in limit_to b p.0 e X Y p.1 p.2 f o
@@ -41,7 +41,7 @@ pub limit_through : {A : Type 0} (b : Result A InlineError) (X Y : Limit → Typ
 limit_through (Ok a) X Y f h = tt
 limit_through (Err e) X Y f h = error_as e X Y f h
 
--- of what is made of its parts, where only the memory may fail
+-- of what is made of its parts, if only the memory may fail
 pub made_ok : {A E : Type 0} (b : Result A InlineError) (a : Result A E) (X Y : A → Type 0) → IfOk b (λ g. a ≡ Ok g) → IfOk a X → ((g : A) → X g → Y g) → IfOk b Y
 made_ok (Ok g) a X Y e x f = f g (subst (λ z. IfOk z X) e x)
 made_ok (Err d) a X Y e x f = tt

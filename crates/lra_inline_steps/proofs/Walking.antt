@@ -40,7 +40,7 @@ walk_then S (comes s ∷ es) fs U r e f = chosen_then (nat_lt greatest_live s.li
     (λ e'. walk_then (S ++ s ∷ []) es fs U r e' f)
 walk_then S (one_call_more at ∷ es) fs U r e f = absurd (not_passed (Calls at) U e)
 
--- and where a limit stops, nothing follows
+-- and if a limit stops, nothing follows
 pub walk_stop : (S : List Site) (es fs : List Event) (x : Limit) → add_points S es ≡ stopped x → add_points S (es ++ fs) ≡ stopped x
 walk_stop S [] fs x e = absurd (not_passed x S (sym e))
 walk_stop S (comes s ∷ es) fs x e = chosen_stopped (nat_lt greatest_live s.live) (nat_lt greatest_points (suc (length S))) (Variables s.label) (Points s.label) x (add_points (S ++ s ∷ []) es)

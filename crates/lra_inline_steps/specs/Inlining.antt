@@ -65,7 +65,7 @@ IsLone (return label e) = ⊥
 IsLone (switch label e cs) = ⊥
 IsLone s = ⊤
 
--- what gives a call's arguments: after the index of the element that the value is for, where it is for one
+-- what gives a call's arguments: after the index of the element that the value is for, if it is for one
 abbrev pub gives_for : ℕ → Option Element → List Argument → Op
 gives_for base None = push base
 gives_for base (Some x) = push_for base x
@@ -160,7 +160,7 @@ module _ (at : Around) where
       AreItemsWrittenOut b g =
           building.WritesItems program_around at.path.now at.frame (points_in before) b (node_view g) (points_in after)
 
-      -- g is the call's tree, where h is its callee's body, wherever that begins
+      -- g is the call's tree, if h is its callee's body, wherever that begins
       abbrev pub IsCallWrittenOut : Caller → Call → code.Node → ℕ → code.Node → Type 0
       IsCallWrittenOut caller c h n g =
           (S : List Site)

@@ -27,7 +27,7 @@ refusal_of ls (Variables at) = record { cause = TooManyVariables; place = label_
 refusal_of ls (Points at) = record { cause = TooManyPoints; place = label_place (label_at ls at) }
 refusal_of ls (Calls at) = record { cause = TooManyPoints; place = called_place (label_at ls at) }
 
--- where a limit is passed, the property holds of it
+-- if a limit is passed, the property holds of it
 abbrev pub OnError : InlineError → (Limit → Type 0) → Type 0
 OnError (Passed x) P = P x
 OnError Memory P = ⊤

@@ -1,4 +1,4 @@
--- What must hold where a program is written out along a list of open places: in each of them a part is under way, and
+-- What must hold when a program is written out along a list of open places: in each of them a part is under way, and
 -- with that the place's own part is written.
 use Rattle.std.specs.Prelude.{◌≡◌, ℕ, ◌+◌, ◌≤◌, List, [], ◌∷◌, ◌++◌, map, length, Option, Some, None}
 use Rattle.lra_inline_steps.specs.Crates.lra_base.Limits.{greatest_live}

@@ -61,7 +61,7 @@ abbrev pub body_steps : (Call → ℕ) → Option Function → ℕ
 body_steps called None = 0
 body_steps called (Some f) = items_steps called f.body
 
--- where so many calls more may be made
+-- if so many calls more may be made
 abbrev pub call_steps : Program → ℕ → Call → ℕ
 call_steps P zero c = 1
 call_steps P (suc more) c = 3 + body_steps (call_steps P more) (slice_get P.functions c.function)

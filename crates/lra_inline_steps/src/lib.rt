@@ -1,4 +1,4 @@
-//! The first step into a statement or a declarator, where a program's calls are written out as a tree of operations: it
+//! The first step into a statement or a declarator, when a program's calls are written out as a tree of operations: it
 //! is written, or a place opens in which a part of it is. Frames, points up to a limit, and the open places.
 #![tactic(auto)]
 

@@ -42,7 +42,7 @@ fn store_index(base: usize, slot: Slot) -> usize
     }
 }
 
-/// How many variables live after the items, where the number fits.
+/// How many variables live after the items, if the number fits.
 fn live_inside(live: usize, items: &[BlockItem]) -> Option<usize>
     ensures { MatchOption result (greatest_live < live_after_items live (items_of (map item_view items.now)))
         (λ n. n ≡ live_after_items live (items_of (map item_view items.now))) }

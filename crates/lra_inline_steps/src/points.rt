@@ -43,7 +43,7 @@ impl From<AllocError> for InlineError {
     }
 }
 
-/// What is made of its parts, where only the memory may fail.
+/// What is made of its parts, if only the memory may fail.
 pub fn finish(tree: Result<Node, AllocError>) -> Result<Node, InlineError>
     ensures tree { IfOk result (λ g. tree ≡ Ok g) }
     ensures memory { OnLimit result (λ _. ⊥) }

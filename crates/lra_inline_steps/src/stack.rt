@@ -121,7 +121,7 @@ pub enum Next<'a> {
     Opens(InlineFrame<'a>, Frame, Part<'a>),
 }
 
-/// What is written, where only the memory may fail.
+/// What is written, if only the memory may fail.
 pub fn close<'a>(tree: Result<Node, AllocError>, live: usize) -> Result<Next<'a>, InlineError>
     ensures written { IfOk result (λ n. (g : Node) × (tree ≡ Ok g)
         × (n ≡ next.Written (record { node = g; live = live }))) }

@@ -1,4 +1,4 @@
--- Each thread runs as one among others where the threads' trees give only what was said.
+-- Each thread runs as one among others if the threads' trees give only what was said.
 use Rattle.std.proofs.Common.{◌≡◌, ◌<◌, ℕ, ℤ, List, length, Some, slice_get}
 use Rattle.lra_interference_sound.specs.Crates.lra_program.Program.{Function, Program}
 use Rattle.lra_interference_sound.specs.Crates.{lra_operations.TracesAgree.KeepsWidth, lra_program.Run.Point, lra_program.Step.State, lra_program.Traces.Trace}

@@ -27,7 +27,7 @@ module _ (may : State → State → Type 0) (gift : ℕ) (P : Program) (T : List
   abbrev pub Given : Node → Trace Point → ℕ → Trace Point → Type 0
   Given g a q b = opened.WritesVariable (point_at T) may g a q gift b
 
-  -- where the configuration's step, from what others made of its state, gives the variable a value, the tree does
+  -- if the configuration's step, from what others made of its state, gives the variable a value, the tree does
   pub record Hit (c : Config) (zs : List (TraceEvent Point)) (p : ℕ) (g : Node) (a : Trace Point) : Type 0 where
     pub number : ℕ
     pub leads : (s : State) (b : Trace Point) → may c.state s → TopGives gift b.state P c.items c.here s

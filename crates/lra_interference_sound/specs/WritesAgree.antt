@@ -19,7 +19,7 @@ abbrev pub WritesAgree : (State → State → Type 0) → Type 0
 WritesAgree may = (P : Program) (g : Node) → IsInlinedTree P g → (draws : List ℤ) (x : ℕ) (a : Trace Point) →
     WritesThere may P draws x a → (q : ℕ) × TreeWrites may P g draws q x a
 
--- where other threads change globals by what they may give, as this test says
+-- if other threads change globals by what they may give, as this test says
 abbrev pub OthersWritesAgree : Type 0
 OthersWritesAgree = (P : Program) (fs : List Function) (within : ℕ → ℕ → ℤ → Bool) (k : ℕ) →
     WritesAgree (OthersInterfere P fs (λ j x z. IsTrue (within j x z)) k)

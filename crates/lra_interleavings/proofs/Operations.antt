@@ -33,7 +33,7 @@ append_long n xs ys l = rw (length-append xs ys) (omega (arith, l))
 
 -- what is written ----------------------------------------------------------------------------------------------------
 
--- the second store has the first variables of the first one, but for one that is given a value, where one may be
+-- the second store has the first variables of the first one, but for one that is given a value, if one may be
 abbrev pub Wrote : ℕ → Option ℕ → List ℤ → List ℤ → Type 0
 Wrote n o a b = (n ≤ length b) × ((take n b ≡ take n a) ⊎
     ((x : ℕ) × (z : ℤ) × (x < n) × (o ≡ Some x) × (slice_get b x ≡ Some z) × (take n b ≡ set (take n a) x z)))

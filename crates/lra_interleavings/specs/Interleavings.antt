@@ -79,7 +79,7 @@ ended w k = record w { threads = slice_set w.threads k None }
 abbrev pub LeadsOn : Program → ℕ → Point → Config → Config → Type 0
 LeadsOn P n p c d = IsOn c p × TracedSteps NoChange P n c [] d (visit p c.state ∷ [])
 
--- where no step follows, and no point is on top
+-- if no step follows, and no point is on top
 abbrev pub IsOver : Program → Config → Type 0
 IsOver P c = (label_on c.items ≡ None) × (next P c ≡ None)
 

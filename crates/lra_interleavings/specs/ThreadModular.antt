@@ -1,5 +1,5 @@
 -- Why each thread runs as one among others. Whenever a point is on top in a run of a program, others may change its
--- state. Where these changes are what the other threads give the globals, what a thread does beside them is such a run.
+-- state. If these changes are what the other threads give the globals, what a thread does beside them is such a run.
 use Rattle.std.specs.List.{AllByRecursion}
 use Rattle.std.specs.Prelude.{◌≡◌, ◌≢◌, ◌<◌, ℕ, ℤ, List, [], ◌∷◌, length, Some, slice_get, slice_set, Bool, IsTrue}
 use Rattle.lra_program.specs.Step.{State, Op, Config, next_at}

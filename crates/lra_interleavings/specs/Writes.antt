@@ -1,5 +1,5 @@
 -- Which variable a step of a run gives a value: an assignment, a draw, what a call gives its receiver. A value is given
--- also where the variable had it before.
+-- also if the variable had it before.
 use Rattle.std.specs.Prelude.{◌≡◌, ◌⊎◌, ℕ, List, ◌∷◌, Some, None}
 use Rattle.lra_program.specs.Program.{Program, return}
 use Rattle.lra_program.specs.Step.{State, Op, havoc, run_op, CallContext, Item, run, return_frame, receiver_of}

@@ -1,5 +1,5 @@
 //! Programs of several threads: what the threads do beside each other, and that each of them runs as its program does
-//! where others may change the global variables between two of its steps.
+//! if others may change the global variables between two of its steps.
 #![tactic(auto)]
 
 ghost use Rattle.lra_interleavings.specs.ThreadModular.{TestedThreadsAreModular};

@@ -14,7 +14,7 @@ next_count count = min (count + 1) last_count
 abbrev pub Rose : ℕ → ℕ → Type 0
 Rose before now = (before < now) ⊎ (now ≡ last_count)
 
--- the count of faults never falls; it stays where a call succeeds, and rose where one fails
+-- the count of faults never falls; it stays if a call succeeds, and rose if one fails
 pub record HasCause {T E : Type 0} (before now : ℕ) (result : Result T E) : Type 0 where
   pub later : before ≤ now
   pub same : OnOk result (now ≡ before)

@@ -26,7 +26,7 @@ ReadsWhole old new limit (Err (TooLong bytes)) = IsPastLimit old new limit bytes
 ReadsWhole old new limit (Err Failed) = LosesPrefix old new limit
 ReadsWhole old new limit (Err Memory) = LosesPrefix old new limit
 
--- the count of faults rose where a read failed, and stays at every other answer
+-- the count of faults rose if a read failed, and stays at every other answer
 abbrev pub ReadCause : ℕ → ℕ → Result (Vec ℕ Global) ReadError → Type 0
 ReadCause before now (Ok bytes) = now ≡ before
 ReadCause before now (Err (TooLong bytes)) = now ≡ before

@@ -41,7 +41,7 @@ impl<R: Read> RealSource<R> {
         }
     }
 
-    /// What the reader answered last where it gave no bytes, `None` where it always did.
+    /// What the reader answered last if it gave no bytes, `None` if it always did.
     pub fn last_error(&self) -> Option<io::Error> {
         self.error
     }

@@ -7,7 +7,7 @@ use crate::Failed;
 
 /// A stream of bytes that are written in pieces.
 pub trait Sink {
-    /// The bytes accepted, where the sink reports them.
+    /// The bytes accepted, if the sink reports them.
     ghost held: { Self → Option (List ℕ) };
 
     /// How often a write failed; it stays at 2^64 - 1 once it is there.
@@ -19,10 +19,10 @@ pub trait Sink {
     /// The states before and after a write that fails.
     ghost fails: { Self → Self → Type 0 };
 
-    /// How many more bytes it is sure to take; 0 where it promises nothing.
+    /// How many more bytes it is sure to take; 0 if it promises nothing.
     ghost spare: { Self → ℕ };
 
-    /// Takes the first bytes of the piece, and says how many: at least one, where the piece has any.
+    /// Takes the first bytes of the piece, and says how many: at least one, if the piece has any.
     ///
     /// A write that fails takes no byte.
     fn write(&mut self, piece: &[u8]) -> Result<usize, Failed>

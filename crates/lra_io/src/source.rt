@@ -9,7 +9,7 @@ pub struct Failed;
 
 /// A stream of bytes that are read in pieces.
 pub trait Source {
-    /// The bytes still to come, where the source reports them.
+    /// The bytes still to come, if the source reports them.
     ghost left: { Self → Option (List ℕ) };
 
     /// How often a read failed; it stays at 2^64 - 1 once it is there.

@@ -37,7 +37,7 @@ none_more text n none isnt k l c = elim (cases_lt k n) [
   | inr ge ↦ let same : k ≡ n = omega (arith, l, ge) in isnt (subst (IsCloseAt text) same c)
 ]
 
--- the first `*/` among those that begin before the n-th byte, where the text has one more
+-- the first `*/` among those that begin before the n-th byte, if the text has one more
 first_close : (text : List ℕ) (n : ℕ) → n < length text → ((m : ℕ) × IsFirstClose text m) ⊎ NoneBelow text n
 first_close text zero l = inr (λ k h c. omega (arith, h))
 first_close text (suc n) l = elim (first_close text n (omega (arith, l))) [

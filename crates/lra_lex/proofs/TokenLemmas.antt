@@ -9,7 +9,7 @@ use Rattle.lra_syntax.specs.declared.tokens.Kind.TheVariants as kind
 use Rattle.lra_lex.specs.{Prefixes.opens_comment, Prefixes.found_mark, Prefixes.operator_at, Read.BeginsToken}
 use Rattle.lra_lex.proofs.{LexemeLemmas.longest_word, LexemeLemmas.longest_whole, LexemeLemmas.operator_found, LexemeLemmas.letter_is, LexemeLemmas.digit_is, MarkLemmas.mark_some, RunLemmas.run_is}
 
--- a run of word bytes, where one is there
+-- a run of word bytes, if one is there
 run_front : (c : ℕ) (cs : List ℕ) → is_word_byte c ≡ true → take (prefix_len is_word_byte (c ∷ cs)) (c ∷ cs) ≡ c ∷ take (prefix_len is_word_byte cs) cs
 run_front c cs h = let e : prefix_len is_word_byte (c ∷ cs) ≡ suc (prefix_len is_word_byte cs) = rw h (omega arith) in ap (λ (n : ℕ). take n (c ∷ cs)) e
 

@@ -110,7 +110,7 @@ fn read_operator(rest: &[u8]) -> Option<(usize, Kind)>
     }
 }
 
-/// The length and kind of the token at the start, where no gap is.
+/// The length and kind of the token at the start, if no gap is.
 fn read_token(alloc: Global, rest: &[u8], place: Place) -> Result<(usize, Kind), SourceError>
     requires some { 0 < length rest.now }
     requires unclosed { opens_comment rest.now ≡ true → IsUnclosed rest.now }

@@ -115,7 +115,7 @@ fn is_suffix(bytes: &[u8]) -> bool
     is_among(bytes, &SUFFIXES)
 }
 
-/// Whether the suffix is one, and digits are there where the base wants some.
+/// Whether the suffix is one, and digits are there if the base wants some.
 fn is_well_cut(radix: Radix, digits: &[u8], suffix: &[u8]) -> bool
     ensures suffix { IsTrue result → is_among suffix.now suffixes ≡ true }
     ensures digits { IsTrue result → base_of radix ≢ octal → digits.now ≢ [] }

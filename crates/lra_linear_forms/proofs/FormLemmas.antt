@@ -5,7 +5,7 @@ use Rattle.std.specs.{Int.w64, List.All, Prelude.◌≤ℤ◌, Prelude.neg_ℤ}
 use Rattle.lra_linear_forms.specs.Crates.lra_linear_spec.Vectors.{product}
 use Rattle.lra_linear_forms.specs.Form.{Form, form_value, opposite_form, AddsInRange, SummingPasses}
 
--- where the first product and the sum with it are in range, what passes comes later
+-- if the first product and the sum with it are in range, what passes comes later
 pub summing_step : (a c x b : ℤ) (cs xs : List ℤ) → AddsInRange a c x → a +ℤ (c *ℤ x) ≡ b
     → (a +ℤ product (c ∷ cs) (x ∷ xs) ≡ b +ℤ product cs xs) × (SummingPasses b cs xs → SummingPasses a (c ∷ cs) (x ∷ xs)) × (SummingPasses a (c ∷ cs) (x ∷ xs) → SummingPasses b cs xs)
 summing_step a c x b cs xs fits is = (rw (← is) (omega (arith, ints)), λ h. inr (rw is h), λ h. rw is at (later h))
@@ -38,11 +38,11 @@ product_negated (c ∷ cs) (x ∷ xs) = let p = neg_product c x in let d = produ
 opposite_sign : (k d v w e : ℤ) → v ≡ k +ℤ d → e ≡ neg_ℤ d → w ≡ (neg_ℤ k +ℤ negsuc 0) +ℤ e → (pos 0 ≤ℤ w) ↔ (¬ (pos 0 ≤ℤ v))
 opposite_sign k d v w e is_v is_e is_w = (λ h n. omega (arith, ints), λ h. grind (arith, ints))
 
--- the opposite form is not negative exactly where the form is negative
+-- the opposite form is not negative exactly if the form is negative
 pub opposite_holds : (f : Form) (s : List ℤ) → (pos 0 ≤ℤ form_value (opposite_form f) s) ↔ (¬ (pos 0 ≤ℤ form_value f s))
 opposite_holds f s = opposite_sign f.constant (product f.coefficients s) (form_value f s) (form_value (opposite_form f) s) (product (map neg_ℤ f.coefficients) s) refl
     (product_negated f.coefficients s) refl
 
--- a list fits exactly where its rest does, if its first number does
+-- a list fits exactly if its rest does, if its first number does
 pub fits_later : (c : ℤ) (cs : List ℤ) → FitsSigned w64 c → (All (FitsSigned w64) cs ↔ All (FitsSigned w64) (c ∷ cs))
 fits_later c cs fit = (λ h. All-cons (FitsSigned w64) c cs fit h, λ h. All-tail (FitsSigned w64) c cs h)

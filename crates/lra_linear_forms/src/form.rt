@@ -79,7 +79,7 @@ impl LinExpr {
         row_with(alloc, first, self.coefficients.as_slice())
     }
 
-    /// The form's value at the store `point`, summed from the constant on in column order; `None` exactly where a
+    /// The form's value at the store `point`, summed from the constant on in column order; `None` exactly if a
     /// product or a partial sum passes the range -(2^127 - 1) to 2^127 - 1.
     pub fn eval(&self, point: &[i64]) -> Option<i128>
         ensures value { IfSome result (λ v. v ≡ form_value self.now point.now) }
@@ -88,7 +88,7 @@ impl LinExpr {
         sum_of(self.constant, self.coefficients.as_slice(), point)
     }
 
-    /// Minus the form, minus one: at least 0 exactly where the form is below 0. `None` exactly where a number of it
+    /// Minus the form, minus one: at least 0 exactly if the form is below 0. `None` exactly if a number of it
     /// passes i64.
     pub fn opposite(&self, alloc: Global) -> Result<Option<Self>, AllocError>
         ensures { IfOk result (λ o. SomeIff o (FormFits (opposite_form self.now)) (opposite_form self.now)) }
@@ -117,7 +117,7 @@ fn row_with(alloc: Global, first: i128, coefficients: &[i64]) -> Result<Row, All
     Ok(row)
 }
 
-/// The numbers times -1, or `None` where one of these passes i64.
+/// The numbers times -1, or `None` if one of these passes i64.
 fn negate_coefficients(alloc: Global, coefficients: &[i64]) -> Result<Option<Vec<i64>>, AllocError>
     ensures { IfOk result (λ o. MatchOption o (¬ All (FitsSigned w64) (map neg_ℤ coefficients.now))
         (λ all. All (FitsSigned w64) (map neg_ℤ coefficients.now) × (all.items ≡ map neg_ℤ coefficients.now))) }
@@ -134,7 +134,7 @@ fn negate_coefficients(alloc: Global, coefficients: &[i64]) -> Result<Option<Vec
     Ok(Some(all))
 }
 
-/// The sum with a product, or `None` exactly where one of the two passes the range.
+/// The sum with a product, or `None` exactly if one of the two passes the range.
 fn plus_product(sum: i128, factor: &i64, number: &i64) -> Option<i128>
     ensures { SomeIff result (AddsInRange sum factor.now number.now) (sum +ℤ (factor.now *ℤ number.now)) }
 {

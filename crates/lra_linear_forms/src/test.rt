@@ -20,8 +20,8 @@ impl Drop for Test {
 
 impl Test {
     #[tactic(auto, using(crate::proofs::FormLemmas::opposite_holds))]
-    /// The test that passes exactly where this one fails: `-expr - 1 >= 0` of `expr >= 0`. `None` exactly where a
-    /// number of it passes i64, or where this test is an equality, whose failing no one test reports.
+    /// The test that passes exactly if this one fails: `-expr - 1 >= 0` of `expr >= 0`. `None` exactly if a
+    /// number of it passes i64, or when this test is an equality, whose failing no one test reports.
     pub fn opposite(&self, alloc: Global) -> Result<Option<Test>, AllocError>
         ensures some { IfOk result (λ o. SomeIff o ((self.now.kind ≡ ConKind.Ge) ×
             FormFits (opposite_form self.now.expr)) (record

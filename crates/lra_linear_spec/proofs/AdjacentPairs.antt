@@ -48,7 +48,7 @@ count_lt (pos zero) b h e = absurd (h refl)
 count_lt (pos (suc n)) b h e = subst (λ (z : ℤ). count z < 1) (sym e) (omega arith)
 count_lt (negsuc n) b h e = subst (λ (z : ℤ). count z < 1) (sym e) (omega arith)
 
--- no more rows are loose where each tight row stays tight, and fewer where one more is tight
+-- no more rows are loose if each tight row stays tight, and fewer if one more is tight
 loose_le : (system : List (List ℤ)) (u w : ℕ → ℤ) → TightToo system u w → loose system w ≤ loose system u
 loose_le [] u w t = omega arith
 loose_le (s ∷ system) u w t =
@@ -337,7 +337,7 @@ module _ {w : ℕ} {c : List ℤ} {system rays lines target : List (List ℤ)} (
   sum_zero_front (suc k) m d a b e p h i j s = tight_sum a ((pos m *ℤ b) +ℤ (pos d *ℤ e)) (pos 0) k h
       (add_nonnegative _ _ (mul_nonnegative (pos m) b (omega (arith, ints)) i) (mul_nonnegative (pos d) e (omega (arith, ints)) j)) s
 
-  -- x, where some q that is no multiple of it is tight wherever x is, from what has fewer rows that are not tight
+  -- x, if some q that is no multiple of it is tight wherever x is, from what has fewer rows that are not tight
   third_case : (x q : List ℤ) → Point x → Point q → TightToo system (entry x) (entry q) → Apart x q →
       ((y : List ℤ) → Point y → loose system (entry y) < loose system (entry x) → Generated target (entry y)) → Generated target (entry x)
   third_case x q px pq t apart ih = elim (some_loose system (entry q)) [

@@ -244,7 +244,7 @@ one_spelling w system lines rays lines' rays' d e c c' =
     let same_length : length rays ≡ length rays' = omega arith in
     (x.0, x.1, same_length)
 
--- where one canonical list is too long, each is
+-- if one canonical list is too long, each is
 pub too_many : (w limit : ℕ) (system lines rays lines' rays' : List (List ℤ)) → AreDual w system (all_rows lines rays) → AreDual w system (all_rows lines' rays') → IsCanonical lines rays →
     IsCanonical lines' rays' → limit < length rays → limit < length rays'
 too_many w limit system lines rays lines' rays' d e c c' h = let x = one_spelling w system lines rays lines' rays' d e c c' in omega (arith, x.2)

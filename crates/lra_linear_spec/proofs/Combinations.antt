@@ -112,7 +112,7 @@ pub generated_row : (rows : List (List ℤ)) (x : List ℤ) → Contains rows x 
 generated_row rows x h = generated_at rows h.0 x h.1 h.2
 
 -- ---- one column of what rows generate
--- where each row is 0 in a column, so is all that they generate
+-- if each row is 0 in a column, so is all that they generate
 column_zero : (rows : List (List ℤ)) (j : ℕ) → ((t : List ℤ) → Contains rows t → entry t j ≡ pos 0) → (fs : List ℕ) → sum_of fs rows j ≡ pos 0
 column_zero rows j h [] = refl
 column_zero [] j h (f ∷ fs) = refl
@@ -124,7 +124,7 @@ column_zero (r ∷ rows) j h (f ∷ fs) =
 pub not_from_zero : (rows : List (List ℤ)) (u : ℕ → ℤ) (j : ℕ) → ((t : List ℤ) → Contains rows t → entry t j ≡ pos 0) → pos 0 <ℤ u j → ¬ (Generated rows u)
 not_from_zero rows u j h p g = not_both (u j) p (no_product g.multiple (u j) g.positive (g.is_sum j ∙ column_zero rows j h g.factors))
 
--- where each row is at least 0 in a column, so is all that they generate
+-- if each row is at least 0 in a column, so is all that they generate
 column_nonneg : (rows : List (List ℤ)) (j : ℕ) → ((t : List ℤ) → Contains rows t → pos 0 ≤ℤ entry t j) → (fs : List ℕ) → pos 0 ≤ℤ sum_of fs rows j
 column_nonneg rows j h [] = omega (arith, ints)
 column_nonneg [] j h (f ∷ fs) = omega (arith, ints)

@@ -1,5 +1,5 @@
--- Descriptions of sets of points as cones: constraints hold at a point where their system is solved, and generators give a point
--- where their rows generate it. Two dual lists so have the same points.
+-- Descriptions of sets of points as cones: constraints hold at a point if their system is solved, and generators give a point
+-- if their rows generate it. Two dual lists so have the same points.
 use Rattle.std.proofs.Common.{Bool, List, [], ap, arith, cond, false, inl, inr, pos, refl, subst, suc, sym, true, ℕ, ℤ, ◌∙◌, ◌∷◌, ◌≡◌, ◌≤ℤ◌, ◌⊎◌}
 use Rattle.std.proofs.{lemmas.Int.ints, lemmas.List.Elements.Contains-append_cases, lemmas.List.Elements.Contains-append_left, lemmas.List.Elements.Contains-append_right}
 use Rattle.std.specs.List.{Contains}
@@ -57,7 +57,7 @@ system_has (x ∷ list) g k = elim (contains_cases x g list k) [
     first true = contains_head x.row (negated x.row ∷ system_of list)
     first false = contains_head x.row (system_of list)
 
--- with its opposite where it is an equality or a line
+-- with its opposite if it is an equality or a line
 pub system_has_negated : (list : List LinearRow) (g : LinearRow) → Contains list g → g.equal ≡ true → Contains (system_of list) (negated g.row)
 system_has_negated [] g k e = absurd (contains_none g k)
 system_has_negated (x ∷ list) g k e = elim (contains_cases x g list k) [
@@ -81,7 +81,7 @@ pub holds_at_least : (b : Bool) (z : ℤ) → HoldsWith b z → pos 0 ≤ℤ z
 holds_at_least true z e = omega (arith, ints, e)
 holds_at_least false z e = e
 
--- the constraints hold at a point exactly where it solves their system
+-- the constraints hold at a point exactly if it solves their system
 pub con_solves : (rows : List LinearRow) (x : List ℤ) → Con rows x → Solves (system_of rows) (entry x)
 con_solves rows x h r k =
     let f = system_from rows r k in
@@ -198,7 +198,7 @@ in_system list t k = elim (Contains-append_cases (rays_of list) (both_ways (line
       ]
 ]
 
--- generators give a point exactly where their rows generate it
+-- generators give a point exactly if their rows generate it
 pub gen_generated : (list : List LinearRow) (u : ℕ → ℤ) → Described (lines_of list) (rays_of list) u → Generated (system_of list) u
 gen_generated list u d =
     generated_through (system_of list) (all_rows (lines_of list) (rays_of list)) u (λ t k. generated_row (system_of list) t (in_system list t k))

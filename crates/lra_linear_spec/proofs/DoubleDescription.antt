@@ -6,7 +6,7 @@ use Rattle.std.specs.List.{Contains}
 use Rattle.std.specs.Prelude.{◌≡◌, ℕ, ◌<◌, ◌⊎◌, ℤ, pos, ◌+ℤ◌, ◌*ℤ◌, neg_ℤ, ◌≤ℤ◌, ◌<ℤ◌, int_lt, int_le, Bool, cond, List, [], ◌∷◌, ◌++◌, length}
 use Rattle.lra_linear_spec.specs.{Cones.Generated, LowestTerms.IsPrimitive, Vectors.entry, Vectors.dot, Vectors.negated, Vectors.blend}
 
--- ---- the inequality c, where each line has product 0 with it
+-- ---- the inequality c, if each line has product 0 with it
 -- Each row with a product that is not negative can be generated, as can each pair with products of opposite signs,
 -- combined so that the product is 0; and nothing else is there.
 pub record StepOf (c : List ℤ) (rows target : List (List ℤ)) : Type 0 where
@@ -61,7 +61,7 @@ Flats c l (r ∷ rs) [] = ⊥
 Flats c l (r ∷ rs) (t ∷ ts) = Flat c l r t × Flats c l rs ts
 
 -- The last line, by pivot, whose product with c isn't 0, with the sign that makes its product positive: each other row
--- is combined with it, and it becomes a ray where the further row is an inequality, and goes where that is an equality.
+-- is combined with it, and it becomes a ray if the further row is an inequality, and goes if that is an equality.
 pub record LineCase (equal : Bool) (c : List ℤ) (lines rays new_lines new_rays : List (List ℤ)) : Type 0 where
   pub before : List (List ℤ)
   pub line : List ℤ

@@ -50,7 +50,7 @@ pub record LineTarget (c l : List ℤ) (rows target : List (List ℤ)) : Type 0 
   pub step : LineStepOf c l rows target
   pub inside : (t : List ℤ) → Contains target t → Generated rows (entry t) × (pos 0 ≤ℤ dot c (entry t))
 
--- the consequences of the system with c, where a line has a positive product with c
+-- the consequences of the system with c, if a line has a positive product with c
 line_consequences : (c l : List ℤ) (w : ℕ) (rows target gens : List (List ℤ)) → LineStepOf c l rows target → length c ≡ w →
     ((y : List ℤ) → length y ≡ w → Solves rows (entry y) → Generated gens (entry y)) → (x : List ℤ) → length x ≡ w → Solves target (entry x) → Generated (c ∷ gens) (entry x)
 line_consequences c l w rows target gens s lc full x lx h =

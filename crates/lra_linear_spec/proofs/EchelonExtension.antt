@@ -21,7 +21,7 @@ ClearedRows r p [] (t ∷ ts) = ⊥
 ClearedRows r p (e ∷ es) [] = ⊥
 ClearedRows r p (e ∷ es) (t ∷ ts) = ClearedRow r p e t × ClearedRows r p es ts
 
--- where both are 0, the cleared row is 0
+-- if both are 0, the cleared row is 0
 cleared_zero : (r : List ℤ) (p : ℕ) (e t : List ℤ) → ClearedRow r p e t → (j : ℕ) → entry e j ≡ pos 0 → entry r j ≡ pos 0 → entry t j ≡ pos 0
 cleared_zero r p e t x j h k =
     let a = entry r p in
@@ -83,7 +83,7 @@ echelon_insert r p (k ∷ low) (t ∷ new) high (q ∷ lows) highs l pr z b hz e
       i,
     )
 
--- the images exist, in lowest terms, whatever passes where they are computed
+-- the images exist, in lowest terms, whatever passes as they are computed
 pub cleared_exist : (r : List ℤ) (p : ℕ) (es : List (List ℤ)) → ((e : List ℤ) → Contains es e → (s : List ℤ) × ((j : ℕ) → entry s j ≡ (entry r p *ℤ entry e j) +ℤ (neg_ℤ (entry e p) *ℤ entry r j))) →
     (ts : List (List ℤ)) × ClearedRows r p es ts
 cleared_exist r p [] f = ([], tt)

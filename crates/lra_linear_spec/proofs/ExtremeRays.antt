@@ -1,4 +1,4 @@
--- Rays that no others generate are extreme, where the cone has no hidden line; and an extreme ray stands, up to a multiple and a
+-- Rays that no others generate are extreme, if the cone has no hidden line; and an extreme ray stands, up to a multiple and a
 -- line, in every list that generates the cone.
 use Rattle.std.proofs.Common.{List, [], ap, arith, inl, inr, neg_ℤ, pos, refl, suc, sym, zero, ℕ, ℤ, ◌*ℤ◌, ◌*◌, ◌++◌, ◌+ℤ◌, ◌+◌, ◌<◌, ◌∙◌, ◌∷◌, ◌≡◌}
 use Rattle.std.specs.List.{Contains}

@@ -158,12 +158,12 @@ flat_back_negative c l r t cone p line f g =
     ring (⊖ (v a ⊗ v (entry r j) ⊕ ⊖ (v b) ⊗ v (entry l j)) ⊕ ⊖ (v b) ⊗ v (entry l j)) (v a ⊗ ⊖ (v (entry r j))) (omega arith) ∙ ap (λ y. y *ℤ neg_ℤ (entry r j)) n.1)
     (generated_plus cone (λ j. pos f.times *ℤ neg_ℤ (entry t j)) (λ j. neg_ℤ b *ℤ entry l j) (generated_times cone f.times (λ j. neg_ℤ (entry t j)) g) (line (neg_ℤ b))))
 
--- also where the flat row is 0
+-- also if the flat row is 0
 pub flat_back_zero : (c l r t : List ℤ) (cone : List (List ℤ)) → pos 0 <ℤ dot c (entry l) → ((z : ℤ) → Generated cone (λ j. z *ℤ entry l j)) → Flat c l r t → ((j : ℕ) → entry t j ≡ pos 0) →
     Generated cone (entry r)
 flat_back_zero c l r t cone p line f h = flat_back c l r t cone p line f (generated_same cone (λ j. pos 0) (entry t) (λ j. sym (h j)) (generated_zero cone))
 
--- where all rows are flat, what they generate is
+-- if all rows are flat, what they generate is
 pub generated_flat : (c : List ℤ) (rows : List (List ℤ)) (u : ℕ → ℤ) → ((r : List ℤ) → Contains rows r → dot c (entry r) ≡ pos 0) → Generated rows u → dot c u ≡ pos 0
 generated_flat c rows u h g =
     let up : pos 0 ≤ℤ dot c u = generated_nonneg c rows u (λ r k. subst (λ z. pos 0 ≤ℤ z) (sym (h r k)) (omega (arith, ints))) g in

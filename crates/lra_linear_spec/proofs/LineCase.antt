@@ -251,7 +251,7 @@ all_flat_rows c l before after new rays flat f fa fr t i = elim (Contains-append
   | inr m ↦ lines_flat_dot c l before after new f fa t m
 ]
 
--- the further inequality -c, where nothing but l is away from it
+-- the further inequality -c, if nothing but l is away from it
 second_step : (c l : List ℤ) (rest : List (List ℤ)) → pos 0 <ℤ dot c (entry l) → ((t : List ℤ) → Contains rest t → dot c (entry t) ≡ pos 0) → StepOf (negated c) (l ∷ rest) rest
 second_step c l rest p h =
     let low : (t : List ℤ) → Contains (l ∷ rest) t → dot (negated c) (entry t) ≤ℤ pos 0 = λ t k. elim (contains_cases l t rest k) [

@@ -1,4 +1,4 @@
--- One spelling: the canonical lists of a polyhedron are those of each polyhedron with the same points, whatever made them. Where
+-- One spelling: the canonical lists of a polyhedron are those of each polyhedron with the same points, whatever made them. If
 -- there is a point p, a ray r is a direction in which p + k r stays in the set for each k, so the points alone determine the cone of
 -- points and rays, and its canonical descriptions are unique.
 use Rattle.std.proofs.Common.{Bool, List, [], ap, arith, false, inl, inr, length, neg_ℤ, negsuc, pos, refl, subst, suc, sym, true, zero, ℕ, ℤ, ◌*ℤ◌, ◌*◌, ◌++◌, ◌+ℤ◌, ◌<ℤ◌, ◌<◌, ◌∙◌, ◌∷◌, ◌≡◌, ◌≢◌}
@@ -78,7 +78,7 @@ pub gone_divisor : (b t : List ℤ) (k : ℕ) → length b ≡ length t → entr
 gone_divisor b t k e z =
     gone_entry b t k e 0 ∙ ap (λ y. (pos 1 *ℤ entry b 0) +ℤ (pos k *ℤ y)) z ∙ ring (v (pos 1) ⊗ v (entry b 0) ⊕ v (pos k) ⊗ v (pos 0)) (v (entry b 0)) (omega arith)
 
--- where each point that solves the one system solves the other, so does each row of the one's description
+-- if each point that solves the one system solves the other, so does each row of the one's description
 abbrev Points : ℕ → List (List ℤ) → List (List ℤ) → Type 0
 Points n system other = (x : List ℤ) → IsPoint n x → Solves system (entry x) → Solves other (entry x)
 
@@ -188,7 +188,7 @@ second_part points rays points' rays' up flat same r k = elim (Contains-append_c
   | inr i ↦ i
 ]
 
--- where both have a point
+-- if both have a point
 with_points : (p q : Polyhedron) → HasPoint p → HasPoint q → q.dims ≡ p.dims → SameSet p.dims (Con p.rows) (Con q.rows) → p ≡ q
 with_points p q h k e same =
     let sp = all_rows h.equalities h.facets in

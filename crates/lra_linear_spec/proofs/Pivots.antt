@@ -1,4 +1,4 @@
--- The pivot of a row is a function of the row: where a row leads in a column, that column is its pivot. In an echelon form each row is
+-- The pivot of a row is a function of the row: if a row leads in a column, that column is its pivot. In an echelon form each row is
 -- positive at its pivot, and the others are 0 there, row by row.
 use Rattle.std.proofs.Common.{List, [], ap, arith, cond, false, inl, inr, length, pos, refl, subst, suc, sym, zero, ℕ, ℤ, ◌++◌, ◌+◌, ◌<ℤ◌, ◌<◌, ◌∙◌, ◌∷◌, ◌≡◌, ◌≢◌}
 use Rattle.std.proofs.{lemmas.Bool.false_from_ne_true, lemmas.List.Elements.Contains-append_right, lemmas.List.Elements.Contains-get_or}

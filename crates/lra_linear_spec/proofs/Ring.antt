@@ -32,7 +32,7 @@ part false (a ⊗ b) = part true a * part false b + part false a * part true b
 part true (⊖ a) = part false a
 part false (⊖ a) = part true a
 
--- (ua - da) * (ub - db) is (pa - qa) * (pb - qb) where the differences are the same
+-- (ua - da) * (ub - db) is (pa - qa) * (pb - qb) if the differences are the same
 mix : (ua da pa qa ub db pb qb : ℕ) → ua + qa ≡ pa + da → ub + qb ≡ pb + db →
     (ua * ub + da * db) + (pa * qb + qa * pb) ≡ (pa * pb + qa * qb) + (ua * db + da * ub)
 mix ua da pa qa ub db pb qb e f =

@@ -21,7 +21,7 @@ pub record Beside (lines : List (List ℤ)) (r t : List ℤ) : Type 0 where
   pub on_line : Generated lines line
   pub is_beside : (j : ℕ) → pos times *ℤ entry t j ≡ (pos other *ℤ entry r j) +ℤ line j
 
--- r is no line, and where it is the sum of two vectors of the cone, the first is r up to a multiple and a line
+-- r is no line, and if it is the sum of two vectors of the cone, the first is r up to a multiple and a line
 pub record IsExtreme (cone lines : List (List ℤ)) (r : List ℤ) : Type 0 where
   pub apart : ¬ (Generated lines (entry r))
   pub splits : (k : ℕ) (t : List ℤ) (y : ℕ → ℤ) → Generated cone (entry t) → Generated cone y →
@@ -83,7 +83,7 @@ room (s ∷ system) u w hu hw t =
       ],
     )
 
--- the other way: where u is a sum with w among the rows, each row tight at u is tight at w
+-- the other way: if u is a sum with w among the rows, each row tight at u is tight at w
 pub tight_sum : (a b f : ℤ) (n : ℕ) → pos 0 ≤ℤ a → pos 0 ≤ℤ b → (pos (suc n) *ℤ a) +ℤ b ≡ pos 0 → a ≡ pos 0
 tight_sum (pos zero) b f n h k e = refl
 tight_sum (pos (suc a)) (pos b) f n h k e = absurd (omega (arith, ints, e))

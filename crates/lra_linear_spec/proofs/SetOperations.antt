@@ -63,7 +63,7 @@ preimage_con n k form rows low lf widths = (
     same g x p i = substituted_product k form g.row x (widths g i ∙ sym lf) (let w = p.width in omega (arith, w, low))
 
 -- ---- hull
--- where the generators give all points of P, and each inequality that is valid on P has products with them that are not negative
+-- if the generators give all points of P, and each inequality that is valid on P has products with them that are not negative
 pub hull_gen : (n : ℕ) (P : PointSet) (system : List (List ℤ)) (generators : List LinearRow) → AreDual (suc n) system (system_of generators) → IsWithin n P (Gen generators) →
     ((c : List ℤ) → length c ≡ suc n → ((y : List ℤ) → IsPoint n y → P y → pos 0 ≤ℤ product c y) → (t : List ℤ) → Contains (system_of generators) t → pos 0 ≤ℤ product c t) →
     SameSet n (Hull n P) (Gen generators)

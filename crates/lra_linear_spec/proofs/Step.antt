@@ -1,4 +1,4 @@
--- The step of the double description method (Motzkin, Raiffa, Thompson and Thrall 1953): where rows generate the solutions of a
+-- The step of the double description method (Motzkin, Raiffa, Thompson and Thrall 1953): if rows generate the solutions of a
 -- system, the rows of the step with c generate the solutions of the system with c. A sum of rows is a vector of the target and a sum
 -- of rows with negative products, which are added one at a time.
 use Rattle.std.proofs.Common.{List, [], ap, arith, inl, inr, neg_ℤ, negsuc, pos, refl, subst, suc, sym, zero, ℕ, ℤ, ◌*ℤ◌, ◌+ℤ◌, ◌<ℤ◌, ◌∙◌, ◌∷◌, ◌≡◌, ◌≤ℤ◌}
@@ -11,7 +11,7 @@ use Rattle.lra_linear_spec.proofs.Signs.{above_zero, add_nonpositive, as_nat, ca
 use Rattle.lra_linear_spec.proofs.{DoubleDescription.StepOf, Membership.contains_cases, Membership.contains_head, Membership.contains_tail, Products.dot_add, Products.dot_plus, Products.dot_same}
 use Rattle.lra_linear_spec.proofs.{Products.dot_scale, Products.dot_zero, Ring.mul_nonnegative, Ring.ring, Ring.v, Ring.⊖, Ring.◌⊕◌, Ring.◌⊗◌}
 
--- where the sum of parts is not negative and some parts are not positive
+-- if the sum of parts is not negative and some parts are not positive
 front_nonneg : (a b d : ℤ) → b ≤ℤ pos 0 → d ≤ℤ pos 0 → pos 0 ≤ℤ (a +ℤ (b +ℤ d)) → pos 0 ≤ℤ a
 front_nonneg a b d h k l = omega (arith, ints)
 
@@ -173,7 +173,7 @@ step_sound c rows target s u g = (
   generated_nonneg c target u (λ t k. elim (s.from t k) [ inl b ↦ b.1 | inr z ↦ subst (λ y. pos 0 ≤ℤ y) (sym z) (omega (arith, ints)) ]) g,
 )
 
--- where the rows generate the solutions of a system, the target generates those that meet c too
+-- if the rows generate the solutions of a system, the target generates those that meet c too
 pub step_theorem : (c : List ℤ) (system rows target : List (List ℤ)) → StepOf c rows target →
     ((u : ℕ → ℤ) → (Solves system u → Generated rows u) × (Generated rows u → Solves system u)) →
     (u : ℕ → ℤ) → (Solves (c ∷ system) u → Generated target u) × (Generated target u → Solves (c ∷ system) u)

@@ -392,7 +392,7 @@ far_points_fit e (inr p) = each_three (λ u. Across u p.down → ⊥) unit far_l
     from_negated = each_three (λ d. Across (negated far_line) d → ⊥) unit far_line (negated far_line) (λ x. let h = x.0.below in omega (arith, ints, h)) (λ x. x.0.apart refl)
         (λ x. let h = x.0.below in omega (arith, ints, h)) p.down p.across.has_down
 
--- ---- the lines of S* aren't cleared by themselves: where the form is these lines, what is taken from S* is a ray
+-- ---- the lines of S* aren't cleared by themselves: if the form is these lines, what is taken from S* is a ray
 pub no_line_by_itself : (lines rays : List (List ℤ)) (r : List ℤ) → InOther lines rays lines r → Contains rays r
 no_line_by_itself lines rays r (inl k) = k
 no_line_by_itself lines rays r (inr x) = absurd (x.1 refl)

@@ -1,4 +1,4 @@
--- Tests on generators decide where a constraint is valid, and the standard widening is the set of the rows that are tight.
+-- Tests on generators decide whether a constraint is valid, and the standard widening is the set of the rows that are tight.
 use Rattle.std.proofs.Common.{Bool, List, [], ap, arith, cond, false, inl, inr, neg_ℤ, pos, refl, subst, sym, true, ℕ, ℤ, ◌++◌, ◌∙◌, ◌∷◌, ◌≡◌, ◌≢◌, ◌≤ℤ◌}
 use Rattle.std.proofs.{lemmas.Bool.and_parts, lemmas.Int.ints, lemmas.List.Elements.Contains-append_cases, lemmas.List.Elements.Contains-append_left, lemmas.List.Elements.Contains-append_right}
 use Rattle.std.specs.{Cmp.signed_Decides, List.Contains, List.list_all, Ordering.int_eq, Prelude.int_le, Prelude.◌&&◌, Prelude.◌||◌}
@@ -97,7 +97,7 @@ generators_hold n generators h r valid = list_all_from (holds_with r) generators
     high : r.equal ≡ true → (t : List ℤ) → Contains (system_of generators) t → pos 0 ≤ℤ dot (negated r.row) (entry t)
     high q = valid_on_rows n generators h (negated r.row) (λ y p g. opposite r.equal q (product r.row y) (dot (negated r.row) (entry y)) (negated_dot r.row (entry y)) (valid y p g))
 
--- the test on the generators of a polyhedron decides where a constraint is valid
+-- the test on the generators of a polyhedron decides whether a constraint is valid
 pub valid_decides : (p : Polyhedron) → HasPoint p → (r : LinearRow) → (is_valid p r ≡ true → ValidOn p.dims (Con p.rows) r) × (ValidOn p.dims (Con p.rows) r → is_valid p r ≡ true)
 valid_decides p h r = (
   λ e x i c. holds_on_generators r p.generators e x ((con_gen p (inr h)).0 x i c),

@@ -1,5 +1,5 @@
 -- Convex cones of vectors of whole numbers, by inequalities and by generators (Minkowski 1896, Weyl 1935, Farkas 1902).
--- A vector counts as generated where some positive whole multiple of it is a sum of the rows with whole factors, so no
+-- A vector counts as generated if some positive whole multiple of it is a sum of the rows with whole factors, so no
 -- fraction is needed. A line is a row that may be taken with a factor of either sign.
 use Rattle.std.specs.List.{Contains}
 use Rattle.std.specs.Prelude.{◌≡◌, ℕ, ◌<◌, ℤ, pos, ◌+ℤ◌, ◌*ℤ◌, ◌≤ℤ◌, Bool, cond, List, [], ◌∷◌, ◌++◌, length}

@@ -1,7 +1,7 @@
 -- Strain of the operations on polyhedra. An operation takes in a list of constraints, or of generators; it exceeds a
--- limit where that list exceeds a limit, where the canonical list of the other kind of its exact result does, or where
+-- limit if that list exceeds a limit, if the canonical list of the other kind of its exact result does, or if
 -- a number passes as a row of the list is formed. Inclusion, the greatest value of a form, and the widenings exceed a
--- limit where one of their products passes. Polyhedra stand here by their canonical lists, so the strain of an
+-- limit if one of their products passes. Polyhedra stand here by their canonical lists, so the strain of an
 -- operation depends on the sets alone. Rows are added as they are formed, not in lowest terms; k is a column, from 1 to
 -- n.
 use Rattle.std.specs.Prelude.{◌≡◌, ℕ, suc, ◌+◌, ◌-◌, ◌&&◌, ◌⊎◌, ℤ, pos, true, List, [], ◌∷◌, ◌++◌, take, slice_set}
@@ -108,7 +108,7 @@ LimitedStrains p q given loss =
     ConstraintsStrain p.dims (LimitedWidening p q given) (tight_on p q ++ valid_on p q given) loss ⊎
     WideningPasses p q given (LimitedWidening p q given) loss
 
--- ---- hull and time-elapse: the canonical generators of both, for time-elapse the second's points as rays; where one
+-- ---- hull and time-elapse: the canonical generators of both, for time-elapse the second's points as rays; if one
 -- has no point, still those of the other
 abbrev pub HullStrains : Polyhedron → Polyhedron → Loss → Type 0
 HullStrains p q = GeneratorsStrain p.dims (Hull p.dims (Union (Con p.rows) (Con q.rows))) (p.generators ++ q.generators)

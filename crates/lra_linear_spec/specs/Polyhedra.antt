@@ -25,7 +25,7 @@ falsity n = negsuc 0 ∷ zeros n
 
 -- ---- with a point
 -- Equalities, then inequalities; points, then rays, then lines. Equalities and lines are in the order of their pivots,
--- as their echelon forms are. The facets are the inequalities, with the positivity row where that isn't redundant.
+-- as their echelon forms are. The facets are the inequalities, with the positivity row if that isn't redundant.
 pub record HasPoint (p : Polyhedron) : Type 0 where
   pub equalities : List (List ℤ)
   pub inequalities : List (List ℤ)

@@ -1,5 +1,5 @@
 -- Reductions of a row by an echelon form: chains of steps, each of which makes the entry in one pivot's column 0, and
--- where in such a chain a number passes the range.
+-- if in such a chain a number passes the range.
 use Rattle.std.specs.List.{Contains}
 use Rattle.std.specs.Prelude.{◌≡◌, ℕ, ◌<◌, ℤ, pos, neg_ℤ, List, [], ◌∷◌, length, Result, Ok, Err}
 use Rattle.lra_linear_spec.specs.CheckedArithmetic.{checked_blend}

@@ -8,7 +8,7 @@ use Rattle.lra_linear_spec.specs.{ConeStrain.row_limit, Descriptions.LinearRow, 
 abbrev pub AreInRange : List LinearRow → Type 0
 AreInRange rows = (g : LinearRow) → Contains rows g → All InRange g.row
 
--- at most 4,096 inequalities, the positivity row counted where it isn't redundant, and at most 4,096 points and rays
+-- at most 4,096 inequalities, the positivity row counted if it isn't redundant, and at most 4,096 points and rays
 -- together; equalities and lines aren't counted
 abbrev pub KeepsLimit : Polyhedron → Type 0
 KeepsLimit p = IsWithoutPoint p ⊎ ((h : HasPoint p) × (length h.facets ≤ row_limit) ×

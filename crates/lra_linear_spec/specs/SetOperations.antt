@@ -1,6 +1,6 @@
 -- Operations on sets of rational points, said of the points alone. A form e0, e1, .., en is the affine map e0 + e1 x1 +
 -- .. + en xn;
--- at the point den, num1, .., numn it is (its product with that row) / den. In an image, a preimage and where a
+-- at the point den, num1, .., numn it is (its product with that row) / den. In an image, a preimage and when a
 -- coordinate may be anything, k is a column, from 1 to n: the dimension that is k - 1 when counted from 0. Column 0 is
 -- the divisor.
 use Rattle.std.specs.Prelude.{◌≡◌, ◌≢◌, ℕ, suc, ◌+◌, ◌<◌, ◌⊎◌, ℤ, pos, ◌+ℤ◌, ◌*ℤ◌, ◌≤ℤ◌, List, length, take, slice_set}
@@ -17,7 +17,7 @@ Union P Q x = P x ⊎ Q x
 abbrev pub ValidOn : ℕ → PointSet → LinearRow → Type 0
 ValidOn n P g = (x : List ℤ) → IsPoint n x → P x → Holds g x
 
--- ---- hull: x is in it exactly where each inequality with whole coefficients that is valid on P holds at x
+-- ---- hull: x is in it exactly if each inequality with whole coefficients that is valid on P holds at x
 -- (the hull of several sets is that of their union)
 abbrev pub Hull : ℕ → PointSet → PointSet
 Hull n P x = (c : List ℤ) → length c ≡ suc n → ((y : List ℤ) → IsPoint n y → P y → pos 0 ≤ℤ product c y) →

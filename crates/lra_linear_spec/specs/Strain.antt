@@ -1,10 +1,10 @@
 -- Strain: from which numbers, exactly, a list that is added row by row may lose a row. The list is one of
 -- constraints, with the positivity row first, or one of generators. Let S be a beginning of it and c the next row, or a
--- row of S; let S* be the canonical description of the other kind of what S describes. The list exceeds a limit where a
+-- row of S; let S* be the canonical description of the other kind of what S describes. The list exceeds a limit if a
 -- number passes the range (1) in the product of c with a row of S*, or in what c and two rows of S* combine to, a line
 -- of S* in either direction, but not with itself;
 -- (2) in a reduction, of at most as many steps as there are columns, by an echelon form;
--- or where (3) S with c has a canonical description of one of the two kinds with too many rows.
+-- or if (3) S with c has a canonical description of one of the two kinds with too many rows.
 -- The rows that a reduction starts from, and the echelon forms by which it goes, are those of one kind:
 -- of the list's own kind, from a row of S, of the canonical description of S, or another such form, by the echelon form
 -- of the first few of those rows of S that are tight at all of S* (they hold as equalities; of generators, they can be
@@ -45,7 +45,7 @@ pub record IsOwnForm (rows rays form : List (List ℤ)) : Type 0 where
   pub first : ℕ
   pub is_form : IsEchelonOf form (take first (tight_rows rays rows))
 
--- a row of the canonical description of what the system generates; a line of it where the form isn't these lines
+-- a row of the canonical description of what the system generates; a line of it if the form isn't these lines
 pub record InCanonical (w : ℕ) (system form : List (List ℤ)) (r : List ℤ) : Type 0 where
   pub lines : List (List ℤ)
   pub rays : List (List ℤ)
@@ -77,7 +77,7 @@ pub record IsNewLines (w : ℕ) (system lines : List (List ℤ)) : Type 0 where
 abbrev pub IsOtherForm : ℕ → List (List ℤ) → List (List ℤ) → List (List ℤ) → Type 0
 IsOtherForm w system lines form = (form ≡ lines) ⊎ IsNewLines w system form
 
--- a row of S*, a line in either direction; a line where the form isn't the lines of S*
+-- a row of S*, a line in either direction; a line if the form isn't the lines of S*
 abbrev pub InOther : List (List ℤ) → List (List ℤ) → List (List ℤ) → List ℤ → Type 0
 InOther lines rays form r = Contains rays r ⊎ (Contains (both_ways lines) r × (form ≢ lines))
 

@@ -1,5 +1,5 @@
 -- Rows are lists of whole numbers. A vector is a function that gives the number in each column, so that sums of vectors
--- compute column by column; two vectors are the same where they have the same number in each column.
+-- compute column by column; two vectors are the same if they have the same number in each column.
 use Rattle.std.specs.Prelude.{ℕ, zero, suc, ℤ, pos, ◌+ℤ◌, ◌*ℤ◌, neg_ℤ, List, [], ◌∷◌, slice_set}
 
 -- the row's entry in a column, 0 past its end: the row as a vector

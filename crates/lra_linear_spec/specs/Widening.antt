@@ -1,5 +1,5 @@
 -- The standard widening of polyhedra (after Halbwachs 1979) and the limited one, on canonical lists, so that they
--- depend on the two sets alone. A row is tight on P where the generators of P with which its product is 0 are all of
+-- depend on the two sets alone. A row is tight on P if the generators of P with which its product is 0 are all of
 -- P's, or are exactly those with which some row of P has product 0.
 use Rattle.std.specs.Prelude.{pos, Bool, ◌||◌, cond, int_le, IsTrue, List, [], ◌∷◌}
 use Rattle.std.specs.{Bool.beq, List.Contains, List.list_all, List.list_any, Ordering.int_eq}
@@ -16,7 +16,7 @@ is_tight_as generators r s = list_all (λ g. beq (saturates r g) (saturates s g)
 abbrev pub is_tight : Polyhedron → LinearRow → Bool
 is_tight p r = list_all (saturates r) p.generators || list_any (is_tight_as p.generators r) p.rows
 
--- the rows of Q that are tight on P hold; Q where P has no point
+-- the rows of Q that are tight on P hold; Q if P has no point
 abbrev pub StandardFrom : List LinearRow → Polyhedron → Polyhedron → PointSet
 StandardFrom [] p q x = Con q.rows x
 StandardFrom (g ∷ generators) p q x = (r : LinearRow) → Contains q.rows r → IsTrue (is_tight p r) → Holds r x

@@ -49,7 +49,7 @@ words_all : (cs : List ℤ) → All (FitsSigned w64) cs → list_all is_word cs 
 words_all [] h = refl
 words_all (c ∷ cs) h = and_from (is_word c) (list_all is_word cs) (word_fits c (All-head (FitsSigned w64) c cs h)) (words_all cs (All-tail (FitsSigned w64) c cs h))
 
--- a form that is given exactly where its numbers have 64 bits
+-- a form that is given exactly if its numbers have 64 bits
 pub fitting_is : (f : Form) (o : Option Form) → SomeIff o (FormFits f) f → o ≡ linear.fitting f
 fitting_is f None unfit = decide (is_word f.constant && list_all is_word f.coefficients) refl
   where

@@ -9,7 +9,7 @@ abbrev pub in_turn_of : ℕ → ℕ → Bool → Cond → List Cond → Moves
 in_turn_of live base wanted c [] = guard live base wanted c
 in_turn_of live base wanted c (d ∷ ds) = first_then (guard live base wanted c) (in_turn_of live base wanted d ds)
 
--- the first, or where it isn't so the others
+-- the first, or if it isn't so the others
 abbrev pub either_of : ℕ → ℕ → Bool → Cond → List Cond → Moves
 either_of live base wanted c [] = guard live base wanted c
 either_of live base wanted c (d ∷ ds) =

@@ -1,4 +1,4 @@
-//! The test of a comparison, and the comparison that is true where it is false.
+//! The test of a comparison, and the comparison that is true when it is false.
 
 ghost use Rattle.std.specs.Prelude.{◌≡◌, ◌<◌, ◌^◌, length, IfOk};
 ghost use Rattle.lra_base.specs.OperatorViews.{comparison_view};
@@ -12,7 +12,7 @@ use lra_base::Comparison;
 use lra_program::Expr;
 use std::alloc::{AllocError, Global};
 
-/// The form minus a number, where all its numbers have 64 bits.
+/// The form minus a number, if all its numbers have 64 bits.
 pub fn less_by(alloc: Global, d: &LinExpr, number: u32) -> Result<Option<LinExpr>, AllocError>
     requires { length d.now.coefficients < 2 ^ 62 }
     ensures { IfOk result (λ o. o ≡ less_by number d.now) }
@@ -34,7 +34,7 @@ fn at_least_zero_of(form: Option<LinExpr>) -> Option<Test>
     }
 }
 
-/// The test of a comparison whose left side minus its right one is `d`; none of `!=`, nor where a number passes 64
+/// The test of a comparison whose left side minus its right one is `d`; none of `!=`, nor if a number passes 64
 /// bits.
 pub fn test_of(alloc: Global, op: Comparison, d: &LinExpr) -> Result<Option<Test>, AllocError>
     requires { length d.now.coefficients < 2 ^ 62 }
@@ -86,7 +86,7 @@ pub fn difference_of(
     Ok(form)
 }
 
-/// The comparison that is true where this one is false.
+/// The comparison that is true when this one is false.
 pub fn opposite_of(op: Comparison) -> Comparison
     ensures { comparison_view result ≡ opposite_comparison (comparison_view op) }
 {
@@ -100,7 +100,7 @@ pub fn opposite_of(op: Comparison) -> Comparison
     }
 }
 
-/// The comparison, or its opposite where it isn't wanted.
+/// The comparison, or its opposite if it isn't wanted.
 pub fn comparison_where(op: Comparison, wanted: bool) -> Comparison
     ensures { comparison_view result ≡ comparison_as wanted (comparison_view op) }
 {

@@ -14,7 +14,7 @@ use lra_base::Operator;
 use lra_program::{Expr, Operation, Slot};
 use std::alloc::{AllocError, Global};
 
-/// The sum or the difference, where it has 64 bits.
+/// The sum or the difference, if it has 64 bits.
 fn sum_entry(minus: bool, a: i64, b: i64) -> Option<i64>
     ensures { result ≡ number Long (sum_or_difference minus a b) }
 {
@@ -25,14 +25,14 @@ fn sum_entry(minus: bool, a: i64, b: i64) -> Option<i64>
     }
 }
 
-/// The product, where it has 64 bits.
+/// The product, if it has 64 bits.
 fn product_entry(a: &i64, b: &i64) -> Option<i64>
     ensures { result ≡ number Long (a.now *ℤ b.now) }
 {
     a.checked_mul(*b)
 }
 
-/// The sums or differences place by place, where all have 64 bits.
+/// The sums or differences place by place, if all have 64 bits.
 fn sum_entries(
     alloc: Global,
     minus: bool,
@@ -61,7 +61,7 @@ fn sum_entries(
     Ok(Some(sums))
 }
 
-/// The products with `factor`, where all have 64 bits.
+/// The products with `factor`, if all have 64 bits.
 fn product_entries(
     alloc: Global,
     factor: &i64,
@@ -83,7 +83,7 @@ fn product_entries(
     Ok(Some(products))
 }
 
-/// The sum or the difference of two forms, where all its numbers have 64 bits.
+/// The sum or the difference of two forms, if all its numbers have 64 bits.
 pub fn sum_of_forms(
     alloc: Global,
     minus: bool,
@@ -101,7 +101,7 @@ pub fn sum_of_forms(
     }
 }
 
-/// The form times `factor`, where all its numbers have 64 bits.
+/// The form times `factor`, if all its numbers have 64 bits.
 pub fn multiple_of(alloc: Global, factor: i64, f: &LinExpr) -> Result<Option<LinExpr>, AllocError>
     ensures { IfOk result (λ o. o ≡ scaled factor f.now) }
 {
@@ -128,7 +128,7 @@ pub fn has_no_variable(f: &LinExpr) -> bool
     true
 }
 
-/// The product, where one side is constant.
+/// The product, if one side is constant.
 fn product_of(alloc: Global, f: &LinExpr, g: &LinExpr) -> Result<Option<LinExpr>, AllocError>
     ensures { IfOk result (λ o. o ≡ product_form f.now g.now) }
 {
@@ -179,7 +179,7 @@ pub fn constant_of(alloc: Global, live: usize, constant: &i64) -> Result<LinExpr
     Ok(form)
 }
 
-/// Zeros, and the coefficient in the place where it is one of them.
+/// Zeros, and the coefficient in the place if it is one of them.
 fn one_entry(
     alloc: Global,
     live: usize,
@@ -254,7 +254,7 @@ fn variable_of(
     Ok(Some(form))
 }
 
-/// The form of a literal, where it has 64 bits.
+/// The form of a literal, if it has 64 bits.
 fn literal_of(alloc: Global, live: usize, number: u64) -> Result<Option<LinExpr>, AllocError>
     requires { live < 2 ^ 62 }
     ensures { IfOk result (λ o. o ≡ fitting (constant_form live (pos number))) }

@@ -49,7 +49,7 @@ pub fn form_behind(
     Ok(form)
 }
 
-/// The form plus one, where all its numbers have 64 bits.
+/// The form plus one, if all its numbers have 64 bits.
 fn one_more_of(alloc: Global, f: &LinExpr) -> Result<Option<LinExpr>, AllocError>
     requires { length f.now.coefficients < 2 ^ 62 }
     ensures { IfOk result (λ o. o ≡ form_plus_one f.now) }
@@ -59,7 +59,7 @@ fn one_more_of(alloc: Global, f: &LinExpr) -> Result<Option<LinExpr>, AllocError
     Ok(form)
 }
 
-/// `-f - 1`, where all its numbers have 64 bits.
+/// `-f - 1`, if all its numbers have 64 bits.
 fn opposite_if_fitting(alloc: Global, f: &LinExpr) -> Result<Option<LinExpr>, AllocError>
     ensures { IfOk result (λ o. o ≡ fitting (opposite_form f.now)) }
 {
@@ -74,7 +74,7 @@ fn is_divisor(f: &LinExpr) -> bool
     has_no_variable(f) && f.constant() >= 1
 }
 
-/// The division of the one by the other, where this is a constant above 0 and the two cases fit 64 bits.
+/// The division of the one by the other, if this is a constant above 0 and the two cases fit 64 bits.
 fn division_by(
     alloc: Global,
     numerator: LinExpr,
@@ -133,7 +133,7 @@ fn form_of_front(
     }
 }
 
-/// What is seen of the numerator divided by an operand, where `form` is that of what the operator gives.
+/// What is seen of the numerator divided by an operand, if `form` is that of what the operator gives.
 fn see_share_by(
     alloc: Global,
     live: usize,

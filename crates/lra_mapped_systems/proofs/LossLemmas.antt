@@ -1,4 +1,4 @@
--- What is reported about a row of a list where a number passes as it is formed.
+-- What is reported about a row of a list if a number passes as it is formed.
 use Rattle.std.proofs.Common.{◌≡◌, ℕ, suc, ◌<◌, List, [], ◌∷◌, ◌++◌, length, map, drop, get_or, ap, refl, sym, ◌∙◌, subst, ℤ, Result, Err}
 use Rattle.std.proofs.lemmas.List.{get_or_default}
 use Rattle.lra_mapped_systems.specs.Crates.lra_linear_spec.OperationStrain.{FormingPasses}

@@ -1,4 +1,4 @@
--- Rows formed of the rows of a list by a form: which are formed, and what is reported where a number passes in one.
+-- Rows formed of the rows of a list by a form: which are formed, and what is reported if a number passes in one.
 use Rattle.std.specs.List.{Contains}
 use Rattle.std.specs.Prelude.{◌≡◌, ◌⊎◌, ℕ, ℤ, List, [], ◌++◌, ◌∷◌, get_or, length, take, Option, IfNone, IfSome, Err}
 use Rattle.lra_mapped_systems.specs.Crates.lra_linear_spec.CheckedArithmetic.{checked_substitution}
@@ -10,7 +10,7 @@ use Rattle.lra_mapped_systems.specs.Crates.{lra_linear_spec.declared.ConKind.Con
 use Rattle.lra_mapped_systems.specs.Crates.lra_linear_spec.declared.Excess as E
 use Rattle.lra_systems.specs.LinearSystems.{LinearSystem, constraints, rows_by_kind}
 
--- the loss of the row at the place of a list, with those before it taken, where this number passes
+-- the loss of the row at the place of a list, with those before it taken, if this number passes
 pub record IsLossAt (given : List LinearRow) (rows : List (List ℤ)) (place : ℕ) (e : E.Excess) (loss : Loss) : Type 0
   where
     pub later : List LinearRow

@@ -17,7 +17,7 @@ use Rattle.lra_mapped_systems.specs.Crates.{lra_row.declared.error.RowError.RowE
 use Rattle.lra_systems.specs.LinearSystems.{LinearSystem}
 use Rattle.lra_description_pair.specs.OwnLists.{AnyReductionExcess, AreReducedBy}
 
--- The form f has 1 or -1 at column k, and g takes it back: where column k has the value of f, the value of g is what
+-- The form f has 1 or -1 at column k, and g takes it back: if column k has the value of f, the value of g is what
 -- stood there.
 pub record IsInverse (k w : ℕ) (f g : List ℤ) : Type 0 where
   pub column : k < w

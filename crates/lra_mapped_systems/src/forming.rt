@@ -35,7 +35,7 @@ fn first_rows(alloc: Global, list: &ConSys, count: usize) -> Result<ConSys, Allo
     Ok(chosen)
 }
 
-// What is reported about the row at the place, with those before it taken, where a number passes as it is formed.
+// What is reported about the row at the place, with those before it taken, if a number passes as it is formed.
 fn loss_at(alloc: Global, list: &ConSys, place: usize, excess: Excess) -> Result<Loss, AllocError>
     requires { place < length list.now.rows }
     ensures { IfOk result (IsLossAt (constraints list.now) list.now.rows place excess) }
@@ -47,7 +47,7 @@ fn loss_at(alloc: Global, list: &ConSys, place: usize, excess: Excess) -> Result
     Ok(loss)
 }
 
-// What is reported about the generator at the place, where a number passes as it is formed.
+// What is reported about the generator at the place, if a number passes as it is formed.
 fn generator_loss(
     alloc: Global,
     list: &GenSys,
@@ -120,7 +120,7 @@ pub struct Formed {
     pub lost: Option<Loss>,
 }
 
-// Takes in the constraint at the place with the form put in for the column; or, where a number passes in it, what is
+// Takes in the constraint at the place with the form put in for the column; or, if a number passes in it, what is
 // reported about that, unless something is reported already.
 fn form_next(
     alloc: Global,

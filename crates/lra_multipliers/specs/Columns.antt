@@ -34,7 +34,7 @@ abbrev pub used_from : ℕ → List ℤ → List ℕ
 used_from i [] = []
 used_from i (l ∷ ls) = if int_eq l (pos 0) then used_from (i + 1) ls else i ∷ used_from (i + 1) ls
 
--- whether two numbers are the same, where there are both
+-- whether two numbers are the same, if there are both
 abbrev pub both : Option ℤ → Option ℤ → Option Bool
 both o p = option_and_then (λ x. option_and_then (λ y. Some (int_eq x y)) p) o
 

@@ -90,7 +90,7 @@ abbrev pub checked : List LinearRow → List ℤ → Multipliers → Answer
 checked premises claim m = compared (checked_multiple claim m.divisor) (premises_sum premises claim m)
     (may_show premises m)
 
--- where the premises hold, a claim that multipliers show does
+-- if the premises hold, a claim that multipliers show does
 abbrev pub MultipliersShow : Type 0
 MultipliersShow = (premises : List LinearRow) (claim x : List ℤ) (m : Multipliers) →
     IsFarkasCertificate premises claim m →

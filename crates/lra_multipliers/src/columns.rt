@@ -12,7 +12,7 @@ ghost use Rattle.lra_multipliers.specs.Multipliers.{IsAnswer, is_signed, checked
 use crate::multipliers::Multipliers;
 use lra_domain::{ConKind, ConSys, Row, add, mul};
 
-/// The answer of a check; `Wide` where a product or a partial sum passes the range.
+/// The answer of a check; `Wide` if a product or a partial sum passes the range.
 #[derive(Clone, Copy, Debug, PartialEq, Eq)]
 pub enum Answer {
     Yes,

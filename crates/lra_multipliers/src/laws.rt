@@ -2,7 +2,7 @@
 
 ghost use Rattle.lra_multipliers.specs.Multipliers.{MultipliersShow};
 
-/// Where the premises hold that multipliers add up, the claim does.
+/// If the premises hold that multipliers add up, the claim does.
 #[tactic(auto, using(crate::proofs::ShownRows::shown_holds))]
 pub fn multipliers_show()
     ensures { MultipliersShow }

@@ -1,4 +1,4 @@
--- A store that meets a bound stays one where the bound is entered; and what is entered is one matrix.
+-- A store that meets a bound stays one when the bound is entered; and what is entered is one matrix.
 use Rattle.std.proofs.Common.{◌≡◌, ℕ, suc, ◌+◌, ◌*◌, ◌<◌, ◌^◌, ◌⊎◌, ℤ, List, Option, None, Some, inl, inr, true, refl, sym, ap, ◌∙◌, subst, arith}
 use Rattle.std.proofs.{lemmas.Bool.Decides.eqb_tells, lemmas.Bool.Decides.leb_tells, lemmas.Int.ints}
 use Rattle.std.specs.Prelude.{◌-ℤ◌, ◌+ℤ◌, ◌≤ℤ◌, neg_ℤ, unsigned_abs}

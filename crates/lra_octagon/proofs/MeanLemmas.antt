@@ -221,7 +221,7 @@ unequal_holds n m a (suc k) s e =
     let t = later_step (λ b. WithHolds Ge n m s (2 * b) × WithHolds Ge n m s (2 * b + 1)) a k in
     (λ h. let q = p.0 h in let o = b.0 q.0 in t.0 ((u.0 o.0, d.0 o.1), r.0 q.1), λ h. let q = t.1 h in p.1 (b.1 (u.1 q.0.0, d.1 q.0.1), r.1 q.1))
 
--- ---- all rows hold exactly where each printed inequality is met
+-- ---- all rows hold exactly if each printed inequality is met
 
 abbrev AllMet : ℕ → Entries → List ℤ → Type 0
 AllMet n m s = (i j : ℕ) → i < 2 * n → j < 2 * n → Apart i j → Met (printed m i j) (sum_at s i j)
@@ -235,7 +235,7 @@ equality_opposite m i j t = ap (λ z. makes_equality (printed m (opposite i) (op
     ∙ ap (λ z. makes_equality (printed m (opposite i) (opposite j)) (printed m i z)) (opposite_twice j)
     ∙ turned_equality (printed m i j) (printed m (opposite i) (opposite j)) t
 
--- at an equality, its row holds exactly where both inequalities are met
+-- at an equality, its row holds exactly if both inequalities are met
 equality_met : (n : ℕ) (m : Entries) (i j : ℕ) (s : List ℤ) → i < 2 * n → j < 2 * n → Apart i j → length s ≡ n → is_equality_pair m i j ≡ true
     → AllHold Eq (kind_row Eq n m i j) s ↔ (Met (printed m i j) (sum_at s i j) × Met (printed m (opposite i) (opposite j)) (sum_at s (opposite i) (opposite j)))
 equality_met n m i j s h k a e t =
@@ -400,7 +400,7 @@ stores_hold n (Some cells) s e h =
     let w = rows_of_met n m s e (store_met n m s h) in
     inl ((rows_hold (octagon_equalities n m 0 n) (octagon_inequalities n m 0 n) s).1 ((equal_holds n m 0 n s (omega arith)).1 w.0, (unequal_holds n m 0 n s (omega arith)).1 w.1))
 
--- a list of as many numbers as dimensions is a store exactly where all rows of some part hold
+-- a list of as many numbers as dimensions is a store exactly if all rows of some part hold
 pub parts_mean : (n : ℕ) (o : Option Cells) (s : List ℤ) → CellsFit n o → length s ≡ n → has_store n o s ↔ SomePartHolds (octagon_parts n o) s
 parts_mean n None s fit e = (λ h. h, λ h. h)
 parts_mean n (Some cells) s fit e =

@@ -28,7 +28,7 @@ entered_back n i j v cells s h k is store = (
   le_trans (store.below i j h k) (enter_at n i j v cells h k is),
 )
 
--- a wider matrix keeps more stores where the same bound is entered
+-- a wider matrix keeps more stores when the same bound is entered
 pub entered_wider : (n i j : ℕ) (v : Option ℤ) (small big : Cells) (s : List ℤ) → i < 2 * n → j < 2 * n → IsMatrix n small → IsMatrix n big → CellsWithin small big
     → IsStore n (entries n (entered i j v small)) s → IsStore n (entries n (entered i j v big)) s
 entered_wider n i j v small big s h k is fit w store =

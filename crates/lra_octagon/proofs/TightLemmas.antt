@@ -151,7 +151,7 @@ the_opposite x i j f g ne = elim (in_pair x i f) [
   ])
 ]
 
--- where x may have each number, each difference from it and to it is reached
+-- if x may have each number, each difference from it and to it is reached
 module _ (n x : ℕ) (new : Cells) (s : List ℤ) (i j : ℕ) (c : ℤ) (wide : x < length s)
     (free : (v : ℤ) → IsStore n (entries n new) (slice_set s x v)) where
   apart : i / 2 ≡ x → j / 2 ≡ x → i ≢ j → (t : List ℤ) × IsStore n (entries n new) t × (c ≤ℤ (signed_value t j -ℤ signed_value t i))

@@ -8,7 +8,7 @@ use Rattle.lra_dbm.specs.{Entry.lesser, Entry.passes_range, Tight.opposite, Tigh
 use Rattle.lra_octagon.specs.Content.{CellsFit, has_store}
 use Rattle.lra_octagon.specs.Tables.{upper, bounded, Bounds, SomePasses, BoundedPasses}
 
--- signed variable i was made at most v: its stores stay; twice v was entered, or left out where it passes the range
+-- signed variable i was made at most v: its stores stay; twice v was entered, or left out if it passes the range
 pub record BoundsOne (n i : ℕ) (v : Option ℤ) (old new : Cells) (e : Exactness) : Type 0 where
   pub is : IsMatrix n new
   pub stores : (s : List ℤ) → IsStore n (entries n old) s → Some (signed_value s i) ⊑ v → IsStore n (entries n new) s

@@ -13,7 +13,7 @@ joined_cells None b = b
 joined_cells (Some cs) None = Some cs
 joined_cells (Some cs) (Some ds) = Some (greater_cells cs ds)
 
--- an entry stays where next's is no greater, and becomes infinite otherwise
+-- an entry stays if next's is no greater, and becomes infinite otherwise
 abbrev pub widened_cells : Option Cells → Option Cells → Option Cells
 widened_cells None b = b
 widened_cells (Some cs) None = Some cs

@@ -1,4 +1,4 @@
--- What holds where no closing was flagged: an octagon is then empty, or its matrix is tight.
+-- What holds if no closing was flagged: an octagon is then empty, or its matrix is tight.
 use Rattle.std.specs.Prelude.{◌≡◌, ℕ, Option, None, Some}
 use Rattle.lra_domain.specs.Actions.{Within}
 use Rattle.lra_dbm.specs.{Cells.Cells, Cells.entries, Tight.IsTight}
@@ -11,7 +11,7 @@ IsTightOrNone n (Some cells) = IsTight n (entries n cells)
 abbrev pub IsTightOctagon : OctagonContent → Type 0
 IsTightOctagon a = IsTightOrNone a.dims a.cells
 
--- where both octagons are tight, the new one lies in each that has the stores of both
+-- if both octagons are tight, the new one lies in each that has the stores of both
 abbrev pub LeastOctagon : OctagonContent → OctagonContent → OctagonContent → Type 0
 LeastOctagon a b new =
     IsTightOctagon a → IsTightOctagon b → (c : OctagonContent) → c.dims ≡ a.dims → CellsFit c.dims c.cells

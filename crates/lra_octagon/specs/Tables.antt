@@ -49,7 +49,7 @@ abbrev pub upper_of : ℕ → Interval → Option ℤ
 upper_of zero i = i.high
 upper_of (suc k) i = option_map neg_ℤ i.low
 
--- the upper bound of a signed variable, where each variable lies in its interval
+-- the upper bound of a signed variable, if each variable lies in its interval
 abbrev pub upper : List Interval → ℕ → Option ℤ
 upper is j = upper_of (j % 2) (slice_index_or is (j / 2) full_interval)
 
@@ -77,7 +77,7 @@ pub record Forgets (n x : ℕ) (old new : Cells) : Type 0 where
 abbrev pub equated : ℕ → ℕ → ℤ → Cells → Cells
 equated x i c cells = entered (2 * x) i (Some (neg_ℤ c)) (entered i (2 * x) (Some c) cells)
 
--- the cells where x becomes x + c, or where it flips -x + c
+-- the cells when x becomes x + c, or if it flips -x + c
 pub record Shifts (n : ℕ) (flips : Bool) (x : ℕ) (c : ℤ) (old new : Cells) : Type 0 where
   pub is : IsMatrix n new
   pub entries : (i j : ℕ) → i < 2 * n → j < 2 * n → entries n new i j ≡ shifted flips x c (entries n old) i j
@@ -109,7 +109,7 @@ AssignsTo n x e Bound old new = (cells : Cells) × Forgets n x old cells
 
 -- ---- tests
 
--- e >= 0 where e divided by the magnitude of its coefficients is v_i + v_j + q, or v_i + q
+-- e >= 0 if e divided by the magnitude of its coefficients is v_i + v_j + q, or v_i + q
 abbrev pub at_least : ℕ → ℕ → ℤ → Cells → Cells
 at_least i j q cells = entered i (opposite j) (Some q) cells
 

@@ -19,7 +19,7 @@ use lra_domain::{Exactness, LinExpr, worse};
 use std::alloc::{AllocError, Global};
 
 /// What an assignment to `x` does: `x` becomes another variable's signed variable plus the constant, or itself plus the
-/// constant, or where it flips its opposite plus the constant; or it gets the bounds of the form over the unary bounds.
+/// constant, or if it flips its opposite plus the constant; or it gets the bounds of the form over the unary bounds.
 #[derive(Clone, Copy, Debug, PartialEq, Eq)]
 pub enum Assignment {
     Equate(usize),

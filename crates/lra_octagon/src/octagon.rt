@@ -22,7 +22,7 @@ use std::marker::Model;
 /// An octagon: empty, or a matrix of bounds. As a head it keeps a matrix that is never closed after its start.
 ///
 /// A mark says that it is known to be tight: then a test that lowers no entry changes nothing, and costs neither a copy
-/// nor a closing. Where an entry is past half of the range it is closed all the same, since what closing forms of the
+/// nor a closing. If an entry is past half of the range it is closed all the same, since what closing forms of the
 /// entries may pass there and flag.
 pub struct Octagon {
     alloc: Global,
@@ -111,7 +111,7 @@ impl Domain for Octagon {
         self.matrix.is_none()
     }
 
-    /// By the entries, which are closed where nothing was flagged, if the form has one coefficient of 1 or -1, or two;
+    /// By the entries, which are closed if nothing was flagged, if the form has one coefficient of 1 or -1, or two;
     /// else by the unary bounds, as over boxes.
     fn bounds(&self, e: &LinExpr) -> (Option<i128>, Option<i128>) {
         bounds_of(self.dims, &self.matrix, e)

@@ -245,7 +245,7 @@ pub fn system_of(alloc: Global, matrix: &Dbm) -> Result<ConSys, AllocError>
     Ok(system)
 }
 
-/// The rows that mean the octagon: no part where it is empty, else one.
+/// The rows that mean the octagon: no part if it is empty, else one.
 pub fn parts_of(alloc: Global, n: usize, bounds: &Bounds) -> Result<Vec<ConSys>, AllocError>
     requires { DimsFit n bounds.now }
     ensures { IfOk result (λ ps. ps.items ≡ octagon_parts n (matrix_view bounds.now)) }

@@ -95,7 +95,7 @@ fn is_met(n: usize, matrix: &Dbm, t: &Test) -> bool
     }
 }
 
-/// Whether the test is known to leave a tight octagon as it is; no where an entry is past half of the range.
+/// Whether the test is known to leave a tight octagon as it is; not if an entry is past half of the range.
 pub fn passes_all(n: usize, bounds: &Bounds, t: &Test) -> bool
     requires few { n ≤ 2 ^ 30 }
     requires dims { DimsFit n bounds.now }

@@ -25,7 +25,7 @@ x_below n = compare below (read x) (literal Int n)
 abbrev counting : Node
 counting = iterate 0 0 (x_below 2) (seq (point 1) (act 1 (store_value 0 (variable_at 0 Long) (binary plus (read x) (literal Int 1)))))
 
--- from x = 1: the loop's point, the assignment's, and the loop's again, where the test is false; the latest first
+-- from x = 1: the loop's point, the assignment's, and the loop's again, if the test is false; the latest first
 counted : RunsUpTo (λ q. q) NoChange counting (starts (x_is (pos 1))) to_end
     (record { state = x_is (pos 2); events = visit 0 (x_is (pos 2)) ∷ visit 1 (x_is (pos 1)) ∷ visit 0 (x_is (pos 1)) ∷ [] })
 counted = (1, _, (_, refl, (_, (_, (refl, refl), (refl, refl)), (_, (refl, refl), (refl, refl)))), (_, (refl, refl), (refl, refl)))
@@ -35,7 +35,7 @@ in_the_round : RunsUpTo (λ q. q) NoChange counting (starts (x_is (pos 1))) (sto
     (record { state = x_is (pos 1); events = visit 0 (x_is (pos 1)) ∷ [] })
 in_the_round = (0, _, refl, inr (_, (_, (refl, refl), (refl, refl)), inl (refl, refl)))
 
--- the loop's own point isn't met where the run is followed no further than there
+-- the loop's own point isn't met if the run is followed no further than there
 to_the_loop : RunsUpTo (λ q. q) NoChange counting (starts (x_is (pos 5))) (stopped (to_point 0)) (starts (x_is (pos 5)))
 to_the_loop = (0, _, refl, inl (refl, refl))
 

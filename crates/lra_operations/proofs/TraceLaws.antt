@@ -1,4 +1,4 @@
--- A tree's run where nothing changes the state at points is one without its list, and the other way round.
+-- A tree's run if nothing changes the state at points is one without its list, and the other way round.
 use Rattle.std.proofs.Common.{◌≡◌, ℕ, zero, suc, ◌∷◌, List, Bool, Some, true, false, ◌||◌, inl, inr, refl, ap, subst}
 use Rattle.lra_operations.specs.Crates.{lra_base.CaseLabels.is_same_case, lra_base.declared.case_labels.CaseLabel.CaseLabel}
 use Rattle.lra_program.specs.{Program.Cond, Step.State, Step.run_op, Step.test, Traces.TraceEvent, Traces.visit, Traces.Trace, Traces.NoChange}

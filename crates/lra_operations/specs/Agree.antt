@@ -1,4 +1,4 @@
--- The tree of a whole program, and what it must guarantee: the tree reaches a point exactly where a run does.
+-- The tree of a whole program, and what it must guarantee: the tree reaches a point exactly if a run does.
 use Rattle.std.specs.List.{AllByRecursion}
 use Rattle.std.specs.Prelude.{◌≡◌, ◌↔◌, ℕ, ℤ, List, length, Some, slice_get, IsTrue, suc}
 use Rattle.lra_program.specs.Run.{begun, Point, At, Fails}
@@ -37,10 +37,10 @@ AreDistinct T = (i j : ℕ) (a b : Site) → slice_get T i ≡ Some a → slice_
     a.label ≡ b.label → i ≡ j
 
 pub record Agrees (P : Program) (g : Node) : Type 0 where
-  -- a run reaches the point exactly where the tree does
+  -- a run reaches the point exactly if the tree does
   pub comes : (number : ℕ) (s : Site) (store : List ℤ) → slice_get (sites_of P) number ≡ Some s →
       (At P (point_of s) store ↔ Reached P g number store)
-  -- and fails there exactly where the tree does
+  -- and fails there exactly if the tree does
   pub fails : (number : ℕ) (s : Site) → slice_get (sites_of P) number ≡ Some s →
       (Fails P (point_of s) ↔ Failed P g number)
   -- the store has as many variables as live there
@@ -51,6 +51,6 @@ pub record Agrees (P : Program) (g : Node) : Type 0 where
       (slice_get (sites_of P) number ≡ Some s) × (p ≡ point_of s)
 
 -- A run is at a point by its path and label, the tree by its number; so each tree of a program agrees with its runs
--- where no two of its points have one path and label.
+-- if no two of its points have one path and label.
 abbrev pub TreesAgree : Type 0
 TreesAgree = (P : Program) (g : Node) → AreDistinct (sites_of P) → IsInlinedTree P g → Agrees P g

@@ -13,7 +13,7 @@ use Rattle.lra_operations.specs.Agree.{IsInlinedTree, point_of, AreDistinct}
 use Rattle.lra_operations.specs.Tree.{Node, empty, probe, point, act, check, seq, choose, iterate, catch, leave, select}
 use Rattle.lra_operations.specs.Tree.{Arms, no_arms, entry, arm}
 
--- an operation that is asked: its point, the type of the variable that is new before it, where one is, and what is done
+-- an operation that is asked: its point, the type of the variable that is new before it, if one is, and what is done
 pub record OpAtPoint : Type 0 where
   pub point : ℕ
   pub fresh : Option NumberType
@@ -86,7 +86,7 @@ computing_ops_in_arms fresh arms = ops_where_in_arms op_computes fresh arms
 abbrev pub accessing_ops : Option NumberType → Node → List OpAtPoint
 accessing_ops fresh g = ops_where op_accesses_any fresh g
 
--- Q holds of the operation and of the state in which it runs, where the point is on top in this state
+-- Q holds of the operation and of the state in which it runs, if the point is on top in this state
 abbrev pub HoldsWithFresh : (Op → State → Type 0) → Option NumberType → Op → State → Type 0
 HoldsWithFresh Q None op s = Q op s
 HoldsWithFresh Q (Some t) op s = (m : State) × (run_op (append t) s ≡ Some m) × Q op m
@@ -101,7 +101,7 @@ FreshOverflows fresh op s = HoldsWithFresh OpOverflows fresh op s
 abbrev pub OverflowsAtPoint : OpAtPoint → State → Type 0
 OverflowsAtPoint a s = HoldsAtPoint OpOverflows a s
 
--- What each tree of a program must guarantee: it asks once at each point at most; and where Q holds of what is on top
+-- What each tree of a program must guarantee: it asks once at each point at most; and if Q holds of what is on top
 -- of a run with a point on top, it asks there, and Q holds of that operation.
 abbrev pub AreOncePerPoint : (Op → Bool) → Node → Type 0
 AreOncePerPoint asks g = (i j : ℕ) (a b : OpAtPoint) → slice_get (ops_where asks None g) i ≡ Some a →

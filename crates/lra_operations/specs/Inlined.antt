@@ -52,7 +52,7 @@ callee_node q r n x gives params g =
 abbrev pub call_node : ℕ → ℕ → ℕ → ℕ → Receiver → List Argument → ℕ → Node → Node
 call_node q r base n x given params g = callee_node q r n x (push base given) params g
 
--- where so many variables live, the receiver gets the value, and the store is cut to the caller's n
+-- if so many variables live, the receiver gets the value, and the store is cut to the caller's n
 abbrev pub return_node : ℕ → Op → ℕ → ℕ → Node
 return_node q op n live = seq (act q op) (seq (act q (truncate_to n)) (leave live returned))
 

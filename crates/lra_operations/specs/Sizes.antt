@@ -1,6 +1,6 @@
 -- How large trees are while they are taken apart, so that this ends: a tree that is still to be opened counts two, if
 -- it has trees in it, and what those count; a tree with none in it counts one. A tree that hangs open before a rest
--- counts one for itself, and where the rest hangs in place of its last arm two. Each arm counts one more.
+-- counts one for itself, and if the rest hangs in place of its last arm two. Each arm counts one more.
 use Rattle.std.specs.{List.sum_by, Prelude.ℕ, Prelude.◌+◌, Prelude.List, Prelude.[], Prelude.◌∷◌}
 use Rattle.lra_operations.specs.declared.tree.Arm.TheFolds.{fold-Arm, fold-Node}
 use Rattle.lra_operations.specs.declared.tree.Arm.TheOpen.{Arm-F, Node-F}

@@ -25,11 +25,11 @@ module _ (may : State → State → Type 0) (P : Program) (g : Node) where
       RunsUpTo (point_at (sites_of P)) may g (record { state = begun P draws; events = [] }) (stopped z) a
 
   pub record TracesAgree : Type 0 where
-    -- a run reaches the point on the trace exactly where the tree does
+    -- a run reaches the point on the trace exactly if the tree does
     pub comes : (number : ℕ) (s : Site) (draws : List ℤ) (a : Trace Point) →
         slice_get (sites_of P) number ≡ Some s →
         (Arrives may P draws (point_of s) a ↔ TreeRunsUpTo draws (to_point number) a)
-    -- and fails there exactly where the tree does
+    -- and fails there exactly if the tree does
     pub fails : (number : ℕ) (s : Site) (draws : List ℤ) (a : Trace Point) →
         slice_get (sites_of P) number ≡ Some s →
         (ViolatesAssertion may P draws (point_of s) a ↔ TreeRunsUpTo draws (to_failure number) a)

@@ -54,7 +54,7 @@ entries_of no_arms = []
 entries_of (entry l arms) = l ∷ entries_of arms
 entries_of (arm a arms) = entries_of arms
 
--- the expression's value, where it has one, goes to this label; the second state is after its draws
+-- the expression's value, if it has one, goes to this label; the second state is after its draws
 abbrev pub Selects : ℕ → Expr → Arms → State → CaseLabel → State → Type 0
 Selects base e arms s l t = (z : ℤ) × (value_of e (environment_at base s) s.draws ≡ Some (z, t.draws)) ×
     (t ≡ record s { draws = t.draws }) × (l ≡ goal_of z (entries_of arms))

@@ -37,7 +37,7 @@ pub enum Op {
     PushFor(usize, Element, Vec<Argument>),
     /// Only the oldest so many variables stay.
     TruncateTo(usize),
-    /// Nothing, where the condition has this value.
+    /// Nothing, if the condition has this value.
     Test(usize, Cond, bool),
 }
 

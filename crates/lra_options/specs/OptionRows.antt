@@ -10,7 +10,7 @@ use Rattle.lra_options.specs.{declared.options.NumberOption.NumberOption, declar
 
 -- numbers ----------------------------------------------------------------------------------------------------------
 
--- a number among the words: its name, its least and its greatest value, and its text where words give none; without one
+-- a number among the words: its name, its least and its greatest value, and its text if words give none; without one
 -- it has to be given
 pub record NumberRow : Type 0 where
   pub name : List ℕ
@@ -57,7 +57,7 @@ default_number option = written_number (number_row option).default
 
 -- flags ------------------------------------------------------------------------------------------------------------
 
--- a flag: off where words don't give it; a report shows it always, or only if it is on. Those that change no state
+-- a flag: off if words don't give it; a report shows it always, or only if it is on. Those that change no state
 -- stand beside `--best`
 pub record FlagRow : Type 0 where
   pub name : List ℕ
@@ -88,7 +88,7 @@ is_reported option o = (flag_row option).is_always_reported || flag_value option
 
 -- defaults ---------------------------------------------------------------------------------------------------------
 
--- the options of an analysis where words name none, as a sample's
+-- the options of an analysis if words name none, as a sample's
 abbrev pub default_options : Options
 default_options = record {
   domain = Poly;

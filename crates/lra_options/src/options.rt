@@ -177,7 +177,7 @@ impl NumberOption {
         }
     }
 
-    /// Whether a report shows it also where it is its default.
+    /// Whether a report shows it also if it is its default.
     fn is_always_reported(self) -> bool
         ensures { result ≡ is_number_always_reported self }
     {
@@ -226,7 +226,7 @@ impl FlagOption {
         }
     }
 
-    /// Whether a report shows it also where it is off.
+    /// Whether a report shows it also if it is off.
     fn is_always_reported(self) -> bool
         ensures { result ≡ (flag_row self).is_always_reported }
     {
@@ -287,7 +287,7 @@ impl FlagOption {
     }
 }
 
-/// The options of an analysis where words name none: polyhedra of one part, delay and narrowing 1, not limited.
+/// The options of an analysis if words name none: polyhedra of one part, delay and narrowing 1, not limited.
 pub const DEFAULT_OPTIONS: Options = Options {
     domain: Domain::Poly,
     parts: 1,

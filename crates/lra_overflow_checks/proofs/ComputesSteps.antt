@@ -65,7 +65,7 @@ any_computes : (c : Cond) (ds : List Cond) → cond_computes (any_of c ds) ≡ (
 any_computes c [] = sym (or-false (cond_computes c))
 any_computes c (d ∷ ds) = ap (λ (b : Bool). cond_computes c || b) (any_computes d ds)
 
--- a chain of the code computes where its first operand does, or one of the others
+-- a chain of the code computes if its first operand does, or one of the others
 module _ (x : declared_cond.Cond) (first : Box declared_cond.Cond Global) (rest : Vec declared_cond.Cond Global) where
   abbrev Says : Type 0
   Says = cond_computes (cond_view x) ≡ (cond_computes (cond_view first.value) || some_computes (map cond_view rest.items))

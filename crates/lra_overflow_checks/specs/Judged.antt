@@ -29,7 +29,7 @@ abbrev pub some_computes : List Cond → Bool
 some_computes [] = false
 some_computes (c ∷ cs) = cond_computes c || some_computes cs
 
--- a chain of `&&`, whose operands are computed where those before them are true, or of `||`, where they are false
+-- a chain of `&&`, whose operands are computed if those before them are true, or of `||`, if they are false
 abbrev pub sides_of : Bool → Cond → List Cond → Cond
 sides_of true c cs = all_of c cs
 sides_of false c cs = any_of c cs

@@ -1,4 +1,4 @@
--- What operators and signs make of forms, where these are there.
+-- What operators and signs make of forms, if these are there.
 use Rattle.std.specs.Prelude.{Option, negsuc}
 use Rattle.lra_overflow_checks.specs.Crates.lra_analysis_spec.Linear.{operator_form, scaled}
 use Rattle.lra_overflow_checks.specs.Crates.{lra_base.Operators.Operator, lra_linear_forms.Form.Form}

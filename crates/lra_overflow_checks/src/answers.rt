@@ -75,7 +75,7 @@ pub fn operator_fits<D: Domain>(
     }
 }
 
-/// What the operator makes of two forms, where both are there.
+/// What the operator makes of two forms, if both are there.
 pub fn combine(
     alloc: Global,
     operator: Operator,
@@ -93,7 +93,7 @@ pub fn combine(
     }
 }
 
-/// The form with the other sign, where it is there.
+/// The form with the other sign, if it is there.
 pub fn negate(alloc: Global, form: &Option<LinExpr>) -> Result<Option<LinExpr>, AllocError>
     ensures { IfOk result (λ o. o ≡ with_other_sign form.now) }
 {

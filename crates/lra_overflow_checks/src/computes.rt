@@ -69,7 +69,7 @@ fn some_computes(conditions: &[Cond]) -> bool
     false
 }
 
-/// Whether something is computed where a value is given to the receiver.
+/// Whether something is computed when a value is given to the receiver.
 pub fn giving_computes(receiver: Receiver, e: &Expr) -> bool
     ensures { result ≡ given_computes receiver (expr_view e.now) }
 {
@@ -83,7 +83,7 @@ pub fn parameter(number_type: NumberType) -> Receiver
     Receiver::nobody().result_receiver(Some(number_type))
 }
 
-/// Whether something is computed where arguments are given.
+/// Whether something is computed when arguments are given.
 fn arguments_compute(arguments: &[Argument]) -> bool
     ensures { result ≡ arguments_compute (map argument_view arguments.now) }
 {

@@ -24,7 +24,7 @@ pub trait Leaf<D: Domain> {
     /// One of what is reported.
     type Told: Drop;
 
-    /// What is reported about both sides of a comparison, where the variables of its call begin there.
+    /// What is reported about both sides of a comparison, if the variables of its call begin there.
     ghost both: { ℕ → ProgramExpr → ProgramExpr → D → List Self.Told → Exactness → Type 0 };
 
     /// What is reported about what is compared with 0.
@@ -82,7 +82,7 @@ pub fn judge_condition<D: Domain, L: Leaf<D>>(
     }
 }
 
-/// What is reported about an operand of a chain; the value is then what is left of it where the operand is as `wanted`.
+/// What is reported about an operand of a chain; the value is then what is left of it if the operand is as `wanted`.
 #[cycle(judge)]
 fn pass_operand<D: Domain, L: Leaf<D>>(
     around: Surroundings,
@@ -109,7 +109,7 @@ fn pass_operand<D: Domain, L: Leaf<D>>(
     )
 }
 
-/// What is reported about a chain: of each operand by what those before it leave, where they are as `wanted`.
+/// What is reported about a chain: of each operand by what those before it leave, if they are as `wanted`.
 #[cycle(judge)]
 fn judge_sides<D: Domain, L: Leaf<D>>(
     around: Surroundings,

@@ -38,7 +38,7 @@ module _ (d : ℕ) where
 
 -- globals ------------------------------------------------------------------------------------------------------------
 
--- the exit by `?` where the mark doesn't come after them
+-- the exit by `?` if the mark doesn't come after them
 pub ended_exit : {A B : Type 0} (m : Mark) (p : Parse A) (f : A → B) (T M : Text) (b : B) (s : Stopped) → map_read f p T ≡ Ok (b, M) → ParsesAsErr s (expect m (tt {0}) M) →
     ParsesAsErr s (map_read f (ended m p) T)
 ended_exit m p f T M b stopped.Memory e g = tt

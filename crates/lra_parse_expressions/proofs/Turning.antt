@@ -58,12 +58,12 @@ stop_gives view result c T read e is = rw is e
 pub err_same : {Y : Type 0} (s : Stopped) (a b : Read Y) → b ≡ a → ParsesAsErr s a → ParsesAsErr s b
 err_same s a b e g = subst (λ r. ParsesAsErr s r) (sym e) g
 
--- the exit by `?` where the first of two stops
+-- the exit by `?` if the first of two stops
 pub seq_exit : {A B : Type 0} (p : Parse A) (q : A → Parse B) (T : Text) (s : Stopped) → ParsesAsErr s (p T) → ParsesAsErr s (seq p q T)
 seq_exit p q T stopped.Memory g = tt
 seq_exit p q T (stopped.Fault f) g = rw g refl
 
--- and where the second does
+-- and if the second does
 pub seq_then : {A B : Type 0} (p : Parse A) (q : A → Parse B) (T U : Text) (a : A) (s : Stopped) → p T ≡ Ok (a, U) → ParsesAsErr s (q a U) →
     ParsesAsErr s (seq p q T)
 seq_then p q T U a stopped.Memory e g = tt
@@ -165,7 +165,7 @@ expect_err {A} m a b T f e = elim (test (is_mark m (first T))) [
       rw off (ap (λ (g : Fault). Err g) same)
 ]
 
--- items with commas between them, where the first stops
+-- items with commas between them, if the first stops
 pub commas_first : {I B : Type 0} (p : Parse I) (f : I × List I → B) (T : Text) (s : Stopped) → ParsesAsErr s (p T) → ParsesAsErr s (map_read f (commas p) T)
 commas_first p f T stopped.Memory g = tt
 commas_first p f T (stopped.Fault d) g = rw g refl
@@ -197,13 +197,13 @@ module _ {A : Type 0} (p : Parse A) where
       → ParsesAsErr s (in_parens p T)
   parens_exit = between_exit mark.OpenParen mark.CloseParen p
 
--- the exit by `?` where the mark doesn't come after a part
+-- the exit by `?` if the mark doesn't come after a part
 pub up_to_exit : {A : Type 0} (m : Mark) (p : Parse A) (T M : Text) (a : A) (e : Stopped) → false ≡ is_mark m (first T) → p T ≡ Ok (a, M) → ParsesAsErr e (expect m (tt {0}) M) →
     ParsesAsErr e (up_to m p T)
 up_to_exit m p T M a stopped.Memory off g h = tt
 up_to_exit m p T M a (stopped.Fault f) off g h = rw (sym off, g) (expect_err m (tt {0}) (Some a) M f h)
 
--- and where the part itself stops
+-- and if the part itself stops
 pub up_to_first : {A : Type 0} (m : Mark) (p : Parse A) (T : Text) (e : Stopped) → false ≡ is_mark m (first T) → ParsesAsErr e (p T) →
     ParsesAsErr e (up_to m p T)
 up_to_first m p T stopped.Memory off g = tt
@@ -278,7 +278,7 @@ module _ {A B : Type 0} (p : Parse A) (f : A × List A → B) where
   commas_exit a T M stopped.Memory e g = tt
   commas_exit a T M (stopped.Fault d) e g = rw (e, g) refl
 
--- where q reads the items after the first
+-- if q reads the items after the first
 module _ {A B : Type 0} (p q : Parse A) (f : A × List A → B) where
   pub from_gives : (a : A) (is : List A) (T M R : Text) → p T ≡ Ok (a, M) → list_of (is_mark mark.Comma) (after_mark mark.Comma q) M ≡ Ok (is, R) → map_read f (commas_from p q) T ≡ Ok (f (a, is), R)
   from_gives a is T M R e g = rw (e, g) refl

@@ -1,4 +1,4 @@
-//! Assignments and declarations. A function reads where `depth` levels of nesting are left.
+//! Assignments and declarations. A function reads if `depth` levels of nesting are left.
 
 ghost use Rattle.std.specs.Prelude.{◌≡◌, ◌<◌, ◌≤◌, length, IfOk};
 ghost use Rattle.lra_syntax.specs.Views.{rvalue_view, assign_view, shape_view, declarator_view, declaration_view};

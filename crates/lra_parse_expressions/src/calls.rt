@@ -1,4 +1,4 @@
-//! Calls, and what a variable gets or a `return` gives. A function reads where `depth` levels of nesting are left.
+//! Calls, and what a variable gets or a `return` gives. A function reads if `depth` levels of nesting are left.
 
 ghost use Rattle.std.specs.Prelude.{◌≡◌, ◌<◌, ◌≤◌, [], ◌∷◌, length, map, IfOk};
 ghost use Rattle.lra_syntax.specs.Views.{expr_view, call_view, rvalue_view};

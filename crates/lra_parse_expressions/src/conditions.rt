@@ -1,4 +1,4 @@
-//! Conditions. A function reads where `depth` levels of nesting are left.
+//! Conditions. A function reads if `depth` levels of nesting are left.
 //! What is read after a parenthesis stands in boxes, so that a level takes little of the stack.
 
 ghost use Rattle.std.specs.Prelude.{◌≡◌, ◌≤◌, length, map, IfOk, MatchResult};

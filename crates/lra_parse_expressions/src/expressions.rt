@@ -1,4 +1,4 @@
-//! Expressions. A function reads where `depth` levels of nesting are left.
+//! Expressions. A function reads if `depth` levels of nesting are left.
 
 ghost use Rattle.std.specs.Prelude.{◌≡◌, ◌≤◌, length, IfOk};
 ghost use Rattle.lra_syntax.specs.{Trees.unary, Trees.term, Views.unary_view, Views.term_view, Views.expr_view};

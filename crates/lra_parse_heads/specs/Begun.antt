@@ -29,7 +29,7 @@ branches_left (begun.Whole s) = 0
 branches_left (begun.UpToBranch h) = branches_of h.value
 branches_left (begun.UpToBraces h) = 1
 
--- after what is begun, where d levels are left
+-- after what is begun, if d levels are left
 abbrev pub begun_rest : ℕ → Begun → Parse StmtTree
 begun_rest d (begun.Whole s) = done_with (stmt_view s.value)
 begun_rest d (begun.UpToBranch h) = seq (branch_at d) (behind_branch (branch_at d) h.value)

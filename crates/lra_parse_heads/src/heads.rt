@@ -1,4 +1,4 @@
-//! An `if`, a loop or a `switch` up to its branch or its braces. A function reads where `depth` levels of nesting are
+//! An `if`, a loop or a `switch` up to its branch or its braces. A function reads if `depth` levels of nesting are
 //! left.
 
 ghost use Rattle.std.specs.Prelude.{ℕ, ◌≡◌, ◌<◌, ◌≤◌, length, IfOk};

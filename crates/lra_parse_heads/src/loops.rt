@@ -1,4 +1,4 @@
-//! Heads of loops, and the statements that leave a loop or a function. A function reads where `depth` levels of nesting
+//! Heads of loops, and the statements that leave a loop or a function. A function reads if `depth` levels of nesting
 //! are left.
 
 ghost use Rattle.std.specs.Prelude.{◌≡◌, ◌<◌, ◌≤◌, length, option_map, IfOk};

@@ -31,11 +31,11 @@ braces_some (suc d) T h = let e : d ≡ suc d - 1 = omega arith in ap (λ (k : �
 
 pub ruleset braces_rules = (braces_zero, braces_some)
 
--- an exit where a level is left
+-- an exit if a level is left
 pub some_exit : (d : ℕ) (T : Text) (e : Stopped) → (d ≡ 0 → ⊥) → ParsesAsErr e (braces_of (cases_at (d - 1)) T) → ParsesAsErr e (braces_at d T)
 some_exit d T e some g = err_same e (braces_of (cases_at (d - 1)) T) (braces_at d T) (braces_some d T some) g
 
--- the fault where no level is left
+-- the fault if no level is left
 abbrev fault_of : Bool → Text → Fault
 fault_of b T = record { cause = cond b TooDeep Syntax; left = length T }
 

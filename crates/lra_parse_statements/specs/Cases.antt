@@ -26,6 +26,6 @@ told_part T = map_read (λ parts. (parts, begins_label (first T))) first_part T
 abbrev pub opened_part : Parse (List CasePart × Bool)
 opened_part = after_mark OpenBrace told_part
 
--- the next token is at fault where braces would open a level too many
+-- the next token is at fault if braces would open a level too many
 abbrev pub fault_at_braces : Text → Fault
 fault_at_braces T = record { cause = cond (is_mark OpenBrace (first T)) TooDeep Syntax; left = length T }

@@ -1,4 +1,4 @@
-//! Statements that are no block, as far as what opens a level. A function reads where `depth` levels of nesting are
+//! Statements that are no block, as far as what opens a level. A function reads if `depth` levels of nesting are
 //! left.
 
 ghost use Rattle.std.specs.Prelude.{◌≡◌, ◌<◌, false, length, IfOk};

@@ -1,4 +1,4 @@
-//! Blocks, and the statements that stand in them. A function reads where `depth` levels of nesting are left.
+//! Blocks, and the statements that stand in them. A function reads if `depth` levels of nesting are left.
 
 ghost use Rattle.std.specs.Prelude.{◌≡◌, ◌<◌, ◌≤◌, [], ◌++◌, length, map, IfOk, OnOk, Err};
 ghost use Rattle.lra_syntax.specs.Views.{stmt_view, item_view, items_of, block_view, case_view, cases_of, cases_view};
@@ -144,7 +144,7 @@ fn close_cases(items: Vec<CaseItem>, rest: &[Token]) -> Result<(Cases, &[Token])
     Ok((Cases { items }, after))
 }
 
-/// The fault where no level is left for braces.
+/// The fault if no level is left for braces.
 #[tactic(auto, using(crate::proofs::Braces::fault_rules))]
 fn stop_at_braces<T>(rest: &[Token]) -> Result<T, Stopped>
     ensures { result ≡ Err (Stopped.Fault (fault_at_braces rest.now)) }

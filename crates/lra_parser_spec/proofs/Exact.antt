@@ -1,5 +1,5 @@
 -- Exact readers. `Exact n Q p E S V F` says of the reader p, from a next token that meets E on:
--- it reads a value a where the text begins with one of a's texts S a, whose levels are at most n, and F a holds of the
+-- it reads a value a if the text begins with one of a's texts S a, whose levels are at most n, and F a holds of the
 -- token after it; then no other; else it stops at the first token with which no text of V begins, or that opens a level
 -- past n, having looked at nothing after it. Each token that is read meets Q. V has the texts of which those of S are
 -- some; mostly it is S.
@@ -43,7 +43,7 @@ pub record Fails {A : Type 0} (n : ℕ) (Q : Token → Type 0) (p : Parse A) (V 
 pub record Exact {A : Type 0} (n : ℕ) (Q : Token → Type 0) (p : Parse A) (E : Option Token → Type 0) (S V : A → Pieces → Type 0) (F : A → Option Token → Type 0) : Type 0 where
   -- what is read is one of the texts,
   pub ok : (T : Text) (a : A) (R : Text) → E (first T) → p T ≡ Ok (a, R) → (x : Pieces) × (T ≡ plain x ++ R) × Low n x × Within Q x × S a x × F a (first R)
-  -- and where nothing is, there is a first fault;
+  -- and if nothing is, there is a first fault;
   pub err : (T : Text) (f : Fault) → E (first T) → p T ≡ Err f → Fails n Q p V T f
   -- each text is read,
   pub again : (x : Pieces) (a : A) (R : Text) → S a x → Low n x → E (first (plain x ++ R)) → F a (first R) → p (plain x ++ R) ≡ Ok (a, R)

@@ -76,7 +76,7 @@ AfterSummand (minus e t) o = AfterTerm t o
 abbrev pub AfterExpr : ExprTree → Option Token → Type 0
 AfterExpr e o = AfterSummand e o × (has (sum_operator o) ≡ false)
 
--- where no bracket follows
+-- if no bracket follows
 pub after_unary : (u : UnaryTree) (o : Option Token) → is_mark mark.OpenBracket o ≡ false → AfterUnary u o
 after_unary (negated u) o h = after_unary u o h
 after_unary (positive u) o h = after_unary u o h
@@ -301,7 +301,7 @@ no_index : (x : Identifier) (b : UnaryTree) (z : Pieces) (o : Option Token) → 
     is_mark mark.OpenBracket (first_or z o) ≡ false
 no_index x b z o e f h = rw f (let g : AfterUnary (variable x) o = subst (λ (c : UnaryTree). AfterUnary c o) e (h f) in g)
 
--- where a bracket is next
+-- if a bracket is next
 abbrev pub AtIndex : Option Token → Type 0
 AtIndex o = ⊤ × (is_mark mark.OpenBracket o ≡ true)
 
@@ -404,7 +404,7 @@ exact_inner_index : (n l : ℕ) (u : Parse UnaryTree) → l + 1 ≤ n → Exact 
 exact_inner_index n l u low U = entry (exact_behind mark.OpenBracket (l + 1) low (exact_ended mark.CloseBracket (exact_expr_of n (l + 1) u U) at_bracket)
     ((some_expr (l + 1)).0, _, (_, _, refl, (some_expr (l + 1)).2, (some_place, refl)))) AtIndex (λ o i. tt)
 
--- where d levels are left
+-- if d levels are left
 pub exact_unary : (n d l : ℕ) → d + l ≡ n → Exact n IsInner (unary_at d) Any (IsUnary l) (IsUnary l) AfterUnary
 unfolding unary_at
 exact_unary n zero l h =

@@ -53,7 +53,7 @@ commas_first : {A : Type 0} (S : A → Texts) (F : A → Option Token → Type 0
 commas_first S F fine a [] y o e f = rw e (f e)
 commas_first S F fine a (i ∷ is) y o (u, v, e, (p, q, g, s, t), r) f = first_opened (F a) mark.Comma 0 p (q ++ v) y o (e ∙ regroup u v p q g) s (fine a)
 
--- where q reads the items after the first
+-- if q reads the items after the first
 pub exact_commas_from : {n : ℕ} {A : Type 0} {p q : Parse A} {S S' : A → Pieces → Type 0} {F : A → Option Token → Type 0} → Exact n IsInner p Any S S F → Exact n IsInner q Any S' S' F
     → (some : (a : A) × (x : Pieces) × S' a x) → (fine : (a : A) (at : Place) → F a (Some (token mark.Comma at)))
     → Exact n IsInner (commas_from p q) Any (λ b. S b.0 ⋅ further S' b.1) (λ b. S b.0 ⋅ further S' b.1) (AfterCommas F)

@@ -182,12 +182,12 @@ module _ {n : ℕ} {Q : Token → Type 0} {A : Type 0} {p : Parse A} {E : Option
         P.one x y s.0 s'.0 R s.2 s'.2 low low' i (into s.0 (first R) (subst (λ (c : B). F' c (first R)) (sym s.1) h)) (into s'.0 (first R) (subst (λ (c : B). F' c (first R)) (sym s'.1) h')) e;
   }
 
--- the same texts, stated differently, also where reading stops
+-- the same texts, stated differently, also if reading stops
 pub retell : {n : ℕ} {Q : Token → Type 0} {A : Type 0} {p : Parse A} {E : Option Token → Type 0} {S : A → Pieces → Type 0} {F : A → Option Token → Type 0} → Exact n Q p E S S F
     → (S' : A → Pieces → Type 0) → ((a : A) (x : Pieces) → S a x → S' a x) → ((a : A) (x : Pieces) → S' a x → S a x) → Exact n Q p E S' S' F
 retell P S' to from = rename (widen P S' to) S' to from
 
--- a text of the form, where the next token reports v
+-- a text of the form, if the next token reports v
 module _ {n : ℕ} {Q : Token → Type 0} {A K : Type 0} {p : Parse A} {E : Option Token → Type 0} {S V : A → Pieces → Type 0} {F : A → Option Token → Type 0} (P : Exact n Q p E S V F)
     (key : Option Token → K) (v : K) (long : (a : A) (x : Pieces) → S a x → x ≡ [] → ⊥) where
   told : (x : Pieces) (R : Text) (o : Option Token) → (x ≡ [] → ⊥) → first (plain x ++ R) ≡ first_or x o

@@ -93,7 +93,7 @@ parameter_ends = (mark.Comma, true) ∷ (mark.CloseParen, false) ∷ []
 abbrev pub ends_parameter : Option Token → Bool
 ends_parameter o = has (one_of parameter_ends o)
 
--- nothing, where a parameter ends
+-- nothing, if a parameter ends
 abbrev pub no_name : Parse (Option Parameter)
 no_name T = cond (ends_parameter (first T)) (done_with None T) (stop Syntax T)
 
@@ -134,7 +134,7 @@ signature_of (Some h) ps = option_map (λ xs. (h, xs)) (all_named ps)
 abbrev pub function_of : Heading × List Parameter → ItemsTree × Place → FunctionTree
 function_of s b = record { result_type = s.0.0; name = s.0.1; parameters = s.1; body = b.0; end = b.1 }
 
--- after the parameters: a body, where the part may be a function, or a semicolon; d levels are left inside
+-- after the parameters: a body, if the part may be a function, or a semicolon; d levels are left inside
 abbrev pub ending : ℕ → Option (Heading × List Parameter) → Parse ExternalTree
 ending d None = expect mark.Semicolon prototype
 ending d (Some s) = λ T. cond (is_mark mark.OpenBrace (first T))
@@ -204,6 +204,6 @@ next_end (Some t) = end_of t.kind t.place
 abbrev pub file_of : List ExternalTree → Place → FileTree
 file_of ps at = record { parts = ps; end = at }
 
--- a file, where the first level is one of n
+-- a file, if the first level is one of n
 abbrev pub file_at : ℕ → Parse FileTree
 file_at d = seq (parts_at d) (λ ps. map_read (file_of ps) (take_by next_end))

@@ -218,7 +218,7 @@ module _ {V H : Type 0} (o : Interference V) (m : Abstraction V H) (set : Plan) 
       → AreKept o m set g f kept → AreKept o m set g inside kept
   kept_inside q e f inside kept flagged before = subst (λ (x : Option ℕ). AreKept o m set g x kept) (sym flagged) (all_noted q e f kept before)
 
-  -- the kept round, where the same value entered it
+  -- the kept round, if the same value entered it
   pub same_given : (f : Option ℕ) (on : V) (kept : Option (LoopRound V)) (turn : LoopRound V) → kept ≡ Some turn → turn.entered ≡ on → AreKept o m set g f kept
       → (turn.entered ≡ on) × IsPassed o m set g f on (record (outcome_view turn.outcome) { flag = f })
   same_given f on kept turn is same before =

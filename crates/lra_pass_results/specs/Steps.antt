@@ -9,7 +9,7 @@ abbrev pub arm_pass_step : Arm-F ℕ ℕ → ℕ
 arm_pass_step (Arm-F.Entry l) = 0
 arm_pass_step (Arm-F.Tree g) = suc g
 
--- of a pass of the tree, where no loop is turned more than n times
+-- of a pass of the tree, if no loop is turned more than n times
 abbrev pub steps_step : ℕ → Node-F ℕ ℕ → ℕ
 steps_step n Node-F.Empty = 1
 steps_step n (Node-F.Point q) = 1

@@ -81,7 +81,7 @@ impl<D: Domain> LoopCache<D> {
         Ok(())
     }
 
-    /// What the loop of this point gave, where it began with the same value: passed again it would give the same, but
+    /// What the loop of this point gave, if it began with the same value: passed again it would give the same, but
     /// for what is flagged so far.
     fn recall<F: Interfere<D>>(
         &self,
@@ -107,7 +107,7 @@ impl<D: Domain> LoopCache<D> {
         Ok(Some(outcome))
     }
 
-    /// What is kept of this loop, where it began with the same value; else it is under way from now on.
+    /// What is kept of this loop, if it began with the same value; else it is under way from now on.
     pub fn begin<F: Interfere<D>>(
         &mut self,
         alloc: Global,

@@ -52,7 +52,7 @@ pub struct PassOutcome<D> {
     pub flag: Option<usize>,
 }
 
-/// What is found of a `switch` so far: on the way, the value that runs in its arms, where one does, and the first
+/// What is found of a `switch` so far: on the way, the value that runs in its arms, if one does, and the first
 /// flagged point.
 #[derive(Drop)]
 pub struct Running<D> {
@@ -76,7 +76,7 @@ impl<D: Drop> Drop for LoopRound<D> {
     }
 }
 
-/// What comes into a loop's body: the kept round, where the same value entered it, or else the value, twice, and the
+/// What comes into a loop's body: the kept round, if the same value entered it, or else the value, twice, and the
 /// first flagged point so far.
 #[derive(Drop)]
 pub enum Entered<D> {
@@ -360,7 +360,7 @@ impl<D: Drop> LoopRound<D> {
     }
 }
 
-/// The kept round of a loop's body, where the same value enters it again: passed again it would give the same, but for
+/// The kept round of a loop's body, if the same value enters it again: passed again it would give the same, but for
 /// what is flagged so far.
 fn reuse_turn<D: Domain, F: Interfere<D>>(
     kept: Option<LoopRound<D>>,
@@ -381,7 +381,7 @@ fn reuse_turn<D: Domain, F: Interfere<D>>(
     Some(turn)
 }
 
-/// The kept round, where this value entered it, or else the value.
+/// The kept round, if this value entered it, or else the value.
 pub fn enter_with<D: Domain, F: Interfere<D>>(
     alloc: Global,
     kept: Option<LoopRound<D>>,

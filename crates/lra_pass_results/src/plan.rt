@@ -9,7 +9,7 @@ use std::alloc::{AllocError, Global};
 use std::marker::Model;
 
 /// What an iteration is given: the options of an analysis, and the constants of the program, which are the thresholds
-/// of its loops where the options ask for such.
+/// of its loops if the options ask for such.
 pub struct Plan {
     options: Options,
     constants: Vec<i64>,
@@ -75,7 +75,7 @@ impl Plan {
         }
     }
 
-    /// The program's constants, where loops are limited by thresholds.
+    /// The program's constants, if loops are limited by thresholds.
     pub fn thresholds(&self) -> Option<&[i64]>
         ensures { option_map (λ s. s.now) result ≡ constants_in self.now.widening }
     {

@@ -76,7 +76,7 @@ module _ {V H : Type 0} (o : Interference V) (m : Abstraction V H) (set : Plan) 
       PassIsUnderWay o m set ps whole n new
   went_on ps whole under n new owed may leads = record { part = under; begun = may; owed = owed; leads = leads }
 
-  -- the loop, where what comes next is given by an equation
+  -- the loop, if what comes next is given by an equation
   module _ (ps : List (place.PassFrame V H)) (whole : PassTask V) (n : next.Next V H) (memory : LoopCache V)
       (way : PassIsUnderWay o m set ps whole n memory) where
     pub leads_on : (n' : next.Next V H) → n ≡ n' → PassStepLeads o m set way.part n' memory

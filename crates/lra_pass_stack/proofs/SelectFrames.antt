@@ -1,4 +1,4 @@
--- A `switch` whose arms are gone through: what is left where no label matches, what comes in at labels, what its trees
+-- A `switch` whose arms are gone through: what is left if no label matches, what comes in at labels, what its trees
 -- find, and what comes out after the last arm.
 use Rattle.std.proofs.Common.{Bor, Box, Global, ◌≡◌, ◌≤◌, ℕ, ℤ, List, [], ◌∷◌, map, Option, None, Some, Bool, true, false, refl, sym, ap, subst, ◌∙◌, append-nil}
 use Rattle.std.specs.{List.Contains, List.list_any, Prelude.IfOk}
@@ -55,7 +55,7 @@ module _ {V H : Type 0} (m : Abstraction V H) (base : ℕ) (e : Expr) where
       → NoneSoFar m base e (entries_of h) v before last all → NoneSoFar m base e (entries_of (arm_view a h)) v before last all
   tree_left a g h v before last all is none = subst (λ (x : Arms). NoneSoFar m base e (entries_of x) v before last all) (sym (tree_seen a g h is)) none
 
--- the labels that are left: what is left of the value where none of them matches is what is left where none at all does
+-- the labels that are left: what is left of the value if none of them matches is what is left if none at all does
 pub record NoneLoop {V H : Type 0} (m : Abstraction V H) (s : Linearized) (arms left : List Arm) (first v : V) (so_far : Exactness) : Type 0 where
   pub dims : m.dims v ≡ m.dims first
   pub none : (base : ℕ) (e : Expr) → s ≡ linearized (m.dims first) base e → (last : V) (all : Exactness)

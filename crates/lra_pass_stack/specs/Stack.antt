@@ -1,4 +1,4 @@
--- What must hold where a pass is under way along a list of open places: in each of them a tree is under way, and with
+-- What must hold when a pass is under way along a list of open places: in each of them a tree is under way, and with
 -- that the pass of the place's own tree is to be made.
 use Rattle.std.specs.List.{Contains}
 use Rattle.std.specs.Prelude.{◌≡◌, ℕ, ◌≤◌, Bool, true, false, List, [], ◌∷◌, map, Option, None, Some, ⊤}
@@ -97,7 +97,7 @@ pub record NarrowLoop {V H : Type 0} (o : Interference V) (m : Abstraction V H) 
       DescendingIteration V H (lossy_operations m) q base c (LossyPass o m set a) left first top
       (headed q top last) v r → NarrowsTo o m set q base c a first start (headed q start round) v r
 
--- where something runs in a `switch`, it has so many dimensions
+-- if something runs in a `switch`, it has so many dimensions
 abbrev pub RunHas : {V H : Type 0} → Abstraction V H → ℕ → Option V → Type 0
 RunHas m n None = ⊤
 RunHas m n (Some v) = m.dims v ≡ n
@@ -123,7 +123,7 @@ pub record SelectLoop {V H : Type 0} (o : Interference V) (m : Abstraction V H) 
       m.dims t.normal ≡ m.dims v → ArmJumpsFit m arms (m.dims v) t →
       IsPassed o m set g f v (in_turn (ended found v so_far) t t.normal t.flag)
 
--- after what led to v with this exactness, what is left of it where none of the labels is the expression's value
+-- after what led to v with this exactness, what is left of it if none of the labels is the expression's value
 abbrev pub NoneSoFar : {V H : Type 0} → Abstraction V H → ℕ → Expr → List CaseLabel → V → Exactness → V → Exactness →
     Type 0
 NoneSoFar m base e labels v before w all = (x : Exactness) × MatchesNone (lossy_operations m) base e labels v x w ×

@@ -17,7 +17,7 @@ use lra_pass_results::{
 };
 use std::alloc::{AllocError, Global};
 
-/// What a choice's condition leaves of the value: where it is true, and where it is false.
+/// What a choice's condition leaves of the value: if it is true, and if it is false.
 fn sides_of<D: Domain>(
     alloc: Global,
     choice: &Choice<'_>,

@@ -28,7 +28,7 @@ use std::alloc::{AllocError, Global};
 
 // no match ------------------------------------------------------------------------------------------------------------
 
-/// What is left of the value where the label doesn't name what is seen, after what led to it; all of it for `default`.
+/// What is left of the value if the label doesn't name what is seen, after what led to it; all of it for `default`.
 fn leave_label<D: Domain>(
     alloc: Global,
     seen: &Linearized,
@@ -76,7 +76,7 @@ fn leave_arm<D: Domain>(
     }
 }
 
-/// What is left of the value where no label names what is seen: for one label after the other.
+/// What is left of the value if no label names what is seen: for one label after the other.
 fn leave_all<D: Domain>(
     alloc: Global,
     seen: &Linearized,
@@ -101,7 +101,7 @@ fn leave_all<D: Domain>(
     Ok(exactness)
 }
 
-/// What is left of a copy of the value where no label names what is seen.
+/// What is left of a copy of the value if no label names what is seen.
 fn match_none<D: Domain>(
     alloc: Global,
     seen: &Linearized,
@@ -124,7 +124,7 @@ fn match_none<D: Domain>(
 
 // arms ----------------------------------------------------------------------------------------------------------------
 
-/// What is left of a copy of the value where what is seen has this number.
+/// What is left of a copy of the value if what is seen has this number.
 fn enter_case<D: Domain>(
     alloc: Global,
     seen: &Linearized,
@@ -235,7 +235,7 @@ fn enter<D: Domain>(
     join_running(selecting.selection.point, so_far, entered)
 }
 
-/// What runs in the arms; where nothing does, a value that no store has.
+/// What runs in the arms; if nothing does, a value that no store has.
 fn value_of_run<D: Domain>(
     alloc: Global,
     selecting: &Selecting<'_, D>,
@@ -324,7 +324,7 @@ fn join_other<D: Domain>(
     })
 }
 
-/// What comes out after the last arm; where nothing runs there, what has no match.
+/// What comes out after the last arm; if nothing runs there, what has no match.
 fn come_out<D: Domain>(
     selecting: Selecting<'_, D>,
     so_far: Running<D>,

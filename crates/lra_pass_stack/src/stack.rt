@@ -73,7 +73,7 @@ pub struct NarrowingFrame<'a, D> {
 }
 
 /// A `switch` whose arms are gone through: what is seen of its value, whether a label is `default`, the value that came
-/// to it, and what is left of that where no label matches.
+/// to it, and what is left of that if no label matches.
 #[derive(Drop)]
 pub struct Selecting<'a, D> {
     pub selection: Selection<'a>,

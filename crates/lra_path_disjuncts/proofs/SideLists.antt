@@ -188,7 +188,7 @@ get_each {A = A} xs (z ∷ ys) n x y less one two = elim (cases_lt n (length xs)
           absurd (omega (arith, there, no))
     ]
 
--- each disjunct, where there are no more than may be
+-- each disjunct, if there are no more than may be
 pub side_found : (p : Moves) (n : ℕ) → count_of p ≤ 1024 → n < count_of p → slice_get (disjuncts p) n ≡ Some (disjunct_at p n)
 side_found stay zero few less = refl
 side_found stay (suc n) few less = absurd (omega (arith, less))

@@ -19,7 +19,7 @@ step_length (does op) s t o = op_length op s t o
 step_length (goes base e labels l) s t (z, got, same, is) = ap (λ (u : State). length u.store) same
 
 module _ (base : ℕ) (e : Expr) (s : State) (z : ℤ) (left : List ℤ) (got : value_of e (environment_at base s) s.draws ≡ Some (z, left)) where
-  -- where no label names the value
+  -- if no label names the value
   unmatched_lead : (labels : List CaseLabel) → list_any (is_same_case (Case z)) labels ≡ false
       → MayLead (unmatched_moves (length s.store) (linearized (length s.store) base e) labels) s.store s.store
   unmatched_lead [] none = refl

@@ -7,7 +7,7 @@ use Rattle.lra_program.specs.Program.{Cond, both_of, either_of}
 use Rattle.lra_program.specs.ProgramViews.{all_of, any_of}
 use Rattle.lra_path_disjuncts.specs.{Tables.Has, declared.conditions.Both.Both, declared.tables.MovesEntry.MovesEntry}
 
--- both where the condition is true and where it is false
+-- both if the condition is true and if it is false
 abbrev pub HasBoth : List MovesEntry → ℕ → ℕ → Cond → Both → Type 0
 HasBoth es live base c b = Has es b.so (guard live base true c) × Has es b.not (guard live base false c)
 

@@ -17,7 +17,7 @@ disjuncts (make step) = (step ∷ []) ∷ []
 disjuncts (first_then a b) = each_then (disjuncts a) (disjuncts b)
 disjuncts (join_of a b) = disjuncts a ++ disjuncts b
 
--- the operations of a segment, where so many variables live at its beginning
+-- the operations of a segment, if so many variables live at its beginning
 abbrev pub written : ℕ → List SegmentStep → List (List Action)
 written live [] = [] ∷ []
 written live (step ∷ ops) = each_then (disjuncts (step_moves live step)) (written (dims_after_step step live) ops)

@@ -4,7 +4,7 @@ use Rattle.lra_path_disjuncts.specs.Crates.lra_domain.Moves.{Moves, stay, first_
 use Rattle.lra_path_segments.specs.Segments.{SegmentStep}
 use Rattle.lra_path_disjuncts.specs.StepMoves.{step_moves, dims_after_step}
 
--- after these moves, where so many variables live
+-- after these moves, if so many variables live
 abbrev pub segment_moves_on : Moves → ℕ → List SegmentStep → Moves
 segment_moves_on p live [] = p
 segment_moves_on p live (step ∷ ops) =

@@ -1,5 +1,5 @@
--- The moves of what is done on a segment: those of a least change; where a value goes to a label, it is that label's
--- value, and where it goes to none, it is none of the labels'.
+-- The moves of what is done on a segment: those of a least change; if a value goes to a label, it is that label's
+-- value, and if it goes to none, it is none of the labels'.
 use Rattle.std.specs.Prelude.{ℕ, List, [], ◌∷◌, true, false}
 use Rattle.lra_path_disjuncts.specs.Crates.lra_analysis_spec.Linearization.{linearized}
 use Rattle.lra_path_disjuncts.specs.Crates.lra_analysis_spec.Live.{live_after_op}

@@ -66,7 +66,7 @@ Grows es fs = (i : ℕ) (p : Moves) → Has es i p → Has fs i p
 
 -- disjuncts ---------------------------------------------------------------------------------------------------------
 
--- The disjunct of this number, where there are no more than may be: of moves one after the other those of the later are
+-- The disjunct of this number, if there are no more than may be: of moves one after the other those of the later are
 -- the outer ones.
 abbrev pub disjunct_at : Moves → ℕ → List Action
 disjunct_at stay n = []

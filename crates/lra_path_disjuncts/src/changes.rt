@@ -133,7 +133,7 @@ fn push_within(
     }
 }
 
-/// The target, where it is a variable, gets the value that is seen, or any, of its type.
+/// The target, if it is a variable, gets the value that is seen, or any, of its type.
 fn push_target(
     frame: ConditionContext,
     target: Target,
@@ -335,7 +335,7 @@ pub fn push_globals(
 
 // least changes -----------------------------------------------------------------------------------
 
-/// Where forms over so many variables have no room, nothing can be made.
+/// If forms over so many variables have no room, nothing can be made.
 fn ensure_room(live: usize) -> Result<(), AllocError>
     ensures { OnOk result (live < 2 ^ 62 - 3) }
 {
@@ -426,7 +426,7 @@ fn push_keep(live: usize, n: usize, entries: &mut Vec<MovesEntry>) -> Result<usi
     }
 }
 
-/// The condition where it is as wanted.
+/// The condition if it is as wanted.
 fn push_guard(
     frame: ConditionContext,
     condition: &Cond,

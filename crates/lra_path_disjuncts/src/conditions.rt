@@ -1,4 +1,4 @@
-//! The moves of a condition in a table: where it is true and where it is false, each of its comparisons taken once.
+//! The moves of a condition in a table: if it is true and if it is false, each of its comparisons taken once.
 
 ghost use Rattle.std.specs.Prelude.{◌≡◌, ◌<◌, ◌^◌, ◌-◌, length, map, true, false, IfOk, OnOk};
 ghost use Rattle.lra_path_disjuncts.specs.Crates.lra_analysis_spec.Linear.{comparison_test};
@@ -32,7 +32,7 @@ pub struct ConditionContext {
     pub base: usize,
 }
 
-/// Where the moves of a condition stand: where it is true, and where it is false.
+/// Where the moves of a condition stand: if it is true, and if it is false.
 #[derive(Clone, Copy)]
 pub struct Both {
     pub so: usize,
@@ -254,7 +254,7 @@ pub fn opposite_both(both: Both) -> Both
     }
 }
 
-/// `&&`: the one after the other; where it is false, the first is, or the first is true and the second is false.
+/// `&&`: the one after the other; if it is false, the first is, or the first is true and the second is false.
 pub fn both_of(one: Both, other: Both, entries: &mut Vec<MovesEntry>) -> Result<Both, AllocError>
     requires table { IsTable entries.old.items }
     requires one { AreIn entries.old.items one }
@@ -273,7 +273,7 @@ pub fn both_of(one: Both, other: Both, entries: &mut Vec<MovesEntry>) -> Result<
     Ok(Both { so, not })
 }
 
-/// `||`: the first, or the second where the first is false; where it is false, both are.
+/// `||`: the first, or the second if the first is false; if it is false, both are.
 pub fn either_of(one: Both, other: Both, entries: &mut Vec<MovesEntry>) -> Result<Both, AllocError>
     requires table { IsTable entries.old.items }
     requires one { AreIn entries.old.items one }

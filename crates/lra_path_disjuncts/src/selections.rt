@@ -16,7 +16,7 @@ use lra_path_segments::Selection;
 use lra_program::{CaseLabel, Comparison};
 use std::alloc::{AllocError, Global};
 
-/// What is seen has this number or, where it is not wanted, another one.
+/// What is seen has this number or, if it is not wanted, another one.
 fn push_number(
     alloc: Global,
     live: usize,

@@ -14,7 +14,7 @@ alike_are (Case y) Default e = absurd (let no : false ≡ true = e in cc)
 alike_are Default (Case z) e = absurd (let no : false ≡ true = e in cc)
 alike_are Default Default e = refl
 
--- where the label to which a value goes is none of them, it goes past all
+-- if the label to which a value goes is none of them, it goes past all
 pub goal_out : (z : ℤ) (labels : List CaseLabel) → list_any (is_same_case (goal_of z labels)) labels ≡ false
     → (goal_of z labels ≡ Default) × (list_any (is_same_case Default) labels ≡ false)
 goal_out z labels never = by (list_any (is_same_case (Case z)) labels) refl never

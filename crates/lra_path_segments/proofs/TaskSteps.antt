@@ -295,7 +295,7 @@ selection_run (outcome.Ok v) ds es fs selection s t u past a b h k =
     (ap (arms_on go arms) (b ∙ ap (λ w. nothing_done ∷ w) a) ∙ arms_made go past arms s)
 selection_run (outcome.Err e) ds es fs selection s t u past a b h k = tt
 
--- past all labels, where none of them is `default`
+-- past all labels, if none of them is `default`
 module _ {T E : Type 0} (r : outcome.Result T E) (go : CaseLabel → SegmentStep) (b : Bool) (arms : List Arm) (s t : List (List TreeSegment)) where
   pub past_none : (xs : List declared_stretch.TreeSegment) → b ≡ list_any (is_same_case Default) (labels_in arms) → b ≡ true → xs ≡ []
       → OnOk r (t ≡ seen xs ∷ s) → OnOk r (t ≡ past_all go (list_any (is_same_case Default) (labels_in arms)) ∷ s)

@@ -94,7 +94,7 @@ out_of_body q base c x = record { source = q; ops = with_test base c true x }
 abbrev pub segment_to : ℕ → Suffix → Segment
 segment_to q x = record { source = x.source; to_goal = record { ops = x.ops; goal = comes_to q } }
 
--- past all labels, where none of them is `default`
+-- past all labels, if none of them is `default`
 abbrev pub past_labels : (CaseLabel → SegmentStep) → Bool → Completion → List (List SegmentStep)
 past_labels go true h = []
 past_labels go false normal = (go Default ∷ []) ∷ []

@@ -69,7 +69,7 @@ abbrev pub sequenced : List TreeSegment → List TreeSegment → List TreeSegmen
 sequenced xs ys = segments_not_of_kind (leaving normal) xs ++
     all_joined (segments_of_kind (leaving normal) xs) (segments_of_kind starting ys) ++ segments_not_of_kind starting ys
 
--- after this, where it begins at the tree's start
+-- after this, if it begins at the tree's start
 abbrev pub prefixed_by : SegmentStep → Option ℕ → List SegmentStep → End → TreeSegment
 prefixed_by step None ops e = tree_segment None (step ∷ ops) e
 prefixed_by step (Some p) ops e = tree_segment (Some p) ops e
@@ -121,7 +121,7 @@ caught k ss = segments_not_of_kind (leaving (jump k)) ss ++ map ended (segments_
 abbrev pub nothing_done : List TreeSegment
 nothing_done = tree_segment None [] (exits normal) ∷ []
 
--- past all labels of a `switch`, where none of them is `default`
+-- past all labels of a `switch`, if none of them is `default`
 abbrev pub past_all : (CaseLabel → SegmentStep) → Bool → List TreeSegment
 past_all go true = []
 past_all go false = tree_segment None (go Default ∷ []) (exits normal) ∷ []

@@ -318,7 +318,7 @@ fn push_led<'g>(
     Ok(())
 }
 
-/// After the move, where it begins at the start.
+/// After the move, if it begins at the start.
 fn push_if_starting<'g>(
     alloc: Global,
     first: Move<'g>,

@@ -233,7 +233,7 @@ module _ (go : CaseLabel → SegmentStep) (l : CaseLabel) (arms : Arms) where
       subst (λ n. IsLabelled go (entry l arms) u (go n ∷ x)) (sym (alike_are k l is)) (label_here u x i)
   label_by k false u x is there each i = label_later u (go k ∷ x) (each there i)
 
--- where the label is there, each segment after it is one from it
+-- if the label is there, each segment after it is one from it
 label_first : (go : CaseLabel → SegmentStep) (l : CaseLabel) (arms : Arms) (u : RunExtent) (x : List SegmentStep) →
     list_any (is_same_case l) (entries_of arms) ≡ true
     → IsFirstSegment (row_behind l arms) u x → IsLabelled go arms u (go l ∷ x)
@@ -306,7 +306,7 @@ module _ {A : Type 0} (name : ℕ → A) where
   abbrev G : Node → Trace A → RunExtent → Trace A → Type 0
   G = RunsUpTo name NoChange
 
-  -- where only the segments and what was met before are other ones
+  -- if only the segments and what was met before are other ones
   lifted : (g h : Node) (a : Trace A) (u v : RunExtent) (b : Trace A) → ((x : List SegmentStep) → IsFirstSegment g u x → IsFirstSegment h v x) →
       ((p : ℕ) (x : List SegmentStep) → IsNextSegment p g u x → IsNextSegment p h v x)
       → ((x : List SegmentStep) (s t : State) → LeadsSo u x s t → LeadsSo v x s t) →

@@ -64,7 +64,7 @@ broken_next : inside broken_off ≡ record { source = 0; to_goal = record { ops 
     ∷ record { source = 1; to_goal = record { ops = []; goal = comes_to 2 } } ∷ []
 broken_next = refl
 
--- an assertion: on where it is true, and a goal of its own where it is false
+-- an assertion: on if it is true, and a goal of its own if it is false
 abbrev asserted : Node
 asserted = seq (point 0) (seq (check 0 0 is_so) (point 1))
 
@@ -141,7 +141,7 @@ two_sides : written 1 (does (test 0 (compare differs x (literal Long 2)) true) �
     ≡ (at_least_0 (pos 1) (negsuc 0) ∷ []) ∷ (at_least_0 (negsuc 2) (pos 1) ∷ []) ∷ []
 two_sides = refl
 
--- where it isn't so, it is equal
+-- if it isn't so, it is equal
 one_side : written 1 (does (test 0 (compare differs x (literal Long 2)) false) ∷ []) ≡
     (action.test Eq (record { constant = negsuc 1; coefficients = pos 1 ∷ [] }) ∷ []) ∷ []
 one_side = refl

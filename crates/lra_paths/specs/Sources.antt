@@ -13,7 +13,7 @@ use Rattle.lra_path_disjuncts.specs.{SegmentMoves.segment_moves, declared.tables
 use Rattle.lra_paths.specs.{Paths.live_of, Paths.same_goal, declared.paths.Departure.Departure}
 use Rattle.lra_paths.specs.{declared.sources.Source.Source, declared.sources.SourceSegment.SourceSegment}
 
--- the paths of a segment, where it has this goal
+-- the paths of a segment, if it has this goal
 abbrev pub to_goal_by : List MovesEntry → Goal → SourceSegment → List (List Action)
 to_goal_by es goal way = cond (same_goal (goal_view way.goal) goal) (disjuncts (moves_at es way.place)) []
 
@@ -41,13 +41,13 @@ same_point None (Some q) = false
 same_point (Some p) None = false
 same_point (Some p) (Some q) = nat_eq p q
 
--- what is done first, and then these operations, where a goal is met that is this one
+-- what is done first, and then these operations, if a goal is met that is this one
 abbrev pub ending : Moves → ℕ → Goal → List SegmentStep → End → List (List Action)
 ending before live goal ops (exits h) = []
 ending before live goal ops (reaches g) =
     cond (same_goal g goal) (disjuncts (first_then before (segment_moves live ops))) []
 
--- of a segment, where it is from this point
+-- of a segment, if it is from this point
 abbrev pub departing : Moves → ℕ → Option ℕ → Goal → TreeSegment → List (List Action)
 departing before live point goal s = cond (same_point s.source point) (ending before live goal s.ops s.end) []
 

@@ -91,7 +91,7 @@ fn push_source_way(
     Ok(())
 }
 
-/// Where a goal is met, the segment comes after the others.
+/// If a goal is met, the segment comes after the others.
 fn push_meeting(
     alloc: Global,
     departure: Departure,
@@ -116,7 +116,7 @@ fn push_meeting(
     }
 }
 
-/// Where the tree segment is from there, its segment comes after the others.
+/// If the tree segment is from there, its segment comes after the others.
 fn push_departing(
     alloc: Global,
     departure: Departure,

@@ -148,7 +148,7 @@ meet_becomes p q new list o e b =
     (λ loss s. constraints_strain p.dims (Meet (Con p.rows) (Con q.rows)) (Con all) all loss same s)
     (subst (λ (l : List LinearRow). IsOfRows p.dims l new o) e b)
 
--- the old value stays where what was made isn't known to lie in it
+-- the old value stays if what was made isn't known to lie in it
 pub stays_flagged : (p made new : Polyhedron) (more : List LinearRow) (o : Outcome) (loss : Loss) → IsPolyhedron p → o ≡ Flagged loss → new ≡ p →
     IsOfRows p.dims (p.rows ++ more) made o → IsOfRows p.dims (p.rows ++ more) new o
 stays_flagged p made new more o loss h eo es b = subst (λ (q : Polyhedron). IsOfRows p.dims (p.rows ++ more) q o) (sym es) (record {

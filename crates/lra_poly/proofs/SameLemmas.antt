@@ -21,7 +21,7 @@ same_decides p q one two b h k d e f is = (
 pub other_dims : (p q : Polyhedron) → p.dims ≢ q.dims → IsTrue false ↔ (p ≡ q)
 other_dims p q other = (λ t. let wrong : ⊥ = cc in absurd wrong, λ s. absurd (other (ap (λ (x : Polyhedron). x.dims) s)))
 
--- in the same dimensions lists are the same exactly where points are
+-- in the same dimensions lists are the same exactly if points are
 pub same_points : (p q : Polyhedron) (b : Bool) → IsPolyhedron p → IsPolyhedron q → p.dims ≡ q.dims → IsTrue b ↔ (p ≡ q) → IsTrue b ↔ SameSet p.dims (Con p.rows) (Con q.rows)
 same_points p q b h k d is = (
   λ t. subst (λ (r : Polyhedron). SameSet p.dims (Con p.rows) (Con r.rows)) (is.0 t) (λ x i c. c, λ x i c. c),

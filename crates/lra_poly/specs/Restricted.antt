@@ -14,7 +14,7 @@ pub record IsTried (n : ℕ) (first all : List LinearRow) (made : Polyhedron) (o
   pub told : o ≡ first_loss losses
   pub of : IsOfTried n first all made losses
 
--- The polyhedron of a polyhedron's rows and of further ones. Where both lists at hand make a cone, the further ones are
+-- The polyhedron of a polyhedron's rows and of further ones. If both lists at hand make a cone, the further ones are
 -- tried after that; else all of them from nothing.
 abbrev pub IsMetWith : Polyhedron → List LinearRow → Polyhedron → Outcome → Type 0
 IsMetWith p more made o =

@@ -1,4 +1,4 @@
--- What hulls, and generators that are added, make of a polyhedron where they are flagged.
+-- What hulls, and generators that are added, make of a polyhedron if they are flagged.
 use Rattle.std.specs.Prelude.{◌≡◌, ◌⊎◌, ℕ, List, ◌++◌}
 use Rattle.lra_poly.specs.Crates.lra_linear_spec.Polyhedra.{Polyhedron}
 use Rattle.lra_poly.specs.Crates.{lra_linear_spec.Descriptions.LinearRow, lra_linear_spec.Strain.Loss}

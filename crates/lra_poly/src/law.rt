@@ -20,7 +20,7 @@ pub fn polyhedra_have_one_spelling()
     ensures both { (p : Polyhedron) → IsPolyhedron p → SameSet p.dims (Con p.rows) (Gen p.generators) }
 {}
 
-/// Where both lists of a polyhedron make a cone, a meet or a test is flagged only if a new row exceeds a limit after
+/// If both lists of a polyhedron make a cone, a meet or a test is flagged only if a new row exceeds a limit after
 /// the polyhedron's own and those of the new ones that were added before it, or if the list of all of these exceeds
 /// a limit.
 ///

@@ -95,7 +95,7 @@ fn of_cone(alloc: Global, cone: Cone, more: &ConSys) -> Result<(Poly, Outcome), 
     Ok((made, outcome_of(losses)))
 }
 
-// The polyhedron of the generators that were added to the cone, and of further ones, where none of these is left out.
+// The polyhedron of the generators that were added to the cone, and of further ones, if none of these is left out.
 fn of_facets(alloc: Global, cone: Cone, more: &GenSys) -> Result<Option<Poly>, AllocError>
     requires small { more.now.dims < too_many_dimensions }
     requires dims { cone.dims ≡ more.now.dims }
@@ -269,7 +269,7 @@ impl Poly {
     }
 
     /// Which constraints are tight at which generators: a row for each constraint with a column for each generator,
-    /// true exactly where their product is 0. It is made with the two lists, so there always is one.
+    /// true exactly if their product is 0. It is made with the two lists, so there always is one.
     pub fn saturation(&self) -> Option<&SatMatrix>
         ensures some { IsSome result }
         ensures matrix { IfSome result (λ m. m.now ≡ saturation_of self.now.rows self.now.generators) }
@@ -390,7 +390,7 @@ impl Poly {
         }
     }
 
-    /// Takes these constraints in: keeps the points that meet each of them. Where each point is seen to meet them,
+    /// Takes these constraints in: keeps the points that meet each of them. If each point is seen to meet them,
     /// nothing changes. If it is flagged, it has at least those points, and no point that it hadn't before: what was
     /// made comes in only if it is known to lie in the old value.
     pub fn add_rows(&mut self, more: &ConSys) -> Result<Outcome, AllocError>
@@ -420,7 +420,7 @@ impl Poly {
     }
 
     /// Becomes the meet with the other: the points of both. If it is flagged, it has at least those, and no point
-    /// that it hadn't before: the rows that strained when they were tried are left out. Where each point is seen to be
+    /// that it hadn't before: the rows that strained when they were tried are left out. If each point is seen to be
     /// in the other, nothing changes.
     pub fn meet(&mut self, other: &Poly) -> Result<Outcome, AllocError>
         requires { other.now.dims ≡ self.old.dims }
@@ -439,7 +439,7 @@ impl Poly {
     }
 
     /// Keeps the points that pass the test. If it is flagged, it has at least those, and no point that it hadn't
-    /// before. Where each point is seen to pass, nothing changes.
+    /// before. If each point is seen to pass, nothing changes.
     pub fn add_test(&mut self, test: &Test) -> Result<Outcome, AllocError>
         requires { length test.now.expr.coefficients ≡ self.old.dims }
         ensures dims { self.new.dims ≡ self.old.dims }
@@ -516,7 +516,7 @@ impl Poly {
     }
 
     /// Takes these generators in: becomes the polyhedron of its own and of these, which are added after them, by the
-    /// lists at hand where these can be gone on from. If it is flagged, it has at least their points.
+    /// lists at hand if these can be gone on from. If it is flagged, it has at least their points.
     pub fn add_generators(&mut self, more: &GenSys) -> Result<Outcome, AllocError>
         requires dims { more.now.dims ≡ self.old.dims }
         requires kinds { FitKinds more.now.rows more.now.kinds }

@@ -95,7 +95,7 @@ left_valid p r given none =
     let n = or_parts (some_passes p.generators given) (some_passes r.generators given) (not_true (some_passes p.generators given || some_passes r.generators given) none) in
     kept_valid p r given n.0 n.1
 
--- where none of them flags, the rows that are kept are those that the definition leaves
+-- if none of them flags, the rows that are kept are those that the definition leaves
 left_is : (mode : Mode) (p r : Polyhedron) (given : List LinearRow) → mode ≢ how.Join → ¬ StrikePasses mode p r given →
     kept_thresholds p r given ≡ thresholds_left mode p r given
 left_is how.Join p r given other none = absurd (other refl)
@@ -266,7 +266,7 @@ grown_by_widening mode p next q r given left joining before after other j f w ke
         (is.made.points.1 x i c)
 
 -- ---- all points
--- where the join is flagged
+-- if the join is flagged
 pub grown_up : (mode : Mode) (p next q u : Polyhedron) (given left : List LinearRow) (joining after : Exactness) → mode ≢ how.Join → IsPolyhedron p → HaveColumns p.dims given →
     IsJoined p next q joining → joining ≡ degree.Flagged → IsPolyhedronOf p.dims (Con []) u → left ≡ kept_thresholds p u given → after ≡ degree.Flagged →
     HasGrown (head p given) next mode (head u left) after
@@ -282,7 +282,7 @@ grown_up mode p next q u given left joining after other h columns j f is kept_ar
   left = left_kept mode (head p given) (head u left) other kept_are;
 }
 
--- where the inclusion is wide: a product has a row of P, and the polyhedron of all points has none
+-- if the inclusion is wide: a product has a row of P, and the polyhedron of all points has none
 other_where_wide : (p next u : Polyhedron) (e : E.Excess) → InclusionStrains next p e → IsPolyhedronOf p.dims (Con []) u → u ≢ p
 other_where_wide p next u e x is same = all_no_row p.dims u is x.row (subst (λ (y : Polyhedron). Contains y.rows x.row) (sym same) x.has_row)
 

@@ -10,7 +10,7 @@ use Rattle.lra_poly_widening.specs.Rank.{fits, holds_in_range, kept_thresholds}
 use Rattle.lra_poly_widening.proofs.SomeMember.{any_said}
 use Rattle.lra_poly_domain.specs.Growth.{row_passes, some_passes}
 
--- ---- where none passes
+-- ---- if none passes
 tests_alike : (f h : Bool) → not f ≡ false → (f && h) ≡ h
 tests_alike true h e = refl
 tests_alike false h e = let wrong : ⊥ = cc in absurd wrong
@@ -32,7 +32,7 @@ kept_valid p r (g ∷ given) e f =
     ap (λ (b : Bool). cond (is_valid p g && b) (g ∷ kept_thresholds p r given) (kept_thresholds p r given)) (in_range_alike r.generators g m.0) ∙
     ap (λ l. cond (is_valid p g && is_valid r g) (g ∷ l) l) (kept_valid p r given n.1 m.1)
 
--- ---- where one passes
+-- ---- if one passes
 passing : {A Q : Type 0} (x : Result A Q) → not (fits x) ≡ true → (e : Q) × (x ≡ Err e)
 passing (Ok a) h = let wrong : ⊥ = cc in absurd wrong
 passing (Err e) h = (e, refl)

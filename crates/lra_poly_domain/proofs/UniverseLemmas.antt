@@ -1,4 +1,4 @@
--- The polyhedron of all points has no constraint. So a polyhedron with one is another, and its rank falls where it is given up.
+-- The polyhedron of all points has no constraint. So a polyhedron with one is another, and its rank falls if it is given up.
 use Rattle.std.proofs.Common.{◌≡◌, ◌≢◌, ◌∙◌, ◌<◌, ◌≤◌, ℕ, suc, ℤ, pos, ◌+ℤ◌, ◌*ℤ◌, ◌<ℤ◌, List, [], length, true, false, inl, inr, ap, sym, subst, arith}
 use Rattle.std.proofs.{Math.ListN.length-set, lemmas.Bool.cases_lt, lemmas.Int.ints, lemmas.List.Elements.Contains-append_cases, lemmas.List.Elements.Contains-append_right}
 use Rattle.std.specs.{List.Contains, Prelude.slice_set}

@@ -1,5 +1,5 @@
 -- What a polyhedron says of a form: the least and the greatest value on its rational points, rounded inwards to whole
--- numbers. Nothing is reported if there is no point, if there is no such value, or where a product of the form
+-- numbers. Nothing is reported if there is no point, if there is no such value, or if a product of the form
 -- with a generator passes the range.
 use Rattle.std.specs.Int.{int_div_euclid}
 use Rattle.std.specs.Prelude.{◌≡◌, ◌⊎◌, ℤ, neg_ℤ, List, Option, None, Some, option_map}

@@ -18,7 +18,7 @@ use Rattle.lra_domain.specs.Actions.{Within}
 use Rattle.lra_poly_domain.specs.Content.{PolyhedronLeq, PolyhedronGamma, is_absurd, is_negative, listed}
 use Rattle.lra_poly_domain.specs.{Content.polyhedron_parts, Sets.IsJoin}
 
--- ---- where a row holds at no point
+-- ---- if a row holds at no point
 flat_dot : (cs : List ℤ) (u : ℕ → ℤ) → list_all (λ x. int_eq x (pos 0)) cs ≡ true → dot cs u ≡ pos 0
 flat_dot [] u h = refl
 flat_dot (c ∷ cs) u h =

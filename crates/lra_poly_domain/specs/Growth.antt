@@ -13,12 +13,12 @@ use Rattle.lra_poly_widening.specs.Rank.{Falls, IsLowerRank, fits, rank_of}
 use Rattle.lra_poly_domain.specs.Heads.{PolyhedronGrowthStrains, IsGrown, IsLeft, WideningStrains, grown_set}
 use Rattle.lra_poly_domain.specs.{Content.HeadContent, Sets.IsJoin, Sets.hull_of}
 
--- exact where nothing was lost
+-- exact if nothing was lost
 abbrev pub exactness_of : Outcome → Exactness
 exactness_of told.Exact = degree.Exact
 exactness_of (told.Flagged loss) = degree.Flagged
 
--- Q is the join of P and next with this exactness, or covers it where that exceeds a limit
+-- Q is the join of P and next with this exactness, or covers it if that exceeds a limit
 pub record IsJoined (p next q : Polyhedron) (e : Exactness) : Type 0 where
   pub dims : q.dims ≡ p.dims
   pub canonical : IsPolyhedron q
@@ -43,7 +43,7 @@ pub record HasGrown (h : HeadContent) (next : Polyhedron) (mode : Mode) (new : H
 abbrev pub head : Polyhedron → List LinearRow → HeadContent
 head p given = record { value = p; thresholds = given }
 
--- R is the widening of P by Q with this exactness, or covers it where that exceeds a limit
+-- R is the widening of P by Q with this exactness, or covers it if that exceeds a limit
 pub record IsWidening (mode : Mode) (p q : Polyhedron) (given : List LinearRow) (r : Polyhedron) (e : Exactness)
     : Type 0 where
   pub dims : r.dims ≡ p.dims
@@ -79,7 +79,7 @@ StrikePasses how.Widen p r given = ⊥
 StrikePasses how.Limited p r given = IsTrue (some_passes p.generators given || some_passes r.generators given)
 StrikePasses how.Tightest p r given = IsTrue (some_passes p.generators given || some_passes r.generators given)
 
--- where the widening is limited such a strike flags
+-- if the widening is limited such a strike flags
 abbrev pub IsStruck : Exactness → Mode → Polyhedron → Polyhedron → List LinearRow → Exactness → Type 0
 IsStruck before mode p r given degree.Exact = (before ≡ degree.Exact) × ¬ StrikePasses mode p r given
 IsStruck before mode p r given degree.Flagged = (before ≡ degree.Flagged) ⊎ StrikePasses mode p r given

@@ -18,7 +18,7 @@ grown_set how.Widen p q given = StandardWidening p q
 grown_set how.Limited p q given = LimitedWidening p q given
 grown_set how.Tightest p q given = LimitedWidening p q given
 
--- the thresholds that are left where P became R. A join strikes none. The standard widening strikes each that fails on
+-- the thresholds that are left if P became R. A join strikes none. The standard widening strikes each that fails on
 -- the result, or a product of which with a generator of P or of R passes the range. So do the limited ones, but a row
 -- struck for its products alone is no part of their definition: that flags
 abbrev pub thresholds_left : Mode → Polyhedron → Polyhedron → List LinearRow → List LinearRow
@@ -34,13 +34,13 @@ pub record IsGrown (h : HeadContent) (next : Polyhedron) (mode : Mode) (new : He
   pub made : IsPolyhedronOf h.value.dims (grown_set mode h.value join h.thresholds) new.value
   pub left : new.thresholds ≡ thresholds_left mode h.value new.value h.thresholds
 
--- the head that h becomes where it isn't decided whether next lies in it: all points, and the widening thresholds that
+-- the head that h becomes if it isn't decided whether next lies in it: all points, and the widening thresholds that
 -- are left
 pub record HeadIsGivenUp (h new : HeadContent) : Type 0 where
   pub all : IsPolyhedronOf h.value.dims (Con []) new.value
   pub left : new.thresholds ≡ kept_thresholds h.value new.value h.thresholds
 
--- the widening thresholds that are left where h became new, flagged or not: a struck row isn't given to that head again
+-- the widening thresholds that are left when h became new, flagged or not: a struck row isn't given to that head again
 abbrev pub IsLeft : HeadContent → Mode → HeadContent → Type 0
 IsLeft h how.Join new = (new.thresholds ≡ h.thresholds) ⊎ HeadIsGivenUp h new
 IsLeft h how.Widen new = new.thresholds ≡ kept_thresholds h.value new.value h.thresholds

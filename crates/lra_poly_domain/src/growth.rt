@@ -53,7 +53,7 @@ fn takes_thresholds(mode: Mode) -> bool
     }
 }
 
-// Flagged where the widening was, or, where it is limited, where a threshold is struck for a product.
+// Flagged if the widening was, or, if it is limited, if a threshold is struck for a product.
 fn strike(exactness: Exactness, mode: Mode, p: &Poly, r: &Poly, given: &ConSys) -> Exactness
     requires given { given.now.dims ≡ p.now.dims }
     requires result { r.now.dims ≡ p.now.dims }
@@ -90,7 +90,7 @@ fn grow_by_join(p: &Poly, next: &Poly, given: &ConSys) -> Result<Growth, AllocEr
     })
 }
 
-// The growth by a widening with the join; all points where the join is flagged.
+// The growth by a widening with the join; all points if the join is flagged.
 fn grow_by_widening(
     alloc: Global,
     p: &Poly,

@@ -134,7 +134,7 @@ impl PolyhedronHead {
         Ok((new, exactness))
     }
 
-    // What it becomes where it isn't decided whether next lies in its value: all points.
+    // What it becomes if it isn't decided whether next lies in its value: all points.
     pub(crate) fn give_up(&self, alloc: Global, next: &Poly) -> Result<PolyhedronHead, AllocError>
         requires dims { next.now.dims ≡ self.now.value.dims }
         requires strains { (e : E.Excess) × InclusionStrains next.now self.now.value e }

@@ -10,7 +10,7 @@ use lra_duality::{Inclusion, Maximum};
 use lra_poly_widening::{Outcome, Poly};
 use lra_row::opposite;
 
-/// Exact where nothing was lost.
+/// Exact if nothing was lost.
 pub fn exactness_of(outcome: &Outcome) -> Exactness
     ensures { result ≡ exactness_of outcome.now }
 {

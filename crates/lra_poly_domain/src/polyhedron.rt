@@ -123,7 +123,7 @@ impl Domain for Polyhedron {
         self.poly.is_empty()
     }
 
-    /// The least and the greatest value on the rational points, rounded inwards to whole numbers. None of the two where
+    /// The least and the greatest value on the rational points, rounded inwards to whole numbers. None of the two if
     /// a product of the form with a generator passes the range, or there is no point.
     fn bounds(&self, e: &LinExpr) -> (Option<i128>, Option<i128>) {
         let least = rounded_down(self.poly.maximise_opposite(e));
@@ -193,7 +193,7 @@ impl Domain for Polyhedron {
         Ok(head)
     }
 
-    /// Grows by the join with next, or by the widening with that join; is given up where the inclusion is wide. A
+    /// Grows by the join with next, or by the widening with that join; is given up if the inclusion is wide. A
     /// widening leaves of the thresholds those that hold on the old value and on the new one, with each product in the
     /// range.
     fn grow(head: &mut PolyhedronHead, next: &Self, mode: Mode) -> Result<Grown, AllocError>

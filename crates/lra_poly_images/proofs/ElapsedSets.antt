@@ -294,7 +294,7 @@ elapse_exact p q r list o h k e el = if_exact (IsPolyhedronOf p.dims (Gen list) 
     (IsPolyhedronOf p.dims (TimeElapse p.dims (Con p.rows) (Con q.rows)) r) o
     (λ a. elapse_made p q r h k e (subst (λ (l : List LinearRow). IsPolyhedronOf p.dims (Gen l) r) el a))
 
--- where the directions are added from the lists at hand
+-- if the directions are added from the lists at hand
 pub elapse_extended : (p q r : Polyhedron) (along second : List LinearRow) → HasPoint p → HasPoint q → q.dims ≡ p.dims →
     along ≡ as_directions second → second ≡ q.generators → IsPolyhedronOf p.dims (Gen (p.generators ++ along)) r →
     IsPolyhedronOf p.dims (TimeElapse p.dims (Con p.rows) (Con q.rows)) r

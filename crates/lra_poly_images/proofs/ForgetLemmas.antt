@@ -19,7 +19,7 @@ use Rattle.lra_mapped_systems.proofs.{ListLemmas.line_seen, Sums.with_line}
 use Rattle.lra_poly.proofs.{PolyLemmas.same_polyhedron, TakenGenerators.Takes}
 
 -- ---- into the cone
--- d x = e from + f unit, where the columns but k are those of from
+-- d x = e from + f unit, if the columns but k are those of from
 other_column : (xj yj x0 y0 u f : ℤ) → u ≡ pos 0 → xj *ℤ y0 ≡ yj *ℤ x0 → (x0 *ℤ yj) +ℤ (f *ℤ u) ≡ y0 *ℤ xj
 other_column xj yj x0 y0 u f eu e =
     ap (λ (z : ℤ). (x0 *ℤ yj) +ℤ (f *ℤ z)) eu ∙ ring (v x0 ⊗ v yj ⊕ v f ⊗ v (pos 0)) (v yj ⊗ v x0) (omega arith) ∙
@@ -127,7 +127,7 @@ forget_takes p list all x h low ed eg ad ag = record {
   same = forget_generators p (suc x) h (omega arith) (omega (arith, low));
 }
 
--- where the line is added from the lists at hand
+-- if the line is added from the lists at hand
 pub forget_extended : (p : Polyhedron) (made : Option Polyhedron) (along : List LinearRow) (n x : ℕ) → IsPolyhedron p → x < p.dims →
     n ≡ p.dims → along ≡ line (unit_row n (suc x)) ∷ [] → IfSome made (IsPolyhedronOf p.dims (Gen (p.generators ++ along))) →
     IfSome made (IsPolyhedronOf p.dims (Forget p.dims (suc x) (Con p.rows)))

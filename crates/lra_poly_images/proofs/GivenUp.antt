@@ -1,4 +1,4 @@
--- A coordinate that is given up where the outcome is flagged.
+-- A coordinate that is given up if the outcome is flagged.
 use Rattle.std.proofs.Common.{◌≡◌, ◌∙◌, ◌<◌, ℕ, ℤ, List, inl, inr, refl, subst, sym}
 use Rattle.lra_poly_images.specs.Crates.lra_linear_spec.OperationStrain.{ForgetStrains, ImageStrains}
 use Rattle.lra_poly_images.specs.Crates.{lra_linear_spec.Descriptions.Con, lra_linear_spec.Descriptions.Gen, lra_linear_spec.Points.IsPoint, lra_linear_spec.Points.IsWithin}

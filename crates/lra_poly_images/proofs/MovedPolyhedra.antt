@@ -32,7 +32,7 @@ use Rattle.lra_poly_images.proofs.{AssignedSets.assigned_generators, MovedFacets
 use Rattle.lra_mapped_systems.proofs.TakenBack.{assigned_reversible, assigned_width, first_stays, substituted_reversible, substituting}
 use Rattle.lra_mapped_systems.proofs.{Assigning.assigning, MovedForms.canonical_moved, Sums.system_mapped}
 
--- ---- the facets as a list: the inequalities, with the positivity row before them where it is one
+-- ---- the facets as a list: the inequalities, with the positivity row before them if it is one
 -- some of them is the row, or all are others
 some_or_others : (P : List ℤ → Type 0) (r : List ℤ) (rows : List (List ℤ)) → ((t : List ℤ) → Contains rows t → (t ≡ r) ⊎ P t) → Contains rows r ⊎ ((t : List ℤ) → Contains rows t → P t)
 some_or_others P r [] h = inr (λ t k. absurd (contains_none t k))
@@ -110,7 +110,7 @@ moved p h k f g eqs ineqs lines rays m = record {
   generator_widths = m.generator_widths;
 }
 
--- the facets moved, in the list that is shown and the positivity row where it is one
+-- the facets moved, in the list that is shown and the positivity row if it is one
 record FacetsMoved (p : Polyhedron) (h : HasPoint p) (eqs ineqs lines rays facets : List (List ℤ)) : Type 0 where
   canonical : IsCanonical eqs facets
   dual : AreDual (suc p.dims) (all_rows eqs facets) (all_rows lines rays)

@@ -22,7 +22,7 @@ use lra_mapped_systems::{
 use lra_poly::{LinExpr, Loss, Outcome, Poly, Test};
 use std::alloc::{AllocError, Global};
 
-// Lets the coordinate x be anything, where the generators are converted from nothing.
+// Lets the coordinate x be anything, if the generators are converted from nothing.
 fn forget_anew(p: &mut Poly, x: usize) -> Result<Outcome, AllocError>
     requires { x < p.old.dims }
     ensures dims { p.new.dims ≡ p.old.dims }
@@ -171,7 +171,7 @@ fn find_image(p: &Poly, x: usize, form: &LinExpr, row: &Row) -> Result<Option<Po
     }
 }
 
-// The image, where the generators are converted.
+// The image, if the generators are converted.
 fn convert_image(p: &mut Poly, x: usize, form: &Row) -> Result<Outcome, AllocError>
     requires column { x < p.old.dims }
     requires form { length form.now ≡ suc p.old.dims }
@@ -191,7 +191,7 @@ fn convert_image(p: &mut Poly, x: usize, form: &Row) -> Result<Outcome, AllocErr
 }
 
 /// Gives the coordinate x the form's value: becomes the set of its points, each with that value as coordinate x. If it
-/// is flagged, the coordinate may be anything: it has at least those points. Where the form has 1 or -1 at x nothing
+/// is flagged, the coordinate may be anything: it has at least those points. If the form has 1 or -1 at x nothing
 /// is converted, unless a number passes the range or there is no point.
 pub fn image(p: &mut Poly, x: usize, form: &LinExpr) -> Result<Outcome, AllocError>
     requires column { x < p.old.dims }
@@ -225,7 +225,7 @@ fn first_told(lost: Option<Loss>, outcome: Outcome) -> Outcome
     }
 }
 
-// The preimage, where the constraints are converted.
+// The preimage, if the constraints are converted.
 fn convert_preimage(p: &mut Poly, x: usize, form: &Row) -> Result<Outcome, AllocError>
     requires column { x < p.old.dims }
     requires form { length form.now ≡ suc p.old.dims }
@@ -241,7 +241,7 @@ fn convert_preimage(p: &mut Poly, x: usize, form: &Row) -> Result<Outcome, Alloc
 }
 
 /// Becomes the set of the points that are brought into it when the coordinate x is given the form's value. If it is
-/// flagged, it has at least those: constraints with which a number passes are left out. Where the form has 1 or -1 at x
+/// flagged, it has at least those: constraints with which a number passes are left out. If the form has 1 or -1 at x
 /// nothing is converted, unless a number passes the range or there is no point.
 pub fn preimage(p: &mut Poly, x: usize, form: &LinExpr) -> Result<Outcome, AllocError>
     requires column { x < p.old.dims }

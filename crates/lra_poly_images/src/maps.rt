@@ -55,7 +55,7 @@ pub fn embed(p: &mut Poly, k: usize) -> Result<Outcome, AllocError>
     replace(p, &list)
 }
 
-// The time-elapse of two that have a point each, where the generators are converted from nothing.
+// The time-elapse of two that have a point each, if the generators are converted from nothing.
 fn elapse_anew(p: &mut Poly, other: &Poly) -> Result<Outcome, AllocError>
     requires dims { other.now.dims ≡ p.old.dims }
     requires first { ¬ (IsEmptySet p.old.dims (Con p.old.rows)) }
@@ -95,7 +95,7 @@ fn elapse(p: &mut Poly, other: &Poly) -> Result<Outcome, AllocError>
 }
 
 /// Lets time elapse: becomes the hull of its points moved by any whole number of steps from 0 on, each step by the
-/// coordinates of a point of the other. If it is flagged, it has at least those. Where one of the two has no point it
+/// coordinates of a point of the other. If it is flagged, it has at least those. If one of the two has no point it
 /// is never flagged.
 pub fn time_elapse(p: &mut Poly, other: &Poly) -> Result<Outcome, AllocError>
     requires { other.now.dims ≡ p.old.dims }

@@ -21,7 +21,7 @@ quarter_below h = omega (arith, ints, h)
 pub nothing_least : (form : List ℤ) → IsMinimum form [] Empty
 nothing_least form = refl
 
--- where x is at least 0, the form -x falls along the ray
+-- if x is at least 0, the form -x falls along the ray
 pub falls_along : IsMinimum (pos 0 ∷ negsuc 0 ∷ []) (generator (pos 1 ∷ pos 0 ∷ []) ∷ generator (pos 0 ∷ pos 1 ∷ []) ∷ []) (Unbounded 1)
 falls_along = (
   All-cons (StaysInRange (pos 0 ∷ pos 1 ∷ [])) (generator (pos 1 ∷ pos 0 ∷ [])) (generator (pos 0 ∷ pos 1 ∷ []) ∷ []) refl
@@ -42,7 +42,7 @@ falls_along = (
     not_level : (let z : ℤ = pos 1 in z) ≡ pos 0 → ⊥
     not_level e = omega (arith, ints, e)
 
--- where x is at least 1, -x is nowhere at least 0
+-- if x is at least 1, -x is nowhere at least 0
 abbrev from_one : Polyhedron
 from_one = record {
   dims = 1;
@@ -63,7 +63,7 @@ opposite_nowhere x i both =
 pub one_touches : MissesZero (negsuc 0 ∷ pos 1 ∷ []) (generator (pos 1 ∷ pos 1 ∷ [])) → ⊥
 one_touches misses = misses (omega (arith, ints), refl)
 
--- where x is from 1 to 2, it is at most 2; and no number of dimensions more than those of the space fits
+-- if x is from 1 to 2, it is at most 2; and no number of dimensions more than those of the space fits
 abbrev to_two : Polyhedron
 to_two = record {
   dims = 1;
@@ -86,7 +86,7 @@ two_bounds = record {
 pub no_more_dimensions : (p : Polyhedron) → AffineDimension p (suc p.dims) → ⊥
 no_more_dimensions p h = let e = h.count in omega (arith, e)
 
--- where x is at least 0 there are stores, so no constraint without one is that constraint rounded
+-- if x is at least 0 there are stores, so no constraint without one is that constraint rounded
 pub not_nowhere : IsTightened 1 (inequality (pos 0 ∷ pos 1 ∷ [])) (inequality (negsuc 0 ∷ pos 0 ∷ [])) → ⊥
 not_nowhere h = let k = (h.stores (pos 0 ∷ []) refl).0 (omega (arith, ints)) in omega (arith, ints, k)
 
@@ -112,7 +112,7 @@ behind_two = refl
 pub third_for_first : replaced 2 0 ≡ 2 ∷ 1 ∷ []
 third_for_first = refl
 
--- where x is at least 1, that it is at least 0 is given; that y is at least x isn't
+-- if x is at least 1, that it is at least 0 is given; that y is at least x isn't
 abbrev right_of_one : LinearRow
 right_of_one = inequality (negsuc 0 ∷ pos 1 ∷ pos 0 ∷ [])
 
@@ -156,7 +156,7 @@ not_twice s = grind arith
 pub none_strains : (p context : Polyhedron) (loss : Loss) → SimplifyStrains p context [] loss → ⊥
 none_strains p context loss s = split_none s.front s.tried s.back s.are
 
--- where 2 x is at least 1, the least end of x is 1/2, and it isn't 0
+-- if 2 x is at least 1, the least end of x is 1/2, and it isn't 0
 abbrev from_half : Polyhedron
 from_half = record {
   dims = 1;

@@ -58,7 +58,7 @@ point_inside p h g k d =
           (generated_gen p.generators (entry g.row) (generated_row (system_of p.generators) g.row m)),
     )
 
--- where no point of the set has the form 0, no generator does
+-- if no point of the set has the form 0, no generator does
 pub misses_where : (p : Polyhedron) → IsPolyhedron p → (form : List ℤ) →
     ((x : List ℤ) → IsPoint p.dims x → Con p.rows x → product form x ≢ pos 0) → All (MissesZero form) p.generators
 misses_where p (inl none) form n = all_from (MissesZero form) p.generators
@@ -249,7 +249,7 @@ crossing p form x y n ix cx iy cy down up =
     crossed : (a b : ℤ) → (b *ℤ a) +ℤ (neg_ℤ a *ℤ b) ≡ pos 0
     crossed a b = ring (v b ⊗ v a ⊕ ⊖ (v a) ⊗ v b) (v (pos 0)) (omega arith)
 
--- where no point has the value 0, the form doesn't take both signs
+-- if no point has the value 0, the form doesn't take both signs
 one_side : (p : Polyhedron) (form : List ℤ) → HoldsNowhere p (equality form) →
     ¬ (ValidOn p.dims (Con p.rows) (inequality form)) →
     ¬ (ValidOn p.dims (Con p.rows) (inequality (negated form))) → ⊥

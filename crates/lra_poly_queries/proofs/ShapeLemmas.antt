@@ -161,7 +161,7 @@ without_rows p e = (
   λ x i c. con_none x,
 )
 
--- ---- a bound of each form where there are points alone
+-- ---- a bound of each form if there are points alone
 most_value : List ℤ → List LinearRow → ℕ
 most_value form [] = 0
 most_value form (g ∷ gs) = unsigned_abs (product form g.row) + most_value form gs
@@ -367,7 +367,7 @@ universe_told p list kinds b h e ek n is = (
       (no_given list.rows kinds n (ap (rows_by_kind is_equality list.rows) ek ∙ e ∙ universal p h u)),
 )
 
--- kinds that fit are points exactly where the divisors are above 0
+-- kinds that fit are points exactly if the divisors are above 0
 points_above : (rows : List (List ℤ)) (kinds : List GenKind) → FitKinds rows kinds → All (λ k. k ≡ Point) kinds →
     (g : LinearRow) → Contains (rows_by_kind is_line rows kinds) g → pos 0 <ℤ entry g.row 0
 points_above [] kinds fits all g k = absurd (contains_none g k)

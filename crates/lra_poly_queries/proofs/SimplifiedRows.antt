@@ -309,7 +309,7 @@ row_at list i n h =
     let k = there_within list.kinds i (omega (arith, n, h)) in
     (record { row = r.0; equal = is_equality k.0 }, at_place list i r.0 k.0 r.1 k.1)
 
--- the next place, where the one at hand is left out
+-- the next place, if the one at hand is left out
 pub place_left : (p context : Polyhedron) (list kept : LinearSystem ConKind) (i n : ℕ) (o : Outcome) → n ≡ p.dims →
     length list.kinds ≡ length list.rows → i < length list.rows →
     IsSoFar p context (constraints kept) (drop i (constraints list)) o →

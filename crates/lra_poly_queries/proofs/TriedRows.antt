@@ -23,7 +23,7 @@ pub trial_given : (n : ℕ) (context others : List LinearRow) (g : LinearRow) (a
 trial_given n context others g around o b valid x i m =
     valid x (subst (λ (d : ℕ). IsPoint d x) (sym b.dims) i) (b.within x i ((meet_con n context others).0 x i m))
 
--- it doesn't, and where that is all they give, it isn't given
+-- it doesn't, and if that is all they give, it isn't given
 pub trial_needed : (n : ℕ) (context others : List LinearRow) (g : LinearRow) (around : Polyhedron) (o : Outcome) →
     IsOfRows n (context ++ others) around o → ¬ (ValidOn around.dims (Con around.rows) g) →
     TellsRedundant n context others g (Some o)

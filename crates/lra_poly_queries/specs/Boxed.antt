@@ -10,7 +10,7 @@ use Rattle.lra_poly_queries.specs.{declared.boxes.Extent.Extent, declared.boxes.
 abbrev pub coordinate_form : ℕ → ℕ → List ℤ
 coordinate_form n k = unit_row n (suc k)
 
--- the form's least value, which some point has; or nothing, where no number is at most each of the values
+-- the form's least value, which some point has; or nothing, if no number is at most each of the values
 abbrev pub IsLeastEnd : Polyhedron → List ℤ → Option Fraction → Type 0
 IsLeastEnd p form None = IsUnboundedBelow p form
 IsLeastEnd p form (Some end) = IsLeastValue p form end.num end.den

@@ -20,7 +20,7 @@ pub struct Fraction {
     pub den: i128,
 }
 
-/// The values of a coordinate, from the least to the greatest; `None` where they fall, or rise, without end.
+/// The values of a coordinate, from the least to the greatest; `None` if they fall, or rise, without end.
 #[derive(Clone, Copy, Debug, PartialEq, Eq)]
 pub struct Extent {
     pub least: Option<Fraction>,

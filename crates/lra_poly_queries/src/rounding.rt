@@ -11,7 +11,7 @@ ghost use Rattle.lra_poly_queries.specs.Tightened.{AreTightened, IsTightened};
 use lra_systems::{ConKind, ConSys, Row, TOO_MANY_DIMENSIONS, gcd, unit};
 use std::alloc::{AllocError, Global};
 
-// The greatest number that divides each of them, 0 where all are 0.
+// The greatest number that divides each of them, 0 if all are 0.
 fn divisor_of(xs: &[i128]) -> i128
     requires { All InRange xs.now }
     ensures divisor { IsRowGcd xs.now (unsigned_abs result) }
@@ -58,7 +58,7 @@ fn nowhere(alloc: Global, dims: usize) -> Result<Row, AllocError>
     Ok(row)
 }
 
-// Whether no store meets the equality: where the coefficients' divisor doesn't divide the constant.
+// Whether no store meets the equality: if the coefficients' divisor doesn't divide the constant.
 fn has_no_store(kind: ConKind, constant: i128, divisor: i128) -> bool
     requires { pos 1 <ℤ divisor }
     ensures { IsTrue result ↔ ((is_equality kind ≡ true) × (int_rem_euclid constant divisor ≢ pos 0)) }

@@ -28,7 +28,7 @@ vanish_alike (g ∷ generators) r h =
     ap (λ b. b ∷ map (λ (k : LinearRow). vanishes r.row k.row) generators) (zero_alike r.row g.row here.0) ∙
     ap (λ l. int_eq (product r.row g.row) (pos 0) ∷ l) (vanish_alike generators r all.1)
 
--- one holds in the range and saturates what the values say exactly where its products vanish so
+-- one holds in the range and saturates what the values say exactly if its products vanish so
 pub holds_alike : (p : Polyhedron) (r : LinearRow) (bits : List Bool) (a h : Bool) → a ≡ same_values bits (map (λ (g : LinearRow). vanishes r.row g.row) p.generators) → h ≡ holds_in_range p r →
     (a && h) ≡ (holds_in_range p r && same_values bits (saturated p.generators r.row))
 holds_alike p r bits a true e f =
@@ -123,7 +123,7 @@ any_alike : (s t : LinearRow → Bool) (xs : List LinearRow) → ((g : LinearRow
 any_alike s t [] h = refl
 any_alike s t (g ∷ xs) h = ap (λ b. b || list_any s xs) (h g) ∙ ap (λ b. t g || b) (any_alike s t xs h)
 
--- some of those that pass a test pass another one where some of all pass both
+-- some of those that pass a test pass another one if some of all pass both
 any_filtered : (t s : LinearRow → Bool) (xs : List LinearRow) → list_any s (filter t xs) ≡ list_any (λ x. t x && s x) xs
 any_filtered t s [] = refl
 any_filtered t s (x ∷ xs) = by_test (t x) (any_filtered t s xs)

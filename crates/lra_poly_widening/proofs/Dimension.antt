@@ -1,4 +1,4 @@
--- The number of rows of an echelon form: one whose span lies in that of another has no more rows than it, and spans as much where it
+-- The number of rows of an echelon form: one whose span lies in that of another has no more rows than it, and spans as much if it
 -- has as many.
 use Rattle.std.proofs.Common.{List, [], ap, arith, inl, inr, length, neg_ℤ, pos, refl, subst, suc, sym, zero, ℕ, ℤ, ◌*ℤ◌, ◌*◌, ◌++◌, ◌+ℤ◌, ◌<◌, ◌≤◌, ◌∙◌, ◌∷◌, ◌≡◌, ◌⊎◌}
 use Rattle.std.proofs.lemmas.List.Elements.{Contains-append_cases, Contains-append_left, Contains-append_right}
@@ -12,7 +12,7 @@ use Rattle.lra_poly_widening.proofs.Crates.{lra_linear_spec.AdjacentPairs.both_p
 use Rattle.lra_poly_widening.proofs.Crates.{lra_linear_spec.Ring.◌⊕◌, lra_linear_spec.Ring.◌⊗◌, lra_linear_spec.Signs.as_nat, lra_linear_spec.Signs.not_both, lra_linear_spec.Signs.positive_nat}
 
 -- ---- pairs of members
--- Each member of the one list is related to one of the other, no two of them to the same: so the one is no longer, and where it is as
+-- Each member of the one list is related to one of the other, no two of them to the same: so the one is no longer, and if it is as
 -- long each member of the other is reached.
 pub record Matched {A B : Type 0} (Related : A → B → Type 0) (xs : List A) (ys : List B) : Type 0 where
   pub each : (x : A) → Contains xs x → (y : B) × Contains ys y × Related x y
@@ -104,7 +104,7 @@ record Cleared (rows : List (List ℤ)) (ps : List ℕ) (u : ℕ → ℤ) : Type
   on_span : Spanned rows part
   zero : (q : ℕ) → Contains ps q → (pos times *ℤ u q) +ℤ neg_ℤ (part q) ≡ pos 0
 
--- a (m u - w) - ((m u - w) at p) r, where a is r at p
+-- a (m u - w) - ((m u - w) at p) r, if a is r at p
 clear_sum : (a m u w z r : ℤ) → ((a *ℤ m) *ℤ u) +ℤ neg_ℤ ((a *ℤ w) +ℤ (z *ℤ r)) ≡ (a *ℤ ((m *ℤ u) +ℤ neg_ℤ w)) +ℤ neg_ℤ (z *ℤ r)
 clear_sum a m u w z r = ring ((v a ⊗ v m) ⊗ v u ⊕ ⊖ (v a ⊗ v w ⊕ v z ⊗ v r)) (v a ⊗ (v m ⊗ v u ⊕ ⊖ (v w)) ⊕ ⊖ (v z ⊗ v r)) (omega arith)
 
@@ -165,7 +165,7 @@ smaller_span rows rows' ps ps' ech ech' sub =
           c.on_span),
     )
 
--- ---- no more rows than columns from 1 on, where no row leads in column 0
+-- ---- no more rows than columns from 1 on, if no row leads in column 0
 abbrev columns_below : ℕ → List ℕ
 columns_below zero = []
 columns_below (suc n) = suc n ∷ columns_below n

@@ -102,7 +102,7 @@ same_face p h s c k l above zeros =
     ext.splits n c (entry y) (above_generated p h c l above) gy
     (λ j. ap (λ z. entry c j +ℤ z) (ye j) ∙ ring (v (entry c j) ⊕ (v (pos n) ⊗ v (entry s j) ⊕ v (negsuc 0) ⊗ v (entry c j))) (v (pos n) ⊗ v (entry s j)) (omega arith))
 
--- products of what stands beside, where the line is 0
+-- products of what stands beside, if the line is 0
 pub beside_product : (lines : List (List ℤ)) (s c : List ℤ) (b : Beside lines s c) (t : List ℤ) → dot t b.line ≡ pos 0 → pos b.times *ℤ product t c ≡ pos b.other *ℤ product t s
 beside_product lines s c b t e =
     sym (dot_scale t (pos b.times) (entry c)) ∙ dot_same t (λ j. pos b.times *ℤ entry c j) (λ j. (pos b.other *ℤ entry s j) +ℤ b.line j) b.is_beside ∙ dot_plus t (pos b.other) (entry s) b.line ∙

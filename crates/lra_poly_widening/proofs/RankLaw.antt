@@ -178,7 +178,7 @@ sources_apart p r given c f g s m n a b =
     let rows : g.row ≡ f.row = beside_same r c.k f.row g.row beside sf lg (c.k.constraints_canonical.lowest g.row sg) (c.k.constraints_canonical.reduced g.row sg) in
     same_given f g (sym rows) (ff.unequal ∙ sym fg.unequal)
 
--- ---- where all are reached, R is P
+-- ---- if all are reached, R is P
 -- a row that stands beside s holds, so s does
 scaled_above : (m n : ℕ) (y z : ℤ) → 0 < n → pos m *ℤ y ≡ pos n *ℤ z → pos 0 ≤ℤ y → pos 0 ≤ℤ z
 scaled_above m n y z h e a = divide_nonnegative n z h (subst (λ x. pos 0 ≤ℤ x) e (mul_nonnegative (pos m) y (omega (arith, ints)) a))
@@ -301,7 +301,7 @@ both_without p r h k d =
     same_points_same_lists p r (inl h) (inl k) d (λ x i c. subst (λ l. Con l x) rows c, λ x i c. subst (λ l. Con l x) (sym rows) c)
 
 -- ---- the law
--- P lies in R, which is another polyhedron; where P has a point, R is that of tight and widening thresholds
+-- P lies in R, which is another polyhedron; if P has a point, R is that of tight and widening thresholds
 pub rank_falls : (p r : Polyhedron) (given : List LinearRow) → IsPolyhedron p → IsPolyhedron r → r.dims ≡ p.dims → IsWithin p.dims (Con p.rows) (Con r.rows) → r ≢ p →
     ((g : LinearRow) → Contains given g → length g.row ≡ suc p.dims) → (HasPoint p → KeepsRows p r given) → Falls p r given
 rank_falls p r given (inl h) (inl k) d w other widths keeps = absurd (other (sym (both_without p r h k d)))

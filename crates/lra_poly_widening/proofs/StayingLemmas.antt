@@ -1,4 +1,4 @@
--- What a widening keeps where it is flagged.
+-- What a widening keeps if it is flagged.
 use Rattle.std.proofs.Common.{◌≡◌, ◌++◌, ℕ, List, [], inr, subst}
 use Rattle.lra_poly_widening.specs.Crates.lra_linear_spec.OperationStrain.{tight_on, with_positivity}
 use Rattle.lra_poly_widening.specs.Crates.{lra_linear_spec.Descriptions.LinearRow, lra_linear_spec.Polyhedra.Polyhedron, lra_linear_spec.declared.ConKind.ConKind}

@@ -1,4 +1,4 @@
--- Where the tightest of some rows hold, all of them do; so the widening that is limited by these is that which is limited by all.
+-- If the tightest of some rows hold, all of them do; so the widening that is limited by these is that which is limited by all.
 use Rattle.std.proofs.Common.{◌≡◌, ◌≢◌, ◌∙◌, ◌<◌, ◌≤◌, ℕ, zero, suc, ℤ, pos, ◌+ℤ◌, ◌*ℤ◌, Bool, true, false, not, cond, List, [], ◌∷◌, length, inl, inr, refl, sym, ap, subst, arith}
 use Rattle.std.proofs.lemmas.Bool.{and_from, not_from_false, not-true}
 use Rattle.std.proofs.{lemmas.Bool.and_parts, lemmas.Int.ints}
@@ -73,7 +73,7 @@ with_room d c e r a b =
     ring (((v d ⊕ v (negsuc 0) ⊗ v c) ⊗ v e) ⊕ ((v c ⊗ v e) ⊕ v r)) ((v d ⊗ v e) ⊕ v r) (omega arith) in
     subst (λ (z : ℤ). pos 0 ≤ℤ z) same (add_nonnegative ((d +ℤ (negsuc 0 *ℤ c)) *ℤ e) ((c *ℤ e) +ℤ r) a b)
 
--- where the lower row has a value at least 0, the other one has
+-- if the lower row has a value at least 0, the other one has
 lower_holds : (n : ℕ) (xs ys x : List ℤ) → IsPoint n x → IsLower xs ys → pos 0 ≤ℤ product xs x → pos 0 ≤ℤ product ys x
 lower_holds n xs ys x point l h =
     let rest = dot l.coefficients (λ j. entry x (suc j)) in
@@ -128,7 +128,7 @@ never_itself r = by_value (is_tighter r r) refl
         let wrong : ⊥ = between l.low l.high l.less (heads same) in
         absurd wrong
 
--- where the tighter row holds at a point, the other one does
+-- if the tighter row holds at a point, the other one does
 tighter_holds : (n : ℕ) (s r : LinearRow) (x : List ℤ) → IsPoint n x → is_tighter s r ≡ true → Holds s x → Holds r x
 tighter_holds n s r x point h holds =
     let (unequal, low) = tighter_parts s r h in
@@ -168,7 +168,7 @@ fewer {A} t u (x ∷ xs) y f k a b = elim (contains_cases x y xs k) [
 -- ---- of the rows the tightest
 
 module _ (n : ℕ) (rows : List LinearRow) (x : List ℤ) (point : IsPoint n x) (all : Con (tightest rows) x) where
-  -- a row that is loose holds where each tighter one does
+  -- a row that is loose holds if each tighter one does
   by_tighter : (r : LinearRow) → Contains rows r
       → ((s : LinearRow) → Contains rows s → length (filter (λ t. is_tighter t s) rows) < length (filter (λ t. is_tighter t r) rows) → Holds s x) → Holds r x
   by_tighter r has others = by_value (is_loose rows r) refl

@@ -50,7 +50,7 @@ wide_said p r e k = sym (one_fails (λ g. fits (checked_product r.row g.row) && 
     ended b (Ok x) h = cc
     ended b (Err x) h = refl
 
--- ---- a row that no product of which passes before it fails is kept exactly where it is valid on both
+-- ---- a row that no product of which passes before it fails is kept exactly if it is valid on both
 get_or-contains : (xs : List LinearRow) (k : ℕ) (d : LinearRow) → k < length xs → Contains xs (get_or xs k d)
 get_or-contains [] k d h = absurd (omega (arith, h))
 get_or-contains (x ∷ xs) zero d h = contains_head x xs

@@ -43,7 +43,7 @@ row_columns q k g m = elim (Contains-append_cases (rows_as true k.equalities) (r
   | inr i ↦ k.dual.system_widths g.row (Contains-append_left k.facets (both_ways k.equalities) g.row (k.shown g.row (given_from false k.inequalities g i).1).0)
 ]
 
--- ---- where P has no point
+-- ---- if P has no point
 pub limited_empty : (p q : Polyhedron) (given : List LinearRow) → q.dims ≡ p.dims → p.generators ≡ [] → SameSet p.dims (LimitedWidening p q given) (Con q.rows)
 limited_empty p q given d e = (
   λ x i l. subst (λ gs. StandardFrom gs p q x) e l.0,
@@ -163,7 +163,7 @@ of_some p q made given o h k d w s columns exact strain =
       };
     }
 
--- ---- what is reported where rows are lost
+-- ---- what is reported when rows are lost
 -- what the polyhedron is made of, and what is reported about it
 pub record IsMade (p q made : Polyhedron) (list given : List LinearRow) (n : ℕ) (o lost : Outcome) : Type 0 where
   pub first : IsPolyhedron p

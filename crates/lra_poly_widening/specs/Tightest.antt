@@ -25,7 +25,7 @@ is_loose rows r = list_any (λ s. is_tighter s r) rows
 abbrev pub tightest : List LinearRow → List LinearRow
 tightest rows = filter (λ r. not (is_loose rows r)) rows
 
--- where the tightest hold, all do
+-- if the tightest hold, all do
 abbrev pub TightestTell : Type 0
 TightestTell = (n : ℕ) (rows : List LinearRow) → IsWithin n (Con (tightest rows)) (Con rows)
 

@@ -143,7 +143,7 @@ fn count_free(p: &Poly, given: &ConSys) -> usize
     count
 }
 
-/// The rank of a polyhedron over given constraints: how many equalities it has (one more than its dimensions where it
+/// The rank of a polyhedron over given constraints: how many equalities it has (one more than its dimensions if it
 /// has no point); how many given constraints hold on it with each product in the range; and how many of its
 /// inequalities saturate other generators than each of these. It takes no memory.
 pub fn rank(p: &Poly, given: &ConSys) -> (u64, u64, u64)

@@ -84,8 +84,8 @@ pub fn widen_limited_by(
 }
 
 /// The standard widening of P by Q, which P lies in: the points at which each constraint of Q that is tight on P holds;
-/// Q where P has no point. If it is flagged, it has at least those. Refused with the place of P's first generator
-/// outside Q; where a product passes before that is known, it is flagged and has all points.
+/// Q if P has no point. If it is flagged, it has at least those. Refused with the place of P's first generator
+/// outside Q; if a product passes before that is known, it is flagged and has all points.
 pub fn standard(alloc: Global, p: &Poly, q: &Poly) -> Result<(Poly, Outcome), WidenError>
     requires { q.now.dims ≡ p.now.dims }
     ensures becomes { IfOk result (λ r.

@@ -62,7 +62,7 @@ further_apart {V} m cap ps qs (left, r, over, t) = record {
       (subst (λ (xs : List V). IsAntichain m xs) t.old (reduced_apart m ps left r)));
 }
 
--- what is reported where only the last is new -------------------------------------------------------------------------
+-- what is reported if only the last is new ----------------------------------------------------------------------------
 
 apart_before : {V H : Type 0} (m : Abstraction V H) (before : List V) (p : V) (behind : List V)
     → IsAntichain m (before ++ p ∷ behind) → EachPart (λ b. ¬ m.included p b) before

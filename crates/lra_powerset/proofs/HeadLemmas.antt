@@ -465,7 +465,7 @@ valued_stays {V} m pl n (one h) ps qs w (p, v, e) fit (q, u, each) =
     )
 valued_stays m pl n (whole p) ps qs w v fit st = absurd w
 
--- where an inclusion in the parts of the value isn't decided
+-- if an inclusion in the parts of the value isn't decided
 pub strains_valued : {V H : Type 0} (m : Abstraction V H) (f : HeadForm V H) (ps qs : List V) → NotWhole f → FormValued m f ps
     → AreUndecided m qs ps → HeadFormStrains m f qs Join
 strains_valued {V} m (many rs) ps qs w v some = subst (λ (xs : List V). AreUndecided m qs xs) v some

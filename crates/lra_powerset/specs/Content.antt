@@ -9,7 +9,7 @@ pub record SetContent (V : Type 0) : Type 0 where
   pub cap : ℕ
   pub parts : List V
 
--- what comes after the head of a set: parts, not one; the head of a single part; or, where it was given up, the part
+-- what comes after the head of a set: parts, not one; the head of a single part; or, if it was given up, the part
 -- with all stores
 pub data HeadForm (V H : Type 0) : Type 0 where
   many : List V → HeadForm V H

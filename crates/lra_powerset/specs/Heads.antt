@@ -91,7 +91,7 @@ FormStays m (whole p) qs mode = Unit {0}
 abbrev pub HeadStays : {V H : Type 0} → Abstraction V H → SetHead V H → SetContent V → Mode → Type 0
 HeadStays m h v mode = (v.dims ≡ h.dims) × FormStays m h.form v.parts mode
 
--- an inclusion in a single part's head exceeds a limit: that of the join of next's parts; or of one of them, where that
+-- an inclusion in a single part's head exceeds a limit: that of the join of next's parts; or of one of them, if that
 -- join exceeds a limit
 abbrev pub OneStrains : {V H : Type 0} → Abstraction V H → H → List V → Mode → Type 0
 OneStrains {V} m h qs mode =

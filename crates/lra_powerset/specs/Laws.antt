@@ -70,7 +70,7 @@ pub with_filled_rows : {V R : Type 0} (rows : List R) (p : V) (qs : List V) → 
 with_filled_rows [] p qs n = absurd (n refl)
 with_filled_rows (r ∷ rows) p qs n = refl
 
--- parts that aren't empty are formed where all are; each store of one of these is one of them
+-- parts that aren't empty are formed if all are; each store of one of these is one of them
 pub filled_formed : {V H : Type 0} (m : Abstraction V H) (ps : List V) → EachPart m.well_formed ps
     → EachPart m.well_formed (nonempty_parts m ps)
 filled_formed m [] f = tt

@@ -18,7 +18,7 @@ some_of_each P Q X f [] e h = absurd h
 some_of_each P Q X f (p ∷ ps) e (inl h) = f p e.0 h
 some_of_each P Q X f (p ∷ ps) e (inr h) = some_of_each P Q X f ps e.1 h
 
--- where something holds of each of the others too
+-- if something holds of each of the others too
 pub some_with_each : {V : Type 0} (R P Q : V → Type 0) → ((p : V) → R p → P p → Q p) → (ps : List V)
     → EachPart R ps → SomePart P ps → SomePart Q ps
 some_with_each R P Q f [] e h = absurd h

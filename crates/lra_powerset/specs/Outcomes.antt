@@ -33,7 +33,7 @@ both Wide No = No
 both Wide Yes = Wide
 both Wide Wide = Wide
 
--- flagged where an answer strained
+-- flagged if an answer strained
 abbrev pub decided : Included → Exactness
 decided Yes = Exact
 decided No = Exact

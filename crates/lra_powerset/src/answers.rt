@@ -27,7 +27,7 @@ pub fn both(one: Included, two: Included) -> Included
     }
 }
 
-/// Flagged where one of the answers is `Wide`.
+/// Flagged if one of the answers is `Wide`.
 pub fn exactness_of(answers: &[Included]) -> Exactness
     ensures { result ≡ all_decided answers.now }
 {

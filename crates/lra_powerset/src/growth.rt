@@ -174,7 +174,7 @@ pub fn become_one<D: BaseDomain>(
     }
 }
 
-/// Whether each of the parts is reported to lie in the head. Where one isn't, the head may have grown by it.
+/// Whether each of the parts is reported to lie in the head. If one isn't, the head may have grown by it.
 fn stays_with_all<D: BaseDomain>(
     head: &mut D::Head,
     parts: &[D],
@@ -198,7 +198,7 @@ fn stays_with_all<D: BaseDomain>(
     }
 }
 
-/// The head of a single part grows by the join of next's parts. Where that join is flagged, it stays if each part lies
+/// The head of a single part grows by the join of next's parts. If that join is flagged, it stays if each part lies
 /// in it; else there is no answer, and nothing is known of the head.
 pub fn grow_one<D: BaseDomain>(
     alloc: Global,

@@ -191,7 +191,7 @@ impl<D: BaseDomain> PowerSetHead<D> {
         Ok(())
     }
 
-    // The join with next, where it is reported whether next lies in it, whose value has these parts.
+    // The join with next, if it is reported whether next lies in it, whose value has these parts.
     fn join_told(
         &mut self,
         parts: Vec<D>,
@@ -275,7 +275,7 @@ impl<D: BaseDomain> PowerSetHead<D> {
         }
     }
 
-    // The parts that it has, where it isn't one.
+    // The parts that it has, if it isn't one.
     fn held_parts(&self) -> &[D]
         requires { (ps : List D) × (self.now.form ≡ many ps) }
         ensures form { self.now.form ≡ many result.now }

@@ -73,7 +73,7 @@ pub enum Collapsing {
     Further,
 }
 
-/// The parts reduced; where there are more than the cap and nothing was flagged, the last two become their join.
+/// The parts reduced; if there are more than the cap and nothing was flagged, the last two become their join.
 fn settle_once<D: BaseDomain>(
     alloc: Global,
     cap: usize,
@@ -123,7 +123,7 @@ fn settle_untried<D: BaseDomain>(
     }
 }
 
-/// The parts reduced and kept within the cap: while there are more, the last two become their join. Where something was
+/// The parts reduced and kept within the cap: while there are more, the last two become their join. If something was
 /// flagged and there are more, all become one.
 pub fn collapse<D: BaseDomain>(
     alloc: Global,

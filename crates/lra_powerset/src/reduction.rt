@@ -137,7 +137,7 @@ pub fn reduce<D: BaseDomain>(alloc: Global, parts: &mut Vec<D>) -> Result<Exactn
     Ok(exactness_of(told.as_slice()))
 }
 
-/// Of each part whether it goes, where none of those before the last lies in another of them: each is tried against
+/// Of each part whether it goes, if none of those before the last lies in another of them: each is tried against
 /// the last, and the last against them.
 fn tell_last<D: BaseDomain>(
     alloc: Global,
@@ -159,7 +159,7 @@ fn tell_last<D: BaseDomain>(
     Ok(told)
 }
 
-/// Reduces the list, where none of the parts before the last lies in another of them.
+/// Reduces the list, if none of the parts before the last lies in another of them.
 fn reduce_last<D: BaseDomain>(alloc: Global, parts: &mut Vec<D>) -> Result<Exactness, AllocError>
     requires alike { (n : ℕ) × HaveDims D.abstraction n parts.old.items }
     requires apart { PrefixIsAntichain D.abstraction parts.old.items }

@@ -290,7 +290,7 @@ impl<D: BaseDomain> Domain for PowerSet<D> {
         bounds_of(self.parts.as_slice(), e)
     }
 
-    /// Yes where each part lies in some part of the other.
+    /// Yes if each part lies in some part of the other.
     fn included(&self, other: &Self) -> Included {
         all_lie_in(self.parts.as_slice(), other.parts.as_slice())
     }

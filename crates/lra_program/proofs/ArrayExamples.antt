@@ -99,7 +99,7 @@ written = main_alone (array 1 a (declaration (record { label = 2; number_type = 
 written_run : visited written (pos 7 ∷ pos 8 ∷ pos 9 ∷ pos 0 ∷ []) ≡ ([], 1, []) ∷ ([], 2, []) ∷ ([], 3, pos 1 ∷ []) ∷ ([], 4, pos 1 ∷ []) ∷ ([], 5, pos 5 ∷ []) ∷ []
 written_run = refl
 
--- where one draw is too few for the array, the run ends at its point
+-- if one draw is too few for the array, the run ends at its point
 too_few_draws : visited written (pos 7 ∷ pos 8 ∷ []) ≡ ([], 1, []) ∷ []
 too_few_draws = refl
 
@@ -175,7 +175,7 @@ target_first : op_accesses (store_element 0 (at_index single (number 0)) (elemen
     ≡ at_index single (number 0) ∷ record { array = single; place = at 53; index = number 1 } ∷ []
 target_first = refl
 
--- of `b[0]=f(b[1], b[2]);` the third access is outside, where b has two elements; catches arguments that are not
+-- of `b[0]=f(b[1], b[2]);` the third access is outside, if b has two elements; catches arguments that are not
 -- reported
 abbrev pair : Array
 pair = record single { length = 2 }
@@ -190,7 +190,7 @@ holding xs = record (drawing []) { arrays = (at 44, xs) ∷ [] }
 argument_strays : OpOutOfBounds argued (holding (pos 5 ∷ pos 6 ∷ [])) 2
 argument_strays = inr (1, refl, _, refl, inr (0, refl, (pos 6, []), refl, pos 6, refl, inl (inr ((pos 2, []), refl, refl, refl))))
 
--- of `b[0]>0 && b[1]>0` the right side is computed where the left one holds, of `||` where it doesn't; both ways of a
+-- of `b[0]>0 && b[1]>0` the right side is computed if the left one holds, of `||` if it doesn't; both ways of a
 -- condition ask it
 right_of_both : OpOutOfBounds (test 0 (both_of (compare above (element single (at 53) (number 0)) (number 0)) (compare above (element single (at 61) (number 1)) (number 0))) true)
     (holding (pos 7 ∷ [])) 1

@@ -31,7 +31,7 @@ none_left (t ∷ ts) (e ∷ es) (inr same) = absurd cc
 no_views : (left : List Expr) → left ≡ [] → map expr_view left ≡ []
 no_views left e = ap (map expr_view) e
 
--- where one of the two lists ends
+-- if one of the two lists ends
 pub pairs_end : (given : List Argument) (all : List value.Argument) (types : List NumberType) (left : List Expr) → (types ≡ []) ⊎ (left ≡ [])
     → map argument_view given ++ arguments_for types (map expr_view left) ≡ all → map argument_view given ≡ all
 pairs_end given all types left (inl none) so =

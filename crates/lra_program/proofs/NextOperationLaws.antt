@@ -1,4 +1,4 @@
--- Where no step follows, the operation that is asked ends the run, or something ends it of which nothing is asked.
+-- If no step follows, the operation that is asked ends the run, or something ends it of which nothing is asked.
 use Rattle.std.proofs.Common.{◌≡◌, List, [], ◌∷◌, length, Option, Some, None, Bool, true, refl, inl, inr}
 use Rattle.std.specs.Prelude.{◌⊎◌, ℤ, slice_get}
 use Rattle.lra_base.specs.declared.number_types.NumberType.{NumberType}

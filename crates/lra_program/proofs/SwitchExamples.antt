@@ -109,7 +109,7 @@ in_a_loop_run : visited in_a_loop (pos 0 ∷ []) ≡ ([], 1, []) ∷ ([], 2, pos
     ∷ ([], 2, pos 10 ∷ []) ∷ ([], 10, pos 10 ∷ []) ∷ []
 in_a_loop_run = refl
 
--- the first label of a name counts, where a program made by hand has two
+-- the first label of a name counts, if a program made by hand has two
 first_of_two : chosen (pos 1) (case_of 1 (stated (nothing 1) (case_of 1 (stated (nothing 2) no_cases))))
     ≡ stated (nothing 1) (case_of 1 (stated (nothing 2) no_cases))
 first_of_two = refl

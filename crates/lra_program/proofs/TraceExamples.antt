@@ -38,7 +38,7 @@ failing_trail = (
 abbrev MayBeFive : State → State → Type 0
 MayBeFive s t = (t ≡ s) ⊎ (t ≡ state_of (pos 5 ∷ []) s.draws)
 
--- where that happens at the assertion's point, the run goes on after it: what is met there is x as it came, and what
+-- if that happens at the assertion's point, the run goes on after it: what is met there is x as it came, and what
 -- is tested is x as it became. Catches a change before the point is met, and one after the step
 past_failure : Arrives MayBeFive failing (pos 7 ∷ []) (point_of_main 4) (record {
   state = state_of (pos 5 ∷ []) [];

@@ -90,7 +90,7 @@ no_draw : run_op (havoc (result_receiver (Some Int) nobody)) (record { store = [
     Some (record { store = []; arrays = []; waiting = []; draws = [] })
 no_draw = refl
 
--- f(input(), input()) with `int` first: the second draw isn't taken where the first doesn't fit
+-- f(input(), input()) with `int` first: the second draw isn't taken if the first doesn't fit
 arguments_stop : values_of (arguments_for (Int ∷ Long ∷ []) (input ∷ input ∷ [])) nowhere (pos 2147483648 ∷ []) ≡ None
 arguments_stop = refl
 
@@ -105,7 +105,7 @@ abbrev truth_or : Drawn Bool → Bool
 truth_or None = true
 truth_or (Some r) = r.0
 
--- x < 2147483647 && x + 1 > 0 where x is the greatest `int`: the right side isn't computed; catches a right side that is
+-- x < 2147483647 && x + 1 > 0 if x is the greatest `int`: the right side isn't computed; catches a right side that is
 not_computed : CondOverflows (both_of (compare below x (literal Int 2147483647)) (compare above (binary plus x one) (literal Int 0)))
     scene [] → ⊥
 not_computed (inl (inl h)) = h

@@ -6,7 +6,7 @@ use Rattle.lra_base.specs.declared.number_types.NumberType.TheVariants.{Int, Lon
 use Rattle.lra_program.specs.Program.{Slot, global, local, Variable, Expr, literal, read, input, negate, binary, compare, nonzero, opposite, both_of, either_of}
 use Rattle.lra_program.specs.Value.{Environment, Argument, value_of, values_of, truth_of, compares}
 
--- where no variable lives
+-- if no variable lives
 abbrev nowhere : Environment
 nowhere = record { base = 0; store = []; arrays = [] }
 

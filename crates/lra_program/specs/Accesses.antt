@@ -75,7 +75,7 @@ EitherOutOfBounds a b s draws n = ExprOutOfBounds a s draws n ⊎
     ((m : ℕ) × IsNthAfter (expr_accesses a) m n × (r : ℤ × List ℤ) × (value_of a s draws ≡ Some r)
     × ExprOutOfBounds b s r.1 m)
 
--- the right side of `&&` is computed where the left one is true, that of `||` where it is false
+-- the right side of `&&` is computed if the left one is true, that of `||` if it is false
 abbrev pub CondOutOfBounds : Cond → Environment → List ℤ → ℕ → Type 0
 CondOutOfBounds (compare op a b) s draws n = EitherOutOfBounds a b s draws n
 CondOutOfBounds (nonzero e) s draws n = ExprOutOfBounds e s draws n
@@ -130,7 +130,7 @@ abbrev pub OutOfBoundsHasAccess : Type 0
 OutOfBoundsHasAccess = (op : Op) (s : State) (n : ℕ) → OpOutOfBounds op s n → (x : Element) ×
     (slice_get (op_accesses op) n ≡ Some x) × IsOutside (environment_at (base_of op) s) x
 
--- where an access of the operation is outside its array, the run ends there
+-- if an access of the operation is outside its array, the run ends there
 abbrev pub OutOfBoundsEndsRun : Type 0
 OutOfBoundsEndsRun = (op : Op) (s : State) (n : ℕ) → OpOutOfBounds op s n → Ends op s
 

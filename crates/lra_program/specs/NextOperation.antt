@@ -1,4 +1,4 @@
--- By which operation a run goes on where an item is on top, so far as it may compute something or access an array:
+-- By which operation a run goes on if an item is on top, so far as it may compute something or access an array:
 -- what is asked of it, and of the state before it; and that a run that ends there ends by it.
 use Rattle.std.specs.Prelude.{◌≡◌, ◌⊎◌, List, [], ◌∷◌, length, Option, None, Some, true, slice_get, ⊤}
 use Rattle.lra_base.specs.declared.number_types.NumberType.{NumberType}
@@ -105,7 +105,7 @@ EndsOtherwise P (return_frame b ∷ k) s = run_any b.receiver s ≡ None
 EndsOtherwise P (leave_call ∷ k) s = return_target k ≡ None
 EndsOtherwise P k s = ⊥
 
--- else, where no step follows, the operation that is asked ends the run
+-- else, if no step follows, the operation that is asked ends the run
 abbrev pub EndsAreByNextOp : Type 0
 EndsAreByNextOp = (P : Program) (k : List Item) (h : CallContext) (s : State) → next_at P k h s ≡ None →
     NextOpIs Ends P k h s ⊎ EndsOtherwise P k s

@@ -30,7 +30,7 @@ abbrev pub EitherOverflows : Expr → Expr → Environment → List ℤ → Type
 EitherOverflows a b s draws = ExprOverflows a s draws ⊎
     ((r : ℤ × List ℤ) × (value_of a s draws ≡ Some r) × ExprOverflows b s r.1)
 
--- the right side of `&&` is computed where the left one is true, that of `||` where it is false
+-- the right side of `&&` is computed if the left one is true, that of `||` if it is false
 abbrev pub CondOverflows : Cond → Environment → List ℤ → Type 0
 CondOverflows (compare op a b) s draws = EitherOverflows a b s draws
 CondOverflows (nonzero e) s draws = ExprOverflows e s draws

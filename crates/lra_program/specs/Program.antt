@@ -115,7 +115,7 @@ labels_of no_cases = []
 labels_of (labelled l cs) = l ∷ labels_of cs
 labels_of (stated a cs) = labels_of cs
 
--- a function: the type of its result, where it has one, those of its parameters, its body's items, and the label of its
+-- a function: the type of its result, if it has one, those of its parameters, its body's items, and the label of its
 -- `}`
 pub record Function : Type 0 where
   pub result_type : Option NumberType

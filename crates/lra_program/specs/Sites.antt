@@ -85,7 +85,7 @@ function_events inside path live (Some f) =
     items_events inside path (live + length f.parameters) f.body ++
     plain_site path f.end (live_after_items (live + length f.parameters) f.body) ∷ []
 
--- a call's points, where the path may have so many calls more
+-- a call's points, if the path may have so many calls more
 abbrev pub call_events : Program → ℕ → List ℕ → ℕ → Call → List Event
 call_events P zero path live c = one_call_more c.label ∷ []
 call_events P (suc more) path live c = function_events (call_events P more) (c.label ∷ path) live

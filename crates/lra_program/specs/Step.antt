@@ -45,7 +45,7 @@ pub data Op : Type 0 where
   push_for : ℕ → Element → List Argument → Op
   -- only the oldest so many variables stay
   truncate_to : ℕ → Op
-  -- nothing, where the condition is so
+  -- nothing, if the condition is so
   test : ℕ → Cond → Bool → Op
 
 -- to the element at the first of these indexes, which waits no more
@@ -61,7 +61,7 @@ abbrev pub put : Option Target → ℤ → State → State
 put None z s = s
 put (Some t) z s = put_in t.cell z s
 
--- the state, where the one is as the other
+-- the state, if the one is as the other
 abbrev pub kept_if : Bool → Bool → State → Option State
 kept_if true true s = Some s
 kept_if false false s = Some s
@@ -93,7 +93,7 @@ abbrev pub filled : Array → State → Drawn (List ℤ) → Option State
 filled a s None = None
 filled a s (Some r) = Some (record s { arrays = (a.declared, r.0) ∷ s.arrays; draws = r.1 })
 
--- the element's index, where its array has it, waits
+-- the element's index, if its array has it, waits
 abbrev pub aim : ℕ → Element → State → Option State
 aim base x s = value_of x.index (environment_at base s) s.draws >>= λ r. place_among x.array.length r.0 >>= λ k.
     Some (record s { waiting = k ∷ s.waiting; draws = r.1 })
@@ -312,7 +312,7 @@ do_stmt P (assert at c) k h s = go k h (run_op (test h.base c true) s)
 do_stmt P (assume at c) k h s = go k h (run_op (test h.base c true) s)
 do_stmt P (switch at e cs) k h s = do_switch cs k h s (value_of e (environment_at h.base s) s.draws)
 
--- a new variable; its value is given by the declarator's rvalue, where it has one
+-- a new variable; its value is given by the declarator's rvalue, if it has one
 abbrev pub do_declare : Program → NumberType → Option Rvalue → List Item → CallContext → State → Option Config
 do_declare P t None k h s = go k h (run_op (append t) s)
 do_declare P t (Some e) k h s = go_on (run_op (append t) s) (do_rvalue P (variable_at (length s.store) t) e k h)

@@ -1,5 +1,5 @@
 -- Runs with what they meet: each point that is passed, with the state in which the run came there. Whenever a point is
--- on top the state may change, as `may` says, before the step is taken; nothing changes it where a program runs alone.
+-- on top the state may change, as `may` says, before the step is taken; nothing changes it if a program runs alone.
 use Rattle.std.specs.Prelude.{◌≡◌, ℕ, zero, suc, ℤ, List, [], ◌∷◌, Option, Some, None}
 use Rattle.lra_program.specs.Run.{start, label_on, Point, IsOn, IsFailing}
 use Rattle.lra_program.specs.{Program.Program, Step.State, Step.Config, Step.next_at}
@@ -14,7 +14,7 @@ pub record Trace (A : Type 0) : Type 0 where
   pub state : State
   pub events : List (TraceEvent A)
 
--- where the program runs alone
+-- if the program runs alone
 abbrev pub NoChange : State → State → Type 0
 NoChange s t = t ≡ s
 

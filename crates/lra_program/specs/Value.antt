@@ -24,7 +24,7 @@ None >>= f = None
 abbrev pub is_word : ℤ → Bool
 is_word z = fits Long z
 
--- the number, where it is one of the type
+-- the number, if it is one of the type
 abbrev pub number : NumberType → ℤ → Option ℤ
 number t z = if fits t z then Some z else None
 
@@ -78,7 +78,7 @@ abbrev pub draws_of : NumberType → ℕ → List ℤ → Drawn (List ℤ)
 draws_of t zero draws = Some ([], draws)
 draws_of t (suc n) draws = first_draw draws >>= λ r. number t r.0 >>= λ z. draws_of t n r.1 >>= λ q. Some (z ∷ q.0, q.1)
 
--- Operands from left to right. What a variable or an element holds is asked, too: where it is no number of the
+-- Operands from left to right. What a variable or an element holds is asked, too: if it is no number of the
 -- variable's or the array's type, there is no value.
 abbrev pub value_of : Expr → Environment → List ℤ → Drawn ℤ
 value_of (literal t n) s draws = number t (pos n) >>= λ z. Some (z, draws)

@@ -67,7 +67,7 @@ in_loop = record { breaks = true; continues = true }
 abbrev pub in_switch : Jumps → Jumps
 in_switch j = record j { breaks = true }
 
--- what stands in a program, where so many of the call's own variables live ------------------------
+-- what stands in a program, if so many of the call's own variables live ---------------------------
 
 module _ (P : Program) where
   abbrev pub IsLive : ℕ → Slot → Type 0

@@ -66,7 +66,7 @@ pub struct Target {
     pub number_type: NumberType,
 }
 
-/// What gets a value, where anything does, and the way there.
+/// What gets a value, if anything does, and the way there.
 #[derive(Clone, Copy, PartialEq, Eq, Debug)]
 pub struct Receiver {
     pub target: Option<Target>,

@@ -88,7 +88,7 @@ module _ (t : FileTree) (rows : List (List ℕ)) (has : HasRows t rows) where
       let f_is = known (functions_of t) name call.function call.is_there call.name in
       reached_met start goal g r is (step_met start name g call f_is (reaching_known goal g r is) met)
 
-  -- a call comes back exactly where it is recursive --------------------------------------------------------------------
+  -- a call comes back exactly if it is recursive -----------------------------------------------------------------------
 
   module _ (d : HeldCall) (holder : IsKnown (functions_of t) d.0) where
     abbrev call_at : Option Call

@@ -82,7 +82,7 @@ further_function F ls before ks fs f i old new whole at grown before_it =
     ap (λ m. new ++ calls_behind F ls f.end (drop m ks) (map function_view (drop m fs))) n
     ∙ ap (λ cs. cs ++ behind) grown ∙ append_assoc old own behind ∙ ap (λ cs. old ++ cs) (sym (behind_function F ls before ks fs f i at)) ∙ before_it
 
--- where there is a caller, and where not
+-- if there is a caller, and if not
 pub called_by_one : (F : List FunctionTree) (ls : List Labelled) (before end i k : ℕ) (ks : List ℕ) (old new : List Call) → slice_get ks i ≡ Some k
     → new ≡ old ++ calls_by F k (called_names (labels_between ls before end)) → new ≡ old ++ own_calls F ls before end (slice_get ks i)
 called_by_one F ls before end i k ks old new at grown = grown ∙ ap (λ o. old ++ own_calls F ls before end o) (sym at)

@@ -60,7 +60,7 @@ fn add_calls(
     Ok(())
 }
 
-/// Adds the place of the first function of its name, where the part is a function.
+/// Adds the place of the first function of its name, if the part is a function.
 fn add_first_place(
     index: &Functions<'_>,
     item: &ExternalDeclaration,

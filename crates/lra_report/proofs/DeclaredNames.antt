@@ -46,7 +46,7 @@ room_last most live z a b e h =
     let m = ap (λ (x : Pieces). length x) e in
     (h.0, omega (arith, n, m, length-append a b), every_back IsNamed a b (subst (AllByRecursion IsNamed) e h.2))
 
--- of x and y, where x has the parts a and b
+-- of x and y, if x has the parts a and b
 room_parts : (most : ℕ) (live : List (List ℕ)) (x y a b : Pieces) → x ≡ a ++ b → HasRoom most live (x ++ y) → HasRoom most live (a ++ (b ++ y))
 room_parts most live x y a b e h = subst (HasRoom most live) (ap (λ (z : Pieces). z ++ y) e ∙ append_assoc a b y) h
 

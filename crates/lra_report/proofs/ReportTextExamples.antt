@@ -95,7 +95,7 @@ unknown_text = refl
 abbrev fit : ℕ → Place → Bool → Verdict
 fit number place holds = record (verdict number place holds) { kind = Fit }
 
--- int main(void){ int x=1; x=x+1; x=x/x; } at its end, where it is asked what fits
+-- int main(void){ int x=1; x=x+1; x=x/x; } at its end, if it is asked what fits
 abbrev pub fitting : Report
 fitting = record {
   options = record default_options { domain = Box; fits = true };

@@ -61,7 +61,7 @@ product_first k n u v b hk hn e = product_first_cases (nat_eq k 1) k n u v b hk 
 
 -- terms --------------------------------------------------------------------------
 
--- a blank, and then a byte above `+` and `-`, as where a relation follows
+-- a blank, and then a byte above `+` and `-`, as when a relation follows
 abbrev pub IsBehindTerms : List ℕ → Type 0
 IsBehindTerms [] = ⊥
 IsBehindTerms (a ∷ []) = ⊥

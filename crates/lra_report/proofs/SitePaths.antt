@@ -11,7 +11,7 @@ abbrev IsShallow : Event → Type 0
 IsShallow (comes s) = length s.path ≤ greatest_calls
 IsShallow (one_call_more at) = ⊤
 
--- where the calls inside are so
+-- if the calls inside are so
 module _ (inside : List ℕ → ℕ → Call → List Event) (path : List ℕ) (here : length path ≤ greatest_calls) (deeper : (live : ℕ) (c : Call) → AllByRecursion IsShallow (inside path live c)) where
   rvalue_shallow : (live : ℕ) (e : Rvalue) → AllByRecursion IsShallow (rvalue_events inside path live e)
   rvalue_shallow live (value e) = tt

@@ -1,4 +1,4 @@
--- What one text would say of two rows, points or variables, where a premise is left out.
+-- What one text would say of two rows, points or variables, if a premise is left out.
 use Rattle.std.proofs.Common.{◌≡◌, ℕ, ℤ, pos, negsuc, List, [], ◌∷◌, codes, refl}
 use Rattle.std.specs.Fmt.{digits}
 use Rattle.lra_report.specs.Crates.{lra_linear_spec.declared.ConKind.TheVariants.Eq, lra_linear_spec.declared.GenKind.TheVariants.Point}

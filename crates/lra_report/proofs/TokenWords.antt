@@ -9,7 +9,7 @@ use Rattle.lra_report.specs.Crates.lra_syntax.declared.tokens.Mark.TheVariants a
 use Rattle.lra_report.specs.Crates.lra_syntax.declared.tokens.Kind.TheVariants as kind
 use Rattle.lra_report.proofs.Every.{every_append}
 
--- where it is a name, a word
+-- if it is a name, a word
 abbrev pub HasWord : Kind → Type 0
 HasWord (kind.Name s) = is_name_word s ≡ true
 HasWord k = ⊤

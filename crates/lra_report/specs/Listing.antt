@@ -91,7 +91,7 @@ computing_from computes q [] = []
 computing_from computes q (s ∷ ss) =
     cond (computes q) ((suc q, s) ∷ computing_from computes (suc q) ss) (computing_from computes (suc q) ss)
 
--- what is asked whether it fits, where that is asked for
+-- what is asked whether it fits, if that is asked for
 abbrev pub fits_asked : List Labelled → Bool → Node → List Site → List Subject
 fits_asked ls true g sites = subjects_of ls Fit (computing_from (computes_at g) 0 sites)
 fits_asked ls false g sites = []
@@ -160,7 +160,7 @@ pub record AreParts (o : Options) (p : PointReport) : Type 0 where
   pub tell : AllByRecursion (ShowsPart o.domain (length p.names)) p.state
 
 -- what is written of an accepted source of the language L under these options: all its points and what is judged of
--- them; at each point what every run meets there; no assertion that fails is proved, no run stops by a number where
+-- them; at each point what every run meets there; no assertion that fails is proved, no run stops by a number if
 -- all is reported to fit, and none evaluates an access outside its array that is reported to be in bounds
 pub record IsReportOf (L : Language) (o : Options) (source : List ℕ) (r : Report) : Type 0 where
   pub options : r.options ≡ o

@@ -21,7 +21,7 @@ pub record PointReport : Type 0 where
   pub names : List (List ℕ)
   pub state : Invariant
 
--- what is judged, at which point, which of its kind there, counted from 0 in the order of evaluation, where that is
+-- what is judged, at which point, which of its kind there, counted from 0 in the order of evaluation, if that is
 -- printed, and whether no run breaks it
 pub record Verdict : Type 0 where
   pub kind : VerdictKind

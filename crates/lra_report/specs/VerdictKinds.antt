@@ -8,10 +8,10 @@ use Rattle.lra_report.specs.Crates.{lra_program.Program.Program, lra_program.Run
 use Rattle.lra_report.specs.declared.verdict_kinds.VerdictKind.{VerdictKind}
 use Rattle.lra_report.specs.declared.verdict_kinds.VerdictKind.TheVariants.{Assertion, Fit, Access}
 
--- `word` begins its lines. Its outcome is `if_holds` where no run breaks it, `if_open` where that isn't known. Those
+-- `word` begins its lines. Its outcome is `if_holds` if no run breaks it, `if_open` if that isn't known. Those
 -- that count are in the last line and in the status. `own_place`: they have a place of their own, not their point's,
--- and JSON reports it. In JSON they stand under `key`, where it `stands` for these options and for whether any verdict
--- is reported under it: surely where one is.
+-- and JSON reports it. In JSON they stand under `key`, if it `stands` for these options and for whether any verdict
+-- is reported under it: surely if one is.
 pub record VerdictRow : Type 0 where
   pub word : List ℕ
   pub if_holds : List ℕ
@@ -87,7 +87,7 @@ among_kinds Access = refl
 abbrev pub outcome_text : VerdictKind → Bool → List ℕ
 outcome_text kind holds = if holds then (row_of kind).if_holds else (row_of kind).if_open
 
--- what no run does at a point where of the verdicts of the kind there the n-th, counted from 0, holds
+-- what no run does at a point if of the verdicts of the kind there the n-th, counted from 0, holds
 abbrev pub Breaks : VerdictKind → Program → Point → ℕ → Type 0
 Breaks Assertion P p n = Fails P p
 Breaks Fit P p n = Overflows P p

@@ -59,7 +59,7 @@ impl Part {
         &self.rows
     }
 
-    /// The generators, in order, where there is a list of them.
+    /// The generators, in order, if there is a list of them.
     pub fn generators(&self) -> Option<&GenSys>
         ensures shown { MatchOption result (self.now.generators ≡ [])
             (λ g. shown_generators g.now.rows g.now.kinds ≡ self.now.generators) }

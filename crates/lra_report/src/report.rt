@@ -45,7 +45,7 @@ impl Drop for PointReport {
     }
 }
 
-/// What is judged, at which point, which of its kind there, counted from 0 in the order of evaluation, where that is
+/// What is judged, at which point, which of its kind there, counted from 0 in the order of evaluation, if that is
 /// printed, and whether no run breaks it.
 pub struct Verdict {
     pub kind: VerdictKind,

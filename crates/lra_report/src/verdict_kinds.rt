@@ -35,7 +35,7 @@ impl VerdictKind {
         }
     }
 
-    /// What is reported about it where it holds, and where that isn't known.
+    /// What is reported about it if it holds, and if that isn't known.
     pub fn outcome(self, holds: bool) -> &'static str
         ensures { result.now ≡ outcome_text self holds }
     {
@@ -82,7 +82,7 @@ impl VerdictKind {
         }
     }
 
-    /// Whether that key stands, under these options and where a verdict is reported under it or none is.
+    /// Whether that key stands, under these options and when a verdict is reported under it or none is.
     pub fn stands(self, options: Options, is_listed: bool) -> bool
         ensures { result ≡ (row_of self).stands options is_listed }
     {

@@ -1,4 +1,4 @@
--- A polyhedron has a part exactly where its state has one, so it is shown as it is.
+-- A polyhedron has a part exactly if its state has one, so it is shown as it is.
 use Rattle.std.proofs.Common.{◌≡◌, ◌∙◌, ℕ, true, false, Bool, cond, List, [], ◌∷◌, length, inl, inr, refl, sym, ap, subst, Vec, Global}
 use Rattle.std.specs.{List.Contains, List.list_any, Prelude.Result, Prelude.Ok, Prelude.Err, Prelude.IfOk}
 use Rattle.lra_report_build.specs.Crates.lra_linear_spec.Polyhedra.{Polyhedron, IsPolyhedron, HasPoint, falsity}

@@ -22,7 +22,7 @@ Verdicts A = List (ℕ × A)
 abbrev Ascend : {A : Type 0} → Verdicts A → Type 0
 Ascend {A} vs = (i j : ℕ) (a b : ℕ × A) → i < j → slice_get vs i ≡ Some a → slice_get vs j ≡ Some b → a.0 < b.0
 
--- the point at this place, where the first has the number k, is one of those that are judged
+-- the point at this place, if the first has the number k, is one of those that are judged
 abbrev Picked : (ℕ → Site → Bool) → ℕ → List Site → ℕ → Type 0
 Picked is k ss j = (s : Site) × (slice_get ss j ≡ Some s) × IsTrue (is (k + j) s)
 

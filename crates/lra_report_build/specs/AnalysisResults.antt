@@ -1,4 +1,4 @@
--- What an analysis hands over: a state for each point, a verdict for each assertion, where it is asked what fits one
+-- What an analysis hands over: a state for each point, a verdict for each assertion, if it is asked what fits one
 -- for each point at which something is computed, and for each point at which arrays are accessed what is reported about
 -- its accesses. Points are numbered from 0 here.
 use Rattle.std.specs.List.{AllByRecursion, flat_map}
@@ -52,7 +52,7 @@ pub record AreAccessVerdicts (g : Node) (sites : List Site) (inside : List (ℕ 
 abbrev pub state_of : PointReport → Invariant
 state_of p = p.state
 
--- a verdict as a report shows it, where points are numbered from 1: the kind, the point, which of the kind there, and
+-- a verdict as a report shows it, if points are numbered from 1: the kind, the point, which of the kind there, and
 -- whether it holds
 abbrev pub ReportedVerdict : Type 0
 ReportedVerdict = VerdictKind × ℕ × ℕ × Bool

@@ -10,7 +10,7 @@ use Rattle.lra_report.specs.{Listing.HasWidth, Parts.ShowsPart, Spelled.IsDirect
 
 -- a value is shown by this state, in reports over this domain
 pub record IsShown {V H : Type 0} (m : Abstraction V H) (domain : Domain) (v : V) (state : Invariant) : Type 0 where
-  -- a part for each of the value's parts, so none exactly where the value has none
+  -- a part for each of the value's parts, so none exactly if the value has none
   pub as_many : length state ≡ length (m.parts v)
   -- a number for each dimension; each part as the domain has it
   pub wide : AllByRecursion (HasWidth (m.dims v)) state
@@ -38,7 +38,7 @@ shown_state m v = map shown_part (m.parts v)
 abbrev pub AreDirected : Part → Type 0
 AreDirected p = AllByRecursion (λ (r : ReportRow). IsDirected r.kind r.coefficients) p.rows
 
--- a list of as many numbers as dimensions is a store of the value exactly where the state holds
+-- a list of as many numbers as dimensions is a store of the value exactly if the state holds
 abbrev pub MeansValue : {V H : Type 0} → Abstraction V H → V → Invariant → Type 0
 MeansValue m v state = (s : List ℤ) → length s ≡ m.dims v → (m.gamma v s ↔ InvariantHolds state s)
 

@@ -393,7 +393,7 @@ pub struct Outline<'a> {
 }
 
 /// What an analysis found, beside its states: verdicts on assertions, and on points at which something is computed
-/// where it is asked what fits, each in order, with its point's number and whether it holds; of points at which arrays
+/// if it is asked what fits, each in order, with its point's number and whether it holds; of points at which arrays
 /// are accessed, in order, what is reported about each access; and the first flagged point.
 #[derive(Clone, Copy)]
 pub struct Findings<'a> {

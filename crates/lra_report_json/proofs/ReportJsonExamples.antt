@@ -34,7 +34,7 @@ accessing_json : report_json accessing
 unfolding digits serde_json_on_literals
 accessing_json = refl
 
--- where it is asked what fits and nothing is computed
+-- if it is asked what fits and nothing is computed
 nothing_computed : report_json (record empty_main { options = record default_options { fits = true }; points = [] })
     ≡ text_line (codes "{\"analysis\":{\"delay\":1,\"domain\":\"poly\",\"fits\":true,\"limited\":false,\"narrow\":1,\"parts\":1},\"asserts\":[]"
     ++ codes ",\"fits\":[],\"flagged\":0,\"points\":[],\"proved\":0,\"unknown\":0}")

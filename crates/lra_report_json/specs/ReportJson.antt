@@ -56,7 +56,7 @@ is_under key v = bytes_eq (row_of v.kind).key key
 abbrev pub under : List ℕ → List Verdict → List Verdict
 under key vs = filter (is_under key) vs
 
--- with those of a kind, where its key stands
+-- with those of a kind, if its key stands
 abbrev pub with_verdicts : Report → Members → VerdictKind → Members
 with_verdicts r so kind =
     if (row_of kind).stands r.options (list_any (is_under (row_of kind).key) r.verdicts)

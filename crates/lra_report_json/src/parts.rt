@@ -40,7 +40,7 @@ fn generators_value(alloc: Global, part: &Part, names: &Names) -> Result<Value, 
     }
 }
 
-/// A part: its rows, and its generators where the domain shows them.
+/// A part: its rows, and its generators if the domain shows them.
 fn part_value(
     alloc: Global,
     domain: Domain,
@@ -115,7 +115,7 @@ pub(crate) fn point_values(
     Ok(values)
 }
 
-/// A verdict, with its place where it has one of its own.
+/// A verdict, with its place if it has one of its own.
 fn verdict_value(alloc: Global, verdict: &Verdict) -> Result<Value, AllocError>
     ensures { IfOk result (λ value. view value ≡ verdict_data (verdict_of verdict.now)) }
 {

@@ -15,7 +15,7 @@ use lra_report::{Report, VERDICT_KINDS, VerdictKind};
 use serde_json::Value;
 use std::alloc::{AllocError, Global};
 
-/// The object with an option that is a number, where it is reported.
+/// The object with an option that is a number, if it is reported.
 fn add_number(options: Options, option: NumberOption, object: Object) -> Result<Object, AllocError>
     ensures { IfOk result (λ made. members_view made.members.entries ≡
         with_number options (members_view object.members.entries) option) }
@@ -38,7 +38,7 @@ fn add_numbers(options: Options, object: Object) -> Result<Object, AllocError>
     Ok(made)
 }
 
-/// The object with an option that is a flag, where it is reported.
+/// The object with an option that is a flag, if it is reported.
 fn add_flag(options: Options, option: FlagOption, object: Object) -> Result<Object, AllocError>
     ensures { IfOk result (λ made. members_view made.members.entries ≡
         with_flag options (members_view object.members.entries) option) }
@@ -109,7 +109,7 @@ fn is_listed(report: &Report, key: &str) -> bool
         .any(|verdict| verdict.kind.key() == key)
 }
 
-/// The object with the verdicts of a kind, where its key stands.
+/// The object with the verdicts of a kind, if its key stands.
 fn add_verdicts(
     alloc: Global,
     report: &Report,

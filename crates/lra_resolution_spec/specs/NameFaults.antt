@@ -96,7 +96,7 @@ abbrev mutual
 
 -- calls ------------------------------------------------------------------------------------------------------------
 
--- the function is there, has so many parameters, and a result where one is used
+-- the function is there, has so many parameters, and a result if one is used
 abbrev pub called_faults : Option FunctionTree → Identifier → ℕ → Bool → List Refusal
 called_faults None name count used = record { cause = UnknownName; place = name.place } ∷ []
 called_faults (Some f) name count used = fault_if (not (nat_eq (length f.parameters) count) ||
@@ -126,7 +126,7 @@ given_faults F s (Some e) = rvalue_faults F s e
 abbrev pub length_faults : ArrayLength → List Refusal
 length_faults n = fault_if (not (is_length n.value)) BadLength n.place
 
--- of a scalar's value, where it has one, or of an array's length
+-- of a scalar's value, if it has one, or of an array's length
 abbrev pub shape_faults : {A : Type 0} → (Option A → List Refusal) → ScalarOrArrayTree A → List Refusal
 shape_faults of_value (scalar e) = of_value e
 shape_faults of_value (array n) = length_faults n

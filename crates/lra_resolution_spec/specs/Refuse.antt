@@ -50,7 +50,7 @@ pub data RefusesTree (entry : EntryPoint) (t : FileTree) : Cause → Place → T
   past_limit : (r : Refusal) → faults_of entry t ≡ [] → NotRecursive t →
       limit_fault (labels_of t) 0 (points_of entry t) ≡ Some r → RefusesTree entry t r.cause r.place
 
--- the source has no tree, where L is the language of the sources
+-- the source has no tree, if L is the language of the sources
 pub data NotParsed (L : Language) (source : List ℕ) : Cause → Place → Type 0 where
   too_long : greatest_length < length source → NotParsed L source TooLong (place_after (take greatest_length source))
   bad_token : (c : Cause) (at : Place) → length source ≤ greatest_length → IsTokenFault source c at →

@@ -27,7 +27,7 @@ impl Drop for SymbolEntry {
 /// A statement, a declarator or a block's end.
 pub struct Label {
     pub place: Place,
-    /// The called name, where it holds a call.
+    /// The called name, if it holds a call.
     pub called: Option<Identifier>,
     /// The number of the list of the names that live there.
     pub live: usize,

@@ -154,7 +154,7 @@ module _ (a : Around) (s : Scope) (old : LabelsSoFar) (all : CasesTree) where
           subst (λ (rs : List Refusal). IsFirstFault rs e) (sym (so.clean ∙ ap (cases_faults a s so.earlier) stated_left))
           (tells_front (stmt_faults a s (stmt_view t)) (cases_faults a s so.earlier rest) e front)
 
--- the whole, where all of them are passed
+-- the whole, if all of them are passed
 module _ (a : Around) (s : Scope) (first : LabelsSoFar) (at : Place) (e : ExprTree) (cs : CasesTree) where
   pub value_told : (x : SourceError) → IsFirstFault (expr_faults s e) x → IsFirstFault (stmt_faults a s (switch at e cs)) x
   value_told x told = tells_front (expr_faults s e) (cases_faults (in_a_switch a) s [] cs) x told

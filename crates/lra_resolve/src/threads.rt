@@ -67,7 +67,7 @@ pub struct ThreadsResolution {
     pub threads: Vec<usize>,
 }
 
-/// As [`resolve`](crate::resolve), where two threads are asked for in place of `main`.
+/// As [`resolve`](crate::resolve), if two threads are asked for in place of `main`.
 pub fn resolve_threads(
     alloc: Global,
     tree: &TranslationUnit,

@@ -1,4 +1,4 @@
--- A statement is simple where it is none with statements in it; it is resolved by one label.
+-- A statement is simple if it is none with statements in it; it is resolved by one label.
 use Rattle.std.proofs.Common.{◌≡◌, suc, refl, sym, subst, arith, Option, Box, Global, Result, Ok, Err}
 use Rattle.std.specs.Result.{IfOk, OnOk}
 use Rattle.lra_base.specs.{declared.error.SourceError.SourceError, declared.refusals.Place.Place}

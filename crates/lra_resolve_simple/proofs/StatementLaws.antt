@@ -174,7 +174,7 @@ for_is stmt at i c e b t is same =
 pub switch_is : (stmt : Stmt) (at : Place) (e : Expr) (cs : Cases) → stmt ≡ code_stmt.Switch at e cs → stmt_view stmt ≡ switch at (expr_view e) (cases_view cs)
 switch_is stmt at e cs is = let v : stmt_view (code_stmt.Switch at e cs) ≡ switch at (expr_view e) (cases_view cs) = search (rules, stmt_lemmas) in rw (is, v)
 
--- what is reported about a result, where a call is handed on
+-- what is reported about a result, if a call is handed on
 pub kept_so : {T : Type 0} {P : Type 0} (r : Result T SourceError) → P → OnOk r P
 kept_so (Ok v) h = h
 kept_so (Err e) h = tt {0}

@@ -63,7 +63,7 @@ impl CaseList {
 
     /// Another label.
     ///
-    /// `DuplicateCase` where one like it is there, `Memory` if memory runs out.
+    /// `DuplicateCase` if one like it is there, `Memory` if memory runs out.
     pub fn add_label(&mut self, label: &PlacedLabel) -> Result<(), SourceError>
         ensures told { StopsAtFirstFault (fault_if (has_seen self.old label.now.label) DuplicateCase label.now.place)
             result }

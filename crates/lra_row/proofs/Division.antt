@@ -41,7 +41,7 @@ quotient_within a b r = one_more a b (a / suc b) (a % suc b) (omega arith) (omeg
     one_more : (a b q r : ℕ) → a ≡ q * suc b + r → r < b → suc a / suc b ≡ q
     one_more a b q r e h = let k : suc a ≡ q * suc b + suc r = omega (arith, e) in ap (λ n. n / suc b) k ∙ div-mul-add q (suc b) (suc r) (omega arith)
 
--- by a negative divisor: as it is where nothing is left, else one less
+-- by a negative divisor: as it is if nothing is left, else one less
 pub floor_exact : (a b : ℤ) → b <ℤ pos 0 → int_rem_euclid a b ≡ pos 0 → int_div_euclid a b ≡ floor_quotient a b
 floor_exact a (pos b) n r = absurd (omega (arith, ints, n))
 floor_exact (pos zero) (negsuc b) n r = omega (arith, ints)

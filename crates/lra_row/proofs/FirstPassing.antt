@@ -1,4 +1,4 @@
--- Checked arithmetic answers an excess exactly where one of its operations passes the range: the first that does.
+-- Checked arithmetic answers an excess exactly if one of its operations passes the range: the first that does.
 use Rattle.std.proofs.Common.{arith, ◌≡◌, List, [], ◌∷◌, ◌++◌, ap, sym, ◌∙◌, refl, subst, pos, ℤ, ◌+ℤ◌, ◌*ℤ◌, neg_ℤ, Bool, true, false, cond, Result, Ok, Err, IfOk, IfErr, append_assoc}
 use Rattle.std.proofs.{lemmas.Bool.Decides.nat_tests, lemmas.List.Elements.All-nil, lemmas.List.Elements.All-cons, lemmas.List.Elements.All-append}
 use Rattle.std.specs.List.{All}

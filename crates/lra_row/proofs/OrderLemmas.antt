@@ -9,7 +9,7 @@ pub use Rattle.lra_row.specs.RowTies.{constant_last_length, row_cmp_ties}
 abbrev rest_cmp : ℕ → List ℤ → List ℤ → Ordering
 rest_cmp i xs ys = slice_cmp int_cmp (drop i (constant_last xs)) (drop i (constant_last ys))
 
--- where one row has no further place, the lengths decide
+-- if one row has no further place, the lengths decide
 pub places_end : (i : ℕ) (xs ys : List ℤ) → i ≡ min (length xs) (length ys) → nat_cmp (length xs) (length ys) ≡ rest_cmp i xs ys
 places_end i xs ys e =
     sym (ends (drop i (constant_last xs)) (drop i (constant_last ys)) (length xs) (length ys) i e

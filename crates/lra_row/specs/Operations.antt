@@ -1,4 +1,4 @@
--- The products and sums of a calculation, in their order. An operation is written as the excess that names it where its
+-- The products and sums of a calculation, in their order. An operation is written as the excess that names it if its
 -- value passes the range.
 use Rattle.std.specs.Prelude.{◌≡◌, ℤ, pos, ◌+ℤ◌, ◌*ℤ◌, List, [], ◌∷◌, ◌++◌, Result, Ok, Err, All}
 use Rattle.lra_linear_spec.specs.declared.Operation.TheVariants.{Product, Sum}
@@ -22,7 +22,7 @@ pub record IsFirstPassing (operations : List Excess) (e : Excess) : Type 0 where
   pub fit : All Fits earlier
   pub passes : ¬ (Fits e)
 
--- the answer is an excess exactly where an operation passes: the first that does
+-- the answer is an excess exactly if an operation passes: the first that does
 abbrev pub NamesFirst : {A : Type 0} → List Excess → Result A Excess → Type 0
 NamesFirst operations (Ok x) = All Fits operations
 NamesFirst operations (Err e) = IsFirstPassing operations e

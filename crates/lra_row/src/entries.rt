@@ -159,7 +159,7 @@ pub fn negate_entries(alloc: Global, xs: &[i128]) -> Result<Entries, AllocError>
     Ok(entries)
 }
 
-/// The greatest number that divides each entry, 0 where all are 0.
+/// The greatest number that divides each entry, 0 if all are 0.
 pub fn divisor_of(xs: &[i128]) -> i128
     requires { All InRange xs.now }
     ensures divisor { IsRowGcd xs.now (unsigned_abs result) }

@@ -55,7 +55,7 @@ pub fn multiply_words(x: i128, y: i128) -> i128
     (x as i64) as i128 * (y as i64) as i128
 }
 
-/// `a * b`, or `None` exactly where it passes the range.
+/// `a * b`, or `None` exactly if it passes the range.
 pub fn mul(a: i128, b: i128) -> Option<i128>
     ensures { SomeIff result (InRange (a *ℤ b)) (a *ℤ b) }
 {
@@ -68,7 +68,7 @@ pub fn mul(a: i128, b: i128) -> Option<i128>
     }
 }
 
-/// `a + b`, or `None` exactly where it passes the range.
+/// `a + b`, or `None` exactly if it passes the range.
 pub fn add(a: i128, b: i128) -> Option<i128>
     ensures { SomeIff result (InRange (a +ℤ b)) (a +ℤ b) }
 {
@@ -78,7 +78,7 @@ pub fn add(a: i128, b: i128) -> Option<i128>
     }
 }
 
-/// `a / b` rounded down, or `None` exactly where `b` is 0 or the quotient passes the range.
+/// `a / b` rounded down, or `None` exactly if `b` is 0 or the quotient passes the range.
 pub fn floor_div(a: i128, b: i128) -> Option<i128>
     ensures exact { SomeIff result ((b ≢ pos 0) × InRange (floor_quotient a b)) (floor_quotient a b) }
     ensures floor { b ≢ pos 0 → IsFloor a b (floor_quotient a b) }

@@ -24,7 +24,7 @@ use std::marker::Model;
 /// has the constant or the divisor.
 pub struct Row {
     entries: Entries,
-    // each entry is below 2^31 in size; where they are, this may yet be false
+    // each entry is below 2^31 in size; if they are, this may yet be false
     narrow: bool,
 }
 
@@ -122,7 +122,7 @@ impl Row {
         entries::pivot_of(self.entries.as_slice())
     }
 
-    /// The product with a row of the same width where both are seen to be narrow: then no product and no sum passes.
+    /// The product with a row of the same width if both are seen to be narrow: then no product and no sum passes.
     #[inline(always)]
     pub fn narrow_dot(&self, other: &Row) -> Option<i128>
         requires { length self.now ≡ length other.now }

@@ -20,7 +20,7 @@ is_first_after first (pos zero) = first
 is_first_after first (pos (suc n)) = false
 is_first_after first (negsuc n) = false
 
--- the terms from a coefficient on, where none or some stand before them
+-- the terms from a coefficient on, if none or some stand before them
 abbrev pub rest_text : Bool → List ℤ → List (List ℕ) → List ℕ
 rest_text true cs names = form_text cs names
 rest_text false cs names = terms_text cs names

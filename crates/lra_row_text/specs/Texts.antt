@@ -69,7 +69,7 @@ abbrev pub fraction_text : ℤ → ℕ → List ℕ
 fraction_text numerator divisor = if nat_eq divisor 1 then signed_decimal numerator
     else signed_decimal numerator ++ codes "/" ++ decimal divisor
 
--- the coordinate in lowest terms, and without the divisor where it is 1
+-- the coordinate in lowest terms, and without the divisor if it is 1
 abbrev pub coordinate_text : ℤ → ℕ → List ℕ
 coordinate_text z divisor =
     let g = greatest_divisor divisor (nat_abs z) divisor in
@@ -100,7 +100,7 @@ abbrev pub rows_text : List (List ℕ) → List ReportRow → List ℕ
 rows_text names [] = text_line (codes "  row true")
 rows_text names (r ∷ rs) = flat_map (λ row. text_line (codes "  row " ++ row_text names row)) (r ∷ rs)
 
--- generators follow the rows, where there are some
+-- generators follow the rows, if there are some
 abbrev pub generators_text : List (List ℕ) → List ReportGenerator → List ℕ → List ℕ
 generators_text names [] rows = rows
 generators_text names (g ∷ gs) rows = rows ++ flat_map (λ h. text_line (codes "  gen " ++ generator_text names h))

@@ -11,7 +11,7 @@ use crate::names::Names;
 use lra_systems::{GenKind, Row, gcd};
 use std::alloc::{AllocError, Global};
 
-/// Appends a fraction, without the divisor where that is 1.
+/// Appends a fraction, without the divisor if that is 1.
 #[tactic(auto, using(crate::proofs::LowestTerms::whole_text, crate::proofs::LowestTerms::divided_text))]
 pub fn push_fraction(text: &mut String, numerator: i128, divisor: i128) -> Result<(), AllocError>
     requires { pos 0 <ℤ divisor }

@@ -11,7 +11,7 @@ use lra_systems::{ConKind, Row};
 use std::alloc::{AllocError, Global};
 use std::cmp::Ordering;
 
-/// Appends a term: without a sign where it is the first, and without a magnitude of 1.
+/// Appends a term: without a sign if it is the first, and without a magnitude of 1.
 fn push_term(
     text: &mut String,
     is_first: bool,

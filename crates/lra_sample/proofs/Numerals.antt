@@ -88,7 +88,7 @@ a_digit = digit_cases IsDigit
     (record { digit = refl; small = omega arith })
     (record { digit = refl; small = omega arith })
 
--- and of the first where there are more, or where it isn't 0
+-- and of the first if there are more, or if it isn't 0
 record IsFront (x : ℕ) : Type 0 where
   front : is_between 49 57 x ≡ true
   gapless : begins_gap x ≡ false

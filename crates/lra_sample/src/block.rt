@@ -11,7 +11,7 @@ use std::alloc::AllocError;
 pub(crate) enum Kind {
     /// One variable becomes another and a constant.
     Sum,
-    /// Where one variable is below a constant another grows by 1, else it becomes the constant.
+    /// If one variable is below a constant another grows by 1, else it becomes the constant.
     Choice,
     /// A variable counts up to a constant.
     Count,

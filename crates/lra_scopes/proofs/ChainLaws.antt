@@ -113,7 +113,7 @@ pub ruleset term_rules = (code_term_faults, code_term_means, tells_front, tells_
 
 pub ruleset expr_rules = (code_expr_faults, code_expr_means, tells_front, tells_behind)
 
--- the whole chain's meaning, where all operands are there
+-- the whole chain's meaning, if all operands are there
 pub term_found : (s : Scope) (t : Term) (v w : program.Expr) (os : List (operators.Operator × program.Expr)) (fs : List Factor) (n : ℕ)
     → v ≡ chained w os → w ≡ resolve_unary s (unary_view (out-Term t).first) → os ≡ map (factor_means s) (take n fs)
     → length fs ≤ n → fs ≡ (out-Term t).rest.items → v ≡ resolve_term s (term_view t)

@@ -75,7 +75,7 @@ code_conjunction_means s c =
     ∙ all_means s (test_view (out-Conjunction c).first) (map test_view (out-Conjunction c).rest.items)
     ∙ ap (chain.all_of (resolve_test s (test_view (out-Conjunction c).first))) (map-map (resolve_test s) test_view (out-Conjunction c).rest.items)
 
--- the whole chain's meaning, where all operands are there
+-- the whole chain's meaning, if all operands are there
 pub conjunction_found : (s : Scope) (c : Conjunction) (v w : program.Cond) (cs : List program.Cond) (ts : List Test) (n : ℕ)
     → v ≡ chain.all_of w cs → w ≡ resolve_test s (test_view (out-Conjunction c).first) → cs ≡ map (test_means s) (take n ts)
     → length ts ≤ n → ts ≡ (out-Conjunction c).rest.items → v ≡ resolve_conjunction s (conjunction_view c)

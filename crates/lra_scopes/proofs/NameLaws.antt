@@ -134,7 +134,7 @@ skipped (suc skip) k count found name [] is e = e
 skipped (suc skip) k count found name (x ∷ xs) is e =
     skipped skip (suc k) count (cond (bytes_eq x name) (Some k) found) name xs (omega (arith, is)) (skip_case (bytes_eq x name) count k found (omega (arith, is)) e)
 
--- a name is among those after the count where the newest of it is
+-- a name is among those after the count if the newest of it is
 pub among_later : (name : List ℕ) (count : ℕ) (xs : List (List ℕ)) (found : Option ℕ) → found ≡ newest name xs
     → is_behind count found ≡ list_any (bytes_eq name) (drop count xs)
 among_later name count xs found is = let none : count ≡ count + 0 = omega arith in ap (is_behind count) is ∙ skipped count 0 count None name xs none refl

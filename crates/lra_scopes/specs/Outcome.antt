@@ -1,4 +1,4 @@
--- What an answer says of the faults of names in a part of a source: none, where there is a value; else the first
+-- What an answer says of the faults of names in a part of a source: none, if there is a value; else the first
 -- one, or that memory ran out.
 use Rattle.std.specs.Prelude.{◌≡◌, List, [], ◌∷◌, Option, Some, None, Result, Ok, Err, ⊤}
 use Rattle.lra_base.specs.declared.error.SourceError.TheVariants.{Refused, Memory}

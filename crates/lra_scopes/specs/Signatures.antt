@@ -10,7 +10,7 @@ use Rattle.lra_scopes.specs.{Calls.functions_at, declared.signatures.Signature.S
 abbrev pub signature_at : ℕ → FunctionTree → Signature
 signature_at place f = record { place = place; parameters = length f.parameters; has_result = is_some f.result_type }
 
--- of a function at a place, where it has this name
+-- of a function at a place, if it has this name
 abbrev pub named_signature : List ℕ → ℕ → FunctionTree → Option Signature
 named_signature name place f = cond (is_named name f) (Some (signature_at place f)) None
 

@@ -15,6 +15,6 @@ abbrev pub AreCounted : ℕ → List Placed → Type 0
 AreCounted n [] = ⊤
 AreCounted n (p ∷ ps) = (p.scalars ≡ n) × AreCounted (n + width_of (binding_view p.meaning)) ps
 
--- what is found, where these are locals or globals
+-- what is found, if these are locals or globals
 abbrev pub placed_view : (ℕ → Slot) → Placed → Lookup
 placed_view slot p = record { slot = slot p.scalars; binding = binding_view p.meaning }

@@ -35,7 +35,7 @@ pub struct Lookup {
     pub meaning: Binding,
 }
 
-/// The array that a declaration of this type gives the name; `BadLength` where no array may have so many elements.
+/// The array that a declaration of this type gives the name; `BadLength` if no array may have so many elements.
 pub fn build_array(
     number_type: NumberType,
     name: &Identifier,

@@ -31,7 +31,7 @@ fn is_bad_call(signature: Signature, count: usize, used: bool) -> bool
     signature.parameters != count || (used && !signature.has_result)
 }
 
-/// The place of the called function, where it has so many parameters, and a result if one is used.
+/// The place of the called function, if it has so many parameters, and a result if one is used.
 fn resolve_called(
     functions: &Functions<'_>,
     name: &Identifier,
@@ -99,8 +99,8 @@ pub fn resolve_call(
 
 /// What is written into a variable or returned: a value, or the result of a call, which stands under the label.
 ///
-/// Refused at the first fault: `UnknownName` where a name isn't known, `NotArray` where an array stands for a scalar or
-/// a scalar for an array, `BadCall` where the called function has another number of parameters or no result. `Memory`
+/// Refused at the first fault: `UnknownName` if a name isn't known, `NotArray` if an array stands for a scalar or
+/// a scalar for an array, `BadCall` if the called function has another number of parameters or no result. `Memory`
 /// if memory runs out.
 pub fn resolve_rvalue(
     alloc: Global,

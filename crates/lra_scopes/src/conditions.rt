@@ -128,7 +128,7 @@ fn resolve_conjunction(
     join_all(alloc, first, rest)
 }
 
-/// A condition: its conjunctions, joined by `||` where there are several.
+/// A condition: its conjunctions, joined by `||` if there are several.
 ///
 /// `UnknownName` or `NotArray` at the first name at fault, `Memory` if memory runs out.
 #[cycle(condition)]

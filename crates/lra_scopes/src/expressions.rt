@@ -18,7 +18,7 @@ use lra_program::{Array, Element, Operation, Variable};
 use lra_syntax::{Expr, Factor, FactorOperator, Identifier, SumOperator, Summand, Term, Unary};
 use std::alloc::Global;
 
-/// The scalar that a name means, with its type; `UnknownName` where nothing in scope has the name, `NotArray` where an
+/// The scalar that a name means, with its type; `UnknownName` if nothing in scope has the name, `NotArray` if an
 /// array has it.
 pub fn resolve_variable(scope: &Scope, x: &Identifier) -> Result<Variable, SourceError>
     ensures told { StopsAtFirstFault (use_faults scope.now x.now) result }
@@ -36,7 +36,7 @@ pub fn resolve_variable(scope: &Scope, x: &Identifier) -> Result<Variable, Sourc
     }
 }
 
-/// The array that a name means; `UnknownName` where nothing in scope has the name, `NotArray` where a scalar has it.
+/// The array that a name means; `UnknownName` if nothing in scope has the name, `NotArray` if a scalar has it.
 fn resolve_array(scope: &Scope, x: &Identifier) -> Result<Array, SourceError>
     ensures told { StopsAtFirstFault (named_faults scope.now x.now) result }
     ensures found { IfOk result (λ a. a ≡ array_named scope.now x.now) }

@@ -8,7 +8,7 @@ use Rattle.lra_script.specs.ScriptText.{lines, words, is_skipped, is_name, numbe
 use Rattle.lra_script.specs.declared.recipes.Combination.TheVariants.{Meet, Hull, Elapse}
 use Rattle.lra_script.specs.declared.recipes.Mapping.TheVariants.{Image, Preimage}
 
--- catches a return that stays where no line feed follows it, and one that is dropped twice
+-- catches a return that stays if no line feed follows it, and one that is dropped twice
 returns : lines (codes "a" ++ 13 ∷ 10 ∷ 13 ∷ 13 ∷ 10 ∷ (codes "b" ++ 13 ∷ [])) ≡ codes "a" ∷ (13 ∷ []) ∷ codes "b" ∷ []
 returns = refl
 

@@ -56,7 +56,7 @@ abbrev pub with_first : {A : Type 0} → Option A → Option (List A) → Option
 with_first None rest = None
 with_first (Some x) rest = option_map (λ xs. x ∷ xs) rest
 
--- all of these, where each is one
+-- all of these, if each is one
 abbrev pub all_of : {A B : Type 0} → (A → Option B) → List A → Option (List B)
 all_of one [] = Some []
 all_of one (x ∷ xs) = with_first (one x) (all_of one xs)
@@ -166,7 +166,7 @@ with_64_bits (negsuc n) = if nat_lt n (2 ^ 63) then Some (negsuc n) else None
 abbrev pub coefficient_of : List ℕ → Option ℤ
 coefficient_of word = option_and_then with_64_bits (number_of word)
 
--- that K is one from 1 to N is asked where N is known
+-- that K is one from 1 to N is asked if N is known
 abbrev pub map_after : Mapping → List ℕ → List (List ℕ) → Option Recipe
 map_after how from [] = None
 map_after how from (word ∷ form) =

@@ -11,7 +11,7 @@ use Rattle.lra_script.specs.Crates.lra_linear_spec.Range.{in_range}
 abbrev pub without_return : List ℕ → List ℕ
 without_return line = if ends_with nat_eq line (13 ∷ []) then take (length line - 1) line else line
 
--- what stands before, between and after the line feeds; nothing is after the last where it ends the script, and such
+-- what stands before, between and after the line feeds; nothing is after the last if it ends the script, and such
 -- a line is skipped
 abbrev pub lines : List ℕ → List (List ℕ)
 lines bytes = map without_return (slice_split (λ b. nat_eq b 10) bytes)
@@ -39,7 +39,7 @@ without_minus word = if starts_with_minus word then drop 1 word else word
 abbrev pub is_number : List ℕ → Bool
 is_number word = not (nat_eq (length (without_minus word)) 0) && list_all is_ascii_digit (without_minus word)
 
--- the number that a word writes, where it is one of the range
+-- the number that a word writes, if it is one of the range
 abbrev pub number_of : List ℕ → Option ℤ
 number_of word = if is_number word && in_range (signed_digits_value 10 word) then Some (signed_digits_value 10 word)
     else None

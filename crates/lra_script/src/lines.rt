@@ -65,7 +65,7 @@ fn ask_line(alloc: Global, word: &[u8], rest: &[&[u8]]) -> Result<Option<Line>, 
     }
 }
 
-/// What the words say, where they are a line.
+/// What the words say, if they are a line.
 pub fn read_line(alloc: Global, words: &[&[u8]]) -> Result<Option<Line>, AllocError>
     ensures line { IfOk result (λ r. line_view r ≡ form.line_of (texts words.now)) }
     ensures sound { IfOk result (λ r. IfSome r IsLine) }

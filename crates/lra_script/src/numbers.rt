@@ -39,7 +39,7 @@ fn text_of(alloc: Global, word: &[u8]) -> Result<String, AllocError>
     }
 }
 
-/// The name that a word is, where it is one.
+/// The name that a word is, if it is one.
 #[tactic(auto, using(crate::proofs::WordLemmas::name_is_utf8))]
 pub fn name_of(alloc: Global, word: &[u8]) -> Result<Option<String>, AllocError>
     ensures { IfOk result (λ name. option_map string_bytes name ≡
@@ -73,7 +73,7 @@ fn is_number(word: &[u8]) -> bool
     !digits.is_empty() && are_digits(digits)
 }
 
-/// The number that a word of digits writes, where it fits.
+/// The number that a word of digits writes, if it fits.
 #[tactic(auto, using(crate::proofs::WordLemmas::parsed_rules))]
 fn parsed(word: &[u8]) -> Option<i128>
     requires { script.is_number word.now ≡ true }
@@ -85,7 +85,7 @@ fn parsed(word: &[u8]) -> Option<i128>
     }
 }
 
-/// The number that a word of digits writes, where it is one of the range.
+/// The number that a word of digits writes, if it is one of the range.
 fn value_of(word: &[u8]) -> Option<i128>
     requires { script.is_number word.now ≡ true }
     ensures { SomeIff result (InRange (signed_digits_value 10 word.now)) (signed_digits_value 10 word.now) }
@@ -96,7 +96,7 @@ fn value_of(word: &[u8]) -> Option<i128>
     }
 }
 
-/// The number that a word writes, where it is one of the range.
+/// The number that a word writes, if it is one of the range.
 #[tactic(auto, using(crate::proofs::WordLemmas::number_from_value, crate::proofs::WordLemmas::no_number))]
 pub fn number_of(word: &[u8]) -> Option<i128>
     ensures number { result ≡ script.number_of word.now }
@@ -111,7 +111,7 @@ pub fn number_of(word: &[u8]) -> Option<i128>
 /// The most dimensions.
 const MOST_DIMS: i128 = GREATEST_LIVE as i128;
 
-/// The number of a word, where it is one from 0 to the most dimensions.
+/// The number of a word, if it is one from 0 to the most dimensions.
 pub fn small_number(word: &[u8]) -> Option<usize>
     ensures count { result ≡ form.small_number word.now }
     ensures small { IfSome result (λ n. n ≤ form.greatest_dims) }
@@ -122,7 +122,7 @@ pub fn small_number(word: &[u8]) -> Option<usize>
     }
 }
 
-/// The number of the only word, where it is one from 0 to the most dimensions.
+/// The number of the only word, if it is one from 0 to the most dimensions.
 pub fn lone_number(words: &[&[u8]]) -> Option<usize>
     ensures count { result ≡ form.lone_number (texts words.now) }
     ensures small { IfSome result (λ n. n ≤ form.greatest_dims) }
@@ -133,7 +133,7 @@ pub fn lone_number(words: &[&[u8]]) -> Option<usize>
     }
 }
 
-/// The numbers that the words write, where each writes one.
+/// The numbers that the words write, if each writes one.
 #[tactic(auto, using(crate::proofs::AllOf::onto_nil))]
 pub fn numbers_of(alloc: Global, words: &[&[u8]]) -> Result<Option<Vec<i128>>, AllocError>
     ensures numbers { IfOk result
@@ -150,7 +150,7 @@ pub fn numbers_of(alloc: Global, words: &[&[u8]]) -> Result<Option<Vec<i128>>, A
     Ok(Some(numbers))
 }
 
-/// The number that a word writes, where it has 64 bits.
+/// The number that a word writes, if it has 64 bits.
 fn coefficient_of(word: &[u8]) -> Option<i64>
     ensures { result ≡ form.coefficient_of word.now }
 {
@@ -161,7 +161,7 @@ fn coefficient_of(word: &[u8]) -> Option<i64>
     }
 }
 
-/// The numbers that the words write, where each writes one that has 64 bits.
+/// The numbers that the words write, if each writes one that has 64 bits.
 #[tactic(auto, using(crate::proofs::AllOf::onto_nil))]
 pub fn coefficients_of(alloc: Global, words: &[&[u8]]) -> Result<Option<Vec<i64>>, AllocError>
     ensures { IfOk result (λ r. option_items r ≡ all_of form.coefficient_of (texts words.now)) }

@@ -191,7 +191,7 @@ fn forget_recipe(alloc: Global, words: &[&[u8]]) -> Result<Option<Recipe>, Alloc
     }
 }
 
-/// What a line of this first word says after the name, where its set is made of two others.
+/// What a line of this first word says after the name, if its set is made of two others.
 fn pair_recipe(alloc: Global, word: &[u8], rest: &[&[u8]]) -> Result<Option<Recipe>, AllocError>
     ensures recipe { IfOk result (λ r. recipe_view r ≡ form.pair_recipe word.now (texts rest.now)) }
     ensures sound { IfOk result (λ r. IfSome r IsRecipe) }
@@ -211,7 +211,7 @@ fn pair_recipe(alloc: Global, word: &[u8], rest: &[&[u8]]) -> Result<Option<Reci
     }
 }
 
-/// What a line of this first word says after the name, where its set is made of others.
+/// What a line of this first word says after the name, if its set is made of others.
 fn recipe_of_sets(alloc: Global, word: &[u8], rest: &[&[u8]]) -> Result<Option<Recipe>, AllocError>
     ensures recipe { IfOk result (λ r. recipe_view r ≡ option_or
         (form.pair_recipe word.now (texts rest.now)) (form.change_recipe word.now (texts rest.now))) }
@@ -223,7 +223,7 @@ fn recipe_of_sets(alloc: Global, word: &[u8], rest: &[&[u8]]) -> Result<Option<R
     }
 }
 
-/// What a line of this first word says after the name, where its set is made of one other.
+/// What a line of this first word says after the name, if its set is made of one other.
 fn change_recipe(alloc: Global, word: &[u8], rest: &[&[u8]]) -> Result<Option<Recipe>, AllocError>
     ensures recipe { IfOk result (λ r. recipe_view r ≡ form.change_recipe word.now (texts rest.now)) }
     ensures sound { IfOk result (λ r. IfSome r IsRecipe) }

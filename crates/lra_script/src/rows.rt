@@ -79,7 +79,7 @@ fn parts<'a, 'b>(alloc: Global, words: &'b [&'a [u8]]) -> Result<Vec<&'b [&'a [u
     words.split(|word| is_semicolon(word)).collect(alloc)
 }
 
-/// The row that each part says, where each says one.
+/// The row that each part says, if each says one.
 #[tactic(auto, using(crate::proofs::AllOf::onto_nil))]
 fn all_rows(alloc: Global, parts: &[&[&[u8]]]) -> Result<Option<Vec<Constraint>>, AllocError>
     ensures { IfOk result (λ r. constraints_of r ≡ all_of form.row_of (map (λ p. texts p.now) parts.now)) }
@@ -158,7 +158,7 @@ fn written_generator(alloc: Global, words: &[&[u8]]) -> Result<Option<Generator>
     Ok(Some(Generator { kind, numbers }))
 }
 
-/// The generator that each part says, where each says one.
+/// The generator that each part says, if each says one.
 #[tactic(auto, using(crate::proofs::AllOf::onto_nil))]
 fn all_generators(alloc: Global, parts: &[&[&[u8]]]) -> Result<Option<Vec<Generator>>, AllocError>
     ensures generators { IfOk result (λ r.

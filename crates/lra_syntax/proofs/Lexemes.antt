@@ -44,7 +44,7 @@ item_place before (skip c ∷ xs) (suc n) = item_place (before ++ c ∷ []) xs n
 item_place before (lexeme c cs k o ∷ xs) zero = place_after before
 item_place before (lexeme c cs k o ∷ xs) (suc n) = item_place (before ++ c ∷ cs) xs n
 
--- where they are right ---------------------------------------------------------------------------------------------
+-- if they are right ------------------------------------------------------------------------------------------------
 
 -- a token's bytes
 pub record IsGood (c : ℕ) (cs : List ℕ) (k : Kind) : Type 0 where

@@ -148,7 +148,7 @@ IsCount n z = (t : NumberType) × number_at t n.value n.place z
 abbrev pub IsLength : ArrayLength → Texts
 IsLength n = mark mark.OpenBracket ⋅ IsCount n ⋅ mark mark.CloseBracket
 
--- after a name: a scalar's value, where it has one, or an array's length
+-- after a name: a scalar's value, if it has one, or an array's length
 abbrev pub IsScalarOrArray : {A : Type 0} → (Option A → Texts) → ScalarOrArrayTree A → Texts
 IsScalarOrArray R (scalar e) = R e
 IsScalarOrArray R (array n) = IsLength n

@@ -14,7 +14,7 @@ use Rattle.lra_syntax.specs.{declared.trees.Identifier.Identifier, declared.tree
 -- a statement, declarator or end of a block, which a label stands for
 pub record Labelled : Type 0 where
   pub place : Place
-  -- the called name, where it holds a call
+  -- the called name, if it holds a call
   pub called : Option Identifier
   -- the function's scalars that live at the point, oldest first
   pub live : List (List ℕ)

@@ -163,7 +163,7 @@ greatest_literal = 9223372036854775807
 abbrev pub greatest_int_literal : ℕ
 greatest_int_literal = 2147483647
 
--- the type of a literal with this suffix and this value: an `int` where it has no suffix and fits one. (In C one of
+-- the type of a literal with this suffix and this value: an `int` if it has no suffix and fits one. (In C one of
 -- octal or hexadecimal digits may be unsigned as well; here no type is.)
 abbrev pub literal_type : List ℕ → ℕ → NumberType
 literal_type [] n = if nat_le n greatest_int_literal then Int else Long

@@ -75,7 +75,7 @@ pub data AssignTree : Type 0 where
   -- with the place of `++` or `--`
   before : Place → StepTree → Identifier → AssignTree
 
--- what a name is declared as: a scalar, with a value where it has one, or an array, which has none
+-- what a name is declared as: a scalar, with a value if it has one, or an array, which has none
 pub data ScalarOrArrayTree (A : Type 0) : Type 0 where
   scalar : Option A → ScalarOrArrayTree A
   array : ArrayLength → ScalarOrArrayTree A
@@ -95,7 +95,7 @@ pub data InitTree : Type 0 where
   declared : DeclarationTree → InitTree
   assigned : AssignTree → InitTree
 
--- statements (6.8), with the place of the first token where no part has it
+-- statements (6.8), with the place of the first token if no part has it
 mutual
   pub data StmtTree : Type 0 where
     -- a block: its items, and the place of its `}`

@@ -328,7 +328,7 @@ pub struct ArrayLength {
 
 /// What a name is declared as.
 pub enum ScalarOrArray<T> {
-    /// A scalar, with a value where it has one.
+    /// A scalar, with a value if it has one.
     Scalar(Option<T>),
     Array(ArrayLength),
 }
@@ -388,7 +388,7 @@ impl Drop for Init {
     }
 }
 
-/// A statement, with the place of its first token where no part of it has that place.
+/// A statement, with the place of its first token if no part of it has that place.
 #[cycle(statement)]
 pub enum Stmt {
     Block(Block),
@@ -620,7 +620,7 @@ pub struct PlacedLabel {
 /// A global variable or array.
 pub struct Global {
     pub name: Identifier,
-    /// A scalar's first value, where it has one.
+    /// A scalar's first value, if it has one.
     pub shape: ScalarOrArray<SignedLiteral>,
 }
 

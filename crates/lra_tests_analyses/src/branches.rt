@@ -1,4 +1,4 @@
-//! Analyses of `long x = input(); if (..) assert(x >= 0); else assert(x >= 0);` and its end, where the condition is
+//! Analyses of `long x = input(); if (..) assert(x >= 0); else assert(x >= 0);` and its end, if the condition is
 //! `x >= 1` in parentheses of ever more levels; and of the same with `int x`.
 
 ghost use Rattle.std.specs.Prelude.{◌≡◌, map, IfOk};

@@ -11,7 +11,7 @@ fn give(place: usize) -> Node {
     Node::Act(1, Op::Havoc(Receiver::variable(place, NumberType::Int)))
 }
 
-/// A point, and then two writes, with what others do where one variable is theirs.
+/// A point, and then two writes, with what others do if one variable is theirs.
 fn opened(alloc: Global) -> Result<Node, AllocError> {
     let gifts = put_in_turn(alloc, give(0), give(1))?;
     let tree = put_in_turn(alloc, Node::Point(1), gifts)?;

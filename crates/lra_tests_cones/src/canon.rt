@@ -76,7 +76,7 @@ fn orders(rt: HostRuntime) {
     assert!(rt; is_order(alloc, &[1, 0, 0], &[0, 0, 1], &[0, 3, 1], order, &want) == Ok(true));
 }
 
-// What passes, where it isn't memory.
+// What passes, if it isn't memory.
 fn excess_of(answer: Result<(), RowError>) -> Option<Excess> {
     match answer {
         Err(RowError::Excess(excess)) => Some(excess),

@@ -39,7 +39,7 @@ impl From<AllocFailed<Row>> for Unfit {
     }
 }
 
-// The row with these numbers, where they are of the range.
+// The row with these numbers, if they are of the range.
 pub fn row_of(alloc: Global, numbers: &[i128]) -> Result<Row, Unfit> {
     let mut entries = Vec::with_capacity(alloc, numbers.len())?;
     for &number in numbers {

@@ -46,7 +46,7 @@ fn product_with(row: &Row, vector: &Row) -> Result<i128, Unfit> {
     }
 }
 
-// The two rays combined so that the product is 0, where they stand on both sides of the row.
+// The two rays combined so that the product is 0, if they stand on both sides of the row.
 fn combination(row: &Row, up: &Row, down: &Row) -> Result<Option<Row>, Unfit> {
     if up.width() != row.width() || down.width() != row.width() {
         return Err(Unfit::Row);
@@ -66,7 +66,7 @@ fn combination(row: &Row, up: &Row, down: &Row) -> Result<Option<Row>, Unfit> {
     }
 }
 
-// Puts the ray of a pair after the others, where the two are adjacent and on both sides of the row.
+// Puts the ray of a pair after the others, if the two are adjacent and on both sides of the row.
 fn push_pair(
     made: &mut Vec<Row>,
     cone: &Cone,
@@ -89,7 +89,7 @@ fn push_pair(
     Ok(())
 }
 
-// Puts the rays of all pairs with the first at `up` after the others, and before them that ray itself where the row
+// Puts the rays of all pairs with the first at `up` after the others, and before them that ray itself if the row
 // holds.
 fn push_pairs(made: &mut Vec<Row>, cone: &Cone, row: &Row, up: usize) -> Result<(), Unfit> {
     let rays = cone.rays();

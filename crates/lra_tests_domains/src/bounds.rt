@@ -43,7 +43,7 @@ const OF_BOXES: [Case; 8] = [
     (NOTHING, (3, [1, 0]), (None, None)),
 ];
 
-/// x + y is at most 2 where 2x + 2y is at most 5; of other sums the intervals say.
+/// x + y is at most 2 if 2x + 2y is at most 5; of other sums the intervals say.
 const OF_OCTAGONS: [Case; 8] = [
     (TRIANGLE, (0, [1, 1]), (Some(0), Some(10))),
     (TRIANGLE, (1, [2, -1]), (Some(-3), Some(13))),
@@ -75,7 +75,7 @@ fn told_by<D: Domain>(alloc: Global, value: &D, form: &Numbers) -> Result<Told, 
     Ok(value.bounds(&form))
 }
 
-/// What is reported about the form where the three aren't negative.
+/// What is reported about the form if the three aren't negative.
 fn bounds_by<D: Domain>(
     alloc: Global,
     kept: &[Numbers; 3],
@@ -124,7 +124,7 @@ fn four_times<D: Domain>(alloc: Global) -> Result<Told, AllocError> {
     Ok(told)
 }
 
-/// Where the one end passes the range the other is reported, but not of a polyhedron.
+/// If the one end passes the range the other is reported, but not of a polyhedron.
 #[test]
 fn bounds_that_pass(rt: HostRuntime) {
     assert!(rt; four_times::<Boxes>(rt.alloc()) == Ok((Some(0), None)));

@@ -44,7 +44,7 @@ fn heads_grow(rt: HostRuntime) {
     }
 }
 
-/// The bounds of two values; whether the first lies in the second, where their sum is up to 100.
+/// The bounds of two values; whether the first lies in the second, if their sum is up to 100.
 static INCLUSIONS: [(u8, u8, Included); 4] = [
     (30, 80, Included::Wide),
     (40, 255, Included::Yes),

@@ -41,7 +41,7 @@ fn keeps_both(alloc: Global, set: &mut PowerSet<Boxes>) -> Result<bool, AllocErr
     Ok((first, second) == (2, 2))
 }
 
-/// Both parts stay where they are reduced, and from 5 on lies in from 2 on.
+/// Both parts stay if they are reduced, and from 5 on lies in from 2 on.
 fn is_reduced(alloc: Global) -> Result<bool, AllocError> {
     let mut set = half(alloc, -5, 1)?;
     let both = keeps_both(alloc, &mut set)?;

@@ -250,7 +250,7 @@ fn faults_and_full_sinks_end_at_once(rt: HostRuntime) {
     assert!(rt; std_writes(rt.alloc()));
 }
 
-/// Is interrupted so often, then fails once where it is to fail, and then moves one byte a call, or none.
+/// Is interrupted so often, then fails once if it is to fail, and then moves one byte a call, or none.
 #[derive(Drop)]
 struct Device {
     interrupts: u32,

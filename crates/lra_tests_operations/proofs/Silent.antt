@@ -31,7 +31,7 @@ none_left : (xs : List OpAtPoint) → AreSilent xs → filter (λ (a : OpAtPoint
 none_left [] h = refl
 none_left (x ∷ xs) h = rw (h.0, none_left xs h.1) refl
 
--- nothing of a tree accesses an array where nothing of what is done in it does
+-- nothing of a tree accesses an array if nothing of what is done in it does
 pub silent_tree : (g : Node) (done : List OpRefAtPoint) (n : ℕ) → map op_at_point_view done ≡ done_in None g → length done ≤ n →
     AreSilent (map op_at_point_view (take n done))
     → (q : ℕ) → accesses_at g q ≡ []

@@ -50,7 +50,7 @@ fn has_new_coordinate(alloc: Global) -> Result<bool, Unfit> {
     Ok(removed.is_exact() && added.is_exact() && is_half_plane(&way))
 }
 
-// As it is where its x2 may be anything.
+// As it is if its x2 may be anything.
 fn forgets_coordinate(alloc: Global) -> Result<bool, Unfit> {
     let mut way = way_of(alloc)?;
     let outcome = forget(&mut way, 1)?;

@@ -6,7 +6,7 @@ use lra_multipliers::Multipliers;
 use lra_systems::ConKind;
 use std::alloc::Global;
 
-/// Two premises, a claim's three numbers, the constant first, and its multipliers where it has some: the divisor, that
+/// Two premises, a claim's three numbers, the constant first, and its multipliers if it has some: the divisor, that
 /// of `1 >= 0`, and those of the premises.
 type Case = ([Constraint; 2], [i128; 3], Option<[i128; 4]>);
 

@@ -101,7 +101,7 @@ fn multiples(alloc: Global, width: usize) -> Result<SatMatrix, AllocError>
     Ok(matrix)
 }
 
-// Whether the second row alone stays where the first and the third are removed.
+// Whether the second row alone stays if the first and the third are removed.
 fn keeps_second(alloc: Global, width: usize) -> Result<bool, AllocError> {
     let mut matrix = multiples(alloc, width)?;
     let gone = row_of(alloc, 3, 2)?;
@@ -110,7 +110,7 @@ fn keeps_second(alloc: Global, width: usize) -> Result<bool, AllocError> {
     Ok(matrix.height() == 1 && sixth.subset(matrix.row(0)))
 }
 
-// Whether the rows are true at 0, 1 and 2 where their places are multiples of 2, of 3 and of 6.
+// Whether the rows are true at 0, 1 and 2 if their places are multiples of 2, of 3 and of 6.
 fn are_columns(columns: &SatMatrix) -> bool
     requires { columns.now.width ≡ 3 }
 {

@@ -43,7 +43,7 @@ fn opposite_of(
     Ok(opposite.map(|t| (t.expr.constant(), t.expr.coefficients()[0])))
 }
 
-/// The opposite of `x - 10 >= 0` is `9 - x >= 0`; there is none of an equality, nor where a coefficient is -2^63.
+/// The opposite of `x - 10 >= 0` is `9 - x >= 0`; there is none of an equality, nor if a coefficient is -2^63.
 #[test]
 fn opposites(rt: HostRuntime) {
     for (kind, constant, coefficient, want) in [

@@ -35,7 +35,7 @@ fn are_small(numbers: &[i128]) -> bool {
     true
 }
 
-// Whether the product of two rows is that by steps, and is reported without a test of any where all numbers are small.
+// Whether the product of two rows is that by steps, and is reported without a test of any if all numbers are small.
 fn multiply_alike(u: &Row, v: &Row) -> bool
     requires { length u.now ≡ length v.now }
 {

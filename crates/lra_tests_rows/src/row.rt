@@ -131,7 +131,7 @@ fn rows(rt: HostRuntime) {
     assert!(rt; answers == [Ok(true); 7]);
 }
 
-// What passes the range, where no row is made for it.
+// What passes the range, if no row is made for it.
 fn passing(made: Result<Row, RowError>) -> Option<Excess> {
     match made {
         Ok(_) => None,

@@ -29,7 +29,7 @@ const ROWS: [[i128; 3]; 13] = [
     [-MAX, -1, 1 - WORD],
 ];
 
-// The number, where it is in the range, or the excess that names it.
+// The number, if it is in the range, or the excess that names it.
 fn in_range(number: Option<i128>, op: Operation, left: i128, right: i128) -> Result<i128, Excess> {
     match number {
         Some(number) if number != i128::MIN => Ok(number),

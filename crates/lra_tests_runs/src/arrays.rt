@@ -9,7 +9,7 @@ use lra_commands::Status;
 const WAITED: &str =
     "long a[3]; long f(long k){ a[k]=7; return k; } int main(void){ long i=1; a[i]=f(i+1); i=a[i]; assert(i==1); }";
 
-/// What an element gets is computed, and converted where it holds an `int`.
+/// What an element gets is computed, and converted if it holds an `int`.
 const CONVERTED: &str =
     "int main(void){ int a[4], i; for(i=0;i<4;i=i+1) a[i]=i*i; long s=a[0]+a[1]; a[2]=s; }";
 
@@ -28,7 +28,7 @@ const FILLED: &str = "int main(void){ long a[10], i; for(i=0;i<10;i=i+1) a[i]=i;
 /// Three accesses in a condition, of which one is the index of another.
 const INNER: &str = "int a[3]; int main(void){ int i=input(); if(i>=0 && i<3 && a[i]>a[a[0]]) ; }";
 
-/// An access that is evaluated where the index is inside, and one that always is.
+/// An access that is evaluated if the index is inside, and one that always is.
 const EITHER: &str =
     "int main(void){ long a[4], i=input(); if(i<0 || i>=4 || a[i]>0) ; a[i]=a[3]; }";
 

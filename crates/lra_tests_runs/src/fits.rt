@@ -133,7 +133,7 @@ static EXPRESSIONS: [(&str, &str); 12] = [
             \x20 row b <= 2147483647\nfit 4 main 1:35 may overflow\nfit 5 main 1:46 may overflow\n\
             verdicts proved 0 unknown 0\n",
     ),
-    // where no run comes all fits
+    // if no run comes all fits
     (
         "int main(void){ if(0) { int x=input()*input(); } }",
         "point 4 main 1:50\n  row true\nfit 2 main 1:29 fits\nverdicts proved 0 unknown 0\n",
@@ -164,7 +164,7 @@ static EXPRESSIONS: [(&str, &str); 12] = [
     (TOLD, REMEMBERED),
 ];
 
-/// Conditions: the right side of `&&` is asked of what the left one leaves where it is true, that of `||` where it is
+/// Conditions: the right side of `&&` is asked of what the left one leaves if it is true, that of `||` if it is
 /// false; as they are written.
 static CONDITIONS: [(&str, &str); 5] = [
     (

@@ -8,7 +8,7 @@ use lra_commands::Status;
 const WRAPPED: &str =
     "int main(void){ long i=0; while(1){ if(input()){ i=i+1; if(i>=60) i=0; } } }";
 
-/// A counter that wraps where it is exactly so much.
+/// A counter that wraps if it is exactly so much.
 const EXACT: &str =
     "int main(void){ long x=0; while(input()){ x=x+1; if(x==100) x=0; } assert(x<=99); }";
 

@@ -16,7 +16,7 @@ bound_in : (x : ℕ) (b : Option (List Interval)) (s : List ℤ) (z : ℤ) → h
 bound_in x None s z h at = absurd h
 bound_in x (Some is) s z h at = (_, refl, bound_has x (Some is) _ s z refl h at)
 
--- where a test picks what comes in
+-- if a test picks what comes in
 in_own : (t : Bool) (o p : Option Interval) (z : ℤ) → t ≡ true → IsIn z o → IsIn z (if t then joined_option o p else p)
 in_own true o p z e h = in_first o p z h
 in_own false o p z e h = let wrong : ⊥ = cc in absurd wrong

@@ -54,7 +54,7 @@ rows_have (o ∷ rows) (suc j) other row x z few at h =
     let wide = ones_length (grown_option Join) row o in
     rows_have rows j other (grown_row Join row o) x z (omega (arith, wide, few)) at h
 
--- where all but the k-th are joined
+-- if all but the k-th are joined
 others_have : (k j : ℕ) (table : IntervalTable) (other row : IntervalRow) (x : ℕ) (z : ℤ) → x < length row → slice_get table j ≡ Some other → j ≢ k
     → HasNumber other x z
     → HasNumber (joined_rows row (others_than k table)) x z

@@ -51,7 +51,7 @@ grown_option Widen i w = widened_option i w
 
 -- lists ------------------------------------------------------------------------------------------------------------
 
--- one by one; where the second list ends, the first stays
+-- one by one; if the second list ends, the first stays
 abbrev pub by_ones : {A : Type 0} → (A → A → A) → List A → List A → List A
 by_ones f [] ys = []
 by_ones f (x ∷ xs) [] = x ∷ xs

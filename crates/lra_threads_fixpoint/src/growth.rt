@@ -15,7 +15,7 @@ pub enum Growth {
     Widen,
 }
 
-/// Both; where one is none, the other.
+/// Both; if one is none, the other.
 fn join(one: Option<Interval>, two: Option<Interval>) -> Option<Interval>
     ensures { result ≡ joined_option one two }
 {

@@ -226,7 +226,7 @@ points_to : (T : List Site) (n q : ℕ) (op : Op) (o : Option Target) (k : ℕ) 
 points_to T n q op None k fits = tt
 points_to T n q op (Some target) k fits = points_in T n q op target.cell k fits
 
--- what is noted is a variable that lives, where the operation can be made
+-- what is noted is a variable that lives, if the operation can be made
 points_noted : (T : List Site) (n q : ℕ) (op : Op) (k : ℕ) → OpFitsDims op k → PointsHave T (with_recording n q (written_variable op) (act q op)) k
 points_noted T n q (append t) k fits = tt
 points_noted T n q (fill a) k fits = tt

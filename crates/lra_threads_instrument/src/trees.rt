@@ -22,7 +22,7 @@ use std::mem;
 
 // one operation, one loop -------------------------------------------------------------------------
 
-/// The place of the variable that the receiver is, where it is one.
+/// The place of the variable that the receiver is, if it is one.
 fn variable_of(receiver: &Receiver) -> Option<usize>
     ensures { result ≡ target_variable receiver.now.target }
 {

@@ -71,7 +71,7 @@ pub record IsPointOf (t : FileTree) (k q : ℕ) (s : Site) : Type 0 where
   pub is_thread : k < length (thread_places t)
   pub is_point : slice_get (thread_sites t k) q ≡ Some s
 
--- what no interleaving does at a point of the k-th thread where of the verdicts of the kind there the n-th holds
+-- what no interleaving does at a point of the k-th thread if of the verdicts of the kind there the n-th holds
 abbrev pub BreaksThread : VerdictKind → Program → List Function → ℕ → Point → ℕ → Type 0
 BreaksThread Assertion P fs k p n = FailsThread P fs k p
 BreaksThread Fit P fs k p n = ⊥

@@ -58,7 +58,7 @@ module _ {V H : Type 0} (m : Abstraction V H) where
 -- both sides ------------------------------------------------------------------------------------------------------------
 
 module _ {V H : Type 0} (m : Abstraction V H) (base : ℕ) where
-  -- what a chain leaves where all of it is as wanted, and where it isn't
+  -- what a chain leaves if all of it is as wanted, and if it isn't
   abbrev pub Divides : Bool → Cond → List Cond → Kept V → Kept V → Kept V → Type 0
   Divides true c cs from taken left = SplitsBy m base true (all_of c cs) from (record { on = taken; off = left })
   Divides false c cs from taken left = SplitsBy m base true (any_of c cs) from (record { on = left; off = taken })

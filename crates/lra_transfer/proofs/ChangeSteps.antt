@@ -40,7 +40,7 @@ set_dims live x (Linear f) n = refl
 set_dims live x (Divided d f) n = cases_dims live d (assign x f) n refl
 set_dims live x Unseen n = refl
 
--- how a division's cases begin can be made where two dimensions more are there
+-- how a division's cases begin can be made if two dimensions more are there
 pub first_made : (d : Division) (n : ℕ) → Divides d n → n ≤ most_live → AllCanBeMade (first_case n d) n
 first_made d n h few = (
   h.wide,

@@ -53,7 +53,7 @@ module _ {V H : Type 0} (m : Abstraction V H) (base : ℕ) where
   then_done p q from one to first rest =
       (then_takes (lossy_operations m) from.value from.exactness to.value to.exactness p q).0 (one.value, one.exactness, first, rest)
 
-  -- the one side alone: the first is as wanted, or the others are where it isn't
+  -- the one side alone: the first is as wanted, or the others are if it isn't
   pub either_step : (wanted : Bool) (c : Cond) (others : Moves) (from on off right joined : Kept V) (n : ℕ) → TakesTo m (guard n base wanted c) from on
       → TakesTo m (guard n base (not wanted) c) from off → TakesTo m others off right → AreJoinedTo m on right joined
       → TakesTo m (join_of (guard n base wanted c) (first_then (guard n base (not wanted) c) others)) from joined

@@ -21,7 +21,7 @@ OpTransfersTo m op v e w = OpTransfer (lossy_operations m) op v e w
 abbrev pub Stays : Action → ℕ → Type 0
 Stays step n = CanBeMade step n × (dims_after step n ≡ n)
 
--- where a variable is set, it is one of so many
+-- if a variable is set, it is one of so many
 abbrev pub CellFits : Cell → ℕ → Type 0
 CellFits (Variable x) n = x < n
 CellFits (Waiting p) n = ⊤

@@ -202,7 +202,7 @@ pub fn filter_comparison<D: Domain>(
     leave_difference(around.alloc, op, &seen, value, before)
 }
 
-/// What is left of the value where an expression has this number or, where it is not wanted, another one, by what is
+/// What is left of the value if an expression has this number or, if it is not wanted, another one, by what is
 /// seen of the expression.
 pub fn filter_number<D: Domain>(
     alloc: Global,

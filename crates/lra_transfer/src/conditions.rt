@@ -56,7 +56,7 @@ struct Apart<'a, D> {
     last: &'a Cond,
 }
 
-/// What each operand but the last leaves where those before it aren't so.
+/// What each operand but the last leaves if those before it aren't so.
 #[inline(never)]
 fn divide_lefts<'a, D: Domain>(
     around: Surroundings,
@@ -105,7 +105,7 @@ fn join_lefts<D: Domain>(
 }
 
 /// What `condition`, wanted true or false, leaves of the value: `!` is pushed to the comparisons; `&&` is the one after
-/// the other; `||` joins what its left side leaves with what the right one leaves where the left one is false.
+/// the other; `||` joins what its left side leaves with what the right one leaves if the left one is false.
 #[cycle(filter_condition)]
 pub fn filter_condition<D: Domain>(
     alloc: Global,
@@ -208,7 +208,7 @@ fn leave_in_turn<D: Domain>(
     Ok(exactness)
 }
 
-/// What the first of the conditions leaves, joined with what the others leave where it isn't so.
+/// What the first of the conditions leaves, joined with what the others leave if it isn't so.
 #[cycle(filter_condition)]
 fn leave_either<D: Domain>(
     around: Surroundings,

@@ -1,4 +1,4 @@
-//! What a condition leaves of a value where it is true, together with what it leaves where it is false.
+//! What a condition leaves of a value if it is true, together with what it leaves if it is false.
 //! What is never inlined holds nothing while the function for a condition inside this one runs.
 
 ghost use Rattle.std.specs.Prelude.{◌≡◌, ◌≤◌, map, true, IfOk};
@@ -20,7 +20,7 @@ pub struct Kept<D> {
     pub exactness: Exactness,
 }
 
-/// What a condition leaves of a value: where it is true, and where it is false. The flags of the one aren't those of
+/// What a condition leaves of a value: if it is true, and if it is false. The flags of the one aren't those of
 /// the other.
 #[derive(Drop)]
 pub struct ConditionSplit<D> {
@@ -138,7 +138,7 @@ fn split_nonzero<D: Domain>(
 }
 
 /// Both sides of `condition`, each of its comparisons taken once: `&&` goes on with what its left side leaves, `||`
-/// with what that leaves where it is false; the other side of each is a join.
+/// with what that leaves if it is false; the other side of each is a join.
 #[cycle(split)]
 pub fn split<D: Domain>(
     alloc: Global,

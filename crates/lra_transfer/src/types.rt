@@ -1,4 +1,4 @@
-//! What is left of a value where a variable lies within its type.
+//! What is left of a value if a variable lies within its type.
 
 ghost use Rattle.std.specs.Prelude.{◌≡◌, ◌≤◌, IfOk, OnOk};
 ghost use Rattle.lra_transfer.specs.Crates.lra_analysis_spec.LiveLimit.{most_live};
@@ -10,7 +10,7 @@ ghost use Rattle.lra_transfer.specs.Changes.{Does};
 use lra_linearize::{ConKind, Domain, Exactness, NumberType, Test, form_of_one, worse};
 use std::alloc::{AllocError, Global};
 
-/// What is left where the variable at the place lies within 32 bits, after what led to the value: `x + 2^31 >= 0`,
+/// What is left if the variable at the place lies within 32 bits, after what led to the value: `x + 2^31 >= 0`,
 /// then `2^31 - 1 - x >= 0`.
 fn hold_int<D: Domain>(
     alloc: Global,
@@ -40,7 +40,7 @@ fn hold_int<D: Domain>(
     Ok(worse(before, worse(one, two)))
 }
 
-/// What is left where the variable at the place has a number of this type, after what led to the value. Of a `long`
+/// What is left if the variable at the place has a number of this type, after what led to the value. Of a `long`
 /// nothing is tested.
 pub fn hold_type<D: Domain>(
     alloc: Global,

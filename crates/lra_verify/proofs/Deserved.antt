@@ -18,7 +18,7 @@ use Rattle.std.specs.{List.All, Prelude.map, Prelude.option_map, Prelude.◌^◌
 use Rattle.lra_verify.specs.declared.head.Head as declared
 use Rattle.lra_verify.proofs.VerifySteps.{live_few}
 
--- what is reported about the lines, where the paths are few
+-- what is reported about the lines, if the paths are few
 pub lines_answer : (P : Program) (g : Node) (rest : List ℕ) (result : Result (ℕ × ℕ) VerifyError) → AreFewPaths P g →
     IsJudgedAs (λ (r : ℕ × ℕ). r) (judged P g rest) result → IsAnswerTo P g rest result
 lines_answer P g rest (Ok r) few told = (few, told)

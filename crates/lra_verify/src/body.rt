@@ -25,7 +25,7 @@ fn take_end(bytes: &[u8], at: usize) -> Result<(), VerifyError>
 }
 
 impl AnnotatedProgram<'_> {
-    /// How many points there are and how many assertions are listed, where all lines from here on are as they have to
+    /// How many points there are and how many assertions are listed, if all lines from here on are as they have to
     /// be.
     pub fn take_rest(
         &self,

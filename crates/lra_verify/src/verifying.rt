@@ -1,4 +1,4 @@
-//! From the bytes of an input to the numbers of its points and its listed assertions, where it is a certificate that
+//! From the bytes of an input to the numbers of its points and its listed assertions, if it is a certificate that
 //! meets its program.
 
 ghost use Rattle.std.specs.List.{All};
@@ -44,7 +44,7 @@ pub fn all_sources(alloc: Global, paths: &Paths<'_>) -> Result<Vec<Source>, Allo
     Ok(sources)
 }
 
-/// The numbers of points and of listed assertions, where all lines after the source are as they have to be; no row is
+/// The numbers of points and of listed assertions, if all lines after the source are as they have to be; no row is
 /// said of the start.
 fn take_lines(
     alloc: Global,
@@ -72,7 +72,7 @@ fn take_lines(
     ways.take_rest(alloc, bytes, points.behind)
 }
 
-/// The numbers of points and of listed assertions of a program, where the lines after its source are as they have to
+/// The numbers of points and of listed assertions of a program, if the lines after its source are as they have to
 /// be; or why its paths or these lines are refused.
 fn judge(
     alloc: Global,

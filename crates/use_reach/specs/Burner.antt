@@ -14,7 +14,7 @@ beginning =
     ∷ assign 1 (form (pos 0) (pos 0) (pos 0) (pos 0))
     ∷ assign 2 (form (pos 30) (pos 0) (pos 0) (pos 0)) ∷ []
 
--- a second of leak, where the last is 30 seconds ago
+-- a second of leak, if the last is 30 seconds ago
 abbrev pub leaking : List Action
 leaking =
     test Ge (form (negsuc 29) (pos 0) (pos 0) (pos 1))

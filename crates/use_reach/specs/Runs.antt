@@ -2,7 +2,7 @@
 use Rattle.std.specs.Prelude.{◌≡◌, ℕ, zero, suc, ℤ, List, length}
 use Rattle.guzhtarel.specs.{Domains.Actions.Action, Domains.Moves.LeadsAll, Domains.Moves.SomeLeads}
 
--- the actions may lead to the store from some store of n numbers: where they are tests, the store passes them
+-- the actions may lead to the store from some store of n numbers: if they are tests, the store passes them
 abbrev pub IsGiven : ℕ → List Action → List ℤ → Type 0
 IsGiven n actions s = (any : List ℤ) × (length any ≡ n) × LeadsAll actions any s
 

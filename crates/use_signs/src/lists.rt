@@ -62,7 +62,7 @@ pub fn is_sum_known(coefficients: &[i64], known: &[bool]) -> bool
     0 <= *factor && (*first || *factor == 0) && is_sum_known(factors, later)
 }
 
-/// Appends the row that says that the number in this column is at least 0, where that is known.
+/// Appends the row that says that the number in this column is at least 0, if that is known.
 fn push_sign(alloc: Global, list: &mut ConSys, column: usize, known: bool) -> Result<(), AllocError>
     requires few { list.old.dims ≤ 2 ^ 30 }
     requires column { column ≤ list.old.dims }

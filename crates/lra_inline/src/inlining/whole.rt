@@ -77,7 +77,7 @@ pub fn build(alloc: Global, program: &Program) -> Result<InlinedProgram, InlineE
     Ok(InlinedProgram { tree, sites })
 }
 
-/// As [`build`], where the program's points come after those of other programs: all of them count against the limit.
+/// As [`build`], if the program's points come after those of other programs: all of them count against the limit.
 /// The points are written out once more for the tree, whose own points begin at 0; twice along a program is still
 /// linear.
 pub fn build_thread(

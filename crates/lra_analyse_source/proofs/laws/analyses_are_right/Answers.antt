@@ -1,5 +1,5 @@
 -- Goals of `analyses_are_right`: what a report says of an analysis over a domain holds in all runs, and the report
--- is one of its source, where the options name that domain and allow as many parts as the analysis had.
+-- is one of its source, if the options name that domain and allow as many parts as the analysis had.
 use Rattle.lra_analyse_source.proofs.Reports.{sound, is_report}
 use Rattle.lra_analyse_source.proofs.laws.analyses_are_right.Goals as goal
 

@@ -1,4 +1,4 @@
--- Goals of `fitting_is_sound`: where all that is computed at a point is judged to fit, no run stops there by a number.
+-- Goals of `fitting_is_sound`: if all that is computed at a point is judged to fit, no run stops there by a number.
 use Rattle.lra_analyse_source.proofs.FitsHold.{fitting_sound}
 use Rattle.lra_analyse_source.proofs.laws.fitting_is_sound.Goals as goal
 

@@ -1,5 +1,5 @@
 -- Goals of `forms_are_right`: linear forms have the value of their expressions wherever it exists, and tests pass
--- exactly where their comparisons are true.
+-- exactly if their comparisons are true.
 use Rattle.lra_analyse_source.proofs.Crates.lra_analysis_spec.DivisionLemmas.{seen_is_right}
 use Rattle.lra_analyse_source.proofs.Crates.lra_analysis_spec.FormLemmas.{forms_are_right, tests_are_right, differs_is_right}
 use Rattle.lra_analyse_source.proofs.laws.forms_are_right.Goals as goal

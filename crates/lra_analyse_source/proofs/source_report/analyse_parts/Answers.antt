@@ -1,4 +1,4 @@
--- Goals of `analyse_parts`: the report of a source over the sets of a domain's values where the options allow more
+-- Goals of `analyse_parts`: the report of a source over the sets of a domain's values if the options allow more
 -- parts than one, else over the domain itself; or its one refusal.
 use Rattle.std.proofs.lemmas.Result.{IfOk-weaker}
 use Rattle.lra_analyse_source.specs.Crates.lra_report.View.{report_of}

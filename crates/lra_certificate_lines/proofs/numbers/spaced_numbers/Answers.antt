@@ -1,4 +1,4 @@
--- Goals of `spaced_numbers`: the numbers of a text, each after one space, where they are so many.
+-- Goals of `spaced_numbers`: the numbers of a text, each after one space, if they are so many.
 use Rattle.std.proofs.Common.{rules, arith, ◌≡◌, ◌<◌, [], ◌∷◌, ◌++◌, length, FitsSigned, ap, length-append}
 use Rattle.std.proofs.{lemmas.Grind.common_steps, lemmas.Int.to_z-of_z, lemmas.List.Elements.All-append, lemmas.List.Elements.All-cons, lemmas.List.Elements.All-nil}
 use Rattle.std.specs.Int.{w128}

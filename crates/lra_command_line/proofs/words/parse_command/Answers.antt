@@ -1,4 +1,4 @@
--- Goals of `parse_command`: `Usage` comes exactly where the command line doesn't take the words, `Memory` only when
+-- Goals of `parse_command`: `Usage` comes exactly if the command line doesn't take the words, `Memory` only when
 -- memory runs out.
 use Rattle.lra_command_line.proofs.ParsedWords.{unasked_asks_none}
 use Rattle.lra_command_line.proofs.words.parse_command.Goals as goal

@@ -1,4 +1,4 @@
--- Goals of `cell_place`: the place of the entry, or of its twin where the row doesn't hold it.
+-- Goals of `cell_place`: the place of the entry, or of its twin if the row doesn't hold it.
 use Rattle.std.proofs.Common.{rules}
 use Rattle.lra_dbm.proofs.CellLemmas.{place_in_row, place_of_twin, that_place_below}
 use Rattle.lra_dbm.proofs.cells.cell_place.Goals as goal

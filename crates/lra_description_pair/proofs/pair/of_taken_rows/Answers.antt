@@ -1,5 +1,5 @@
 -- Goals of `of_taken_rows`: the polyhedron of the rows that were added to the cone, after these losses; all
--- points where a number passes in its canonical constraints, or there are too many.
+-- points if a number passes in its canonical constraints, or there are too many.
 use Rattle.std.proofs.Common.{inl, inr, refl}
 use Rattle.lra_description_pair.proofs.pair.of_taken_rows.Goals as goal
 

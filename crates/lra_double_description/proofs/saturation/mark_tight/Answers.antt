@@ -1,4 +1,4 @@
--- Goals of `mark_tight`: true where the product is 0, and at so many further places.
+-- Goals of `mark_tight`: true if the product is 0, and at so many further places.
 use Rattle.std.proofs.Common.{◌≡◌, ◌+◌, arith, get_or, length, pos, refl, rules, set}
 use Rattle.std.specs.Ordering.{int_eq}
 use Rattle.lra_double_description.proofs.Filling.{set_more, set_none, tight_end}

@@ -1,4 +1,4 @@
--- Goals of `convert_by_any`: the polyhedron of the rows, where their own order exceeds a limit by another.
+-- Goals of `convert_by_any`: the polyhedron of the rows, if their own order exceeds a limit by another.
 use Rattle.std.proofs.Common.{subst}
 use Rattle.lra_systems.specs.LinearSystems.{constraints}
 use Rattle.lra_farkas.specs.RowsByKinds.{HasNoFirst}

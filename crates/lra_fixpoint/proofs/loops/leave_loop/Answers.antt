@@ -1,4 +1,4 @@
--- Goals of `leave_loop`: the value at the head and what its round found, and after it what that value leaves where
+-- Goals of `leave_loop`: the value at the head and what its round found, and after it what that value leaves if
 -- the condition is false.
 use Rattle.std.proofs.Common.{ap, ◌∙◌, false}
 use Rattle.lra_fixpoint.specs.Crates.{lra_analysis_spec.MovesOf.guard, lra_analysis_spec.Operations.lossy_operations, lra_program.ProgramViews.cond_view}

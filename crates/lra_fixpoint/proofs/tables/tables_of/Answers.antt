@@ -1,4 +1,4 @@
--- Goals of `tables_of`: the entries at their numbers; an assertion is proved where its value is empty.
+-- Goals of `tables_of`: the entries at their numbers; an assertion is proved if its value is empty.
 use Rattle.std.proofs.Common.{◌<◌, arith, ◌∙◌, List, ap, map, subst}
 use Rattle.lra_fixpoint.proofs.Filling.{vec_all, vec_next, value_place, failing_place, value_filled, failing_filled, given_filled}
 use Rattle.lra_fixpoint.proofs.{Noting.given_noted, Noting.failing_unnoted, Noting.value_unnoted, Tabled.none_tabled}

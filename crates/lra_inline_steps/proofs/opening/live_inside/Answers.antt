@@ -1,4 +1,4 @@
--- Goals of `live_inside`: how many variables live after the items, where the number fits.
+-- Goals of `live_inside`: how many variables live after the items, if the number fits.
 use Rattle.std.proofs.Common.{◌∙◌}
 use Rattle.lra_inline_steps.proofs.LiveInside.{declared_behind, filled_behind, stated_behind, none_behind, beyond}
 use Rattle.lra_inline_steps.proofs.opening.live_inside.Goals.{in-Declaration+in-Some, in-Array, in-Statement}

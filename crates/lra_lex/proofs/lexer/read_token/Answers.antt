@@ -1,4 +1,4 @@
--- Goals of `read_token`: the length and kind of the token at the start, where no gap is.
+-- Goals of `read_token`: the length and kind of the token at the start, if no gap is.
 use Rattle.std.proofs.Common.{sym, ◌∙◌}
 use Rattle.lra_lex.proofs.TokenLemmas.{comment_is}
 use Rattle.lra_lex.proofs.lexer.read_token.Goals as goal

@@ -1,4 +1,4 @@
--- Goals of `negate_coefficients`: the numbers times -1, or `None` where one of these passes i64.
+-- Goals of `negate_coefficients`: the numbers times -1, or `None` if one of these passes i64.
 use Rattle.std.proofs.{Common.rules, Common.map, Common.◌≡◌, Common.[], Common.◌∷◌, Common.◌∙◌, Common.append_assoc, lemmas.Int.to_z-of_z}
 use Rattle.std.specs.{Int.w64, Prelude.neg_ℤ}
 use Rattle.lra_linear_forms.proofs.FormLemmas.{fits_later}

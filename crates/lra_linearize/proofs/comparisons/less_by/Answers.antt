@@ -1,4 +1,4 @@
--- Goals of `less_by`: the form minus a number, where all its numbers have 64 bits.
+-- Goals of `less_by`: the form minus a number, if all its numbers have 64 bits.
 use Rattle.std.proofs.Common.{rules, ◌≡◌, pos, length}
 use Rattle.lra_analysis_spec.specs.Linear.{constant_form}
 use Rattle.lra_linearize.proofs.CondSteps.{less_by_is}

@@ -1,4 +1,4 @@
--- Goals of `test_of`: the test of a comparison whose left side minus its right one is `d`; none of `!=`, nor where
+-- Goals of `test_of`: the test of a comparison whose left side minus its right one is `d`; none of `!=`, nor if
 -- a number passes 64 bits.
 use Rattle.lra_linearize.proofs.FormSteps.{fitting_is}
 use Rattle.lra_linearize.proofs.comparisons.test_of.Goals as goal

@@ -1,4 +1,4 @@
--- Goals of `literal_of`: the form of a literal, where it has 64 bits.
+-- Goals of `literal_of`: the form of a literal, if it has 64 bits.
 use Rattle.std.proofs.Common.{rules, ◌≡◌, pos, FitsSigned, to_z, of_z}
 use Rattle.std.specs.Int.{w64}
 use Rattle.lra_linearize.proofs.FormSteps.{literal_form}

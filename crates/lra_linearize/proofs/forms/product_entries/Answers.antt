@@ -1,4 +1,4 @@
--- Goals of `product_entries`: the products with `factor`, where all have 64 bits.
+-- Goals of `product_entries`: the products with `factor`, if all have 64 bits.
 use Rattle.std.proofs.Common.{rules, ◌≡◌, ◌++◌, [], ◌∷◌, Some, map}
 use Rattle.std.specs.Prelude.{◌*ℤ◌}
 use Rattle.lra_base.specs.declared.number_types.NumberType.TheVariants.{Long}

@@ -1,4 +1,4 @@
--- Goals of `sum_entries`: the sums or differences place by place, where all have 64 bits.
+-- Goals of `sum_entries`: the sums or differences place by place, if all have 64 bits.
 use Rattle.std.proofs.Common.{rules, ◌≡◌, ◌++◌, [], ◌∷◌, Some}
 use Rattle.lra_base.specs.declared.number_types.NumberType.TheVariants.{Long}
 use Rattle.lra_linearize.specs.Crates.lra_program.Value.{number}

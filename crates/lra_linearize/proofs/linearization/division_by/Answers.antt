@@ -1,4 +1,4 @@
--- Goals of `division_by`: the division of the one by the other, where this is a constant above 0 and the two cases fit 64 bits.
+-- Goals of `division_by`: the division of the one by the other, if this is a constant above 0 and the two cases fit 64 bits.
 use Rattle.std.proofs.Common.{rules, ◌≡◌, ◌∙◌, sym, subst, ℤ, pos, Some, None, true, to_z, of_z}
 use Rattle.std.specs.{Int.w64, Prelude.◌&&◌, Prelude.int_le}
 use Rattle.lra_linearize.specs.Crates.lra_linear_forms.Form.{Form, opposite_form}

@@ -1,4 +1,4 @@
--- Goals of `one_more_of`: the form plus one, where all its numbers have 64 bits.
+-- Goals of `one_more_of`: the form plus one, if all its numbers have 64 bits.
 use Rattle.std.proofs.Common.{rules, ◌≡◌, negsuc, length}
 use Rattle.lra_analysis_spec.specs.Linear.{constant_form}
 use Rattle.lra_linearize.proofs.LinearizationSteps.{one_more_is}

@@ -1,4 +1,4 @@
--- Goals of `form_next`: takes in the constraint at the place with the form put in for the column; or, where a number
+-- Goals of `form_next`: takes in the constraint at the place with the form put in for the column; or, if a number
 -- passes in it, what is reported about that, unless something is reported already.
 use Rattle.std.proofs.Common.{◌≡◌, ◌∙◌, ◌<◌, ap, get_or, length, refl, subst, sym, ℤ, List, Some, rules}
 use Rattle.std.specs.Prelude.{false, is_none}

@@ -1,4 +1,4 @@
--- Goals of `loss_at`: what is reported about the row at the place, with those before it taken, where a number passes as
+-- Goals of `loss_at`: what is reported about the row at the place, with those before it taken, if a number passes as
 -- it is formed.
 use Rattle.lra_mapped_systems.proofs.LossLemmas.{loss_told}
 use Rattle.lra_mapped_systems.proofs.forming.loss_at.Goals as goal

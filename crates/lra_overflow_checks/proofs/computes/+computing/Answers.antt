@@ -1,4 +1,4 @@
--- Goals of the functions that call each other around `condition_computes`: a chain computes where its first operand does,
+-- Goals of the functions that call each other around `condition_computes`: a chain computes if its first operand does,
 -- or one of the others.
 use Rattle.std.proofs.Common.{◌∙◌, List, ap, sym, map}
 use Rattle.lra_program.specs.{Overflow.cond_computes, ProgramViews.cond_view}

@@ -1,4 +1,4 @@
--- Goals of `reuse_turn`: the kept round of a loop's body, where the same value enters it again.
+-- Goals of `reuse_turn`: the kept round of a loop's body, if the same value enters it again.
 use Rattle.std.proofs.Common.{rules, ◌≡◌}
 use Rattle.lra_pass_results.proofs.Again.{same_given}
 use Rattle.lra_pass_results.proofs.outcome.reuse_turn.Goals as goal

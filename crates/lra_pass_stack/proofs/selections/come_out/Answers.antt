@@ -1,4 +1,4 @@
--- Goals of `come_out`: what comes out after the last arm; where nothing runs there, what has no match.
+-- Goals of `come_out`: what comes out after the last arm; if nothing runs there, what has no match.
 use Rattle.std.proofs.lemmas.Result.{IfOk-weaker}
 use Rattle.lra_pass_results.specs.{Outcome.running_on, declared.outcome.PassOutcome.PassOutcome}
 use Rattle.lra_pass_stack.specs.Stack.{ComesOutAt}

@@ -1,4 +1,4 @@
--- Goals of `enter_case`: what is left of a copy of the value where what is seen has this number.
+-- Goals of `enter_case`: what is left of a copy of the value if what is seen has this number.
 use Rattle.std.proofs.Common.{◌≤◌, ◌∙◌, sym, subst, ap, true}
 use Rattle.lra_pass_stack.specs.Crates.{lra_analysis_spec.Linearization.LinearizedFits, lra_analysis_spec.LiveLimit.most_live, lra_analysis_spec.MovesOf.number_moves, lra_transfer.Changes.Does}
 use Rattle.lra_pass_stack.proofs.selections.enter_case.Goals as goal

@@ -1,4 +1,4 @@
--- Goals of `leave_all`: what is left of the value where no label names what is seen.
+-- Goals of `leave_all`: what is left of the value if no label names what is seen.
 use Rattle.std.proofs.{Common.rules, Common.◌≡◌, Common.◌∷◌, Common.◌≤◌, Common.ℕ, Common.sym, Common.subst, lemmas.List.nil_from_length}
 use Rattle.lra_pass_stack.specs.Crates.{lra_analysis_spec.Linearization.LinearizedFits, lra_analysis_spec.LiveLimit.most_live}
 use Rattle.lra_pass_stack.proofs.SelectFrames.{none_starts, none_next, none_ends}

@@ -1,4 +1,4 @@
--- Goals of `leave_arm`: what is left of the value after an arm, where no label matches.
+-- Goals of `leave_arm`: what is left of the value after an arm, if no label matches.
 use Rattle.lra_operations.specs.Tree.{entries_of}
 use Rattle.lra_pass_stack.proofs.SelectFrames.{entry_left, tree_left}
 use Rattle.lra_pass_stack.proofs.selections.leave_arm.Goals as goal

@@ -1,4 +1,4 @@
--- Goals of `leave_label`: what is left of the value where the label doesn't name what is seen.
+-- Goals of `leave_label`: what is left of the value if the label doesn't name what is seen.
 use Rattle.lra_pass_stack.proofs.SelectFrames.{case_left, default_left}
 use Rattle.lra_pass_stack.proofs.selections.leave_label.Goals as goal
 

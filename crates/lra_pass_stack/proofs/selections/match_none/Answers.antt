@@ -1,4 +1,4 @@
--- Goals of `match_none`: what is left of a copy of the value where no label names what is seen.
+-- Goals of `match_none`: what is left of a copy of the value if no label names what is seen.
 use Rattle.std.proofs.Common.{◌≤◌, ◌∙◌, ap, map, subst, sym}
 use Rattle.lra_operations.specs.{Tree.entries_of, TreeViews.arm_view, TreeViews.arms_of}
 use Rattle.lra_pass_stack.specs.Crates.lra_analysis_spec.Linearization.{LinearizedFits, linearized}

@@ -1,4 +1,4 @@
--- Goals of `value_of_run`: what runs in the arms; where nothing does, a value that no store has.
+-- Goals of `value_of_run`: what runs in the arms; if nothing does, a value that no store has.
 use Rattle.std.proofs.Common.{◌≡◌, ℕ, subst}
 use Rattle.std.specs.Prelude.{IfOk}
 use Rattle.lra_pass_stack.proofs.SelectFrames.{run_dims, run_none, run_some}

@@ -1,4 +1,4 @@
--- Goals of `put_past`: past all labels there is a segment where none of them is `default`.
+-- Goals of `put_past`: past all labels there is a segment if none of them is `default`.
 use Rattle.lra_path_segments.specs.{Tasks.stack, TreeSegmentViews.selection_view}
 use Rattle.lra_path_segments.proofs.TaskSteps.{past_none, past_one}
 use Rattle.lra_path_segments.proofs.trees.put_past.Goals as goal

@@ -1,4 +1,4 @@
--- Goals of `of_facets`: the polyhedron of the generators that were added to the cone, and of further ones, where none
+-- Goals of `of_facets`: the polyhedron of the generators that were added to the cone, and of further ones, if none
 -- of these is left out.
 use Rattle.lra_poly.proofs.poly.of_facets.Goals as goal
 

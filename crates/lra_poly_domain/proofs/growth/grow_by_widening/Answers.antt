@@ -1,4 +1,4 @@
--- Goals of `grow_by_widening`: the growth by a widening with the join; all points where the join is flagged.
+-- Goals of `grow_by_widening`: the growth by a widening with the join; all points if the join is flagged.
 use Rattle.std.proofs.Common.{rules, ◌≡◌}
 use Rattle.lra_domain.specs.declared.Exactness.TheVariants as degree
 use Rattle.lra_linear_spec.specs.Kinds.{is_equality}

@@ -1,4 +1,4 @@
--- Goals of `convert_image`: the image, where the generators are converted.
+-- Goals of `convert_image`: the image, if the generators are converted.
 use Rattle.std.proofs.{Common.arith, Common.inl, Common.inr, Common.suc, Common.subst, Common.List, lemmas.Result.IfOk-weaker}
 use Rattle.lra_poly_images.specs.Crates.lra_linear_spec.CheckedArithmetic.{checked_product}
 use Rattle.lra_poly_images.specs.Crates.lra_linear_spec.OperationStrain.{FormingPasses, ImageStrains, mapped}

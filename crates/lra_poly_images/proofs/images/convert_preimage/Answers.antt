@@ -1,4 +1,4 @@
--- Goals of `convert_preimage`: the preimage, where the constraints are converted.
+-- Goals of `convert_preimage`: the preimage, if the constraints are converted.
 use Rattle.std.proofs.Common.{◌≡◌, ◌∙◌, suc, subst, List}
 use Rattle.std.specs.{List.Contains, Prelude.IfNone, Prelude.IfSome}
 use Rattle.lra_poly_images.specs.Crates.lra_linear_spec.OperationStrain.{FormingPasses, substituted_rows}

@@ -1,4 +1,4 @@
--- Goals of `forget_anew`: lets the coordinate x be anything, where the generators are converted from nothing.
+-- Goals of `forget_anew`: lets the coordinate x be anything, if the generators are converted from nothing.
 use Rattle.std.proofs.Common.{◌++◌, ◌∷◌, [], suc}
 use Rattle.lra_poly_images.specs.Crates.lra_linear_spec.OperationStrain.{ForgetStrains, unit_row}
 use Rattle.lra_poly_images.specs.Crates.{lra_linear_spec.Descriptions.Con, lra_linear_spec.Descriptions.line, lra_linear_spec.SetOperations.Forget}

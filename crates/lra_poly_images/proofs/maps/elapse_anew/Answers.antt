@@ -1,4 +1,4 @@
--- Goals of `elapse_anew`: the time-elapse of two that have a point each, where the generators are converted from nothing.
+-- Goals of `elapse_anew`: the time-elapse of two that have a point each, if the generators are converted from nothing.
 use Rattle.std.proofs.{Common.◌≡◌, Common.◌∙◌, Common.◌++◌, Common.subst, Common.ℕ, lemmas.Result.IfOk-weaker}
 use Rattle.lra_poly_images.specs.Crates.{lra_linear_spec.OperationStrain.as_directions, lra_systems.LinearSystems.generators}
 use Rattle.lra_poly.specs.Outcomes.{IsOfGenerators}

@@ -1,4 +1,4 @@
--- Goals of `divisor_of`: the greatest number that divides each entry, 0 where all are 0.
+-- Goals of `divisor_of`: the greatest number that divides each entry, 0 if all are 0.
 use Rattle.std.proofs.{Common.rules, Common.arith, Common.FitsSigned, Common.get_or, Common.pos, lemmas.Int.to_z-of_z}
 use Rattle.std.specs.Int.{w128}
 use Rattle.lra_poly_queries.proofs.Crates.lra_row.RowDivisors.{divisor_further, divisor_whole}

@@ -1,4 +1,4 @@
--- Goals of `settle_once`: the parts reduced, and the last two joined where there are more than the cap.
+-- Goals of `settle_once`: the parts reduced, and the last two joined if there are more than the cap.
 use Rattle.std.proofs.{Common.◌≡◌, Common.◌≤◌, Common.◌<◌, Common.length, Common.vec_len, Common.arith, Common.rules, lemmas.Grind.common_steps}
 use Rattle.lra_domain.specs.declared.Exactness.TheVariants.{Flagged}
 use Rattle.lra_powerset.proofs.AnswerLemmas.{once_flagged, once_further, once_strained, reduced_alike}

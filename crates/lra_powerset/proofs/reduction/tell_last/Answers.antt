@@ -1,4 +1,4 @@
--- Goals of `tell_last`: of each part whether it goes, where only the last is new.
+-- Goals of `tell_last`: of each part whether it goes, if only the last is new.
 use Rattle.std.proofs.{Common.◌≡◌, Common.[], Common.arith, lemmas.Grind.common_steps}
 use Rattle.lra_powerset.proofs.AntichainLemmas.{last_alike, last_ends, last_next, last_starts}
 use Rattle.lra_powerset.proofs.reduction.tell_last.Goals as goal

@@ -1,4 +1,4 @@
--- Goals of `divisor_of`: the greatest number that divides each entry, 0 where all are 0.
+-- Goals of `divisor_of`: the greatest number that divides each entry, 0 if all are 0.
 use Rattle.std.proofs.Common.{rules, arith, FitsSigned, get_or, pos, unsigned_abs, ◌≡◌, ◌+◌, subst, to_z}
 use Rattle.std.proofs.lemmas.Int.{ints, to_z-of_z}
 use Rattle.std.specs.Int.{w128, IsGcd}

@@ -1,4 +1,4 @@
--- Goals of `floor_div`: `a / b` rounded down, or `None` exactly where `b` is 0 or the quotient passes the range.
+-- Goals of `floor_div`: `a / b` rounded down, or `None` exactly if `b` is 0 or the quotient passes the range.
 use Rattle.std.proofs.Common.{rules, arith, ◌≡◌, ◌<◌, pos, ℤ, ◌-ℤ◌, FitsSigned, to_z, of_z, sym, ◌∙◌, ap, subst, ◌<ℤ◌}
 use Rattle.std.proofs.lemmas.Int.{ints, to_z-of_z}
 use Rattle.std.specs.Int.{w128}

@@ -1,4 +1,4 @@
--- Goals of `coefficients_of`: the numbers that the words write, where each writes one that has 64 bits.
+-- Goals of `coefficients_of`: the numbers that the words write, if each writes one that has 64 bits.
 use Rattle.std.proofs.{Common.rules, Common.◌≡◌, Common.ℕ, Common.Bor, Common.List, Common.[], Common.◌∷◌, Common.◌++◌, Common.get_or, Common.refl, Common.sym, Common.FitsSigned, lemmas.Int.to_z-of_z}
 use Rattle.std.specs.Int.{w64}
 use Rattle.lra_script.specs.LineForms.{coefficient_of}

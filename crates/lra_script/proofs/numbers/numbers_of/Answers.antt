@@ -1,4 +1,4 @@
--- Goals of `numbers_of`: the numbers that the words write, where each writes one.
+-- Goals of `numbers_of`: the numbers that the words write, if each writes one.
 use Rattle.std.proofs.Common.{rules, ◌≡◌, ℕ, Bor, List, [], ◌∷◌, ◌++◌, get_or, refl, sym, FitsSigned}
 use Rattle.std.proofs.{lemmas.Int.to_z-of_z, lemmas.List.Elements.All-append, lemmas.List.Elements.All-cons, lemmas.List.Elements.All-nil}
 use Rattle.std.specs.Int.{w128}

@@ -1,4 +1,4 @@
--- Goals of `all_generators`: the generator that each part says, where each says one.
+-- Goals of `all_generators`: the generator that each part says, if each says one.
 use Rattle.std.proofs.Common.{[], ◌∙◌, sym, ap, refl, map, get_or, option_map, List, ℕ, Bor, arith}
 use Rattle.lra_script.specs.{LineForms.generator_of, Views.texts}
 use Rattle.lra_script.specs.Views as view

@@ -1,4 +1,4 @@
--- Goals of `all_rows`: the row that each part says, where each says one.
+-- Goals of `all_rows`: the row that each part says, if each says one.
 use Rattle.std.proofs.Common.{[], ◌∙◌, sym, ap, refl, map, get_or, option_map, List, ℕ, Bor, arith}
 use Rattle.lra_script.specs.{LineForms.row_of, Views.texts, Views.constraint_of}
 use Rattle.lra_script.proofs.AllOf.{all_done, none_here}

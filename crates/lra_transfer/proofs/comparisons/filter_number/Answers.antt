@@ -1,4 +1,4 @@
--- Goals of `filter_number`: what is left of a value where an expression has a number, or another one.
+-- Goals of `filter_number`: what is left of a value if an expression has a number, or another one.
 use Rattle.lra_transfer.specs.Crates.lra_base.OperatorViews.{comparison_view}
 use Rattle.lra_transfer.proofs.{ChangeSteps.number_fits, CompareSteps.number_left}
 use Rattle.lra_transfer.proofs.comparisons.filter_number.Goals as goal

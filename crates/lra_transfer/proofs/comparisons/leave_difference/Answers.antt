@@ -1,4 +1,4 @@
--- Goals of `leave_difference`: what a comparison leaves of the value; all of it where nothing is seen of the difference.
+-- Goals of `leave_difference`: what a comparison leaves of the value; all of it if nothing is seen of the difference.
 use Rattle.std.proofs.Common.{refl}
 use Rattle.lra_transfer.specs.Crates.lra_analysis_spec.MovesOf.{split_moves, comparison_moves}
 use Rattle.lra_transfer.specs.Crates.{lra_analysis_spec.Operations.lossy_operations, lra_base.OperatorViews.comparison_view}

@@ -1,4 +1,4 @@
--- Goals of `SatMatrix::find_within_by`: as `find_within`, by the columns where they are at hand.
+-- Goals of `SatMatrix::find_within_by`: as `find_within`, by the columns if they are at hand.
 use Rattle.std.proofs.Common.{◌∙◌, sym}
 use Rattle.lra_bits.proofs.Places.{within_by_columns, places_inside, places_marked}
 use Rattle.lra_bits.proofs.sat_matrix.SatMatrix.find_within_by.Goals as goal

@@ -1,4 +1,4 @@
--- Goals of `Cone::cut`: takes a row in where its product with each line is 0.
+-- Goals of `Cone::cut`: takes a row in if its product with each line is 0.
 use Rattle.std.proofs.Common.{sym, ◌∙◌, ap, length, subst, ◌≡◌, List, ℤ, pos, map, suc}
 use Rattle.std.proofs.{lemmas.List.length-map, lemmas.List.Elements.All-contains, lemmas.Result.err_from_is_err_and}
 use Rattle.std.specs.List.{All, Contains}

@@ -1,4 +1,4 @@
--- Goals of `Cone::flatten`: takes a row in where its product with the line at the place, and with none after it,
+-- Goals of `Cone::flatten`: takes a row in if its product with the line at the place, and with none after it,
 -- isn't 0.
 use Rattle.std.proofs.Common.{arith, sym, ◌∙◌, ap, length, subst, ◌<◌, ◌≤◌, ◌≡◌, ◌++◌, ◌∷◌, List, ℤ, [], map, suc}
 use Rattle.std.proofs.{lemmas.Grind.common_steps, lemmas.List.length-map, lemmas.Result.err_from_is_err_and}

@@ -1,4 +1,4 @@
--- Goals of `Conversion::take_row`: takes a row in, or leaves it out where it exceeds a limit of the cone.
+-- Goals of `Conversion::take_row`: takes a row in, or leaves it out if it exceeds a limit of the cone.
 use Rattle.std.proofs.Common.{length, ◌∙◌, ap, sym, subst}
 use Rattle.lra_cone.specs.Crates.{lra_linear_spec.Descriptions.LinearRow, lra_linear_spec.Kinds.is_equality}
 use Rattle.lra_systems.specs.LinearSystems.{constraints}

@@ -1,4 +1,4 @@
--- Goals of `Test::opposite`: the test that passes exactly where this one fails.
+-- Goals of `Test::opposite`: the test that passes exactly if this one fails.
 use Rattle.std.proofs.Common.{rules}
 use Rattle.lra_linear_forms.proofs.FormLemmas.{opposite_holds}
 use Rattle.lra_linear_forms.proofs.test.Test.opposite.Goals as goal

@@ -1,4 +1,4 @@
--- Goals of `LoopCache::recall`: what the loop of this point gave, where it began with the same value.
+-- Goals of `LoopCache::recall`: what the loop of this point gave, if it began with the same value.
 use Rattle.std.proofs.Common.{rules, ◌≡◌, ◌<◌, length, slice_index_or, subst}
 use Rattle.lra_pass_results.proofs.CachedLoops.{recalled}
 use Rattle.lra_pass_results.proofs.loop_cache.LoopCache.recall.Goals as goal

@@ -1,4 +1,4 @@
--- Goals of `Poly::meet_rows`: the same, where these are added after those, by the lists at hand.
+-- Goals of `Poly::meet_rows`: the same, if these are added after those, by the lists at hand.
 use Rattle.std.proofs.Common.{◌∙◌, ap, sym}
 use Rattle.lra_poly.specs.Crates.{lra_linear_spec.Polyhedra.Polyhedron, lra_systems.LinearSystems.constraints, lra_systems.LinearSystems.generators}
 use Rattle.lra_poly.specs.Restricted.{IsMetWith}

@@ -1,4 +1,4 @@
--- Goals of `PolyhedronHead::give_up`: what it becomes where it isn't decided whether next lies in its value.
+-- Goals of `PolyhedronHead::give_up`: what it becomes if it isn't decided whether next lies in its value.
 use Rattle.lra_linear_spec.specs.Kinds.{is_equality}
 use Rattle.lra_poly_domain.specs.Crates.lra_systems.LinearSystems.{constraints}
 use Rattle.lra_poly_widening.proofs.WideningLemmas.{seen_columns}

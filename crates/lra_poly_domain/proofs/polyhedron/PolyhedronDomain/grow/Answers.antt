@@ -1,5 +1,5 @@
 -- Goals of `PolyhedronDomain::grow`: grows by the join with next, or by the widening with that join; is given up
--- where the inclusion is wide.
+-- if the inclusion is wide.
 use Rattle.lra_domain.specs.{Abstraction.Grew, declared.Exactness.Exactness}
 use Rattle.lra_poly_domain.specs.Abstraction.{polyhedron_abstraction}
 use Rattle.lra_poly_domain.proofs.GrowthLemmas.{flagged_alone}

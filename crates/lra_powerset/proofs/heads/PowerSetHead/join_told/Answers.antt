@@ -1,4 +1,4 @@
--- Goals of `PowerSetHead::join_told`: the join with next, where it is reported whether next lies in it.
+-- Goals of `PowerSetHead::join_told`: the join with next, if it is reported whether next lies in it.
 use Rattle.std.proofs.Common.{refl}
 use Rattle.lra_powerset.proofs.{HeadLemmas.join_grew, HeadSteps.anew_as}
 use Rattle.lra_powerset.proofs.heads.PowerSetHead.join_told.Goals as goal

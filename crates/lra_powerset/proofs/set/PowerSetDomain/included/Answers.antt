@@ -1,4 +1,4 @@
--- Goals of `PowerSetDomain::included`: yes where each part lies in some part of the other.
+-- Goals of `PowerSetDomain::included`: yes if each part lies in some part of the other.
 use Rattle.std.proofs.Common.{◌≡◌, refl, sym, ◌∙◌}
 use Rattle.lra_domain.specs.declared.Included.TheVariants.{Yes}
 use Rattle.lra_powerset.specs.Laws.{fits_formed}

@@ -1,4 +1,4 @@
--- Goals of `Row::narrow_dot`: the product with a row where both are narrow.
+-- Goals of `Row::narrow_dot`: the product with a row if both are narrow.
 use Rattle.std.proofs.{Common.rules, Common.FitsSigned, Common.◌≡◌, Common.Ok, Common.sym, lemmas.Int.to_z-of_z}
 use Rattle.std.specs.Int.{w128}
 use Rattle.lra_linear_spec.specs.CheckedArithmetic.{checked_product}
