@@ -7,7 +7,7 @@ pub mod FailingRuns
 -- Paths of trees whose operations fit.
 pub mod MadeLists
 pub mod MadeMoves
-pub mod MadeWays
+pub mod FittingSegments
 pub mod PathsMade
 -- What the trees of programs must guarantee to going back.
 pub mod Assertions

@@ -9,7 +9,7 @@ use Rattle.lra_back_sound.specs.Crates.{lra_analysis_spec.LiveLimit.most_live, l
 use Rattle.lra_back_sound.specs.Crates.{lra_program.Sites.Site, lra_program.declared.program.GlobalVariable.GlobalVariable}
 use Rattle.lra_fixpoint.specs.Lives.{PointsHave}
 use Rattle.lra_back.specs.BackwardAnalysis.{PathsFit}
-use Rattle.lra_back_sound.proofs.{MadeLists.all_flat, MadeMoves.LeadOn, MadeMoves.StepsFit, MadeMoves.written_lead, MadeWays.GoalFits, MadeWays.SegmentFits, MadeWays.WaysFit, MadeWays.tree_ways}
+use Rattle.lra_back_sound.proofs.{MadeLists.all_flat, MadeMoves.LeadOn, MadeMoves.StepsFit, MadeMoves.written_lead, FittingSegments.GoalFits, FittingSegments.SegmentFits, FittingSegments.WaysFit, FittingSegments.tree_ways}
 
 goal_is : (goal : Goal) (q : ℕ) → same_goal goal (comes_to q) ≡ true → goal ≡ comes_to q
 goal_is (comes_to p) q e = ap comes_to (eqb-true p q e)

@@ -3,7 +3,7 @@
 ghost use Rattle.std.specs.Prelude.{List, ℕ, suc, ℤ, Result, None, ◌≡◌, ◌<◌, ◌^◌, ◌++◌, length, map, Some};
 ghost use Rattle.std.specs.Prelude.{string_bytes, IfOk, IfSome, OnOk, option_map};
 ghost use Rattle.lra_calc.specs.Crates.lra_duality.Inclusions.{IsInclusion, TellsInclusion};
-ghost use Rattle.lra_calc.specs.Crates.lra_duality.Maxima.{IsMaximum, TellsMaximum};
+ghost use Rattle.lra_calc.specs.Crates.lra_duality.Maxima.{IsMaximum, ReportsMaximum};
 ghost use Rattle.lra_calc.specs.Crates.lra_duality.declared.inclusion.Inclusion.{Inclusion};
 ghost use Rattle.lra_calc.specs.Crates.lra_linear_spec.Descriptions.{Con, Gen};
 ghost use Rattle.lra_calc.specs.Crates.lra_linear_spec.Polyhedra.{Polyhedron, IsPolyhedron};
@@ -146,7 +146,7 @@ pub fn script(alloc: Global, bytes: &[u8]) -> Result<Vec<u8>, CalcError>
     ensures inclusions { (p q : Polyhedron) (answer : Inclusion) → IsPolyhedron p →
         IsInclusion q.rows p.generators answer → TellsInclusion p q answer }
     ensures maxima { (p : Polyhedron) (numbers : List ℤ) (answer : Maximum) → IsPolyhedron p →
-        length numbers ≡ suc p.dims → IsMaximum numbers p.generators answer → TellsMaximum p numbers answer }
+        length numbers ≡ suc p.dims → IsMaximum numbers p.generators answer → ReportsMaximum p numbers answer }
     // What `show` prints describes the same points twice.
     ensures both { (p : Polyhedron) → IsPolyhedron p → SameSet p.dims (Con p.rows) (Gen p.generators) }
 {

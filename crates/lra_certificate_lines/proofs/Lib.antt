@@ -1,4 +1,4 @@
-pub mod Told
+pub mod JudgedLines
 pub mod WalkSteps
 pub mod WalkChanges
 pub mod TrackSteps

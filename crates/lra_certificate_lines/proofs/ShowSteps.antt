@@ -12,7 +12,7 @@ use Rattle.lra_certificate_spec.specs.{Certificates.PathPremises, Certificates.p
 use Rattle.lra_certificate_lines.specs.PathCheckViews.{claimed, answered, ArePathFactsOf, IsPathCheck, answer_by, shown_by, line_by, claim_by, row_by, target_by, lines_by}
 use Rattle.lra_certificate_lines.specs.{LineViews.IsFault, LineViews.IsJudgedAs, MultiplierLineViews.given_on, MultiplierLineViews.multipliers_on, declared.path_checks.PathCheck.PathCheck}
 use Rattle.lra_certificate_lines.specs.{declared.path_checks.PathFacts.PathFacts, declared.refusals.VerifyError.VerifyError}
-use Rattle.lra_certificate_lines.proofs.Told.{then_ok, then_err, then_same, then_then, fault_through}
+use Rattle.lra_certificate_lines.proofs.JudgedLines.{then_ok, then_err, then_same, then_then, fault_through}
 
 -- ---- in turn
 module _ {A : Type 0} (f : A → Left → Judged Left) where

@@ -8,6 +8,6 @@ pub mod EdgeFound
 pub mod TextSteps
 pub mod ClaimSteps
 pub mod CertifiedSteps
-pub mod ReadyWays
+pub mod ReadySegments
 -- The crates below
 pub mod Crates

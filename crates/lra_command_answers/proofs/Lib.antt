@@ -1,4 +1,4 @@
 pub mod Answering
-pub mod ToldWays
+pub mod ReportedOutcomes
 -- The crates below
 pub mod Crates

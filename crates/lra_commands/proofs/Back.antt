@@ -6,7 +6,7 @@ use Rattle.lra_back_source.proofs.{Showing.backs_same_points, Sound.backs_sound,
 use Rattle.lra_command_line.specs.{ParsedCommand.Asks, declared.commands.Command.TheVariants.Back}
 use Rattle.lra_command_answers.specs.{Statuses.Ends, Statuses.reported, declared.status.Status.Status}
 use Rattle.lra_commands.specs.{BackAnswer.AnswersBack, BackAnswer.IsBackAnswer, OutputClaims.WritesBack, Run.IsInput, Run.WritesAnswer, World.World}
-use Rattle.lra_commands.proofs.{Headline.not_refused, Ways.asked_input}
+use Rattle.lra_commands.proofs.{Headline.not_refused, CommandOutcomes.asked_input}
 
 of_back : (number : ℕ) (w : World) (bytes text : List ℕ) (status : Status) (point : ℕ) → IsInput w.left bytes
     → number ≡ suc point → IsBackAnswer point bytes text status → Appends w.held w.held_now text → WritesBack number w status

@@ -11,7 +11,7 @@ use Rattle.lra_command_line.specs.{ParsedCommand.Asks, declared.commands.Command
 use Rattle.lra_command_answers.specs.{Statuses.Ends, Statuses.reported, declared.status.Status.Status, declared.status.Status.TheVariants.Proved}
 use Rattle.lra_commands.specs.CertificateAnswer.{verified_text, AnswersCertificate}
 use Rattle.lra_commands.specs.{CertifyAnswer.IsCertifyAnswer, CertifyAnswer.AnswersCertify, OutputClaims.WritesCertificate, Run.IsInput, Run.WritesAnswer, World.World}
-use Rattle.lra_commands.proofs.{Headline.claims, Headline.not_refused, Ways.asked_input}
+use Rattle.lra_commands.proofs.{Headline.claims, Headline.not_refused, CommandOutcomes.asked_input}
 
 -- a state for each point
 states_many : (sites : List Site) (states : List RowsAtPoint) → AreStates sites states → length states ≡ length sites

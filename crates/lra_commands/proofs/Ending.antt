@@ -8,7 +8,7 @@ use Rattle.lra_command_answers.specs.{Exit.exit_of, Statuses.Ends, Statuses.repo
 use Rattle.lra_commands.specs.{Commands.asked_limit, Commands.AllowedStatuses, Prepared.IsReadBy, Prepared.PrepareCause, Prepared.IsWritten, Prepared.Ending, Promises.RunPromises, Run.IsAsked}
 use Rattle.lra_commands.specs.{Run.IsAnswerToWords, Run.WritesAnswer, Run.WritesPrefix, Run.RisesAtFault, World.World, declared.top_call.NoAnswer.NoAnswer}
 use Rattle.lra_commands.proofs.Headline.{writes_report, writes_summary}
-use Rattle.lra_commands.proofs.Ways.{asked_ends, answered_status, usage_status}
+use Rattle.lra_commands.proofs.CommandOutcomes.{asked_ends, answered_status, usage_status}
 use Rattle.lra_commands.proofs.{Back.writes_back, Certified.writes_certificate, Reading.read_as, Threads.writes_threads, Verified.writes_verified}
 use Rattle.lra_commands.specs.declared.top_call.NoAnswer.TheVariants as none
 

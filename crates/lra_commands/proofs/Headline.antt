@@ -19,7 +19,7 @@ use Rattle.lra_commands.specs.OutputClaims.{ReportClaims, WritesReport, IsNeverR
 use Rattle.lra_commands.specs.OutputClaims.{ReportsFitting, ReportsFits, ReportsSamePoints, WritesSummary}
 use Rattle.lra_report.specs.Report.{HasSamePointsAt}
 use Rattle.lra_commands.specs.{Run.WritesAnswer, SourceAnswer.AnswersSource, SourceAnswer.IsReport, SourceAnswer.written_report, World.World}
-use Rattle.lra_commands.proofs.Ways.{asked_input}
+use Rattle.lra_commands.proofs.CommandOutcomes.{asked_input}
 
 -- invariants ----------------------------------------------------------------------
 

@@ -3,9 +3,9 @@ use Rattle.lra_command_line.specs.declared.commands.Command.TheVariants.{Analyse
 use Rattle.lra_command_line.specs.declared.commands.PlainCommand.TheVariants.{Calc, Verify, Certify}
 use Rattle.lra_command_line.specs.{ParsedCommand.IsWithinRanges, declared.commands.Command.Command}
 use Rattle.lra_commands.specs.{Commands.limit_of, Commands.AnswersInput, Commands.statuses_of, Commands.AllowedInputStatuses, SourceAnswer.written_report}
-use Rattle.lra_command_answers.proofs.{Answering.IsAnswering, ToldWays.told_answering}
-use Rattle.lra_commands.proofs.{BackWays.back_answering, CertificateWays.certificate_answering, CertifyWays.certified_answering, SampleWays.sample_answering, ScriptWays.script_answering}
-use Rattle.lra_commands.proofs.{SourceWays.report_telling, ThreadsWays.threads_telling}
+use Rattle.lra_command_answers.proofs.{Answering.IsAnswering, ReportedOutcomes.told_answering}
+use Rattle.lra_commands.proofs.{BackOutcomes.back_answering, CertificateOutcomes.certificate_answering, CertifyOutcomes.certified_answering, SampleOutcomes.sample_answering, ScriptOutcomes.script_answering}
+use Rattle.lra_commands.proofs.{SourceOutcomes.report_telling, ThreadsOutcomes.threads_telling}
 
 pub answering : (c : Command) → IsAnswering (IsWithinRanges c) (limit_of c) (λ bytes text status. AnswersInput c bytes text status) (statuses_of c) (λ bytes among. AllowedInputStatuses c bytes among)
 answering (Analyse options format) = told_answering (report_telling options (written_report format)) _

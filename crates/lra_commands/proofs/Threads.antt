@@ -8,7 +8,7 @@ use Rattle.lra_threads_source.proofs.{Sound.threads_sound, Strained.unflagged_de
 use Rattle.lra_command_line.specs.{ParsedCommand.Asks, declared.commands.Command.TheVariants.Threads}
 use Rattle.lra_command_answers.specs.{Statuses.Ends, Statuses.reported, declared.status.Status.Status}
 use Rattle.lra_commands.specs.{OutputClaims.WritesThreads, Run.IsInput, Run.WritesAnswer, ThreadsAnswer.AnswersThreads, ThreadsAnswer.IsThreadsAnswer, World.World}
-use Rattle.lra_commands.proofs.{Headline.not_refused, Ways.asked_input}
+use Rattle.lra_commands.proofs.{Headline.not_refused, CommandOutcomes.asked_input}
 
 module _ (delay narrow : ℕ) where
   of_threads : (w : World) (bytes text : List ℕ) (status : Status) → IsInput w.left bytes

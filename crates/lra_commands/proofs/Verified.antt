@@ -9,7 +9,7 @@ use Rattle.lra_commands.proofs.Crates.{lra_certificate_spec.CertificatesHold.cer
 use Rattle.lra_command_line.specs.{ParsedCommand.Asks, declared.commands.Command.TheVariants.Plain, declared.commands.PlainCommand.TheVariants.Verify}
 use Rattle.lra_commands.specs.CertificateAnswer.{AnswersCertificate, verify_answer_text, answer_status, verified_text}
 use Rattle.lra_commands.specs.{OutputClaims.IsVerifiedInAllRuns, OutputClaims.WritesVerified, Run.IsInput, Run.WritesAnswer, World.World}
-use Rattle.lra_commands.proofs.Ways.{asked_input}
+use Rattle.lra_commands.proofs.CommandOutcomes.{asked_input}
 use Rattle.lra_command_answers.specs.{declared.status.Status.Status, declared.status.Status.TheVariants.Proved}
 
 -- what holds in all runs --------------------------------------------------------------

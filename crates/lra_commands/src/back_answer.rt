@@ -58,7 +58,7 @@ fn answer_report(alloc: Global, report: &BackReport) -> Result<Answer, AllocErro
 
 /// What is left before the assertion of this number fails, or the refusal of a source, of which no more than one byte
 /// past the limit is given.
-#[tactic(auto, using(crate::proofs::BackWays::deserving))]
+#[tactic(auto, using(crate::proofs::BackOutcomes::deserving))]
 pub fn answer_back(alloc: Global, number: u32, bytes: &[u8]) -> Result<Answer, AllocError>
     requires least { 1 ≤ number }
     requires greatest { number ≤ 2048 }

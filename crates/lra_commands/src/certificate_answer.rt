@@ -57,7 +57,7 @@ fn refused_text(alloc: Global, refusal: VerifyRefusal) -> Result<String, AllocEr
 }
 
 /// How many points and listed assertions a certificate has that meets its program, or why it is none.
-#[tactic(auto, using(crate::proofs::CertificateWays::deserving))]
+#[tactic(auto, using(crate::proofs::CertificateOutcomes::deserving))]
 pub fn answer_certificate(alloc: Global, bytes: &[u8]) -> Result<Answer, AllocError>
     ensures { IfOk result (λ a. AnswersCertificate bytes.now a.text.items a.status) }
 {

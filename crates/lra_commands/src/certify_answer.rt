@@ -53,7 +53,7 @@ fn refused_text(alloc: Global, refusal: CertifyRefusal) -> Result<String, AllocE
 }
 
 /// The certificate or the refusal of a source, of which no more than one byte past the limit is given.
-#[tactic(auto, using(crate::proofs::CertifyWays::deserving))]
+#[tactic(auto, using(crate::proofs::CertifyOutcomes::deserving))]
 pub fn answer_certified(alloc: Global, bytes: &[u8]) -> Result<Answer, AllocError>
     requires { length bytes.now + 1 < 2 ^ 32 }
     ensures { IfOk result (λ a. AnswersCertify bytes.now a.text.items a.status) }

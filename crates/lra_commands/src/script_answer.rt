@@ -7,7 +7,7 @@ use lra_command_answers::{Answer, Status};
 use std::alloc::{AllocError, Global};
 
 /// The output or the refusal of a script.
-#[tactic(auto, using(crate::proofs::ScriptWays::deserving))]
+#[tactic(auto, using(crate::proofs::ScriptOutcomes::deserving))]
 pub fn answer_script(alloc: Global, bytes: &[u8]) -> Result<Answer, AllocError>
     ensures { IfOk result (λ a. AnswersScript bytes.now a.text.items a.status) }
 {

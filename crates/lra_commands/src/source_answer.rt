@@ -13,7 +13,7 @@ use lra_threads_source::analyse_source;
 use std::alloc::{AllocError, Global};
 
 /// The status of a report in which so many verdicts are unknown.
-#[tactic(auto, using(crate::proofs::SourceWays::counting))]
+#[tactic(auto, using(crate::proofs::SourceOutcomes::counting))]
 pub(crate) fn status_by(unknown: usize) -> Status
     ensures { result ≡ report_status unknown }
 {
@@ -57,7 +57,7 @@ fn answer_report(alloc: Global, format: Format, report: &Report) -> Result<Answe
 }
 
 /// The report or the refusal of a source, of which no more than one byte past the limit is given.
-#[tactic(auto, using(crate::proofs::SourceWays::deserving))]
+#[tactic(auto, using(crate::proofs::SourceOutcomes::deserving))]
 pub fn answer_source(
     alloc: Global,
     options: Options,

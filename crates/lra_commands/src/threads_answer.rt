@@ -28,7 +28,7 @@ fn answer_report(alloc: Global, report: &ThreadsReport) -> Result<Answer, AllocE
 
 /// What is found of the threads of a source, or its refusal; of the source no more than one byte past the limit is
 /// given.
-#[tactic(auto, using(crate::proofs::ThreadsWays::deserving))]
+#[tactic(auto, using(crate::proofs::ThreadsOutcomes::deserving))]
 pub fn answer_threads(
     alloc: Global,
     delay: u32,

@@ -77,7 +77,7 @@ fn read_input<S: Source>(
 }
 
 /// What a command answers to its input.
-#[tactic(auto, using(crate::proofs::Ways::commanding))]
+#[tactic(auto, using(crate::proofs::CommandOutcomes::commanding))]
 fn prepare_command<S: Source>(
     alloc: Global,
     command: Command,
@@ -93,7 +93,7 @@ fn prepare_command<S: Source>(
 }
 
 /// Everything but the writing.
-#[tactic(auto, using(crate::proofs::Ways::preparing))]
+#[tactic(auto, using(crate::proofs::CommandOutcomes::preparing))]
 fn prepare<S: Source>(alloc: Global, words: &[String], source: &mut S) -> Result<Answer, NoAnswer>
     ensures deserved { IfOk result (λ a.
         IsAnswerToWords (map string_bytes words.now) (S.left source.old) a.text.items a.status) }

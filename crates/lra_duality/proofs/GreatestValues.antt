@@ -14,7 +14,7 @@ use Rattle.lra_duality.proofs.Crates.{lra_linear_spec.Combinations.generated_row
 use Rattle.lra_duality.proofs.Crates.{lra_linear_spec.Membership.contains_head, lra_linear_spec.Membership.contains_none, lra_linear_spec.OneSpelling.positivity_product}
 use Rattle.lra_duality.proofs.Crates.{lra_linear_spec.Polyhedra.con_gen, lra_linear_spec.Polyhedra.generators_are_generators, lra_linear_spec.SetOperations.has_vertex}
 use Rattle.lra_duality.proofs.Crates.{lra_linear_spec.SetOperations.valid_on_rows, lra_linear_spec.Signs.difference, lra_linear_spec.Signs.in_order, lra_systems.FirstMembers.err_from}
-use Rattle.lra_duality.specs.Maxima.{DoesNotImprove, Improves, IsAtMost, IsGreatestValue, IsMaximum, IsUnbounded, OfPoint, TellsMaximum}
+use Rattle.lra_duality.specs.Maxima.{DoesNotImprove, Improves, IsAtMost, IsGreatestValue, IsMaximum, IsUnbounded, OfPoint, ReportsMaximum}
 use Rattle.lra_duality.specs.declared.maximum.Maximum.{Maximum}
 use Rattle.lra_duality.specs.declared.maximum.Maximum.TheVariants.{Empty, Wide, Unbounded, At}
 use Rattle.lra_duality.proofs.{InclusionLemmas.has_member, PolyhedronLemmas.empty_where_none}
@@ -201,7 +201,7 @@ greatest_value p form num den place (inr h) e a =
 
 -- ---- each answer
 pub maximum_tells : (p : Polyhedron) (form : List ℤ) (answer : Maximum) → IsPolyhedron p → length form ≡ suc p.dims →
-    IsMaximum form p.generators answer → TellsMaximum p form answer
+    IsMaximum form p.generators answer → ReportsMaximum p form answer
 maximum_tells p form Empty h e a = empty_where_none p h a
 maximum_tells p form (Wide place) h e a =
     let x = err_from _ a.here in (

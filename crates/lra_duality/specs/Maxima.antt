@@ -86,8 +86,8 @@ pub record IsGreatestValue (p : Polyhedron) (form : List ℤ) (num den : ℤ) : 
 abbrev pub IsUnbounded : Polyhedron → List ℤ → Type 0
 IsUnbounded p form = (most : ℤ) → ¬ ((x : List ℤ) → IsPoint p.dims x → Con p.rows x → IsAtMost form most (pos 1) x)
 
-abbrev pub TellsMaximum : Polyhedron → List ℤ → Maximum → Type 0
-TellsMaximum p form Empty = IsEmptySet p.dims (Con p.rows)
-TellsMaximum p form (Wide place) = (e : E.Excess) × MaximiseStrains p form e
-TellsMaximum p form (Unbounded place) = IsUnbounded p form
-TellsMaximum p form (At num den place) = IsGreatestValue p form num den
+abbrev pub ReportsMaximum : Polyhedron → List ℤ → Maximum → Type 0
+ReportsMaximum p form Empty = IsEmptySet p.dims (Con p.rows)
+ReportsMaximum p form (Wide place) = (e : E.Excess) × MaximiseStrains p form e
+ReportsMaximum p form (Unbounded place) = IsUnbounded p form
+ReportsMaximum p form (At num den place) = IsGreatestValue p form num den

@@ -14,7 +14,7 @@ use Rattle.lra_inductive_sound.specs.Crates.{lra_domain.Abstraction.Abstraction,
 use Rattle.lra_inductive_sound.specs.Inductive.{Keeps, KeptBy, KeptFrom, IsExitValue, IsGoalValue, IsInductiveThrough}
 use Rattle.lra_inductive_sound.specs.Points.{PointsOf, KeepPoints}
 use Rattle.lra_inductive_sound.proofs.Sequences.{Closes, through_both, outs_both, tree_closes, both_close}
-use Rattle.lra_inductive_sound.proofs.WaysOn.{same_keeps, keeps_then, then_by, one_step, join_left, join_right}
+use Rattle.lra_inductive_sound.proofs.KeptSegments.{same_keeps, keeps_then, then_by, one_step, join_left, join_right}
 use Rattle.lra_inductive_sound.proofs.{Changes.made_keep, Changes.none_keep, Changes.none_dims, Members.one_from, Parts.right_part, Parts.among_more, Parts.met_more}
 
 module _ (V H X : Type 0) (m : Abstraction V H) (o : PointsOf V H X) where

@@ -3,7 +3,7 @@ mod Members
 -- Moves and changes keep points.
 mod Changes
 -- Segments one after the other.
-mod WaysOn
+mod KeptSegments
 -- The parts of a tree one after the other.
 mod Parts
 mod Sequences

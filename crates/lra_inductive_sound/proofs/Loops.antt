@@ -11,7 +11,7 @@ use Rattle.lra_inductive_sound.specs.Crates.lra_path_segments.Segments.{segment_
 use Rattle.lra_inductive_sound.specs.Crates.{lra_analysis_spec.Operations.lossy_operations, lra_domain.Abstraction.Abstraction, lra_program.Program.Cond, lra_program.Step.test}
 use Rattle.lra_inductive_sound.specs.Inductive.{Keeps, KeptBy, KeptFrom, IsExitValue, IsGoalValue, IsInductiveThrough}
 use Rattle.lra_inductive_sound.specs.Points.{PointsOf, KeepPoints}
-use Rattle.lra_inductive_sound.proofs.WaysOn.{at_once, then_by, keeps_then, keeps_on, test_keeps}
+use Rattle.lra_inductive_sound.proofs.KeptSegments.{at_once, then_by, keeps_then, keeps_on, test_keeps}
 use Rattle.lra_inductive_sound.proofs.{Members.one_from, Parts.IsPart, Parts.met_more, Parts.from_more, Parts.from_met, Parts.to_same}
 
 -- the round is passed with the value at the loop's point and this one where the loop ends

@@ -5,7 +5,7 @@ use Rattle.lra_inductive_sound.specs.Crates.lra_analysis_spec.Pass.{PassEntry, v
 use Rattle.lra_inductive_sound.specs.Crates.lra_path_segments.Segments.{SegmentStep, Goal, comes_to, violates, GoalSegment, Segment, Suffix, each_then, then_way, then_ways, then_out, then_outs}
 use Rattle.lra_inductive_sound.specs.Crates.{lra_domain.Abstraction.Abstraction, lra_path_segments.Segments.segment_by, lra_path_segments.Segments.segments_by}
 use Rattle.lra_inductive_sound.specs.{Inductive.Keeps, Inductive.KeptBy, Inductive.KeptFrom, Inductive.IsGoalValue, Points.PointsOf}
-use Rattle.lra_inductive_sound.proofs.{Members.pairs_from, WaysOn.then_by}
+use Rattle.lra_inductive_sound.proofs.{Members.pairs_from, KeptSegments.then_by}
 
 module _ {V : Type 0} where
   -- what the one finds the other finds

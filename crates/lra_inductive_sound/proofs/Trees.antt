@@ -20,7 +20,7 @@ use Rattle.lra_inductive_sound.specs.Inductive.{Keeps, KeptBy, KeptFrom, IsExitV
 use Rattle.lra_inductive_sound.specs.Points.{PointsOf, KeepPoints}
 use Rattle.lra_inductive_sound.proofs.Parts.{IsPart, left_part, right_part, among_more, met_more, from_met, to_same}
 use Rattle.lra_inductive_sound.proofs.Sequences.{Closes, through_both, outs_both, tree_closes, both_close}
-use Rattle.lra_inductive_sound.proofs.WaysOn.{at_once, itself, same_keeps, keeps_on, then_by, change_keeps, test_keeps, join_left, join_right}
+use Rattle.lra_inductive_sound.proofs.KeptSegments.{at_once, itself, same_keeps, keeps_on, then_by, change_keeps, test_keeps, join_left, join_right}
 use Rattle.lra_inductive_sound.proofs.{Arms.AreArmsClosed, Arms.label_keeps, Arms.arms_end, Arms.arms_labelled, Arms.arms_behind, Loops.round_of, Loops.loop_closed, Loops.grown, Members.one_from}
 
 -- a jump that is caught, and the others

@@ -126,8 +126,8 @@ module _ (may : State → State → Type 0) (keeps : KeepsWidth may) (P : Progra
     denied = denied_at;
   }
 
-pub graphs_have_trails : TreesHaveTraces
-graphs_have_trails P g distinct is = traces_agree NoChange (λ s t e. ap (λ (x : State). length x.store) e) P g distinct is
+pub trees_have_traces : TreesHaveTraces
+trees_have_traces P g distinct is = traces_agree NoChange (λ s t e. ap (λ (x : State). length x.store) e) P g distinct is
 
 -- forgetting what is met ---------------------------------------------------------------------------------------------------
 
@@ -167,7 +167,7 @@ module _ (P : Program) (g : Node) (trails : TracesAgree NoChange P g) where
   no_other p store (c, r, on, same) = let a = walks.arrives_of P c p r on in trails.others p r.draws (trail c.state a.0) a.1
 
 pub trees_agree : TreesAgree
-trees_agree P g distinct is = let trails = graphs_have_trails P g distinct is in record {
+trees_agree P g distinct is = let trails = trees_have_traces P g distinct is in record {
   comes = λ number s store at. (reached_where_at P g trails number s store at, at_where_reached P g trails number s store at);
   fails = λ number s at. (failed_where_fails P g trails number s at, fails_where_failed P g trails number s at);
   width = wide_where_reached P g trails;

@@ -16,5 +16,5 @@ module _ (P : Program) (fs : List Function) (Within : ℕ → ℕ → ℤ → Ty
       let there = writes_agree (may k) (keeps k) (thread_program P r.function) tree.0 tree.1 r.draws x a r.does in
       tree.2 r.draws there.0 x z a there.1 less v
 
-pub woven_by_trees : ModularByTrees
-woven_by_trees P fs Within may allowed keeps trees = threads_are_modular P fs Within may allowed (gives_within P fs Within may keeps trees)
+pub interleaved_by_trees : ModularByTrees
+interleaved_by_trees P fs Within may allowed keeps trees = threads_are_modular P fs Within may allowed (gives_within P fs Within may keeps trees)

@@ -345,6 +345,6 @@ module _ (P : Program) (fs : List Function) (Within : ℕ → ℕ → ℤ → Ty
 pub threads_are_modular : ThreadsAreModular
 threads_are_modular P fs Within may allowed only = woven P fs Within may allowed only
 
-pub tested_threads_are_woven : TestedThreadsAreModular
-tested_threads_are_woven P fs within only =
+pub tested_threads_are_interleaved : TestedThreadsAreModular
+tested_threads_are_interleaved P fs within only =
     threads_are_modular P fs (λ k x z. IsTrue (within k x z)) (OthersInterfere P fs (λ k x z. IsTrue (within k x z))) (λ k s t change. change) only

@@ -9,6 +9,6 @@ pub mod SideLists
 pub mod GuardSteps
 pub mod ChainSteps
 pub mod LabelSteps
-pub mod WayMoveSteps
+pub mod SegmentMoveSteps
 -- The crates below
 pub mod Crates

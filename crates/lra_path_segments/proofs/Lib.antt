@@ -2,8 +2,8 @@ pub mod Lists
 pub mod LabelLaws
 -- Segments of trees in one list, from the leaves up.
 pub mod FlatSteps
-pub mod StretchSteps
-pub mod StretchLists
+pub mod SegmentSteps
+pub mod SegmentLists
 pub mod ArmSteps
 pub mod TaskSteps
 -- The crates below

@@ -20,7 +20,7 @@ use Rattle.lra_path_segments.specs.Tasks.{arm_steps, arms_on, arms_size, joined_
 use Rattle.lra_path_segments.specs.TreeSegmentViews.{arms_seen, seen, selection_view}
 use Rattle.lra_path_segments.specs.TreeSegments.{AreSegmentsOf, TreeSegment, from_labels, labelled, nothing_done, past_all, selected, sequenced, tree_segments, arms_segments}
 use Rattle.lra_path_segments.specs.{Labels.labels_in, Segments.SegmentStep, Segments.goes_in, declared.segments.Selection.Selection, declared.trees.Task.Task}
-use Rattle.lra_path_segments.proofs.{ArmSteps.each_arm, ArmSteps.view_last, StretchSteps.are_ways}
+use Rattle.lra_path_segments.proofs.{ArmSteps.each_arm, ArmSteps.view_last, SegmentSteps.are_ways}
 use Rattle.lra_path_segments.specs.declared.segments.TreeSegment as declared_stretch
 
 abbrev V : Type 0

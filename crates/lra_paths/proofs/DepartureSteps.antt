@@ -17,7 +17,7 @@ use Rattle.lra_paths.specs.{declared.paths.Departure.Departure, declared.sources
 use Rattle.lra_paths.specs.Crates.lra_path_segments.declared.segments.Goal as declared
 use Rattle.lra_paths.specs.Crates.lra_path_segments.declared.segments.TreeSegment as declared_stretch
 use Rattle.lra_paths.proofs.Crates.lra_path_segments.FlatSteps.{flat_same, flat_filter, flat_flat, both_same}
-use Rattle.lra_path_disjuncts.proofs.{GuardSteps.still_in, GuardSteps.still_at, GuardSteps.grows_on, TableSteps.has_at, TableSteps.within, WayMoveSteps.way_sides}
+use Rattle.lra_path_disjuncts.proofs.{GuardSteps.still_in, GuardSteps.still_at, GuardSteps.grows_on, TableSteps.has_at, TableSteps.within, SegmentMoveSteps.segment_disjuncts}
 
 -- one list ---------------------------------------------------------------------------------------------------------------
 
@@ -77,12 +77,12 @@ pub all_lead : (globals : List GlobalVariable) (sites : List Site) (p : ℕ) (ss
     → all_departing (first_from globals p) (live_from globals sites p) (point_from p) ss goal ≡ actions_between_in globals sites g p goal
 all_lead globals sites zero ss g are goal =
     all_from_start (first_values 0 globals) (length globals) goal (started globals)
-    (λ ops. ap (each_then (disjuncts (first_values 0 globals))) (way_sides (length globals) ops)) ss
+    (λ ops. ap (each_then (disjuncts (first_values 0 globals))) (segment_disjuncts (length globals) ops)) ss
     ∙ ap (λ ways. flat_map (λ (way : GoalSegment). started globals way.ops) (filter (λ way. same_goal way.goal goal) ways)) are.enters
 all_lead globals sites (suc q) ss g are goal =
     let live = live_of (slice_get sites q) in
     all_from_point stay live goal (written live)
-    (λ ops. after_nothing (disjuncts (segment_moves live ops)) ∙ way_sides live ops) q ss
+    (λ ops. after_nothing (disjuncts (segment_moves live ops)) ∙ segment_disjuncts live ops) q ss
     ∙ ap (λ segments. flat_map (λ (segment : Segment). written live segment.to_goal.ops)
     (filter (λ segment. nat_eq segment.source q && same_goal segment.to_goal.goal
     goal) segments)) are.reaches

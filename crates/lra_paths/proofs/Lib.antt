@@ -1,5 +1,5 @@
 -- Worked examples.
-mod WayExamples
+mod SegmentExamples
 -- Runs of trees go along segments.
 pub mod Came
 -- Pieces of runs go along paths.

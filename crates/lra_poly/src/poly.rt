@@ -14,7 +14,7 @@ ghost use Rattle.lra_poly.specs.Crates.lra_systems.Dimensions.{too_many_dimensio
 ghost use Rattle.lra_poly.specs.Crates.lra_systems.LinearSystems.{constraints, generators, FitKinds};
 ghost use Rattle.lra_description_pair.specs.{KeptRows.IsOfSome, OwnLists.IsPositive, TriedRows.StrainsWhenTried};
 ghost use Rattle.lra_duality.specs.{Inclusions.IsInclusion, Inclusions.TellsInclusion, Maxima.IsMaximum};
-ghost use Rattle.lra_duality.specs.{Maxima.TellsMaximum, Maxima.ValueInRange, Rows.test_row, Saturations.saturation_of};
+ghost use Rattle.lra_duality.specs.{Maxima.ReportsMaximum, Maxima.ValueInRange, Rows.test_row, Saturations.saturation_of};
 ghost use Rattle.lra_poly.specs.Outcomes.{Becomes, IfFlagged, IsOfGenerators, IsOfRows};
 ghost use Rattle.lra_poly.specs.Restricted.{IsMetWith, IsRestricted, IsSeenWithin, IsTried};
 ghost use Rattle.lra_poly.specs.United.{AreTriedPoints, CannotExtend, UnitesAnew};
@@ -297,7 +297,7 @@ impl Poly {
     pub fn maximise(&self, form: &LinExpr) -> Maximum
         requires { length form.now.coefficients ≡ self.now.dims }
         ensures first { IsMaximum (form_row form.now) self.now.generators result }
-        ensures tells { TellsMaximum self.now (form_row form.now) result }
+        ensures tells { ReportsMaximum self.now (form_row form.now) result }
         ensures range { ValueInRange result }
     {
         let _kinds = self.by_generators.kinds(); // fact: as many kinds as generators
@@ -308,7 +308,7 @@ impl Poly {
     pub fn maximise_opposite(&self, form: &LinExpr) -> Maximum
         requires { length form.now.coefficients ≡ self.now.dims }
         ensures first { IsMaximum (negated (form_row form.now)) self.now.generators result }
-        ensures tells { TellsMaximum self.now (negated (form_row form.now)) result }
+        ensures tells { ReportsMaximum self.now (negated (form_row form.now)) result }
         ensures range { ValueInRange result }
     {
         let _kinds = self.by_generators.kinds(); // fact: as many kinds as generators

@@ -7,7 +7,7 @@ use Rattle.lra_linear_spec.specs.{CheckedArithmetic.checked_product, Description
 use Rattle.lra_linear_spec.specs.declared.Excess as E
 use Rattle.lra_linear_spec.proofs.{Membership.contains_cases, Membership.contains_head, Membership.contains_none, Products.negated_twice}
 use Rattle.lra_duality.specs.declared.maximum.Maximum.TheVariants.{Empty, Wide, Unbounded, At}
-use Rattle.lra_duality.specs.{Maxima.IsMaximum, Maxima.StaysInRange, Maxima.TellsMaximum, declared.maximum.Maximum.Maximum}
+use Rattle.lra_duality.specs.{Maxima.IsMaximum, Maxima.StaysInRange, Maxima.ReportsMaximum, declared.maximum.Maximum.Maximum}
 use Rattle.lra_duality.proofs.MaximumLemmas.{opposite_fails}
 use Rattle.lra_poly_domain.specs.Bounded.{IsGreatestRounded, PolyhedronBounded, rounded_down}
 
@@ -35,7 +35,7 @@ none_passes p row stays (e, x) =
 none_there : (p : Polyhedron) (row : List ℤ) → p.generators ≡ [] → ¬ ProductStrains p row
 none_there p row e (f, x) = contains_none x.generator (subst (λ (l : List LinearRow). Contains l x.generator) e x.has_generator)
 
-greatest_or_strained : (p : Polyhedron) (row : List ℤ) (m : Maximum) → IsMaximum row p.generators m → TellsMaximum p row m →
+greatest_or_strained : (p : Polyhedron) (row : List ℤ) (m : Maximum) → IsMaximum row p.generators m → ReportsMaximum p row m →
     (ProductStrains p row × (rounded_down m ≡ None)) ⊎ ((¬ ProductStrains p row) × IsGreatestRounded p row (rounded_down m))
 greatest_or_strained p row Empty first tells = inr (none_there p row first, inl tells)
 greatest_or_strained p row (Wide place) first tells = inl (tells, refl)
@@ -70,7 +70,7 @@ opposite_strains : (p : Polyhedron) (row : List ℤ) → ProductStrains p (negat
 opposite_strains p row s = subst (ProductStrains p) (negated_twice row) (strains_opposite p (negated row) s)
 
 pub told : (p : Polyhedron) (f : Form) (o m : Maximum) → IsMaximum (negated (form_row f)) p.generators o →
-    TellsMaximum p (negated (form_row f)) o → IsMaximum (form_row f) p.generators m → TellsMaximum p (form_row f) m →
+    ReportsMaximum p (negated (form_row f)) o → IsMaximum (form_row f) p.generators m → ReportsMaximum p (form_row f) m →
     PolyhedronBounded p f (option_map neg_ℤ (rounded_down o)) (rounded_down m)
 told p f o m first_o tells_o first_m tells_m =
     combined (greatest_or_strained p (negated (form_row f)) o first_o tells_o)

@@ -6,7 +6,7 @@ use Rattle.lra_threads_analysis.specs.Crates.lra_program.Program.{Function, Prog
 use Rattle.lra_threads_analysis.specs.Crates.{lra_interference_sound.CoversUnder.MayBecome, lra_operations.TracesAgree.KeepsWidth, lra_program.Step.State}
 use Rattle.lra_threads_fixpoint.specs.{Interference.MayWrite, Interference.interference_on, Interference.threads_interference, Interference.as_long, Intervals.IntervalRow, Intervals.IntervalTable}
 use Rattle.lra_threads_analysis.specs.Written.{HasNumber, HasWritten}
-use Rattle.lra_threads_analysis.proofs.TellsAll.{told_has}
+use Rattle.lra_threads_analysis.proofs.JoinedIntervals.{told_has}
 
 -- what may become of the k-th thread's state
 abbrev pub BecomesAmong : ℕ → IntervalTable → ℕ → State → State → Type 0

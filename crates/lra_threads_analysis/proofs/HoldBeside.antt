@@ -3,7 +3,7 @@ use Rattle.std.proofs.Common.{◌≡◌, ◌∙◌, ◌<◌, ℕ, ℤ, List, len
 use Rattle.std.proofs.lemmas.Option.{same_Some}
 use Rattle.std.specs.{List.Contains, Prelude.slice_get}
 use Rattle.lra_threads_analysis.proofs.Crates.{lra_inline_sound.Agreement.traces_agree, lra_inline_sound.CheckedOperations.trees_agree_on_accesses, lra_inline_sound.DistinctSites.distinct_sites}
-use Rattle.lra_threads_analysis.proofs.Crates.{lra_inline_sound.NextOperations.strays, lra_interference_sound.ByTrees.woven_by_trees, lra_linear_spec.Membership.map_from}
+use Rattle.lra_threads_analysis.proofs.Crates.{lra_inline_sound.NextOperations.strays, lra_interference_sound.ByTrees.interleaved_by_trees, lra_linear_spec.Membership.map_from}
 use Rattle.lra_threads_analysis.proofs.Crates.{lra_linear_spec.Membership.map_has, lra_operations.TraceUses.renamed, lra_operations.TraceUses.goes_named}
 use Rattle.lra_threads_analysis.specs.Crates.lra_interference_sound.WritesAgree.{TreeWrites, TreesWriteWithin}
 use Rattle.lra_threads_analysis.specs.Crates.lra_interleavings.Interleavings.{thread_program, AtThread, FailsThread, OutOfBoundsThread}
@@ -72,7 +72,7 @@ module _ (P : Program) (fs : List Function) (graphs : List InlinedProgram) (end 
 
   -- so each thread runs as one among others
   woven : IsThreadModular P fs Within may
-  woven = woven_by_trees P fs Within may (all_allowed P fs end.table) keeps trees
+  woven = interleaved_by_trees P fs Within may (all_allowed P fs end.table) keeps trees
 
   -- a thread's runs and those of its tree --------------------------------------------------------------------------------
 

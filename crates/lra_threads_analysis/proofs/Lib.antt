@@ -4,7 +4,7 @@ pub mod OwnAccesses
 pub mod RoundsOf
 pub mod RoundsHold
 -- What threads report and write.
-pub mod TellsAll
+pub mod JoinedIntervals
 pub mod Allowed
 pub mod NotesWritten
 -- Runs of trees among others.

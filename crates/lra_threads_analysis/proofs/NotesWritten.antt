@@ -8,7 +8,7 @@ use Rattle.lra_threads_analysis.specs.Crates.{lra_box.Tables.bound_at, lra_box.T
 use Rattle.lra_threads_fixpoint.specs.Intervals.{IntervalRow, IntervalTable, joined_option, OptionWithin, EachHas, RowWithin, TableWithin}
 use Rattle.lra_threads_fixpoint.specs.{Interference.written_to, Interference.written_from, Interference.written_by, Rounds.ResultReadings, Rounds.written_in}
 use Rattle.lra_threads_analysis.specs.Written.{HasNumber, HasWritten}
-use Rattle.lra_threads_analysis.proofs.TellsAll.{IsIn, in_first, in_second}
+use Rattle.lra_threads_analysis.proofs.JoinedIntervals.{IsIn, in_first, in_second}
 
 -- what is written of notes -----------------------------------------------------------------------------------------------
 

@@ -14,7 +14,7 @@ use Rattle.lra_certificate_lines.specs.PathCheckViews.{IsPathCheck, target_rows,
 use Rattle.lra_certificate_lines.specs.{LineViews.IsFault, declared.path_checks.PathCheck.PathCheck, declared.refusals.VerifyError.VerifyError}
 use Rattle.lra_verify.specs.EdgeViews.{edge_by, dims_of, path_of, dead_by, sites_in, states_in, actions_out_of, actions_by, live_by, step_by, paths_to_by, violation_by}
 use Rattle.lra_verify.specs.{declared.annotated.AnnotatedProgram.AnnotatedProgram, declared.edges.Edge.Edge}
-use Rattle.lra_certificate_lines.proofs.{ShowSteps.turn_same, ShowSteps.lines_are, ShowSteps.dead_is, Told.then_ok, Told.then_err, Told.fault_through}
+use Rattle.lra_certificate_lines.proofs.{ShowSteps.turn_same, ShowSteps.lines_are, ShowSteps.dead_is, JudgedLines.then_ok, JudgedLines.then_err, JudgedLines.fault_through}
 use Rattle.lra_verify.proofs.Crates.{lra_certificate_spec.WritePaths.edge_from, lra_certificate_spec.WriteText.clean}
 
 -- ---- paths that are written

@@ -6,7 +6,7 @@ use Rattle.lra_certificate_lines.specs.{LineViews.IsFault, declared.refusals.Ver
 use Rattle.lra_verify.specs.{EdgeViews.sources_by, EdgeViews.listed_by, EdgeViews.violations_by, EdgeViews.rest_by, EdgeViews.sites_in, declared.annotated.AnnotatedProgram.AnnotatedProgram}
 use Rattle.lra_verify.specs.Crates.lra_certificate_spec.Judged.{Left, Judged, then_judged, takes, refuses, bad_line, is_nothing, judged_end, counted}
 use Rattle.lra_verify.specs.Crates.lra_certificate_spec.Lines.{is_feed, pieces_at, line_number_at, left_at}
-use Rattle.lra_certificate_lines.proofs.Told.{then_ok, then_err, fault_through}
+use Rattle.lra_certificate_lines.proofs.JudgedLines.{then_ok, then_err, fault_through}
 
 -- ---- nothing comes after the last line
 not_nothing : (first : Bool) (x : ℕ) (parts : List (List ℕ)) → 0 < length parts →

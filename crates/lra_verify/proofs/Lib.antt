@@ -4,6 +4,6 @@ pub mod ListedSteps
 pub mod EndSteps
 pub mod HeadSteps
 pub mod VerifySteps
-pub mod Deserved
+pub mod RequiredAnswers
 -- The crates below
 pub mod Crates

@@ -6,7 +6,7 @@ use Rattle.lra_verify.specs.Crates.lra_certificate_spec.Judged.{Left, Judged, th
 use Rattle.lra_verify.specs.Crates.{lra_certificate_spec.CertificateText.numbered_text, lra_certificate_spec.CertificateText.assert_text, lra_certificate_spec.Lines.HasNoFeed, lra_program.Sites.Site}
 use Rattle.lra_certificate_lines.specs.{LineViews.IsFault, declared.refusals.VerifyError.VerifyError}
 use Rattle.lra_verify.specs.EdgeViews.{assertion_by, listed_by}
-use Rattle.lra_certificate_lines.proofs.Told.{then_ok, then_err, fault_through}
+use Rattle.lra_certificate_lines.proofs.JudgedLines.{then_ok, then_err, fault_through}
 use Rattle.lra_verify.proofs.Crates.lra_certificate_spec.WriteText.{AreFrom, from_lower, from_joined, text_from, decimal_from, clean}
 
 -- ---- the line of an assertion

@@ -10,7 +10,7 @@ use Rattle.lra_operations.specs.{TreeViews.site_view, declared.tree.Site.Site}
 use Rattle.lra_verify.proofs.Crates.lra_resolution_spec.NameLists.{last_or_before}
 use Rattle.lra_paths.specs.Paths.{live_of}
 use Rattle.lra_verify.specs.PointViews.{HaveDims, state_view}
-use Rattle.lra_certificate_lines.proofs.Told.{states_after, states_more}
+use Rattle.lra_certificate_lines.proofs.JudgedLines.{states_after, states_more}
 
 pub dims_pushed : (all : List sites.Site) (states : List (Option (LinearSystem ConKind))) (state : Option (LinearSystem ConKind)) (i : ℕ) → length states ≡ i →
     HaveDims all states → IfSome state (λ rows. rows.dims ≡ live_of (slice_get all i)) → HaveDims all (states ++ state ∷ [])

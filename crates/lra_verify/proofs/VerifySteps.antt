@@ -20,7 +20,7 @@ use Rattle.lra_paths.specs.Paths.{Path, path_by, paths_between, paths_of, violat
 use Rattle.lra_paths.specs.{Paths.HasTooManyPaths, Sources.to_goal, Sources.AreFewTo, declared.sources.Source.Source}
 use Rattle.lra_certificate_lines.specs.{LineViews.IsFault, declared.refusals.VerifyError.VerifyError}
 use Rattle.lra_verify.specs.Crates.lra_certificate_spec.Judged as judged
-use Rattle.lra_certificate_lines.proofs.{ShowSteps.turn_both, ShowSteps.turn_same, Told.then_ok, Told.then_err, Told.then_same, Told.fault_through}
+use Rattle.lra_certificate_lines.proofs.{ShowSteps.turn_both, ShowSteps.turn_same, JudgedLines.then_ok, JudgedLines.then_err, JudgedLines.then_same, JudgedLines.fault_through}
 use Rattle.lra_verify.proofs.EdgeSteps.{dead_same}
 
 -- ---- in turn, over lists of lists and over numbers

@@ -5,7 +5,7 @@ use Rattle.lra_verify.specs.PointViews.{state_view}
 use Rattle.lra_verify.proofs.VerifySteps.{few_ready, many_ready}
 use Rattle.lra_certify.specs.Certified.{IsFailure}
 use Rattle.lra_certify.proofs.CertifiedSteps.{certified, body_fails, all_stay, all_denied, listable_below}
-use Rattle.lra_certify.proofs.{PathSteps.exit_with, ReadyWays.are_ready, ReadyWays.many_points}
+use Rattle.lra_certify.proofs.{PathSteps.exit_with, ReadySegments.are_ready, ReadySegments.many_points}
 use Rattle.lra_certify.proofs.certifying.certify.Goals as goal
 
 pub push_body-requires-clause-ways : goal.push_body-requires-clause-ways

@@ -1,6 +1,6 @@
 -- Goals of `answer_back`: what is left before an assertion fails, or the refusal of its source.
 use Rattle.std.proofs.Common.{refl}
-use Rattle.lra_commands.proofs.BackWays.{report_answer}
+use Rattle.lra_commands.proofs.BackOutcomes.{report_answer}
 use Rattle.lra_commands.proofs.back_answer.answer_back.Goals as goal
 
 pub returns-in-Ok : goal.returns-in-Ok

@@ -2,7 +2,7 @@
 use Rattle.std.proofs.Common.{◌∙◌, rules}
 use Rattle.lra_commands.specs.Crates.lra_resolution_spec.EntryPoint.{at_main}
 use Rattle.lra_commands.specs.Crates.{lra_resolution_spec.Refuse.Refuse, lra_syntax.Grammar.Spells}
-use Rattle.lra_commands.proofs.SampleWays.{summary_answer, refusal_answer}
+use Rattle.lra_commands.proofs.SampleOutcomes.{summary_answer, refusal_answer}
 use Rattle.lra_commands.proofs.sample_answer.answer_sample.Goals as goal
 
 pub returns-in-Ok : goal.returns-in-Ok

@@ -1,6 +1,6 @@
 -- The goal of `push_argument`: what is seen of its value fits.
 use Rattle.lra_program.specs.ProgramViews.{expr_view}
-use Rattle.lra_path_disjuncts.proofs.WayMoveSteps.{seen_so}
+use Rattle.lra_path_disjuncts.proofs.SegmentMoveSteps.{seen_so}
 use Rattle.lra_path_disjuncts.proofs.changes.push_argument.Goals as goal
 
 pub push_new-requires-clause-width : goal.push_new-requires-clause-width

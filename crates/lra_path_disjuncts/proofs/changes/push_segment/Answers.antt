@@ -1,6 +1,6 @@
 -- Goals of `push_segment`: what is done so far, and then one more.
 use Rattle.std.proofs.Common.{◌≤◌, length, arith}
-use Rattle.lra_path_disjuncts.proofs.{GuardSteps.grows_on, TableSteps.within, WayMoveSteps.alive_on, WayMoveSteps.way_more, WayMoveSteps.way_whole}
+use Rattle.lra_path_disjuncts.proofs.{GuardSteps.grows_on, TableSteps.within, SegmentMoveSteps.alive_on, SegmentMoveSteps.way_more, SegmentMoveSteps.way_whole}
 use Rattle.lra_path_disjuncts.proofs.changes.push_segment.Goals as goal
 
 pub push_first_then-requires-clause-first : goal.push_first_then-requires-clause-first

@@ -1,6 +1,6 @@
 -- Goals of `push_selection`: the value is seen once, and goes to the label.
 use Rattle.lra_program.specs.ProgramViews.{expr_view}
-use Rattle.lra_path_disjuncts.proofs.{LabelSteps.case_selected, LabelSteps.default_selected, WayMoveSteps.seen_so}
+use Rattle.lra_path_disjuncts.proofs.{LabelSteps.case_selected, LabelSteps.default_selected, SegmentMoveSteps.seen_so}
 use Rattle.lra_path_disjuncts.proofs.selections.push_selection.Goals as goal
 
 pub push_number-requires-clause-width : goal.push_number-requires-clause-width

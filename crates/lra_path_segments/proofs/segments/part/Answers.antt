@@ -1,6 +1,6 @@
 -- Goals of `part`: those of a kind, and the others.
 use Rattle.lra_path_segments.specs.TreeSegmentViews.{kind_view}
-use Rattle.lra_path_segments.proofs.StretchLists.{those_more, others_more}
+use Rattle.lra_path_segments.proofs.SegmentLists.{those_more, others_more}
 use Rattle.lra_path_segments.proofs.segments.part.Goals as goal
 
 pub each-preserved : goal.each-preserved

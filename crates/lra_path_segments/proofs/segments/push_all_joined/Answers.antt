@@ -1,6 +1,6 @@
 -- Goals of `push_all_joined`: each of the ones with each of the others.
 use Rattle.lra_path_segments.specs.TreeSegmentViews.{seen}
-use Rattle.lra_path_segments.proofs.StretchLists.{joined_at, none_yet}
+use Rattle.lra_path_segments.proofs.SegmentLists.{joined_at, none_yet}
 use Rattle.lra_path_segments.proofs.segments.push_all_joined.Goals as goal
 
 pub others-init : goal.others-init

@@ -1,7 +1,7 @@
 -- Goals of `push_ended`.
 use Rattle.std.proofs.Common.{refl}
 use Rattle.lra_path_segments.specs.{TreeSegmentViews.seen, TreeSegments.ended}
-use Rattle.lra_path_segments.proofs.StretchLists.{mapped_more, none_yet}
+use Rattle.lra_path_segments.proofs.SegmentLists.{mapped_more, none_yet}
 use Rattle.lra_path_segments.proofs.segments.push_ended.Goals as goal
 
 pub each-init : goal.each-init

@@ -1,6 +1,6 @@
 -- Goals of `push_entering`: those that begin at the start, after the move.
 use Rattle.lra_path_segments.specs.{TreeSegmentViews.move_view, TreeSegmentViews.seen, TreeSegments.prefixed, TreeSegments.starting}
-use Rattle.lra_path_segments.proofs.StretchLists.{none_yet, one_picked}
+use Rattle.lra_path_segments.proofs.SegmentLists.{none_yet, one_picked}
 use Rattle.lra_path_segments.proofs.segments.push_entering.Goals as goal
 
 pub row-init : goal.row-init

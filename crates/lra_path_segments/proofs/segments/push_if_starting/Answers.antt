@@ -1,6 +1,6 @@
 -- Goals of `push_if_starting`: one that begins at the start, after the move.
 use Rattle.lra_path_segments.specs.{TreeSegmentViews.move_view, TreeSegmentViews.seen, TreeSegmentViews.tree_segment_view, TreeSegments.prefixed, TreeSegments.starting}
-use Rattle.lra_path_segments.proofs.StretchLists.{if_not, if_so}
+use Rattle.lra_path_segments.proofs.SegmentLists.{if_not, if_so}
 use Rattle.lra_path_segments.proofs.segments.push_if_starting.Goals as goal
 
 pub returns-then-is_of : goal.returns-then-is_of

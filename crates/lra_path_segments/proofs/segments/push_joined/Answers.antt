@@ -1,6 +1,6 @@
 -- Goals of `push_joined`: each of the ones, and then the other.
 use Rattle.lra_path_segments.specs.{TreeSegmentViews.seen, TreeSegmentViews.tree_segment_view, TreeSegments.joined_segments}
-use Rattle.lra_path_segments.proofs.StretchLists.{mapped_at, none_yet}
+use Rattle.lra_path_segments.proofs.SegmentLists.{mapped_at, none_yet}
 use Rattle.lra_path_segments.proofs.segments.push_joined.Goals as goal
 
 pub ones-init : goal.ones-init

@@ -1,6 +1,6 @@
 -- Goals of `push_prefixed`.
 use Rattle.lra_path_segments.specs.{TreeSegmentViews.move_view, TreeSegmentViews.seen, TreeSegments.prefixed}
-use Rattle.lra_path_segments.proofs.StretchLists.{mapped_more, none_yet}
+use Rattle.lra_path_segments.proofs.SegmentLists.{mapped_more, none_yet}
 use Rattle.lra_path_segments.proofs.segments.push_prefixed.Goals as goal
 
 pub each-init : goal.each-init

@@ -1,6 +1,6 @@
 -- Goals of `push_turned`.
 use Rattle.lra_path_segments.specs.{TreeSegmentViews.move_view, TreeSegmentViews.seen, TreeSegments.turned}
-use Rattle.lra_path_segments.proofs.StretchLists.{mapped_more, none_yet}
+use Rattle.lra_path_segments.proofs.SegmentLists.{mapped_more, none_yet}
 use Rattle.lra_path_segments.proofs.segments.push_turned.Goals as goal
 
 pub each-init : goal.each-init

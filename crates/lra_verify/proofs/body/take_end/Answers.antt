@@ -1,7 +1,7 @@
 -- Goals of `take_end`: the last line.
 use Rattle.lra_certificate_lines.specs.declared.refusals.LineFault.TheVariants.{BadLine}
 use Rattle.lra_verify.specs.Crates.{lra_certificate_spec.Judged.judged_end, lra_certificate_spec.Lines.left_at, lra_certificate_spec.Lines.line_number_at}
-use Rattle.lra_certificate_lines.proofs.Told.{refused_here}
+use Rattle.lra_certificate_lines.proofs.JudgedLines.{refused_here}
 use Rattle.lra_verify.proofs.EndSteps.{end_past}
 use Rattle.lra_verify.proofs.body.take_end.Goals as goal
 

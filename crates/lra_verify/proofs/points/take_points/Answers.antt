@@ -3,7 +3,7 @@ use Rattle.std.proofs.Common.{◌≡◌, ◌++◌, ◌∷◌, ◌+◌, [], ℕ, 
 use Rattle.lra_verify.specs.Crates.{lra_certificate_spec.Judged.judged_states, lra_certificate_spec.Lines.left_at, lra_linear_spec.declared.ConKind.ConKind, lra_systems.LinearSystems.LinearSystem}
 use Rattle.lra_operations.specs.TreeViews.{site_view}
 use Rattle.lra_verify.specs.PointViews.{HaveDims, state_view}
-use Rattle.lra_certificate_lines.proofs.Told.{states_after}
+use Rattle.lra_certificate_lines.proofs.JudgedLines.{states_after}
 use Rattle.lra_verify.proofs.PointSteps.{dims_pushed, site_at, points_more}
 use Rattle.lra_verify.proofs.points.take_points.Goals as goal
 

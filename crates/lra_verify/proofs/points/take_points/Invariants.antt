@@ -2,7 +2,7 @@ use Rattle.std.proofs.Common.{◌≡◌, ◌≤◌, ◌+◌, length, map, drop}
 use Rattle.lra_operations.specs.TreeViews.{site_view}
 use Rattle.lra_verify.specs.Crates.{lra_certificate_spec.Judged.judged_states, lra_certificate_spec.Lines.left_at}
 use Rattle.lra_verify.specs.PointViews.{state_view, HaveDims}
-use Rattle.lra_certificate_lines.proofs.Told.{states_after}
+use Rattle.lra_certificate_lines.proofs.JudgedLines.{states_after}
 use Rattle.lra_verify.proofs.points.take_points.Given as goal
 
 abbrev pub invariant-loop-index : goal.invariant-loop-index

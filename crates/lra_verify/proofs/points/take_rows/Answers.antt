@@ -4,7 +4,7 @@ use Rattle.std.specs.Prelude.{option_map}
 use Rattle.lra_verify.specs.Crates.lra_certificate_spec.Lines.{line_number_at, pieces_at}
 use Rattle.lra_verify.specs.Crates.{lra_certificate_spec.Judged.row_in, lra_certificate_spec.Judged.judged_rows, lra_script.Views.constraint_of}
 use Rattle.lra_verify.proofs.Crates.lra_multipliers.ListedKinds.{kinds_pushed}
-use Rattle.lra_certificate_lines.proofs.Told.{rows_more_by}
+use Rattle.lra_certificate_lines.proofs.JudgedLines.{rows_more_by}
 use Rattle.lra_verify.proofs.points.take_rows.Goals as goal
 
 pub rows-preserved : goal.rows-preserved

@@ -1,6 +1,6 @@
 use Rattle.std.proofs.Common.{◌≡◌, ◌≤◌, ◌-◌, length}
 use Rattle.lra_verify.specs.Crates.{lra_certificate_spec.Judged.judged_rows, lra_certificate_spec.Lines.line_number_at, lra_certificate_spec.Lines.pieces_at, lra_systems.LinearSystems.constraints}
-use Rattle.lra_certificate_lines.proofs.Told.{rows_after}
+use Rattle.lra_certificate_lines.proofs.JudgedLines.{rows_after}
 use Rattle.lra_verify.proofs.points.take_rows.Given as goal
 
 abbrev pub invariant-rows : goal.invariant-rows

@@ -2,7 +2,7 @@
 use Rattle.std.proofs.Common.{List, Err, map, ap, sym, ◌∙◌}
 use Rattle.lra_verify.specs.Crates.lra_program.ProgramViews.{program_view}
 use Rattle.lra_operations.specs.{TreeViews.node_view, TreeViews.site_view, declared.tree.Site.Site}
-use Rattle.lra_verify.proofs.{Deserved.lines_answer, VerifySteps.sources_ready, VerifySteps.lead_ready, VerifySteps.few_ready, VerifySteps.many_ready}
+use Rattle.lra_verify.proofs.{RequiredAnswers.lines_answer, VerifySteps.sources_ready, VerifySteps.lead_ready, VerifySteps.few_ready, VerifySteps.many_ready}
 use Rattle.lra_verify.proofs.verifying.judge.Goals as goal
 
 pub take_lines-requires-clause-sources : goal.take_lines-requires-clause-sources

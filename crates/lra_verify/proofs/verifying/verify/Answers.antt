@@ -1,7 +1,7 @@
 -- Goals of `verify`: what an input must get, by its program and the lines after its source.
 use Rattle.std.proofs.Common.{arith, sym, subst}
 use Rattle.lra_verify.specs.Crates.{lra_base.declared.refusals.Refusal.Refusal, lra_certificate_spec.Claims.VerifiesTo, lra_certificate_spec.Claims.source_refused}
-use Rattle.lra_verify.proofs.Deserved.{program_sites, program_few, program_live, judged_numbers, judged_refusal, source_deserved}
+use Rattle.lra_verify.proofs.RequiredAnswers.{program_sites, program_few, program_live, judged_numbers, judged_refusal, source_deserved}
 use Rattle.lra_verify.proofs.verifying.verify.Goals as goal
 
 pub judge-requires-clause-sites : goal.judge-requires-clause-sites

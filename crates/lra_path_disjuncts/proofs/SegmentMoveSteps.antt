@@ -21,8 +21,8 @@ on_sides p live [] = sym (each_then_nil (disjuncts p))
 on_sides p live (step ∷ ops) = on_sides (first_then p (step_moves live step)) (dims_after_step step live) ops
     ∙ sym (each_then_assoc (disjuncts p) (disjuncts (step_moves live step)) (written (dims_after_step step live) ops))
 
-pub way_sides : (live : ℕ) (ops : List SegmentStep) → disjuncts (segment_moves live ops) ≡ written live ops
-way_sides live ops = on_sides stay live ops ∙ nil_then (written live ops)
+pub segment_disjuncts : (live : ℕ) (ops : List SegmentStep) → disjuncts (segment_moves live ops) ≡ written live ops
+segment_disjuncts live ops = on_sides stay live ops ∙ nil_then (written live ops)
 
 pub on_more : (p : Moves) (live : ℕ) (ops : List SegmentStep) (step : SegmentStep) → segment_moves_on p live (ops ++ step ∷ [])
     ≡ first_then (segment_moves_on p live ops) (step_moves (live_after_steps live ops) step)

@@ -8,24 +8,24 @@ use Rattle.lra_commands.specs.Crates.{lra_certificate_lines.declared.refusals.Ve
 use Rattle.lra_command_answers.specs.{Statuses.Ends, Statuses.refused, declared.status.Status.Status, declared.status.Status.TheVariants.Proved, declared.status.Status.TheVariants.Refused}
 use Rattle.lra_command_answers.proofs.Answering.{IsAnswering, small_as, past_as}
 use Rattle.lra_commands.specs.CertificateAnswer.{AnswersCertificate, EachCertificateAnswer, AllowedCertificateStatuses, certificate_statuses, verify_answer_text, answer_status, verified_text}
-use Rattle.lra_commands.proofs.{OneVerified.one_verified, OneVerified.not_past, ScriptWays.script_own, SomeVerified.each_verified}
+use Rattle.lra_commands.proofs.{OneVerified.one_verified, OneVerified.not_past, ScriptOutcomes.script_own, SomeVerified.each_verified}
 
 -- answers ------------------------------------------------------------------------
 
-pub deserves_verified : (bytes text : List ℕ) (points proved : ℕ) → VerifiesTo bytes (verified points proved) → text ≡ verified_text points proved
+pub required_verified : (bytes text : List ℕ) (points proved : ℕ) → VerifiesTo bytes (verified points proved) → text ≡ verified_text points proved
     → AnswersCertificate bytes text Proved
-deserves_verified bytes text points proved d written = record { answer = verified points proved; answers = d; written = written; ends = refl }
+required_verified bytes text points proved d written = record { answer = verified points proved; answers = d; written = written; ends = refl }
 
 refused_status : (r : VerifyRefusal) → answer_status (refusal_view r) ≡ Refused
 refused_status (Source r) = refl
 refused_status (Paths p) = refl
 refused_status (Line n fault) = refl
 
-pub deserves_refusal : (bytes text : List ℕ) (r : VerifyRefusal) → VerifiesTo bytes (refusal_view r) → text ≡ verify_answer_text (refusal_view r)
+pub required_refusal : (bytes text : List ℕ) (r : VerifyRefusal) → VerifiesTo bytes (refusal_view r) → text ≡ verify_answer_text (refusal_view r)
     → AnswersCertificate bytes text Refused
-deserves_refusal bytes text r d written = record { answer = refusal_view r; answers = d; written = written; ends = sym (refused_status r) }
+required_refusal bytes text r d written = record { answer = refusal_view r; answers = d; written = written; ends = sym (refused_status r) }
 
-pub ruleset deserving = (deserves_verified, deserves_refusal)
+pub ruleset deserving = (required_verified, required_refusal)
 
 one_answer : (bytes text other : List ℕ) (status ending : Status) → AnswersCertificate bytes text status → AnswersCertificate bytes other ending
     → (text ≡ other) × (status ≡ ending)

@@ -11,20 +11,20 @@ use Rattle.lra_sample.proofs.Samples.{accepted}
 use Rattle.lra_command_line.specs.{CommandLine.seed_option, CommandLine.size_option, ParsedCommand.default_options}
 use Rattle.lra_command_answers.specs.{Statuses.reported, declared.answer.Answer.Answer, declared.status.Status.Status, declared.status.Status.TheVariants.Refused}
 use Rattle.lra_commands.specs.{SampleAnswer.AnswersSample, SourceAnswer.report_status}
-use Rattle.lra_command_answers.proofs.{Answering.IsAnswering, ToldWays.accepted_ends}
-use Rattle.lra_commands.proofs.SourceWays.{deserves_report, deserves_refusal, report_telling}
+use Rattle.lra_command_answers.proofs.{Answering.IsAnswering, ReportedOutcomes.accepted_ends}
+use Rattle.lra_commands.proofs.SourceOutcomes.{required_report, required_refusal, report_telling}
 
 deserves_summary : (seed size : ℕ) (o : Options) (source : List ℕ) (r : Report) (text : List ℕ) (status : Status) → o ≡ default_options → source ≡ sample_source seed size
     → IsAnalysisReport o source r → text ≡ summary_text seed size r → status ≡ report_status (unknown_count r.verdicts) → AnswersSample seed size text status
 deserves_summary seed size o source r text status default made answered written counted =
     let answered_default : IsAnalysisReport default_options source r = subst (λ (x : Options). IsAnalysisReport x source r) default answered in
     let answered_sample : IsAnalysisReport default_options (sample_source seed size) r = subst (λ (x : List ℕ). IsAnalysisReport default_options x r) made answered_default in
-    deserves_report default_options (summary_text seed size) (sample_source seed size) r text status answered_sample written counted
+    required_report default_options (summary_text seed size) (sample_source seed size) r text status answered_sample written counted
 
 sample_refused : (seed size : ℕ) (source text : List ℕ) (c : Cause) (at : Place) (status : Status) → source ≡ sample_source seed size
     → Refuse at_main Spells source c at → text ≡ refusal_text c at → status ≡ Refused → AnswersSample seed size text status
 sample_refused seed size source text c at status made refused written s =
-    deserves_refusal default_options (summary_text seed size) (sample_source seed size) text c at status (subst (λ (x : List ℕ). Refuse at_main Spells x c at) made refused) written s
+    required_refusal default_options (summary_text seed size) (sample_source seed size) text c at status (subst (λ (x : List ℕ). Refuse at_main Spells x c at) made refused) written s
 
 -- of a call's result
 pub summary_answer : {E : Type 0} (seed size : ℕ) (o : Options) (source : List ℕ) (r : Report) (result : Result Answer E) → o ≡ default_options → source ≡ sample_source seed size

@@ -14,7 +14,7 @@ use Rattle.lra_command_answers.specs.{SourceAnswers.AnswersSourceWith, SourceAns
 use Rattle.lra_command_answers.proofs.Answering.{IsAnswering, small, past}
 
 -- it is reported of accepted sources alone, and with these statuses
-pub record IsTelling (entry : EntryPoint) (Tells : List ℕ → List ℕ → Status → Type 0) (told : List Status) : Type 0 where
+pub record IsReporting (entry : EntryPoint) (Tells : List ℕ → List ℕ → Status → Type 0) (told : List Status) : Type 0 where
   pub accepted : (bytes text : List ℕ) (status : Status) → Tells bytes text status → (t : FileTree) × Accepts entry Spells bytes t
   pub ends : (bytes text : List ℕ) (status : Status) → Tells bytes text status → Ends told status
   pub own : (status : Status) → Ends told status → Ends reported status
@@ -44,12 +44,12 @@ longer_refused entry bytes rest _ _ long (bad_tree tokens t c p l lexed is e) = 
 -- answers -------------------------------------------------------------------------
 
 -- a source that is refused must get its refusal's text
-pub deserves_refusal : (entry : EntryPoint) (Tells : List ℕ → List ℕ → Status → Type 0) (bytes text : List ℕ) (c : Cause) (at : Place) (status : Status)
+pub required_refusal : (entry : EntryPoint) (Tells : List ℕ → List ℕ → Status → Type 0) (bytes text : List ℕ) (c : Cause) (at : Place) (status : Status)
     → Refuse entry Spells bytes c at → text ≡ refusal_text c at
     → status ≡ Refused → AnswersSourceWith entry Tells bytes text status
-deserves_refusal entry Tells bytes text c at status why written is = inl (record { cause = c; place = at; refused = why; written = written }, is)
+required_refusal entry Tells bytes text c at status why written is = inl (record { cause = c; place = at; refused = why; written = written }, is)
 
-module _ {entry : EntryPoint} {Tells : List ℕ → List ℕ → Status → Type 0} {told : List Status} (t : IsTelling entry Tells told) where
+module _ {entry : EntryPoint} {Tells : List ℕ → List ℕ → Status → Type 0} {told : List Status} (t : IsReporting entry Tells told) where
   longer_told : (bytes rest text : List ℕ) (status : Status) → greatest_length < length bytes → AnswersSourceWith entry Tells bytes text status
       → AnswersSourceWith entry Tells (bytes ++ rest) text status
   longer_told bytes rest text status long (inl (d, is)) =

@@ -15,10 +15,10 @@ use Rattle.lra_command_answers.proofs.Answering.{IsAnswering, small, past}
 pub deserves_output : (bytes text : List ℕ) → script.AnswersTo bytes (Ok text) → AnswersScript bytes text Proved
 deserves_output bytes text answers = inr (answers, refl)
 
-pub deserves_refused : (bytes text : List ℕ) (r : script.Refusal) → script.AnswersTo bytes (Err r) → text ≡ script.script_refusal_text r → AnswersScript bytes text Refused
-deserves_refused bytes text r answers written = inl (record { refusal = r; answers = answers; written = written }, refl)
+pub required_refused : (bytes text : List ℕ) (r : script.Refusal) → script.AnswersTo bytes (Err r) → text ≡ script.script_refusal_text r → AnswersScript bytes text Refused
+required_refused bytes text r answers written = inl (record { refusal = r; answers = answers; written = written }, refl)
 
-pub ruleset deserving = (deserves_output, deserves_refused)
+pub ruleset deserving = (deserves_output, required_refused)
 
 -- one byte past the limit ---------------------------------------------------------
 

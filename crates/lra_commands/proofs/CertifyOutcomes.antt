@@ -10,9 +10,9 @@ use Rattle.lra_certify_source.specs.declared.refusals.CertifyRefusal.TheVariants
 use Rattle.lra_certify_source.specs.{Assertions.unknown_assertions, Certified.IsCertificateOf, Certified.IsCertifyRefusalOf, Settings.certify_options, declared.refusals.CertifyRefusal.CertifyRefusal}
 use Rattle.lra_certify_source.proofs.OneRefusal.{many_refused}
 use Rattle.lra_command_answers.specs.{Statuses.Ends, Statuses.reported, Statuses.refused, Statuses.source_statuses, declared.status.Status.Status, declared.status.Status.TheVariants.Refused}
-use Rattle.lra_command_answers.proofs.{Answering.IsAnswering, Answering.small, Answering.past, ToldWays.not_past, ToldWays.longer_refused}
+use Rattle.lra_command_answers.proofs.{Answering.IsAnswering, Answering.small, Answering.past, ReportedOutcomes.not_past, ReportedOutcomes.longer_refused}
 use Rattle.lra_commands.specs.{CertifyAnswer.refused_text, CertifyAnswer.IsCertifyAnswer, CertifyAnswer.AnswersCertify, CertifyAnswer.AllowedCertifyStatuses, SourceAnswer.report_status}
-use Rattle.lra_commands.proofs.SourceWays.{report_ends}
+use Rattle.lra_commands.proofs.SourceOutcomes.{report_ends}
 
 -- answers ------------------------------------------------------------------------
 
@@ -21,11 +21,11 @@ pub deserves_certificate : (bytes text : List ℕ) (r : Report) (status : Status
 deserves_certificate bytes text r status answered certificate counted =
     inr (record { report = r; answered = answered; certificate = certificate; counted = counted })
 
-pub deserves_refusal : (bytes text : List ℕ) (r : CertifyRefusal) (status : Status) → IsCertifyRefusalOf bytes r → text ≡ refused_text r → status ≡ Refused
+pub required_refusal : (bytes text : List ℕ) (r : CertifyRefusal) (status : Status) → IsCertifyRefusalOf bytes r → text ≡ refused_text r → status ≡ Refused
     → AnswersCertify bytes text status
-deserves_refusal bytes text r status why written is = inl (record { refusal = r; refused = why; written = written }, is)
+required_refusal bytes text r status why written is = inl (record { refusal = r; refused = why; written = written }, is)
 
-pub ruleset deserving = (deserves_certificate, deserves_refusal)
+pub ruleset deserving = (deserves_certificate, required_refusal)
 
 -- one byte past the limit ---------------------------------------------------------
 

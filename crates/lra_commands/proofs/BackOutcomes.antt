@@ -11,7 +11,7 @@ use Rattle.lra_commands.specs.Crates.lra_resolution_spec.EntryPoint.{at_main}
 use Rattle.lra_commands.specs.Crates.lra_options.OptionRows.{IsInRange}
 use Rattle.lra_command_answers.specs.Statuses.{Ends, reported, refused, source_statuses}
 use Rattle.lra_command_answers.specs.{declared.answer.Answer.Answer, declared.status.Status.Status, declared.status.Status.TheVariants.Refused}
-use Rattle.lra_command_answers.proofs.{Answering.IsAnswering, Answering.small, Answering.past, ToldWays.not_past, ToldWays.longer_refused}
+use Rattle.lra_command_answers.proofs.{Answering.IsAnswering, Answering.small, Answering.past, ReportedOutcomes.not_past, ReportedOutcomes.longer_refused}
 use Rattle.lra_commands.specs.BackAnswer.{back_refused_text, back_status, AllowedBackStatuses, AnswersBack, IsBackAnswer}
 
 -- answers ------------------------------------------------------------------------
@@ -27,9 +27,9 @@ deserves_back number index bytes text r status some is deserved written counted 
   answer = inr (record { report = r; answers = deserved; written = written; counted = counted });
 }
 
-pub deserves_refusal : (number index : ℕ) (bytes text : List ℕ) (r : BackRefusal) (status : Status) → 1 ≤ number → index ≡ number - 1
+pub required_refusal : (number index : ℕ) (bytes text : List ℕ) (r : BackRefusal) (status : Status) → 1 ≤ number → index ≡ number - 1
     → IsBackRefusalOf bytes index r → text ≡ back_refused_text number r → status ≡ Refused → AnswersBack number bytes text status
-deserves_refusal number index bytes text r status some is why written ends = record {
+required_refusal number index bytes text r status some is why written ends = record {
   point = index;
   numbered = numbered number index some is;
   answer = inl (record { refusal = r; refused = why; written = written }, ends);
@@ -43,7 +43,7 @@ report_answer number index bytes r (Ok a) some is deserved written counted =
     deserves_back number index bytes a.text.items r a.status some is deserved written counted
 report_answer number index bytes r (Err e) some is deserved written counted = tt
 
-pub ruleset deserving = (deserves_refusal)
+pub ruleset deserving = (required_refusal)
 
 -- one byte past the limit ---------------------------------------------------------
 

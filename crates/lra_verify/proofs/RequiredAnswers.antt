@@ -28,18 +28,18 @@ lines_answer P g rest (Err (Refused (Paths p))) few told = absurd told
 lines_answer P g rest (Err Memory) few told = told
 
 module _ (bytes : List ℕ) (h : Head) (has : HasHead bytes h) (x : IsProgram h.source) where
-  pub deserves_numbers : (result : Result (ℕ × ℕ) VerifyError) → IsAnswerTo (program_of x) x.operations h.rest result →
+  pub required_numbers : (result : Result (ℕ × ℕ) VerifyError) → IsAnswerTo (program_of x) x.operations h.rest result →
       IfOk result (λ r. VerifiesTo bytes (verified r.0 r.1))
-  deserves_numbers (Ok r) a = (judged_exactly bytes r.0 r.1).0 h x (record { short = has.0; head = has.1; few = a.0; taken = a.1 })
-  deserves_numbers (Err e) a = tt
+  required_numbers (Ok r) a = (judged_exactly bytes r.0 r.1).0 h x (record { short = has.0; head = has.1; few = a.0; taken = a.1 })
+  required_numbers (Err e) a = tt
 
-  pub deserves_refusal : (result : Result (ℕ × ℕ) VerifyError) → IsAnswerTo (program_of x) x.operations h.rest result →
+  pub required_refusal : (result : Result (ℕ × ℕ) VerifyError) → IsAnswerTo (program_of x) x.operations h.rest result →
       IfRefused result (VerifiesTo bytes)
-  deserves_refusal (Ok r) a = tt
-  deserves_refusal (Err (Refused (Line n fault))) a = inr (inr (h, has, x, a.0, a.1))
-  deserves_refusal (Err (Refused (Source r))) a = absurd a
-  deserves_refusal (Err (Refused (Paths p))) a = (h, has, x, a)
-  deserves_refusal (Err Memory) a = tt
+  required_refusal (Ok r) a = tt
+  required_refusal (Err (Refused (Line n fault))) a = inr (inr (h, has, x, a.0, a.1))
+  required_refusal (Err (Refused (Source r))) a = absurd a
+  required_refusal (Err (Refused (Paths p))) a = (h, has, x, a)
+  required_refusal (Err Memory) a = tt
 
 -- an input that is too long, one without a head, and one whose source is refused
 pub too_long_deserved : (bytes : List ℕ) → greatest_certificate < length bytes → VerifiesTo bytes (line_refused (record { line = 0; fault = too_long }))
@@ -85,10 +85,10 @@ module _ (bytes : List ℕ) (o : Option declared.Head) (head : declared.Head) (s
     pub judged_numbers : (result : Result (ℕ × ℕ) VerifyError) →
         IsAnswerTo (program_view f.resolution.program) (node_view f.graph.tree) head.rest.now result →
         IfOk result (λ r. VerifiesTo bytes (verified r.0 r.1))
-    judged_numbers result a = deserves_numbers bytes (head_view head) has_head is_program result
+    judged_numbers result a = required_numbers bytes (head_view head) has_head is_program result
         (subst (λ (P : Program). IsAnswerTo P (node_view f.graph.tree) head.rest.now result) program a)
 
     pub judged_refusal : (result : Result (ℕ × ℕ) VerifyError) →
         IsAnswerTo (program_view f.resolution.program) (node_view f.graph.tree) head.rest.now result → IfRefused result (VerifiesTo bytes)
-    judged_refusal result a = deserves_refusal bytes (head_view head) has_head is_program result
+    judged_refusal result a = required_refusal bytes (head_view head) has_head is_program result
         (subst (λ (P : Program). IsAnswerTo P (node_view f.graph.tree) head.rest.now result) program a)

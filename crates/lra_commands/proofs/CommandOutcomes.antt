@@ -99,16 +99,16 @@ command_ends words left bytes text status c among asks input d (inr known) = eli
   | inr calls ↦ (answering c).called bytes text status among d calls
 ]
 
-deserved_ends : (words : List (List ℕ)) (left : Option (List ℕ)) (bytes text : List ℕ) (status : Status) (asked : Option Command) (among : List Status) → AsksFor words asked
+required_ends : (words : List (List ℕ)) (left : Option (List ℕ)) (bytes text : List ℕ) (status : Status) (asked : Option Command) (among : List Status) → AsksFor words asked
     → IsInput left bytes → AnswersCommand asked bytes text status → AllowedStatuses asked left among → Ends among status
-deserved_ends words left bytes text status None among asks input d calls = subst (λ a. Ends a status) (sym calls) (inl d.1)
-deserved_ends words left bytes text status (Some c) among asks input d calls = command_ends words left bytes text status c among asks input d calls
+required_ends words left bytes text status None among asks input d calls = subst (λ a. Ends a status) (sym calls) (inl d.1)
+required_ends words left bytes text status (Some c) among asks input d calls = command_ends words left bytes text status c among asks input d calls
 
 pub asked_ends : (words : List (List ℕ)) (left : Option (List ℕ)) (text : List ℕ) (status : Status) (asked : Option Command) (among : List Status) → IsAnswerToWords words left text status
     → IsAsked words asked → AllowedStatuses asked left among → Ends among status
 asked_ends words left text status asked among d other calls =
     let same : d.asked ≡ asked = same_asked words d.asked asked d.asks other in
-    deserved_ends words left d.bytes text status d.asked among d.asks d.input d.answers (subst (λ x. AllowedStatuses x left among) (sym same) calls)
+    required_ends words left d.bytes text status d.asked among d.asks d.input d.answers (subst (λ x. AllowedStatuses x left among) (sym same) calls)
 
 -- the statuses of answers are four, and usage that of no command's ---------------------
 
@@ -127,12 +127,12 @@ own_answered status (inr (inr (inr none))) = absurd none
 asked_status : (words : List (List ℕ)) (bytes text : List ℕ) (status : Status) (c : Command) → Asks words c → AnswersInput c bytes text status → Ends source_statuses status
 asked_status words bytes text status c asks d = (answering c).own status ((answering c).ends bytes text status (asks_within words c asks) d)
 
-deserved_status : (words : List (List ℕ)) (bytes text : List ℕ) (status : Status) (asked : Option Command) → AsksFor words asked → AnswersCommand asked bytes text status → Ends answered status
-deserved_status words bytes text status None asks d = inr (inr (inr (inl d.1)))
-deserved_status words bytes text status (Some c) asks d = own_answered status (asked_status words bytes text status c asks d)
+required_status : (words : List (List ℕ)) (bytes text : List ℕ) (status : Status) (asked : Option Command) → AsksFor words asked → AnswersCommand asked bytes text status → Ends answered status
+required_status words bytes text status None asks d = inr (inr (inr (inl d.1)))
+required_status words bytes text status (Some c) asks d = own_answered status (asked_status words bytes text status c asks d)
 
 pub answered_status : (words : List (List ℕ)) (left : Option (List ℕ)) (text : List ℕ) (status : Status) → IsAnswerToWords words left text status → Ends answered status
-answered_status words left text status d = deserved_status words d.bytes text status d.asked d.asks d.answers
+answered_status words left text status d = required_status words d.bytes text status d.asked d.asks d.answers
 
 usage_asked : (words : List (List ℕ)) (bytes text : List ℕ) (status : Status) (asked : Option Command) → AsksFor words asked → AnswersCommand asked bytes text status → status ≡ Usage
     → AsksNone words × IsRejected words
