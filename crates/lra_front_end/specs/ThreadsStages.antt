@@ -1,13 +1,11 @@
 -- What is known of a source of several threads between the stages of its reading.
-use Rattle.std.specs.Prelude.{◌≡◌, ℕ, [], map, None}
+use Rattle.std.specs.Prelude.{◌≡◌, ℕ, map}
 use Rattle.lra_front_end.specs.Crates.lra_operations.Agree.{IsInlinedTree, Agrees}
 use Rattle.lra_front_end.specs.Crates.lra_operations.TreeViews.{node_view, site_view}
 use Rattle.lra_front_end.specs.Crates.lra_operations.declared.tree.InlinedProgram.{InlinedProgram}
-use Rattle.lra_front_end.specs.Crates.lra_resolution_spec.Threads.{thread_faults, thread_program}
-use Rattle.lra_front_end.specs.Crates.lra_syntax.Reach.{NotRecursive}
+use Rattle.lra_front_end.specs.Crates.lra_resolution_spec.Threads.{thread_program}
 use Rattle.lra_front_end.specs.Crates.{lra_program.Program.Program, lra_program.Sites.sites_of}
-use Rattle.lra_front_end.specs.Crates.{lra_program.WellFormed.IsWellFormed, lra_resolution_spec.Refuse.limit_fault}
-use Rattle.lra_front_end.specs.Crates.{lra_syntax.Labels.labels_of, lra_syntax.Trees.FileTree}
+use Rattle.lra_front_end.specs.Crates.{lra_program.WellFormed.IsWellFormed, lra_syntax.Trees.FileTree}
 use Rattle.lra_front_end.specs.Claims.{AreFew}
 
 -- the tree of operations of a well-formed program, and its points
