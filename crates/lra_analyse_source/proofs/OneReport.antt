@@ -17,7 +17,7 @@ use Rattle.lra_analyse_source.specs.Crates.{lra_octagon.Laws.octagon_base, lra_o
 use Rattle.lra_analyse_source.specs.Crates.{lra_powerset.Content.SetContent, lra_powerset.Content.SetHead, lra_powerset.Single.set_single, lra_program.Accesses.op_accesses_any}
 use Rattle.lra_analyse_source.specs.Crates.{lra_program.Accesses.OpOutOfBounds, lra_program.Overflow.op_computes, lra_program.Overflow.OpOverflows, lra_program.Program.Program, lra_program.Sites.Site}
 use Rattle.lra_analyse_source.specs.Crates.{lra_program.Sites.sites_of, lra_program.Step.Op, lra_program.Step.State, lra_report.declared.verdict_kinds.VerdictKind.VerdictKind}
-use Rattle.lra_analyse_source.specs.Crates.{lra_resolution_spec.LiveNames.globals_named, lra_resolution_spec.Refuse.OneAnswer, lra_resolution_spec.Resolve.resolve, lra_syntax.Grammar.Spells}
+use Rattle.lra_analyse_source.specs.Crates.{lra_resolution_spec.EntryPoint.at_main, lra_resolution_spec.LiveNames.globals_named, lra_resolution_spec.Refuse.OneAnswer, lra_resolution_spec.Resolve.resolve, lra_syntax.Grammar.Spells}
 use Rattle.lra_analyse_source.specs.Crates.{lra_syntax.Labels.Labelled, lra_syntax.Labels.labels_of, lra_syntax.Trees.FileTree}
 use Rattle.lra_poly_domain.specs.Laws.{polyhedron_single, polyhedron_base}
 use Rattle.lra_report_build.specs.AnalysisResults.{ReportedVerdict, reported_verdict, reported_accesses, reported_all, reported_of, state_of}
@@ -240,7 +240,7 @@ one_unflagged one one_list o source r s x y e f =
     let t = x.report.tree in
     let ks = x.constants in
     let same_constants : y.constants ≡ ks = one_list source y.constants ks y.own x.own in
-    let tree : y.report.tree ≡ t = (one source).0 y.report.tree t y.report.accepted x.report.accepted in
+    let tree : y.report.tree ≡ t = (one at_main source).0 y.report.tree t y.report.accepted x.report.accepted in
     let there : ReportsAnalysis o y.constants (resolve t) s = subst (λ (u : FileTree). ReportsAnalysis o y.constants (resolve u) s) tree y.analysed in
     let other : ReportsAnalysis o ks (resolve t) s = subst (λ (zs : List ℤ). ReportsAnalysis o zs (resolve t) s) same_constants there in
     let same : SayTheSame r s = by_domain (λ V H m shown. ReportsIteration m shown o ks (resolve t) r) (λ V H m shown. ReportsIteration m shown o ks (resolve t) s) (SayTheSame r s)

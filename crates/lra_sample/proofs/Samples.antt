@@ -3,6 +3,7 @@ use Rattle.std.proofs.Common.{◌≡◌, ℕ, ◌+◌, ◌*◌, ◌%◌, ◌<◌
 use Rattle.std.proofs.{lemmas.Fmt.decimal_digit, lemmas.List.FromFn.length-map-range_with_len}
 use Rattle.std.specs.{Fmt.decimal, List.flat_map, List.range_with_len, Prelude.codes}
 use Rattle.lra_sample.specs.Crates.lra_resolution_spec.EntryPoint.{at_main}
+use Rattle.lra_sample.specs.Crates.{lra_program.Sites.events_of, lra_resolution_spec.Resolve.resolve, lra_syntax.Labels.labels_of}
 use Rattle.lra_sample.specs.Crates.{lra_base.Places.greatest_length, lra_resolution_spec.Refuse.Accepts, lra_resolution_spec.Refuse.limit_fault, lra_row_text.Texts.text_line, lra_syntax.Grammar.Spells}
 use Rattle.lra_sample.specs.Sample.{statements_text, kind_of, block_from, block_line, block_lines, sample_source}
 use Rattle.lra_sample.specs.{Accepted.SamplesAreAccepted, Draws.state_after, Draws.draw, declared.block.Kind.Kind}
@@ -85,7 +86,10 @@ accepts seed size l = record {
   parsed = parsed (sample_source seed size) (lines_of seed size);
   names = names (sample_source seed size) (lines_of seed size);
   not_recursive = not_recursive (sample_source seed size) (lines_of seed size);
-  within = ap (limit_fault _ 0) (append-nil _) ∙ within (sample_source seed size) (lines_of seed size) (omega (arith, as_many seed size, l));
+  within =
+      let t = file_tree (sample_source seed size) (lines_of seed size) in
+      ap (limit_fault (labels_of t) 0) (append-nil (events_of (resolve t)))
+      ∙ within (sample_source seed size) (lines_of seed size) (omega (arith, as_many seed size, l));
 }
 
 pub accepted : SamplesAreAccepted

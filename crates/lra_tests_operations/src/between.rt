@@ -3,9 +3,9 @@
 ghost use Rattle.lra_tests_operations.specs.Crates.lra_path_disjuncts.Tables.{IsTable};
 
 use crate::sources::{program_of, tree_of};
+use lra_base::SourceError;
 use lra_inline::build;
 use lra_paths::{Goal, PathsFailure, Source, find_paths};
-use lra_program::SourceError;
 use std::alloc::{AllocError, Global};
 
 /// What paths are looked for: how many lead from the source of this number to the goal; the least source with too many;

@@ -1,9 +1,10 @@
 //! Programs with their calls written out.
 
 use crate::sources::{program_of, tree_of};
+use lra_base::{NumberType, SourceError};
 use lra_inline::{InlineError, Limit, build};
 use lra_operations::{Node, Op, Site};
-use lra_program::{Cell, Expr, NumberType, SourceError};
+use lra_program::{Cell, Expr};
 use std::alloc::{AllocError, Global};
 
 const SMALL: &str = "int main(void){long x; x=2; if(x) assert(x);}";

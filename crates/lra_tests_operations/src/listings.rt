@@ -11,12 +11,13 @@ ghost use Rattle.lra_report.specs.Listing.{HasWidth, accesses_at};
 ghost use Rattle.lra_report_build.specs.AnalysisResults.{AreInvariants, AreVerdicts};
 
 use crate::sources::{program_of, tree_of};
+use lra_base::SourceError;
 use lra_bounds_checks::{ConKind, accesses, list_operations};
 use lra_inline::build;
 use lra_operations::{Node, Site};
-use lra_program::SourceError;
-use lra_report::{ConSys, Domain, Labels, Options, Part, Report, Row, TranslationUnit, text};
-use lra_report_build::{DEFAULT_OPTIONS, Findings, Outline, list};
+use lra_options::{DEFAULT_OPTIONS, Domain, Options};
+use lra_report::{ConSys, Labels, Part, Report, TranslationUnit, text};
+use lra_report_build::{Findings, Outline, Row, list};
 use std::alloc::{AllocError, Global};
 
 /// A call and an assertion after it.

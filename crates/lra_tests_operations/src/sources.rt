@@ -7,10 +7,9 @@ ghost use Rattle.lra_tests_operations.specs.Crates.lra_syntax.Views.{tree_view};
 ghost use Rattle.lra_tests_operations.specs.Crates.{lra_resolution_spec.Resolve.resolve, lra_syntax.Labels.labels_of};
 ghost use Rattle.lra_front_end.specs.Literals.{HasSmallLiterals};
 
-use lra_front_end::{GREATEST_LENGTH, Refusal, Resolution, parse, resolve, tokens};
-use lra_inline::Cause;
-use lra_program::SourceError;
-use lra_report::{Place, TranslationUnit};
+use lra_base::{Cause, GREATEST_LENGTH, Place, Refusal, SourceError};
+use lra_front_end::{Resolution, parse, resolve, tokens};
+use lra_report::TranslationUnit;
 use std::alloc::Global;
 
 /// The tree of a source.

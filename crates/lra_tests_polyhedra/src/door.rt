@@ -4,8 +4,8 @@ ghost use Rattle.std.specs.Prelude.{◌≡◌, IfOk};
 ghost use Rattle.lra_systems.specs.LinearSystems.{FitKinds};
 
 use lra_box::Boxes;
-use lra_poly_domain::{Change, Domain, Polyhedron, Row, change_all};
-use lra_poly_images::LinExpr;
+use lra_domain::{Change, Domain, LinExpr, change_all};
+use lra_poly_domain::{Polyhedron, Row};
 use lra_poly_widening::Poly;
 use lra_systems::{ConKind, ConSys, GenKind, GenSys};
 use std::alloc::{AllocError, Global};

@@ -3,7 +3,8 @@
 ghost use Rattle.std.specs.Prelude.{◌≡◌, length, IfOk};
 
 use crate::shapes::{Constraint, Unfit, set_of, shows};
-use lra_poly_images::{LinExpr, image, preimage};
+use lra_domain::LinExpr;
+use lra_poly_images::{image, preimage};
 use lra_poly_widening::Poly;
 use lra_systems::ConKind;
 use std::alloc::{AllocError, Global};

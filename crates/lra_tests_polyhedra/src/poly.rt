@@ -3,8 +3,8 @@
 ghost use Rattle.std.specs.Prelude.{◌≡◌, IfOk};
 
 use crate::shapes::{Unfit, row_of, shows};
-use lra_poly_domain::{Inclusion, Maximum, Test};
-use lra_poly_images::LinExpr;
+use lra_domain::{LinExpr, Test};
+use lra_poly_domain::{Inclusion, Maximum};
 use lra_poly_widening::Poly;
 use lra_systems::{ConKind, ConSys};
 use std::alloc::Global;

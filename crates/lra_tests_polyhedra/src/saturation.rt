@@ -1,8 +1,7 @@
 //! Which constraints are tight at which generators, and tests that change nothing; worked by hand in two dimensions.
 
 use crate::shapes::{Constraint, Unfit, set_of};
-use lra_poly_domain::Test;
-use lra_poly_images::LinExpr;
+use lra_domain::{LinExpr, Test};
 use lra_poly_widening::Poly;
 use lra_systems::ConKind;
 use std::alloc::Global;

@@ -1,8 +1,8 @@
 //! Verdicts on accesses of arrays, as lines and as JSON.
 
-use lra_report::{Domain, Options, Place, Point, Report, Verdict, VerdictKind, text};
+use lra_options::{DEFAULT_OPTIONS, Domain, Options};
+use lra_report::{Place, Point, Report, Verdict, VerdictKind, text};
 use lra_report_json::json_text;
-use lra_sample::DEFAULT_OPTIONS;
 use std::alloc::{AllocError, Global};
 
 /// A verdict on an access in `main`.

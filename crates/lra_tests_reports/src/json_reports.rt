@@ -1,11 +1,9 @@
 //! Reports as JSON.
 
-use lra_report::{
-    Domain, Options, Part, Place, Point, PointReport, Report, Row, Verdict, VerdictKind,
-};
-use lra_report_json::{json_text, to_value};
-use lra_row_text::{ConKind, ConSys, GenKind, GenSys, Names};
-use lra_sample::DEFAULT_OPTIONS;
+use lra_options::{DEFAULT_OPTIONS, Domain, Options};
+use lra_report::{ConSys, Part, Place, Point, PointReport, Report, Verdict, VerdictKind};
+use lra_report_json::{Row, json_text, to_value};
+use lra_row_text::{ConKind, GenKind, GenSys, Names};
 use std::alloc::{AllocError, Global};
 
 fn options(domain: Domain) -> Options {

@@ -1,11 +1,12 @@
 //! Worked reports.
 
+use lra_options::{DEFAULT_OPTIONS, Domain, Options};
 use lra_report::{
-    CallPlace, Domain, Options, Part, Place, Point, PointReport, Report, Row, Verdict, VerdictKind,
-    names_at, path_text, text,
+    CallPlace, ConSys, Part, Place, Point, PointReport, Report, Verdict, VerdictKind, names_at,
+    path_text, text,
 };
-use lra_row_text::{ConKind, ConSys, GenKind, GenSys, Names};
-use lra_sample::DEFAULT_OPTIONS;
+use lra_report_json::Row;
+use lra_row_text::{ConKind, GenKind, GenSys, Names};
 use std::alloc::{AllocError, Global};
 
 fn place(line: u32, column: u32) -> Place {

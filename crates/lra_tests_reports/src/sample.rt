@@ -1,8 +1,9 @@
 //! Sample sources, and what is reported about their reports.
 
+use lra_options::DEFAULT_OPTIONS;
 use lra_report::{Place, Point, PointReport, Report, Verdict, VerdictKind};
 use lra_row_text::Names;
-use lra_sample::{DEFAULT_OPTIONS, program, summary};
+use lra_sample::{program, summary};
 use std::alloc::{AllocError, Global};
 
 /// Seeds and sizes with the lines between the declarations and the assertion.

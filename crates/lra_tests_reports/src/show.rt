@@ -3,8 +3,9 @@
 ghost use Rattle.std.specs.List.{All};
 ghost use Rattle.lra_tests_reports.specs.Crates.{lra_linear_spec.Range.InRange, lra_systems.LinearSystems.FitsKind};
 
-use lra_report::{Row, names_at};
-use lra_row_text::{ConKind, ConSys, GenKind, Names, generator_text, row_text, value_text};
+use lra_report::{ConSys, names_at};
+use lra_report_json::Row;
+use lra_row_text::{ConKind, GenKind, Names, generator_text, row_text, value_text};
 use std::alloc::{AllocError, Global};
 
 fn names_of(alloc: Global, texts: &[&str]) -> Result<Names, AllocError> {

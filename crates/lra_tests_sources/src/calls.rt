@@ -1,6 +1,7 @@
 //! The first recursive call of small sources, by hand.
 
-use lra_program::{BlockItems, NumberType, Place, Program, SourceError};
+use lra_base::{NumberType, Place, SourceError};
+use lra_program::{BlockItems, Program};
 use lra_recursion::first_recursive;
 use lra_resolve::Labelling;
 use lra_syntax::{

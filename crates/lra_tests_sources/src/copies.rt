@@ -1,6 +1,7 @@
 //! Copies of resolved expressions and conditions.
 
-use lra_program::{Cond, Expr, NumberType, Operation, Operator, pair_arguments};
+use lra_base::{NumberType, Operator};
+use lra_program::{Cond, Expr, Operation, pair_arguments};
 use std::test::Fail;
 
 /// Whether it is a literal of this type and value.

@@ -1,7 +1,7 @@
 //! Sources and their tokens, or their first fault, each with its place.
 
-use lra_lex::{Refusal, one_reading, tokens};
-use lra_program::{NumberType, SourceError};
+use lra_base::{NumberType, Refusal, SourceError};
+use lra_lex::{one_reading, tokens};
 use lra_syntax::{Kind, Token};
 use std::alloc::{AllocError, Global};
 use std::fmt::Write;

@@ -1,11 +1,8 @@
 //! Trees of small sources, their programs and their refusals.
 
-use lra_lex::Refusal;
-use lra_program::{
-    BlockItem as ProgramItem, NumberType, Place, Program, Slot, SourceError, Stmt as ProgramStmt,
-    Variable,
-};
-use lra_resolve::{Cause, resolve};
+use lra_base::{Cause, NumberType, Place, Refusal, SourceError};
+use lra_program::{BlockItem as ProgramItem, Program, Slot, Stmt as ProgramStmt, Variable};
+use lra_resolve::resolve;
 use lra_syntax::{
     Arguments, Assign, Block, BlockItem, Call, Declaration, Declarator, ExternalDeclaration,
     Function, Global, Globals, Identifier, Init, Parameter, Parameters, Rvalue, ScalarOrArray,
