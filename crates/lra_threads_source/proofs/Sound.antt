@@ -2,7 +2,7 @@
 use Rattle.std.proofs.Common.{◌≡◌, ◌∙◌, ◌≤◌, ◌<◌, ◌+◌, ℕ, zero, suc, ℤ, Bool, true, List, [], ◌∷◌, length, get_or, take, inl, inr, refl, sym, ap, subst, arith}
 use Rattle.std.proofs.lemmas.Option.{get_or_from_slice_get, same_Some, slice_get-map, slice_get_within}
 use Rattle.std.proofs.{lemmas.List.length-map, lemmas.List.Elements.Contains-append_cases, lemmas.List.Sums.sum_by-cons}
-use Rattle.std.specs.{List.Contains, List.sum_by, Prelude.Option, Prelude.Some, Prelude.IsTrue, Prelude.option_map, Prelude.slice_get}
+use Rattle.std.specs.{List.AllZip, List.Contains, List.sum_by, Prelude.Option, Prelude.Some, Prelude.IsTrue, Prelude.option_map, Prelude.slice_get}
 use Rattle.lra_threads_source.proofs.Crates.lra_front_end.Named.{globals_as_many}
 use Rattle.lra_threads_source.proofs.Crates.lra_linear_spec.ListPlaces.{contains_at, there_within, flat_map_from}
 use Rattle.lra_threads_source.proofs.Crates.lra_linear_spec.Membership.{contains_cases, contains_head, contains_none, map_from}
